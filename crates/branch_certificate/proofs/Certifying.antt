@@ -1,7 +1,7 @@
 -- Nodes have no fault where they certify a cost, and only there.
 use Rattle.std.proofs.Common.{◌≡◌, ℕ, ℤ, zero, suc, ◌+◌, ◌≤◌, ◌==◌, ◌∙◌, ◌↔◌, Bool, true, false}
-use Rattle.std.proofs.Common.{if◌then◌else◌, List, [], ◌∷◌, ◌++◌, length, slice_get, Option, Some, None}
-use Rattle.std.proofs.Common.{option_map, option_and_then, map, All, refl, ap, sym, arith}
+use Rattle.std.proofs.Common.{if◌then◌else◌, List, [], ◌∷◌, ◌++◌, length, slice_get, Option, Some}
+use Rattle.std.proofs.Common.{None, option_map, option_and_then, map, All, refl, ap, sym, arith}
 use Rattle.std.specs.List.{AllByRecursion, enumerate_from, flat_map}
 use Rattle.std.proofs.lemmas.Bool.{false≢true, ne_eqb}
 use Rattle.std.proofs.lemmas.List.{append_assoc, append-nil, length-append}
@@ -66,10 +66,7 @@ module _ (problem : ProblemParts) (cost : ℤ) where
       → NoneFails (is_below problem cost) placed → NoneFails (is_no_point problem cost) placed
       → AllPass placed
   together [] a b c d e = tt
-  together (at ∷ rest) a b c d e = (
-    record { split = a.0; empty = b.0; multiplier = c.0; bound = d.0; point = e.0 },
-    together rest a.1 b.1 c.1 d.1 e.1,
-  )
+  together (at ∷ rest) a b c d e = grind (arith, together rest a.1 b.1 c.1 d.1 e.1)
 
   each_by : (test : List LineRange → Node → Bool)
       → ((at : PlacedNode) → Passes problem cost at.region at.node → test at.region at.node ≡ false)
@@ -79,32 +76,11 @@ module _ (problem : ProblemParts) (cost : ℤ) where
 
   none_all_pass : (placed : List PlacedNode) → placed_faults problem cost placed ≡ []
       → AllPass placed
-  none_all_pass placed h =
-      let e = front_none _ _ h in
-      let d = front_none _ _ e.0 in
-      let c = front_none _ _ d.0 in
-      let b = front_none _ _ c.0 in
-      together placed
-      (none_from splits_outside (λ place. fault.Split place) 0 placed b.0)
-      (none_from (is_not_empty problem) (λ place. fault.Empty place) 0 placed b.1)
-      (none_from (exceeds_costs problem) (λ place. fault.Multiplier place) 0 placed c.1)
-      (none_from (is_below problem cost) (λ place. fault.Bound place) 0 placed d.1)
-      (none_from (is_no_point problem cost) (λ place. fault.Point place) 0 placed e.1)
+  none_all_pass placed h = grind (arith, front_none, together, none_from)
 
   all_pass_none : (placed : List PlacedNode) → AllPass placed → placed_faults problem cost placed
       ≡ []
-  all_pass_none placed all = rw (
-    all_from splits_outside (λ place. fault.Split place) 0 placed
-        (each_by splits_outside (λ at passes. passes.split) placed all),
-    all_from (is_not_empty problem) (λ place. fault.Empty place) 0 placed
-        (each_by (is_not_empty problem) (λ at passes. passes.empty) placed all),
-    all_from (exceeds_costs problem) (λ place. fault.Multiplier place) 0 placed
-        (each_by (exceeds_costs problem) (λ at passes. passes.multiplier) placed all),
-    all_from (is_below problem cost) (λ place. fault.Bound place) 0 placed
-        (each_by (is_below problem cost) (λ at passes. passes.bound) placed all),
-    all_from (is_no_point problem cost) (λ place. fault.Point place) 0 placed
-        (each_by (is_no_point problem cost) (λ at passes. passes.point) placed all),
-  ) refl
+  all_pass_none placed all = grind (arith, all_from, each_by)
 
   -- ---- trees
 
@@ -138,20 +114,12 @@ module _ (problem : ProblemParts) (cost : ℤ) where
   tree_passes region (leaf node) shown = let passes = leaf_passes problem cost region node shown in
       (passes.0, (passes.1, tt))
   tree_passes region (fork line at lower upper) shown =
-      let first = tree_passes (part_up_to region line at) lower shown.1 in
-      let second = tree_passes (part_from region line (at + 1)) upper shown.2 in (
-        (first.0, second.0),
-        (
-          record {
-            split = not_outside region line at shown.0;
-            empty = refl;
-            multiplier = refl;
-            bound = refl;
-            point = refl;
-          },
-          pass_both (placed_over (part_up_to region line at) lower)
-              (placed_over (part_from region line (at + 1)) upper) first.1 second.1,
-        ),
+      grind (
+        arith,
+        not_outside,
+        pass_both,
+        tree_passes (part_up_to region line at) lower shown.1,
+        tree_passes (part_from region line (at + 1)) upper shown.2,
       )
 
 -- ---- the tree that nodes are
@@ -222,12 +190,7 @@ module _ (problem : ProblemParts) (cost : ℤ) (nodes : List Node) where
 
   none_by : Certifies problem cost nodes → tree_faults problem cost nodes ≡ []
   unfolding tree_faults
-  none_by shown =
-      let passes = tree_passes problem cost (root_of problem) shown.tree shown.shows in
-      ap (λ read. shape_of (length nodes) read ++ placed_faults problem cost
-      (placed_in problem read))
-      (whole_is shown.tree nodes passes.0 shown.whole)
-      ∙ all_pass_none problem cost (placed_over (root_of problem) shown.tree) passes.1
+  none_by shown = grind (arith, tree_passes, whole_is, all_pass_none)
 
   -- nodes have no fault where they certify a cost, and only there
   pub no_fault_certifies : (tree_faults problem cost nodes ≡ []) ↔ Certifies problem cost nodes
@@ -243,6 +206,4 @@ module _ (problem : ProblemParts) (cost : ℤ) (nodes : List Node) where
   pub none_certifies : (first : Option TreeFault) → first
       ≡ slice_get (tree_faults problem cost nodes) 0
       → (first ≡ None) ↔ Certifies problem cost nodes
-  none_certifies first is =
-      let none = first_none (tree_faults problem cost nodes) first is in
-      (λ h. no_fault_certifies.0 (none.0 h), λ shown. none.1 (no_fault_certifies.1 shown))
+  none_certifies first is = grind (arith, first_none, no_fault_certifies)

@@ -1,6 +1,8 @@
 -- A text without a fault as a tree is one.
-use Rattle.std.proofs.Common.{◌≡◌, ℕ, ℤ, zero, suc, pos, negsuc, ◌+◌, ◌^◌, ◌<◌, ◌≤◌, ◌≤ℤ◌, ◌<ℤ◌, arith, Bool, true, false, cond, not, ◌||◌, nat_lt, List, [], ◌∷◌}
-use Rattle.std.proofs.Common.{length, take, get_or, slice_get, unsigned_abs, int_lt, position, refl, ap, sym, ◌∙◌, subst, Option, Some, None, All}
+use Rattle.std.proofs.Common.{◌≡◌, ℕ, ℤ, zero, suc, pos, negsuc, ◌+◌, ◌^◌, ◌<◌, ◌≤◌, ◌≤ℤ◌, ◌<ℤ◌}
+use Rattle.std.proofs.Common.{arith, Bool, true, false, cond, not, ◌||◌, nat_lt, List, [], ◌∷◌}
+use Rattle.std.proofs.Common.{length, take, get_or, slice_get, unsigned_abs, int_lt, position, refl}
+use Rattle.std.proofs.Common.{ap, sym, ◌∙◌, subst, Option, Some, None, All}
 use Rattle.std.specs.List.Sorted.{IsStrictlySortedBy}
 use Rattle.std.specs.Ordering.{int_cmp, int_eq, MatchOrdering}
 use Rattle.std.specs.declared.cmp.Ordering.TheVariants.{Less}
@@ -29,10 +31,10 @@ use Rattle.branch_certificate.specs.declared.row_says.RowSays.{RowSays}
 use Rattle.branch_certificate.specs.declared.row_says.RowSays.TheVariants as says
 use Rattle.branch_certificate.specs.declared.tree_row.TreeRow.{TreeRow}
 use Rattle.branch_certificate.specs.ReadRows.{AreRising, IsReadSoFar, IsRefused, IsSoundNode, IsTreeRow, Says, SaysBound, SaysNode, first_why, closed, takes_row, with_row}
-use Rattle.branch_certificate.specs.TreeFiles.{NamedIds, announced, has_stray_cell, ids_of, is_due, node_of, side_of, tree_input, tree_of, tree_row, tree_rules, read_faults}
+use Rattle.branch_certificate.specs.TreeFiles.{NamedIds, ids_of, is_due, side_of, tree_input, tree_of, tree_row, tree_rules, read_faults}
 use Rattle.branch_certificate.specs.TreeTexts.{CanBeWritten, NamesWhatIs}
 use Rattle.branch_certificate.proofs.ReadIds.{rises}
-use Rattle.branch_certificate.proofs.ReadRules.{empty_aside, empty_says, empty_stray, empty_unknown, multiplier_of_0, multiplier_says, multiplier_stray, multiplier_unknown, or_false, or_true, out_of_order, split_says, split_stray, split_unknown, with_kind}
+use Rattle.branch_certificate.proofs.ReadRules.{empty_aside, empty_says, empty_stray, empty_unknown, multiplier_of_0, multiplier_says, multiplier_stray, multiplier_unknown, or_true, split_says, split_stray, split_unknown}
 use Rattle.branch_certificate.proofs.ReadSteps.{due_told}
 use Rattle.branch_certificate.proofs.ReadTaken.{taken}
 use Rattle.branch_certificate.proofs.ReadTexts.{tree_read}
@@ -44,46 +46,20 @@ module _ (ids : NamedIds) (row : TreeRow) where
   bound_place : row.kind ≡ pos 2 → (a b c : Bool) → not (int_eq row.multiplier (pos 0)) ≡ a
       → not (int_eq row.value (pos 0)) ≡ b → ((a || b) || false) ≡ c
       → (before : List TreeRow) → first_why ids before row ≡ cond (is_due before || c) (Some why.OrderGap) None
-  bound_place kind a b c some other e before =
-      let bound = with_kind row 2 in
-      ap (first_why ids before) (ap (λ k. record row { kind = k }) kind)
-      ∙ out_of_order (is_due before) false false (has_stray_cell bound) (is_due before || c)
-      (ap (λ x. is_due before || ((x || not (int_eq row.value (pos 0))) || false)) some
-      ∙ ap (λ x. is_due before || ((a || x) || false)) other
-      ∙ ap (λ x. is_due before || x) e)
+  bound_place kind a b c some other e before = grind arith
 
   bound_says : row.kind ≡ pos 2 → not (int_eq row.multiplier (pos 0)) ≡ false
       → not (int_eq row.value (pos 0)) ≡ false → SaysBound ids row (unsigned_abs row.id)
-  bound_says kind none other = record {
-    alone = ap (λ k. int_eq k (pos 3)) kind;
-    stands_for = λ behind. ap (λ k. node_of ids (record row { kind = k }) behind) kind;
-    due = ap (λ k. announced (record row { kind = k })) kind;
-    place = λ before. bound_place kind false false false none other refl before
-        ∙ ap (λ b. cond b (Some why.OrderGap) None) (or_false (is_due before));
-  }
+  bound_says kind none other = grind arith
 
   point_place : row.kind ≡ pos 4 → (a b c d : Bool) → not (int_eq row.multiplier (pos 0)) ≡ a
       → not (int_eq row.value (pos 0)) ≡ b → not (int_eq row.id (pos 0)) ≡ c → ((a || b) || c) ≡ d
       → (before : List TreeRow) → first_why ids before row ≡ cond (is_due before || d) (Some why.OrderGap) None
-  point_place kind a b c d some other id e before =
-      let point = with_kind row 4 in
-      ap (first_why ids before) (ap (λ k. record row { kind = k }) kind)
-      ∙ out_of_order (is_due before) false false (has_stray_cell point) (is_due before || d)
-      (ap (λ x. is_due before || ((x || not (int_eq row.value (pos 0))) || not (int_eq row.id (pos 0)))) some
-      ∙ ap (λ x. is_due before || ((a || x) || not (int_eq row.id (pos 0)))) other
-      ∙ ap (λ x. is_due before || ((a || b) || x)) id
-      ∙ ap (λ x. is_due before || x) e)
+  point_place kind a b c d some other id e before = grind arith
 
   point_says : row.kind ≡ pos 4 → not (int_eq row.multiplier (pos 0)) ≡ false
       → not (int_eq row.value (pos 0)) ≡ false → not (int_eq row.id (pos 0)) ≡ false → SaysNode ids row node.Point
-  point_says kind none other id = record {
-    alone = ap (λ k. int_eq k (pos 3)) kind;
-    stands_for = λ behind. ap (λ k. node_of ids (record row { kind = k }) behind) kind;
-    none_due = ap (λ k. announced (record row { kind = k })) kind;
-    place = λ before. point_place kind false false false false none other id refl before
-        ∙ ap (λ b. cond b (Some why.OrderGap) None) (or_false (is_due before));
-    sound = (tt, tt);
-  }
+  point_says kind none other id = grind arith
 
 -- ---- what a row says that is not refused
 

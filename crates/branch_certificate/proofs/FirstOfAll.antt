@@ -1,7 +1,6 @@
 -- The first fault of nodes: that of their shape, or else the first of the nodes over their regions.
-use Rattle.std.proofs.Common.{◌≡◌, ℤ, ◌+◌, ◌∙◌, ◌↔◌}
-use Rattle.std.proofs.Common.{List, [], ◌∷◌, ◌++◌, length, slice_get, Option, Some, None, Result, Ok, Err, IfNone, IfOk, refl, ap, sym}
-use Rattle.std.specs.Option.{option_or}
+use Rattle.std.proofs.Common.{◌≡◌, ℤ, ◌+◌, ◌∙◌, ◌↔◌, arith, List, [], ◌∷◌, ◌++◌, length, slice_get}
+use Rattle.std.proofs.Common.{Option, Some, None, Result, Ok, Err, IfNone, IfOk, refl, ap, sym}
 use Rattle.std.proofs.lemmas.Bool.{false≢true}
 use Rattle.std.proofs.lemmas.List.{append_assoc, append-nil}
 use Rattle.line_cost_model.specs.declared.range.LineRange.{LineRange}
@@ -63,9 +62,7 @@ module _ (problem : ProblemParts) (cost : ℤ) (nodes : List Node) where
       → Some fault ≡ slice_get (shape_of (length nodes) (tree_in nodes)) 0
       → Some fault ≡ slice_get (tree_faults problem cost nodes) 0
   unfolding tree_faults
-  shape_first fault is = sym (first_of (shape_of (length nodes) (tree_in nodes)) _
-      ∙ ap (λ first. option_or first (slice_get
-      (placed_faults problem cost (placed_in problem (tree_in nodes))) 0)) (sym is))
+  shape_first fault is = grind arith
 
   -- without one it is the first one of the nodes
   pub nodes_first : (first : Option TreeFault)
@@ -73,12 +70,7 @@ module _ (problem : ProblemParts) (cost : ℤ) (nodes : List Node) where
       → first ≡ slice_get (placed_faults problem cost (all_placed problem nodes)) 0
       → first ≡ slice_get (tree_faults problem cost nodes) 0
   unfolding tree_faults
-  nodes_first first none is = is
-      ∙ ap (λ placed. slice_get (placed_faults problem cost placed) 0)
-      (sym (placed_are problem nodes (tree_in nodes) refl (sym none)))
-      ∙ sym (first_of (shape_of (length nodes) (tree_in nodes)) _
-      ∙ ap (λ first. option_or first (slice_get
-      (placed_faults problem cost (placed_in problem (tree_in nodes))) 0)) (sym none))
+  nodes_first first none is = grind (arith, slice_get, placed_are, first_of)
 
   -- no fault means that no feasible concept costs less
   pub none_is_least : HasEachFeasible problem (root_of problem) → (first : Option TreeFault)

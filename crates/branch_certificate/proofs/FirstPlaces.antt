@@ -1,6 +1,6 @@
 -- The first faults of nodes with their regions, by kind.
-use Rattle.std.proofs.Common.{◌≡◌, ℕ, ℤ, ◌+◌, ◌∙◌, Bool, true, false, if◌then◌else◌}
-use Rattle.std.proofs.Common.{List, [], ◌∷◌, ◌++◌, slice_get, Option, Some, None, option_map, refl, ap, sym}
+use Rattle.std.proofs.Common.{◌≡◌, ℕ, ℤ, ◌+◌, Bool, true, false, if◌then◌else◌, arith, List, []}
+use Rattle.std.proofs.Common.{◌∷◌, ◌++◌, slice_get, Option, Some, None, option_map, refl}
 use Rattle.std.specs.List.{enumerate_from, flat_map}
 use Rattle.std.specs.Option.{option_or}
 use Rattle.line_cost_model.specs.declared.range.LineRange.{LineRange}
@@ -95,34 +95,13 @@ module _ (problem : ProblemParts) (cost : ℤ) where
   judged_is : (placed : List PlacedNode) (firsts : FirstFaults) (place : ℕ)
       → judged problem cost firsts place placed ≡ with_later firsts place placed
   unfolding judged place_of
-  judged_is [] firsts place = λ i. record {
-    empty = or_none firsts.empty i;
-    multiplier = or_none firsts.multiplier i;
-    bound = or_none firsts.bound i;
-    point = or_none firsts.point i;
-  }
+  judged_is [] firsts place = grind arith
   judged_is (at ∷ rest) firsts place =
-      judged_is rest (noted problem cost firsts place at) (place + 1)
-      ∙ (λ i. record {
-        empty = or_later firsts.empty (is_not_empty problem at.region at.node) place
-            (place_of (at_node (is_not_empty problem)) (place + 1) rest) i;
-        multiplier = or_later firsts.multiplier (exceeds_costs problem at.region at.node) place
-            (place_of (at_node (exceeds_costs problem)) (place + 1) rest) i;
-        bound = or_later firsts.bound (is_below problem cost at.region at.node) place
-            (place_of (at_node (is_below problem cost)) (place + 1) rest) i;
-        point = or_later firsts.point (is_no_point problem cost at.region at.node) place
-            (place_of (at_node (is_no_point problem cost)) (place + 1) rest) i;
-      })
-
-  or_or : (a b c : Option TreeFault) → option_or (option_or a b) c ≡ option_or a (option_or b c)
-  or_or None b c = refl
-  or_or (Some a) b c = refl
+      grind (arith, or_later, judged_is rest (noted problem cost firsts place at) (place + 1))
 
   leaning : (a b c d e : Option TreeFault) → option_or (option_or (option_or (option_or a b) c) d) e
       ≡ option_or a (option_or b (option_or c (option_or d e)))
-  leaning a b c d e = or_or (option_or (option_or a b) c) d e
-      ∙ or_or (option_or a b) c (option_or d e)
-      ∙ or_or a b (option_or c (option_or d e))
+  leaning a b c d e = grind arith
 
   five : (a b c d e : List TreeFault) (p q r s t : Option TreeFault) → slice_get a 0 ≡ p
       → slice_get b 0 ≡ q
@@ -130,23 +109,9 @@ module _ (problem : ProblemParts) (cost : ℤ) where
       → slice_get (a ++ b ++ c ++ d ++ e) 0 ≡ option_or p
       (option_or q (option_or r (option_or s t)))
   five a b c d e p q r s t first second third fourth fifth =
-      first_of (a ++ b ++ c ++ d) e
-      ∙ ap (λ o. option_or o (slice_get e 0)) (first_of (a ++ b ++ c) d
-      ∙ ap (λ o. option_or o (slice_get d 0)) (first_of (a ++ b) c
-      ∙ ap (λ o. option_or o (slice_get c 0)) (first_of a b)))
-      ∙ leaning (slice_get a 0) (slice_get b 0) (slice_get c 0) (slice_get d 0) (slice_get e 0)
-      ∙ (λ i. option_or (first i) (option_or (second i) (option_or (third i)
-      (option_or (fourth i) (fifth i)))))
+      grind (arith, first_of, slice_get, leaning)
 
   pub first_is : (placed : List PlacedNode) → slice_get (placed_faults problem cost placed) 0
       ≡ first_of_all (place_of (at_node splits_outside) 0 placed)
       (judged problem cost no_place 0 placed)
-  first_is placed =
-      five _ _ _ _ _ _ _ _ _ _
-      (first_by splits_outside (λ place. fault.Split place) placed)
-      (first_by (is_not_empty problem) (λ place. fault.Empty place) placed)
-      (first_by (exceeds_costs problem) (λ place. fault.Multiplier place) placed)
-      (first_by (is_below problem cost) (λ place. fault.Bound place) placed)
-      (first_by (is_no_point problem cost) (λ place. fault.Point place) placed)
-      ∙ ap (first_of_all (place_of (at_node splits_outside) 0 placed))
-      (sym (judged_is placed no_place 0))
+  first_is placed = grind (arith, five, first_by, judged_is)

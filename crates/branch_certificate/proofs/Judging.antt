@@ -1,6 +1,6 @@
 -- The loop over the nodes of a tree: what is known before a node, after it, and at the end.
-use Rattle.std.proofs.Common.{◌≡◌, ℕ, ℤ, ◌+◌, ◌≤◌, ◌∙◌, Bool, true, false, if◌then◌else◌}
-use Rattle.std.proofs.Common.{List, [], ◌∷◌, length, drop, slice_get, Some, All, refl, ap, sym, arith}
+use Rattle.std.proofs.Common.{◌≡◌, ℕ, ℤ, ◌+◌, ◌≤◌, ◌∙◌, Bool, true, false, if◌then◌else◌, List, []}
+use Rattle.std.proofs.Common.{◌∷◌, length, drop, slice_get, Some, All, refl, ap, sym, arith}
 use Rattle.std.proofs.lemmas.List.{drop_all, length-map}
 use Rattle.line_cost_model.specs.declared.range.LineRange.{LineRange}
 use Rattle.line_cost_model.specs.Problems.{ProblemParts}
@@ -61,10 +61,7 @@ module _ (problem : ProblemParts) (cost : ℤ) (nodes : List Node) (firsts : Fir
       → place_of (at_node splits_outside) 0 (all_placed problem nodes)
       ≡ (if outside then Some place else place_of (at_node splits_outside) (place + 1) rest)
   unfolding place_of
-  next_splits outside is = so_far.splits
-      ∙ ap (place_of (at_node splits_outside) place) walked_node
-      ∙ ap (λ outside. if outside then Some place else place_of (at_node splits_outside)
-      (place + 1) rest) is
+  next_splits outside is = grind (arith, place_of, at_node, walked_node)
 
   next_others : judged problem cost no_place 0 (all_placed problem nodes)
       ≡ judged problem cost (noted problem cost firsts place here) (place + 1) rest
@@ -96,10 +93,7 @@ finished : (problem : ProblemParts) (cost : ℤ) (nodes : List Node) (firsts : F
     → first_by_kind firsts ≡ slice_get (placed_faults problem cost (all_placed problem nodes)) 0
 unfolding place_of judged
 finished problem cost nodes firsts place regions none is_judged =
-    sym (first_is problem cost (all_placed problem nodes)
-    ∙ ap (λ split. first_of_all split (judged problem cost no_place 0 (all_placed problem nodes)))
-    (is_judged.splits ∙ ap (place_of (at_node splits_outside) place) none)
-    ∙ ap first_by_kind (is_judged.others ∙ ap (judged problem cost firsts place) none))
+    grind (arith, first_is, first_of_all, judged, no_place, place_of, at_node)
 
 pub judged_last : (problem : ProblemParts) (cost : ℤ) (nodes : List Node) (firsts : FirstFaults)
     (place : ℕ)
@@ -119,9 +113,7 @@ pub judged_all : (problem : ProblemParts) (cost : ℤ) (nodes : List Node) (firs
     → IsJudged problem cost nodes firsts place regions
     → first_by_kind firsts ≡ slice_get (placed_faults problem cost (all_placed problem nodes)) 0
 judged_all problem cost nodes firsts place regions past is_judged =
-    finished problem cost nodes firsts place regions
-    (ap (walked regions) (drop_all place nodes past) ∙ no_node regions)
-    is_judged
+    grind (arith, finished, drop_all, no_node)
 
 -- ---- what a node names
 

@@ -1,10 +1,9 @@
 -- A leaf that passes each test shows what it is to show, and the other way.
-use Rattle.std.proofs.Common.{◌≡◌, ℕ, ℤ, pos, ◌≤◌, ◌≤ℤ◌, ◌||◌, ◌∙◌, not, Bool, true, false}
-use Rattle.std.proofs.Common.{T, nat_le, nat_lt, int_le, List, [], ◌∷◌, slice_get, Some, None}
-use Rattle.std.proofs.Common.{option_map, unwrap_or, All, zero, suc, refl, ap, sym, arith}
+use Rattle.std.proofs.Common.{◌≡◌, ℕ, ℤ, pos, ◌≤◌, ◌≤ℤ◌, ◌||◌, not, Bool, true, false, T, nat_le}
+use Rattle.std.proofs.Common.{int_le, List, [], ◌∷◌, All, zero, suc, refl, ap, sym, arith}
 use Rattle.std.specs.Int.Signed.{le_z_yes}
 use Rattle.std.specs.List.{list_any}
-use Rattle.std.proofs.lemmas.Bool.{and_parts, false≢true, leb-true, le-leb, lt-ltb, ltb-true}
+use Rattle.std.proofs.lemmas.Bool.{false≢true, leb-true, le-leb, ltb-true}
 use Rattle.std.proofs.lemmas.Bool.{ltb-false, le-ltb}
 use Rattle.std.proofs.lemmas.Float.{T_from_true}
 use Rattle.std.proofs.lemmas.List.Sums.{AllPass-from_list_all, list_all-from_AllPass}
@@ -13,11 +12,10 @@ use Rattle.line_cost_model.specs.declared.multipliers.Multiplier.{Multiplier}
 use Rattle.line_cost_model.specs.declared.range.LineRange.{LineRange}
 use Rattle.line_cost_model.specs.declared.side.Side.{Side}
 use Rattle.line_cost_model.specs.declared.side.Side.TheVariants as side
-use Rattle.line_cost_model.specs.Concepts.{cost_of}
 use Rattle.line_cost_model.specs.DualBounds.{bound_by, open_lines, taken_off}
 use Rattle.line_cost_model.specs.EmptySides.{is_empty_on}
 use Rattle.line_cost_model.specs.Problems.{ProblemParts}
-use Rattle.line_cost_model.specs.Regions.{IsEmptyAt, has_several, least_in, range_of}
+use Rattle.line_cost_model.specs.Regions.{IsEmptyAt, has_several}
 use Rattle.branch_certificate.specs.declared.node.Node.{Node}
 use Rattle.branch_certificate.specs.declared.node.Node.TheVariants as node
 use Rattle.branch_certificate.specs.Certified.{LeafCertifies, ShowsBound, ShowsEmpty, ShowsPoint, SplitsInside}
@@ -61,16 +59,11 @@ not_above cost n h = ap not (passed (int_le cost (pos n)) h.le)
 
 pub splits_inside : (region : List LineRange) (line at : ℕ)
     → splits_outside region (node.Split line at) ≡ false → SplitsInside region line at
-splits_inside region line at h =
-    let both = and_parts (nat_le (range_of region line).lo at) (nat_lt at (range_of region line).hi)
-    (not_false _ h) in
-    (leb-true (range_of region line).lo at both.0, ltb-true at (range_of region line).hi both.1)
+splits_inside region line at h = grind arith
 
 pub not_outside : (region : List LineRange) (line at : ℕ) → SplitsInside region line at
     → splits_outside region (node.Split line at) ≡ false
-not_outside region line at inside =
-    rw (le-leb (range_of region line).lo at inside.0, lt-ltb at (range_of region line).hi inside.1)
-    refl
+not_outside region line at inside = grind arith
 
 -- ---- empty edges
 
@@ -80,31 +73,9 @@ empty_at : (problem : ProblemParts) (region : List LineRange) (edge : ℕ) (boun
 empty_at problem region edge bounds side.Over h = ltb-true _ _ h
 empty_at problem region edge bounds side.Under h = ltb-true _ _ h
 
-empty_test : (problem : ProblemParts) (region : List LineRange) (edge : ℕ) (bounds : BoundedEdge)
-    (s : Side)
-    → IsEmptyAt problem.lines region edge bounds s → is_empty_on problem region edge s bounds ≡ true
-empty_test problem region edge bounds side.Over h = lt-ltb _ _ h
-empty_test problem region edge bounds side.Under h = lt-ltb _ _ h
-
 shows_empty : (problem : ProblemParts) (region : List LineRange) (edge : ℕ) (s : Side)
     → is_not_empty problem region (node.Empty edge s) ≡ false → ShowsEmpty problem region edge s
-shows_empty problem region edge s h =
-    elim (slice_get problem.edges edge) as (λ at. slice_get problem.edges edge ≡ at
-    → not (unwrap_or (option_map (is_empty_on problem region edge s) at) false) ≡ false
-    → ShowsEmpty problem region edge s) [
-      | None ↦ λ _ none. absurd (false≢true (sym none))
-      | Some bounds ↦ λ there fails. (
-        bounds,
-        there,
-        empty_at problem region edge bounds s (not_false _ fails),
-      )
-    ] refl h
-
-not_not_empty : (problem : ProblemParts) (region : List LineRange) (edge : ℕ) (s : Side)
-    → ShowsEmpty problem region edge s → is_not_empty problem region (node.Empty edge s) ≡ false
-not_not_empty problem region edge s shown =
-    ap (λ at. not (unwrap_or (option_map (is_empty_on problem region edge s) at) false)) shown.1
-    ∙ ap not (empty_test problem region edge shown.0 s shown.2)
+shows_empty problem region edge s h = grind arith
 
 -- ---- bounds
 
@@ -125,8 +96,7 @@ not_exceeding : (problem : ProblemParts) (cost : ℤ) (region : List LineRange)
     → ShowsBound problem cost region multipliers
     → exceeds_costs problem region (node.Bound multipliers) ≡ false
 not_exceeding problem cost region multipliers shown =
-    ap not (list_all-from_AllPass (λ line. nat_le (taken_off multipliers line) line.cost)
-    (open_lines problem.lines region) (λ k d h. le-leb _ _ (shown.within k d h)))
+    grind (arith, list_all-from_AllPass, nat_le, le-leb)
 
 -- ---- points
 
@@ -155,20 +125,12 @@ none_several (range ∷ region) one =
 
 shows_point : (problem : ProblemParts) (cost : ℤ) (region : List LineRange) → All InOrder region
     → is_no_point problem cost region node.Point ≡ false → ShowsPoint problem cost region
-shows_point problem cost region order h =
-    let parts = neither (list_any has_several region)
-    (not (int_le cost (pos (cost_of problem (least_in region))))) h in
-    record {
-      one = single region order parts.0;
-      enough = at_most cost (cost_of problem (least_in region)) parts.1;
-    }
+shows_point problem cost region order h = grind (arith, neither, int_le, single, at_most)
 
 is_a_point : (problem : ProblemParts) (cost : ℤ) (region : List LineRange)
     → ShowsPoint problem cost region
     → is_no_point problem cost region node.Point ≡ false
-is_a_point problem cost region shown =
-    rw (none_several region shown.one) (not_above cost
-    (cost_of problem (least_in region)) shown.enough)
+is_a_point problem cost region shown = grind (arith, none_several, not_above)
 
 -- ---- leaves
 
@@ -187,33 +149,7 @@ pub leaf_passes : (problem : ProblemParts) (cost : ℤ) (region : List LineRange
     → LeafCertifies problem cost region node → (is_split node ≡ false)
     × Passes problem cost region node
 leaf_passes problem cost region (node.Split line at) shown = absurd shown
-leaf_passes problem cost region (node.Empty edge s) shown = (
-  refl,
-  record {
-    split = refl;
-    empty = not_not_empty problem region edge s shown;
-    multiplier = refl;
-    bound = refl;
-    point = refl;
-  },
-)
-leaf_passes problem cost region (node.Bound multipliers) shown = (
-  refl,
-  record {
-    split = refl;
-    empty = refl;
-    multiplier = not_exceeding problem cost region multipliers shown;
-    bound = not_above cost _ shown.enough;
-    point = refl;
-  },
-)
-leaf_passes problem cost region node.Point shown = (
-  refl,
-  record {
-    split = refl;
-    empty = refl;
-    multiplier = refl;
-    bound = refl;
-    point = is_a_point problem cost region shown;
-  },
-)
+leaf_passes problem cost region (node.Empty edge s) shown = grind arith
+leaf_passes problem cost region (node.Bound multipliers) shown =
+    grind (arith, not_exceeding, not_above)
+leaf_passes problem cost region node.Point shown = grind (arith, is_a_point)

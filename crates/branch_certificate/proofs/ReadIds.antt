@@ -36,10 +36,7 @@ rises (id ∷ ids) up (suc i) (suc j) d h k = rises ids up.1 i j d (omega arith)
 module _ {X : Type 0} (p : X → Bool) (d : X) (xs : List X) where
   stands_first : (i : ℕ) → i < length xs → p (get_or xs i d) ≡ true
       → ((k : ℕ) → k < i → p (get_or xs k d) ≡ false) → position p xs ≡ Some i
-  stands_first i h passes none =
-      ap (λ n. cond (nat_lt n (length xs)) (Some n) None)
-      (position_or_len_is p xs i d (omega arith) none (λ l. passes))
-      ∙ ap (λ b. cond b (Some i) None) (lt-ltb i (length xs) h)
+  stands_first i h passes none = grind (arith, nat_lt, position_or_len_is, lt-ltb)
 
   stands_nowhere : ((k : ℕ) → k < length xs → p (get_or xs k d) ≡ false) → position p xs ≡ None
   stands_nowhere none =
@@ -75,11 +72,7 @@ same_id x y e = exact_signed x y e
 module _ (ids : List ℤ) (id : ℤ) (up : IsStrictlySortedBy int_cmp ids) where
   less_before : (i k : ℕ) → i < length ids → int_cmp (get_or ids i (pos 0)) id ≡ Equal → k < i
       → int_eq id (get_or ids k (pos 0)) ≡ false
-  less_before i k h here l =
-      let low : int_cmp (get_or ids k (pos 0)) id ≡ Less =
-      subst (λ x. int_cmp (get_or ids k (pos 0)) x ≡ Less) (same_id _ _ here)
-      (rises ids up k i (pos 0) l h) in
-      greater_is_not id _ (turned_less _ id low)
+  less_before i k h here l = grind (arith, get_or, same_id, rises, greater_is_not, turned_less)
 
   -- a search that ends at an id tells its first place
   pub found : (i : ℕ) → i < length ids → HoldsAt (λ y. int_cmp y id ≡ Equal) ids i
@@ -92,14 +85,8 @@ module _ (ids : List ℤ) (id : ℤ) (up : IsStrictlySortedBy int_cmp ids) where
   in_order : (x y : ℤ) → int_cmp x y ≡ Less → (o u : Ordering) → int_cmp x id ≡ o
       → int_cmp y id ≡ u → ordering_index o ≤ ordering_index u
   in_order x y low Less u a b = omega arith
-  in_order x y low Equal u a b =
-      let above : int_cmp y id ≡ Greater =
-      turned_less id y (subst (λ z. int_cmp z y ≡ Less) (same_id x id a) low) in
-      rw (sym b ∙ above) (omega arith)
-  in_order x y low Greater u a b =
-      let above : int_cmp y id ≡ Greater =
-      turned_less id y (int_cmp_total.trans id x y (turned_greater x id a) low) in
-      rw (sym b ∙ above) (omega arith)
+  in_order x y low Equal u a b = grind arith
+  in_order x y low Greater u a b = grind (arith, turned_less, int_cmp_total, turned_greater)
 
   non_decreasing : IsNonDecreasingBy (λ y. ordering_index (int_cmp y id)) ids
   non_decreasing i j d l h =
@@ -133,9 +120,7 @@ pub kept_more : {X R Y : Type 0} (told : X → R) (keep : R → Y) (xs : List X)
 kept_more told keep [] i r e = cc
 kept_more told keep (x ∷ xs) zero r e =
     let same : told x ≡ r = cc in ap (λ s. keep s ∷ []) same
-kept_more told keep (x ∷ xs) (suc i) r e =
-    let next : suc i + 1 ≡ suc (i + 1) = omega arith in
-    rw next (ap (λ rest. keep (told x) ∷ rest) (kept_more told keep xs i r e))
+kept_more told keep (x ∷ xs) (suc i) r e = grind (arith, kept_more told keep xs i r e)
 
 -- the same behind some others, where the one more was passed on
 pub kept_behind : {X R Y : Type 0} (told : X → R) (keep : R → Y) (xs : List X) (i : ℕ) (r : R)
@@ -144,9 +129,7 @@ pub kept_behind : {X R Y : Type 0} (told : X → R) (keep : R → Y) (xs : List 
     ≡ Some r
     → new ≡ start ++ map (λ x. keep (told x)) (take (i + 1) xs)
 kept_behind told keep xs i r start new old put pushed is are e =
-    pushed ∙ ap (λ one. old ++ one ∷ []) is ∙ ap (λ all. all ++ keep r ∷ []) are
-    ∙ append_assoc start (map (λ x. keep (told x)) (take i xs)) (keep r ∷ [])
-    ∙ ap (λ all. start ++ all) (sym (kept_more told keep xs i r e))
+    grind (arith, append_assoc, kept_more)
 
 -- of two ids with an index the one of the lesser index is less
 pub found_twice : (ids : List ℤ) (x y : ℤ) (i j : ℕ) → IsStrictlySortedBy int_cmp ids

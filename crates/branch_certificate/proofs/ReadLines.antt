@@ -1,7 +1,7 @@
 -- A text of a tree that is read row by row, with no table: faults of cells come before all others.
-use Rattle.std.proofs.Common.{◌≡◌, ℕ, ◌+◌, ◌<◌, ◌≤◌, List, [], ◌∷◌, length, map, drop}
-use Rattle.std.proofs.Common.{get_or, slice_get, subst, refl, sym, ap, ◌∙◌, arith, Option, Some, None}
-use Rattle.std.proofs.Common.{Err, All, length-drop}
+use Rattle.std.proofs.Common.{◌≡◌, ℕ, ◌+◌, ◌<◌, ◌≤◌, List, [], ◌∷◌, length, map, drop, get_or}
+use Rattle.std.proofs.Common.{slice_get, refl, sym, ap, ◌∙◌, arith, Option, Some, None, Err, All}
+use Rattle.std.proofs.Common.{length-drop}
 use Rattle.std.specs.List.{flat_map}
 use Rattle.std.proofs.lemmas.List.{drop_more}
 use Rattle.std.proofs.lemmas.List.Elements.{All-nil, All-cons}
@@ -18,13 +18,10 @@ use Rattle.giv_files.specs.Rows.{Row}
 use Rattle.giv_files.specs.Tables.{TableRow, no_row}
 use Rattle.giv_files.specs.Writing.{InColumns}
 use Rattle.giv_files.proofs.Ranges.{row_in_columns}
-use Rattle.branch_certificate.specs.declared.open_bound.OpenBound.{OpenBound}
-use Rattle.branch_certificate.specs.declared.node.Node.{Node}
 use Rattle.branch_certificate.specs.declared.read_fault.TreeReadFault.{TreeReadFault}
 use Rattle.branch_certificate.specs.declared.read_so_far.ReadSoFar.{ReadSoFar}
-use Rattle.branch_certificate.specs.declared.tree_row.TreeRow.{TreeRow}
 use Rattle.branch_certificate.specs.ReadRows.{IsFirst, IsInOrder, IsReadSoFar, IsReadUpTo}
-use Rattle.branch_certificate.specs.ReadRows.{StandsBehind, tree_fault}
+use Rattle.branch_certificate.specs.ReadRows.{tree_fault}
 use Rattle.branch_certificate.specs.TreeFiles.{NamedIds}
 
 -- ---- faults of cells
@@ -60,9 +57,7 @@ cell_refused text others whole row_fault.NoMemory h = tt
 pub no_cells : (text : List ℕ) (left : List Row) → left ≡ []
     → flat_map (row_faults tree_columns) left ≡ faults tree_columns text
     → cell_faults file.Tree tree_columns text ≡ []
-no_cells text left none all =
-    ap (map (λ fault. refusal.BadRow file.Tree fault.row fault.why))
-    (sym all ∙ ap (flat_map (row_faults tree_columns)) none)
+no_cells text left none all = grind arith
 
 -- what refuses by cells or else by rules does one of the two
 pub one_of_both : {A : Type 0} (cells rules : List Refusal) (fault : TreeReadFault)
@@ -76,32 +71,17 @@ one_of_both (x ∷ cells) rules fault h by_cells by_rules = by_cells h
 -- before the first row nothing is read
 pub nothing_read : (ids : NamedIds) (so_far : ReadSoFar) → so_far ≡ record { nodes = []; bound = None }
     → IsReadSoFar ids [] so_far
-nothing_read ids so_far is =
-    subst (IsReadSoFar ids []) (sym is) (record {
-      sound = λ k d h. absurd (omega arith);
-      behind = record { whole = λ rest inside. refl; none_due = refl };
-    })
-
-bound_in_order : (ids : NamedIds) (before : List TreeRow) (nodes : List Node)
-    (bound : Option OpenBound) → StandsBehind ids before nodes bound → IsInOrder bound
-bound_in_order ids before nodes None h = tt
-bound_in_order ids before nodes (Some bound) h = h.sound.after
+nothing_read ids so_far is = grind arith
 
 pub in_order : (ids : NamedIds) (all : List TableRow) (i : ℕ) (fault : Option RowFault)
     (so_far : ReadSoFar) → IsReadUpTo ids all i fault so_far → fault ≡ None
     → IsInOrder so_far.bound
-in_order ids all i fault so_far up_to none =
-    let told = subst (λ fault. IsReadUpTo ids all i fault so_far) none up_to in
-    bound_in_order ids _ so_far.nodes so_far.bound told.known.behind
+in_order ids all i fault so_far up_to none = grind arith
 
 -- the row that is read is in the ranges of its columns
 pub one_inside : (row : Row) (table : List TableRow) → row_faults tree_columns row ≡ []
     → table ≡ table_row tree_columns row ∷ [] → All (λ row. InColumns tree_columns row.cells) table
-one_inside row table none is =
-    subst (All (λ row. InColumns tree_columns row.cells)) (sym is)
-    (All-cons (λ (row : TableRow). InColumns tree_columns row.cells) _ []
-    (row_in_columns tree_columns row none)
-    (All-nil (λ (row : TableRow). InColumns tree_columns row.cells)))
+one_inside row table none is = grind (arith, All-cons, row_in_columns, All-nil)
 
 abbrev behind_first : List TableRow → List TableRow
 behind_first [] = []
@@ -117,9 +97,7 @@ module _ (all : List TableRow) (i : ℕ) (row : Row) (old rest : List Row)
   row_within = omega (arith, length-drop i all, ap length here)
 
   pub row_own : get_or all i no_row ≡ table_row tree_columns row
-  row_own =
-      ap (λ (rows : List TableRow). get_or rows 0 no_row)
-      (sym (drop_more all i no_row row_within) ∙ here)
+  row_own = grind (arith, get_or, drop_more, row_within, here)
 
   pub rows_behind : drop (i + 1) all ≡ map (table_row tree_columns) rest
   rows_behind = ap behind_first (sym (drop_more all i no_row row_within) ∙ here)

@@ -104,20 +104,13 @@ module _ (ids : NamedIds) (row : TreeRow) (kind : row.kind ≡ pos 0) where
   is_split_row = ap (λ k. record row { kind = k }) kind
 
   pub split_unknown : position (int_eq row.id) ids.lines ≡ None → IsRefused ids row why.UnknownLine
-  split_unknown none before =
-      ap (first_why ids before) is_split_row
-      ∙ ap (λ b. first_of (not b) false (is_due before) false false (has_stray_cell split))
-      (missing ids.lines row.id none)
+  split_unknown none before = grind (arith, is_split_row, missing)
 
   split_known : (line : ℕ) → position (int_eq row.id) ids.lines ≡ Some line → (b : Bool)
       → not (int_eq row.multiplier (pos 0)) ≡ b
       → IsRefusedIf ids row (λ before. is_due before || b)
   split_known line stands b stray before =
-      ap (first_why ids before) is_split_row
-      ∙ ap (λ b. first_of (not b) false (is_due before) false false (has_stray_cell split))
-      (there ids.lines row.id line stands)
-      ∙ out_of_order (is_due before) false false (has_stray_cell split) (is_due before || b)
-      (ap (λ x. is_due before || x) (or_false _ ∙ or_false _ ∙ stray))
+      grind (arith, is_split_row, there, out_of_order, or_false)
 
   pub split_stray : (line : ℕ) → position (int_eq row.id) ids.lines ≡ Some line
       → not (int_eq row.multiplier (pos 0)) ≡ true → IsRefused ids row why.OrderGap
@@ -155,10 +148,7 @@ module _ (ids : NamedIds) (row : TreeRow) (kind : row.kind ≡ pos 1) where
   is_empty_row = ap (λ k. record row { kind = k }) kind
 
   pub empty_unknown : position (int_eq row.id) ids.edges ≡ None → IsRefused ids row why.UnknownEdge
-  empty_unknown none before =
-      ap (first_why ids before) is_empty_row
-      ∙ ap (λ b. first_of false (not b) (is_due before) false (int_lt (pos 1) row.value)
-      (has_stray_cell empty)) (missing ids.edges row.id none)
+  empty_unknown none before = grind (arith, is_empty_row, int_lt, missing)
 
   empty_known : (edge : ℕ) → position (int_eq row.id) ids.edges ≡ Some edge → (a b : Bool)
       → int_lt (pos 1) row.value ≡ a → not (int_eq row.multiplier (pos 0)) ≡ b
@@ -230,11 +220,7 @@ module _ (ids : NamedIds) (row : TreeRow) (kind : row.kind ≡ pos 3) where
 
   pub multiplier_unknown : position (int_eq row.id) ids.edges ≡ None
       → IsRefused ids row why.UnknownEdge
-  multiplier_unknown none before =
-      ap (first_why ids before) is_multiplier_row
-      ∙ ap (λ b. first_of false (not b) (not (is_due before))
-      (falls_back before row || int_eq row.multiplier (pos 0)) false (has_stray_cell multiplier))
-      (missing ids.edges row.id none)
+  multiplier_unknown none before = grind (arith, is_multiplier_row, missing)
 
   multiplier_known : (edge : ℕ) → position (int_eq row.id) ids.edges ≡ Some edge → (a b : Bool)
       → int_eq row.multiplier (pos 0) ≡ a → not (int_eq row.value (pos 0)) ≡ b

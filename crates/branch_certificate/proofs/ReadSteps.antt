@@ -2,9 +2,8 @@
 use Rattle.std.proofs.Common.{◌≡◌, ℕ, ℤ, pos, negsuc, suc, ◌≤ℤ◌, ◌+◌, ◌-◌, ◌<◌, ◌≤◌, arith, Bool}
 use Rattle.std.proofs.Common.{true, false, cond, not, ◌||◌, ◌&&◌, nat_lt, int_lt, List, [], ◌∷◌}
 use Rattle.std.proofs.Common.{◌++◌, length, get_or, map, take, unsigned_abs, refl, ap, sym, ◌∙◌}
-use Rattle.std.proofs.Common.{append_assoc, append-nil, inl, inr, Option, Some, None}
-use Rattle.std.proofs.Common.{unwrap_or, All}
-use Rattle.std.specs.List.{list_any, prefix_len}
+use Rattle.std.proofs.Common.{append_assoc, append-nil, Option, Some, None, All}
+use Rattle.std.specs.List.{prefix_len}
 use Rattle.std.proofs.lemmas.Bool.{lt-ltb, le-ltb, ltb-false, cases_lt}
 use Rattle.std.proofs.lemmas.Int.{ints}
 use Rattle.std.proofs.lemmas.List.{reverse-append}
@@ -22,7 +21,7 @@ use Rattle.branch_certificate.specs.ReadRows.{begins_inside, IsClosed, IsOpen, I
 use Rattle.branch_certificate.specs.ReadRows.{IsSoundNode, StandsBehind, is_due_in}
 use Rattle.branch_certificate.specs.ReadRows.{taken_by, closed}
 use Rattle.branch_certificate.specs.TreeFiles.{NamedIds, is_multiplier, is_due, due_after}
-use Rattle.branch_certificate.specs.TreeFiles.{due_behind, announced, falls_back, multiplier_in}
+use Rattle.branch_certificate.specs.TreeFiles.{announced, falls_back, multiplier_in}
 use Rattle.branch_certificate.specs.TreeFiles.{multiplier_rows, node_of, nodes_of}
 use Rattle.branch_certificate.proofs.ReadIds.{found_twice}
 use Rattle.branch_certificate.proofs.ReadRules.{within}
@@ -46,17 +45,12 @@ nodes_none ids = refl
 -- how many are due
 pub due_more : (before : List TreeRow) (row : TreeRow) (b : Bool) → is_multiplier row ≡ b
     → due_after (before ++ row ∷ []) ≡ cond b (due_after before - 1) (announced row)
-due_more before row b is =
-    fold_push due_behind 0 before row
-    ∙ ap (λ b. cond b (due_after before - 1) (announced row)) is
+due_more before row b is = grind (arith, fold_push)
 
 -- whether an edge falls back
 pub falls_more : (before : List TreeRow) (last row : TreeRow) (b : Bool) → is_multiplier last ≡ b
     → falls_back (before ++ last ∷ []) row ≡ ((b && not (int_lt last.id row.id)) || false)
-falls_more before last row b is =
-    ap (λ all. list_any (λ last. is_multiplier last && not (int_lt last.id row.id)) (take 1 all))
-    (reverse-append before (last ∷ []))
-    ∙ ap (λ b. (b && not (int_lt last.id row.id)) || false) is
+falls_more before last row b is = grind (arith, int_lt, reverse-append)
 
 pub inside_first : (row : TreeRow) (rest : List TreeRow) → is_multiplier row ≡ false
     → begins_inside (row ∷ rest) ≡ false
@@ -123,11 +117,7 @@ module _ (ids : NamedIds) (before : List TreeRow) (row : TreeRow) (nodes : List 
 -- ---- a multiplier behind rows
 
 amount_of : (m : ℤ) → pos 1 ≤ℤ m → m ≤ℤ pos 1000000000000000000 → IsAmount (unsigned_abs m)
-amount_of (pos n) low high = record {
-  some = omega (arith, ints, low);
-  few = omega
-      (arith, ints, high);
-}
+amount_of (pos n) low high = grind arith
 amount_of (negsuc n) low high = absurd (omega (arith, ints, low))
 
 module _ (ids : NamedIds) (before : List TreeRow) (row : TreeRow) (nodes : List Node)
@@ -137,19 +127,12 @@ module _ (ids : NamedIds) (before : List TreeRow) (row : TreeRow) (nodes : List 
   added = record { edge = edge; amount = unsigned_abs millionths }
 
   is_added : multiplier_in ids row ≡ added
-  is_added =
-      ap (λ o. record { edge = unwrap_or o 0; amount = unsigned_abs row.multiplier }) said.stands
-      ∙ ap (λ m. record { edge = edge; amount = unsigned_abs m }) said.amount
+  is_added = grind arith
 
   all_rows : (rest : List TreeRow)
       → bound.multipliers ++ map (multiplier_in ids) (multiplier_rows (row ∷ rest))
       ≡ (bound.multipliers ++ added ∷ []) ++ map (multiplier_in ids) (multiplier_rows rest)
-  all_rows rest =
-      let behind = map (multiplier_in ids) (multiplier_rows rest) in
-      ap (λ rows. bound.multipliers ++ map (multiplier_in ids) rows)
-      (multiplier_first row rest said.alone)
-      ∙ ap (λ one. bound.multipliers ++ one ∷ behind) is_added
-      ∙ sym (append_assoc bound.multipliers (added ∷ []) behind)
+  all_rows rest = grind (arith, multiplier_first, is_added, append_assoc)
 
   sound_more : nat_lt edge bound.next ≡ false → IsSoundBound ids (taken_by bound edge millionths)
   sound_more rising =
@@ -191,11 +174,7 @@ module _ (ids : NamedIds) (before : List TreeRow) (row : TreeRow) (nodes : List 
       or_none false = refl
 
       not_before : (i j : ℕ) → not (nat_lt i j) ≡ nat_lt j (i + 1)
-      not_before i j =
-          elim (cases_lt i j) [
-            | inl less ↦ ap not (lt-ltb i j less) ∙ sym (le-ltb j (i + 1) (omega arith))
-            | inr more ↦ ap not (le-ltb i j more) ∙ sym (lt-ltb j (i + 1) (omega arith))
-          ]
+      not_before i j = grind (arith, cases_lt, lt-ltb, le-ltb)
 
 -- ---- a bound that ends
 
@@ -208,15 +187,7 @@ module _ (ids : NamedIds) (before : List TreeRow) (nodes : List Node) where
   pub ended : (bound : Option OpenBound) → StandsBehind ids before nodes bound
       → is_due_in bound ≡ false → IsClosed ids before (closed nodes bound)
   ended None h none = h
-  ended (Some bound) h none = record {
-    whole = λ rest inside.
-        h.whole rest
-        ∙ ap (λ some. nodes ++ node.Bound some ∷ nodes_of ids rest)
-        (ap (λ rows. bound.multipliers ++ map (multiplier_in ids) rows) (no_multiplier rest inside)
-        ∙ append-nil bound.multipliers)
-        ∙ sym (append_assoc nodes (node.Bound bound.multipliers ∷ []) (nodes_of ids rest));
-    none_due = let few : bound.due ≤ 0 = ltb-false 0 bound.due none in h.due ∙ omega arith;
-  }
+  ended (Some bound) h none = grind (arith, no_multiplier, append-nil, append_assoc, ltb-false)
 
   pub ended_sound : (bound : Option OpenBound) → StandsBehind ids before nodes bound
       → All (IsSoundNode ids) nodes → All (IsSoundNode ids) (closed nodes bound)

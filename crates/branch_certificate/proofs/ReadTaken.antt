@@ -1,9 +1,7 @@
 -- Any row that is taken behind others, and the end of the rows.
-use Rattle.std.proofs.Common.{◌≡◌, ℕ, ℤ, Bool}
-use Rattle.std.proofs.Common.{true, false, cond, not, ◌||◌, ◌&&◌, nat_lt, List, [], ◌∷◌}
-use Rattle.std.proofs.Common.{◌++◌, refl, ap, sym, ◌∙◌}
-use Rattle.std.proofs.Common.{append-nil, Option, Some, None, option_map}
-use Rattle.std.proofs.Common.{unwrap_or, All}
+use Rattle.std.proofs.Common.{◌≡◌, ℕ, ℤ, Bool, arith, true, false, cond, not, ◌||◌, ◌&&◌, nat_lt}
+use Rattle.std.proofs.Common.{List, [], ◌∷◌, ◌++◌, refl, ap, sym, ◌∙◌, append-nil, Option, Some}
+use Rattle.std.proofs.Common.{None, option_map, unwrap_or, All}
 use Rattle.std.proofs.lemmas.List.Elements.{All-push}
 use Rattle.giv_files.specs.declared.row_why.RowWhy.{RowWhy}
 use Rattle.giv_files.specs.declared.row_why.RowWhy.TheVariants as why
@@ -72,12 +70,7 @@ module _ (ids : NamedIds) (before : List TreeRow) (row : TreeRow) (so_far : Read
         nodes = nodes;
         bound = option_map (λ bound. taken_by bound edge millionths) bound;
       }))
-  in_bound nodes None sound h edge millionths said = (
-    said.place before
-        ∙ ap (λ b. cond (not b || falls_back before row) (Some why.OrderGap) None)
-        (due_told ids before nodes None h),
-    λ goes. cc,
-  )
+  in_bound nodes None sound h edge millionths said = grind arith
   in_bound nodes (Some bound) sound h edge millionths said = (
     said.place before
         ∙ ap (λ b. cond (not b || falls_back before row) (Some why.OrderGap) None)

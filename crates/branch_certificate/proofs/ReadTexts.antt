@@ -1,6 +1,6 @@
 -- A text of a tree that is read, or refused by its cells, by its rows or as a whole.
-use Rattle.std.proofs.Common.{◌≡◌, ℕ, ◌<◌, arith, Bool, true, false, List, [], length, get_or}
-use Rattle.std.proofs.Common.{slice_get, refl, subst, sym, ap, ◌∙◌, Some, Err, All}
+use Rattle.std.proofs.Common.{◌≡◌, ℕ, arith, Bool, true, false, List, [], get_or, slice_get, refl}
+use Rattle.std.proofs.Common.{subst, sym, ap, ◌∙◌, Some, Err, All}
 use Rattle.std.proofs.lemmas.List.{length-map}
 use Rattle.giv_files.specs.declared.file_id.FileId.TheVariants as file
 use Rattle.giv_files.specs.declared.refusal.Refusal.{Refusal}
@@ -13,8 +13,7 @@ use Rattle.giv_files.specs.Reading.{table_of}
 use Rattle.giv_files.specs.Tables.{TableRow}
 use Rattle.giv_files.proofs.Inputs.{refused_cells, faults_of_table, refused_rows, refused_whole}
 use Rattle.giv_files.proofs.Inputs.{no_faults, whole_rule_broken, whole_rule_kept}
-use Rattle.line_cost_model.specs.declared.edge.BoundedEdge.{BoundedEdge}
-use Rattle.line_cost_model.specs.Problems.{CostedLine, ProblemParts}
+use Rattle.line_cost_model.specs.Problems.{ProblemParts}
 use Rattle.branch_certificate.specs.declared.node.Node.{Node}
 use Rattle.branch_certificate.specs.declared.node.Node.TheVariants as node
 use Rattle.branch_certificate.specs.declared.read_fault.TreeReadFault.{TreeReadFault}
@@ -83,27 +82,9 @@ module _ (problem : ProblemParts) (text : List ℕ) where
           none_here (whole_rule_broken input table is_due why.OrderGap [] (due_here ∙ late))
 
       names_line : (one : Node) → IsSoundNode ids one → NamesWhatIs problem one
-      names_line (node.Split line at) sound =
-          omega (
-            arith,
-            sound.0,
-            ap (λ (ids : NamedIds). length ids.lines) own,
-            length-map problem.lines (λ (line : CostedLine). line.id),
-          )
-      names_line (node.Empty edge side) sound =
-          omega (
-            arith,
-            sound.0,
-            ap (λ (ids : NamedIds). length ids.edges) own,
-            length-map problem.edges (λ (edge : BoundedEdge). edge.id),
-          )
-      names_line (node.Bound multipliers) sound = λ k d h.
-          let below : (get_or multipliers k d).edge < length ids.edges = sound.0 k d h in
-          omega (
-            arith,
-            ap (λ (ids : NamedIds). length ids.edges) own,
-            length-map problem.edges (λ (edge : BoundedEdge). edge.id),
-          )
+      names_line (node.Split line at) sound = grind (arith, length-map)
+      names_line (node.Empty edge side) sound = grind (arith, length-map)
+      names_line (node.Bound multipliers) sound = grind (arith, get_or, length-map)
       names_line node.Point sound = tt
 
       -- and one that is read

@@ -1,9 +1,8 @@
 -- A text without a fault as a tree has exactly the rows of that tree, so it is written anew row by
 -- row.
-use Rattle.std.proofs.Common.{◌≡◌, ℕ, ℤ, pos, arith, Bool, true}
-use Rattle.std.proofs.Common.{false, cond, not, List, [], ◌∷◌, ◌++◌, length, map}
-use Rattle.std.proofs.Common.{slice_get, refl}
-use Rattle.std.proofs.Common.{ap, sym, ◌∙◌, Some, All, append-nil, append_assoc}
+use Rattle.std.proofs.Common.{◌≡◌, ℕ, ℤ, pos, arith, Bool, true, false, cond, not, List, [], ◌∷◌}
+use Rattle.std.proofs.Common.{◌++◌, length, map, slice_get, refl, ap, sym, ◌∙◌, Some, All}
+use Rattle.std.proofs.Common.{append-nil, append_assoc}
 use Rattle.std.specs.List.{AllByRecursion, flat_map}
 use Rattle.std.proofs.lemmas.Bool.{ltb-false, ltb-true, not-false}
 use Rattle.std.proofs.lemmas.Bool.Decides.{Decides-int_eq}
@@ -97,14 +96,14 @@ module _ (problem : ProblemParts) where
   rows_written : (rows : List TreeRow) → AllByRecursion IsTreeRow rows → (before : List TreeRow)
       → KeepRules (tree_rules ids) before rows → due_after (before ++ rows) ≡ 0
       → AreWritten before rows
-  rows_written [] cells before keep ends = record {
-    due = sym ends ∙ ap due_after (append-nil before);
-    same = sym (ap (flat_map (node_rows problem)) (nodes_none ids));
-  }
+  rows_written [] cells before keep ends = grind (arith, append-nil, nodes_none)
   rows_written (row ∷ rows) cells before keep ends =
-      one_written row rows before cells.0 cells.1 keep
-      (rows_written rows cells.1 (before ++ row ∷ []) keep.1
-      (ap due_after (append_assoc before (row ∷ []) rows) ∙ ends)) (is_multiplier row) refl
+      grind (
+        arith,
+        one_written,
+        append_assoc,
+        rows_written rows cells.1 (before ++ row ∷ []) keep.1 (ap due_after (append_assoc before (row ∷ []) rows) ∙ ends),
+      )
 
   -- ---- texts
 
@@ -148,10 +147,14 @@ module _ (problem : ProblemParts) where
       ≡ flat_map (line_text tree_columns) (map (written problem) (records (tree_input ids) table))
   lines_written [] each = refl
   lines_written (row ∷ table) each =
-      ap (λ line. line ++ flat_map (line_text tree_columns) table)
-      (one_line row.cells (All-head IsInside row table each))
-      ∙ ap (λ lines. line_text tree_columns (written problem (tree_row row.cells)) ++ lines)
-      (lines_written table (All-tail IsInside row table each))
+      grind (
+        arith,
+        one_line,
+        All-head,
+        written,
+        All-tail,
+        lines_written table (All-tail IsInside row table each),
+      )
 
   -- a text without a fault has the lines of its tree
   pub tree_kept : (text : List ℕ) → read_faults problem text ≡ []
@@ -185,10 +188,7 @@ pub lines_first : (bytes : List ℕ) (rows table : List TableRow) → bytes ≡ 
     → rows ≡ table
     → bytes ++ flat_map (line_text tree_columns) rows ≡ table_text tree_header tree_columns table
 unfolding table_text
-lines_first bytes rows table is same =
-    ap (λ bytes. bytes ++ flat_map (line_text tree_columns) rows) is
-    ∙ append_assoc tree_header (10 ∷ []) (flat_map (line_text tree_columns) rows)
-    ∙ ap (λ rows. tree_header ++ 10 ∷ flat_map (line_text tree_columns) rows) same
+lines_first bytes rows table is same = grind arith
 
 -- those of one row more, before those that are left
 pub lines_next : (old new text : List ℕ) (cells : List ℤ) (row : Row) (left rows : List Row)
@@ -196,13 +196,7 @@ pub lines_next : (old new text : List ℕ) (cells : List ℤ) (row : Row) (left 
     → cells ≡ (table_row tree_columns row).cells → left ≡ row ∷ rows
     → old ++ flat_map (line_text tree_columns) (map (table_row tree_columns) left) ≡ text
     → new ++ flat_map (line_text tree_columns) (map (table_row tree_columns) rows) ≡ text
-lines_next old new text cells row left rows pushed same next whole =
-    let behind = flat_map (line_text tree_columns) (map (table_row tree_columns) rows) in
-    ap (λ bytes. bytes ++ behind) (pushed
-    ∙ ap (λ cells. old ++ line_text tree_columns (record { number = 0; cells = cells })) same)
-    ∙ append_assoc old (line_text tree_columns (table_row tree_columns row)) behind
-    ∙ ap (λ left. old ++ flat_map (line_text tree_columns) (map (table_row tree_columns) left))
-    (sym next) ∙ whole
+lines_next old new text cells row left rows pushed same next whole = grind (arith, append_assoc)
 
 -- ---- a text that is copied
 

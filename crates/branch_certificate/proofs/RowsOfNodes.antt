@@ -1,9 +1,8 @@
 -- A row of a tree that keeps the rules is the row of its node.
-use Rattle.std.proofs.Common.{◌≡◌, ℕ, ℤ, zero, suc, pos, negsuc, ◌≤ℤ◌, arith, Bool, true}
-use Rattle.std.proofs.Common.{false, cond, not, ◌||◌, ◌&&◌, List, [], ◌∷◌, ◌++◌, length, map}
-use Rattle.std.proofs.Common.{slice_get, unsigned_abs, int_lt, int_eq, position, refl}
-use Rattle.std.proofs.Common.{ap, sym, subst, ◌∙◌, Option, Some, None, append-nil}
-use Rattle.std.proofs.Common.{option_map, unwrap_or, is_some}
+use Rattle.std.proofs.Common.{◌≡◌, ℕ, ℤ, zero, suc, pos, negsuc, ◌≤ℤ◌, arith, Bool, true, false}
+use Rattle.std.proofs.Common.{cond, not, ◌||◌, ◌&&◌, List, [], ◌∷◌, ◌++◌, length, map, slice_get}
+use Rattle.std.proofs.Common.{unsigned_abs, int_lt, int_eq, position, refl, ap, sym, subst, ◌∙◌}
+use Rattle.std.proofs.Common.{Option, Some, None, append-nil, option_map, unwrap_or, is_some}
 use Rattle.std.specs.List.{AllByRecursion, flat_map, list_any}
 use Rattle.std.proofs.lemmas.Bool.{ltb-false, not-false}
 use Rattle.std.proofs.lemmas.Bool.Decides.{Decides-int_eq}
@@ -32,7 +31,6 @@ use Rattle.branch_certificate.proofs.FaultlessTrees.{by_kind}
 use Rattle.branch_certificate.proofs.ReadSteps.{inside_first, multiplier_first}
 use Rattle.branch_certificate.proofs.ReadSteps.{no_multiplier}
 use Rattle.branch_certificate.proofs.WriteMultipliers.{id_is}
-use Rattle.branch_certificate.proofs.WriteRows.{same_row}
 
 -- ---- the rules that a row keeps
 
@@ -136,9 +134,7 @@ module _ (problem : ProblemParts) where
     as_written : (kind : ℕ) (id : ℤ) (value multiplier : ℕ) → row.kind ≡ pos kind → id ≡ row.id
         → pos value ≡ row.value → pos multiplier ≡ row.multiplier
         → row_with kind id value multiplier ≡ written row
-    as_written kind id value multiplier is a b c =
-        same_row (pos kind) id row.id (pos value) row.value (pos multiplier) row.multiplier a b c
-        ∙ ap (λ kind. cells_row kind row.id row.value row.multiplier) (sym is)
+    as_written kind id value multiplier is a b c = grind arith
 
     stray_of : (kind : ℕ) → row.kind ≡ pos kind → has_stray_cell (of_kind kind) ≡ false
     stray_of kind is = ap (λ kind. has_stray_cell (record row { kind = kind })) (sym is) ∙ whole.stray
@@ -167,11 +163,7 @@ module _ (problem : ProblemParts) where
           → node_of ids (of_kind kind) rest ≡ one ∷ [] → (first : TableRow)
           → node_rows problem one ≡ first ∷ [] → first ≡ written row → multiplier_rows rest ≡ []
           → IsWritten
-      alone one kind is this first rows same none =
-          ap (λ kind. flat_map (node_rows problem) (node_of ids (record row { kind = kind }) rest)) is
-          ∙ ap (flat_map (node_rows problem)) this ∙ append-nil (node_rows problem one) ∙ rows
-          ∙ ap (λ first. first ∷ []) same
-          ∙ ap (λ rows. written row ∷ map written rows) (sym none)
+      alone one kind is this first rows same none = grind arith
 
       pub node_written : is_multiplier row ≡ false
           → length (multiplier_rows rest) ≡ announced row
@@ -216,32 +208,25 @@ module _ (problem : ProblemParts) where
 
           bound : row.kind ≡ pos 2 → IsWritten
           bound kind =
-              let free = none_of (not (int_eq row.multiplier (pos 0))) (not (int_eq row.value (pos 0))) false
-              (stray_of 2 kind) in
-              let these = map (multiplier_in ids) (multiplier_rows rest) in
-              let count : length these ≡ unsigned_abs row.id =
-              length-map (multiplier_rows rest) (multiplier_in ids) ∙ due
-              ∙ ap (λ kind. announced (record row { kind = kind })) kind in
-              ap (λ kind. flat_map (node_rows problem) (node_of ids (record row { kind = kind }) rest))
-              kind
-              ∙ append-nil (node_rows problem (node.Bound these))
-              ∙ ap (λ first. first ∷ map of_multiplier these)
-              (as_written 2 _ 0 0 kind (ap pos count ∙ number_back row.id whole.cells.id.0)
-              (is_zero row.value free.1) (is_zero row.multiplier free.0))
-              ∙ ap (λ rows. written row ∷ rows) behind
+              grind (
+                arith,
+                none_of,
+                int_eq,
+                stray_of,
+                unsigned_abs,
+                length-map,
+                append-nil,
+                as_written,
+                number_back,
+                is_zero,
+              )
 
           never : row.kind ≡ pos 3 → IsWritten
           never kind =
               let is : true ≡ false = ap (λ kind. int_eq kind (pos 3)) (sym kind) ∙ other in cc
 
           point : row.kind ≡ pos 4 → IsWritten
-          point kind =
-              let free = none_of (not (int_eq row.multiplier (pos 0))) (not (int_eq row.value (pos 0)))
-              (not (int_eq row.id (pos 0))) (stray_of 4 kind) in
-              alone node.Point 4 kind refl _ refl
-              (as_written 4 _ 0 0 kind (is_zero row.id free.2) (is_zero row.value free.1)
-              (is_zero row.multiplier free.0))
-              (none 4 kind refl)
+          point kind = grind arith
 
   -- the rows of multipliers are those that they stand for
   abbrev pub AreSame : List TreeRow → Type 0

@@ -1,8 +1,8 @@
 -- The shape of nodes: whether they are one whole tree, node by node.
-use Rattle.std.proofs.Common.{◌≡◌, ◌≢◌, ℕ, zero, suc, ◌+◌, ◌-◌, ◌≤◌, ◌<◌, ◌∙◌, ◌==◌, Bool, true, false}
-use Rattle.std.proofs.Common.{nat_lt, if◌then◌else◌, List, [], ◌∷◌, ◌++◌, length, drop, slice_get}
-use Rattle.std.proofs.Common.{Option, Some, None, option_map, option_and_then, refl, ap, sym, arith}
-use Rattle.std.proofs.Common.{inl, inr, subst}
+use Rattle.std.proofs.Common.{◌≡◌, ◌≢◌, ℕ, zero, suc, ◌+◌, ◌-◌, ◌≤◌, ◌<◌, ◌∙◌, ◌==◌, Bool, true}
+use Rattle.std.proofs.Common.{false, nat_lt, if◌then◌else◌, List, [], ◌∷◌, ◌++◌, length, drop}
+use Rattle.std.proofs.Common.{slice_get, Option, Some, None, option_map, option_and_then, refl, ap}
+use Rattle.std.proofs.Common.{sym, arith, subst}
 use Rattle.std.proofs.lemmas.Bool.{eq-eqb, ne_eqb, lt-ltb, le-ltb, cases_lt}
 use Rattle.std.proofs.lemmas.List.{append_assoc, drop_more, drop_all, length-append, length-drop}
 use Rattle.std.proofs.lemmas.Option.{slice_get_within, get_or_from_slice_get, none-some}
@@ -59,12 +59,7 @@ fork_begins : (line at : ℕ) (nodes : List Node) (lower upper : NodeTree × Lis
     → Begins nodes lower → Begins lower.1 upper
     → Begins (node.Split line at ∷ nodes) (fork line at lower.0 upper.0, upper.1)
 unfolding preorder IsProper
-fork_begins line at nodes lower upper first second = record {
-  whole = ap (λ nodes. node.Split line at ∷ nodes)
-      (append_assoc (preorder lower.0) (preorder upper.0) upper.1
-      ∙ ap (λ rest. preorder lower.0 ++ rest) second.whole ∙ first.whole);
-  proper = (first.proper, second.proper);
-}
+fork_begins line at nodes lower upper first second = grind (arith, append_assoc)
 
 upper_begins : (line at : ℕ) (nodes : List Node) (lower : NodeTree × List Node) (read : ReadTree)
     → Begins nodes lower → BeginsIf lower.1 read
@@ -176,23 +171,8 @@ pub ends_at : (nodes : List Node) (place : ℕ) → place < length nodes
     → slice_get (shape_behind (length nodes) (behind 0 (drop (place + 1) nodes))) 0
     ≡ (if nat_lt (place + 1) (length nodes) then Some (fault.Shape place) else None)
 unfolding behind
-ends_at nodes place within = elim (cases_lt (place + 1) (length nodes)) [
-  | inl more ↦
-      ap (λ none. slice_get (if none then [] else fault.Shape
-      (length nodes - length (drop (place + 1) nodes) - 1) ∷ []) 0)
-      (ne_eqb (length (drop (place + 1) nodes)) 0
-      (λ none. omega (arith, more, none, length-drop (place + 1) nodes)))
-      ∙ ap (λ place. Some (fault.Shape place)) (omega (arith, more, length-drop (place + 1) nodes))
-      ∙ sym (ap (λ more. if more then Some (fault.Shape place) else None)
-      (lt-ltb (place + 1) (length nodes) more))
-  | inr past ↦
-      ap (λ none. slice_get (if none then [] else fault.Shape
-      (length nodes - length (drop (place + 1) nodes) - 1) ∷ []) 0)
-      (eq-eqb (length (drop (place + 1) nodes)) 0
-      (omega (arith, past, length-drop (place + 1) nodes)))
-      ∙ sym (ap (λ more. if more then Some (fault.Shape place) else None)
-      (le-ltb (place + 1) (length nodes) past))
-]
+ends_at nodes place within =
+    grind (arith, cases_lt, slice_get, ne_eqb, length-drop, lt-ltb, eq-eqb, le-ltb)
 
 -- no node is left, and a tree is to come
 pub ends_early : (nodes : List Node) (place count : ℕ) → length nodes ≤ place
@@ -208,9 +188,7 @@ module _ (nodes : List Node) (place waiting : ℕ) (node : Node)
   turn : (split : Bool) → is_split node ≡ split
       → behind 1 nodes ≡ behind (if split then suc (suc waiting) else waiting)
       (drop (place + 1) nodes)
-  turn split is = so_far ∙ behind_node nodes place node there waiting
-      ∙ ap (λ split. behind (if split then suc (suc waiting) else waiting) (drop (place + 1) nodes))
-      is
+  turn split is = grind (arith, behind_node)
 
   -- a split
   pub split_turn : (after : ℕ) → is_split node ≡ true → after ≡ waiting + 1
@@ -237,7 +215,4 @@ module _ (nodes : List Node) (place waiting : ℕ) (node : Node)
 pub past_turns : (nodes : List Node) (place waiting : ℕ)
     → behind 1 nodes ≡ behind (suc waiting) (drop place nodes) → length nodes ≤ place
     → slice_get (shape_of (length nodes) (tree_in nodes)) 0 ≡ Some (fault.Shape (length nodes))
-past_turns nodes place waiting so_far past =
-    ap (λ faults. slice_get faults 0) (shape_is nodes)
-    ∙ ap (λ rest. slice_get (shape_behind (length nodes) rest) 0)
-    (so_far ∙ ends_early nodes place waiting past)
+past_turns nodes place waiting so_far past = grind (arith, slice_get, shape_is, ends_early)

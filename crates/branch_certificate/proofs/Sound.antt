@@ -1,15 +1,15 @@
 -- A tree that certifies a cost: no feasible concept costs less.
-use Rattle.std.proofs.Common.{◌≡◌, ℕ, ℤ, pos, negsuc, Bool, false, T, ◌≤◌, ◌≤ℤ◌, List, refl, arith, inl, inr, true}
+use Rattle.std.proofs.Common.{◌≡◌, ℕ, ℤ, pos, negsuc, Bool, false, T, ◌≤◌, ◌≤ℤ◌, List, refl, arith}
+use Rattle.std.proofs.Common.{inl, inr, true}
 use Rattle.std.proofs.lemmas.Bool.{le-leb, leb-true}
 use Rattle.std.proofs.lemmas.Float.{T_from_true}
 use Rattle.std.specs.Int.Signed.{le_z_yes}
 use Rattle.std.proofs.lemmas.List.Sums.{list_all-from_AllPass}
-use Rattle.std.specs.Prelude.{nat_le}
 use Rattle.line_cost_model.specs.declared.multipliers.Multiplier.{Multiplier}
 use Rattle.line_cost_model.specs.declared.range.LineRange.{LineRange}
 use Rattle.line_cost_model.specs.Problems.{ProblemParts, IsProblem}
 use Rattle.line_cost_model.specs.Concepts.{IsFeasible, cost_of}
-use Rattle.line_cost_model.specs.DualBounds.{are_within, bound_by, open_lines, taken_off}
+use Rattle.line_cost_model.specs.DualBounds.{are_within}
 use Rattle.line_cost_model.specs.Regions.{HasEachFeasible, LiesIn, root_of}
 use Rattle.line_cost_model.proofs.Duality.{bound_is_least, empty_is_none, split_covers, one_concept}
 use Rattle.line_cost_model.proofs.Roots.{root_has_each, one_by_one}
@@ -20,9 +20,7 @@ use Rattle.branch_certificate.specs.Trees.{NodeTree, leaf, fork}
 
 within : (problem : ProblemParts) (cost : ℤ) (region : List LineRange) (ms : List Multiplier)
     → ShowsBound problem cost region ms → are_within problem region ms ≡ true
-within problem cost region ms shown =
-    list_all-from_AllPass (λ line. nat_le (taken_off ms line) line.cost) (open_lines problem.lines region)
-    (λ k d h. le-leb _ _ (shown.within k d h))
+within problem cost region ms shown = grind (arith, list_all-from_AllPass, le-leb)
 
 passed : (b : Bool) → T b → b ≡ true
 passed true h = refl
@@ -40,11 +38,9 @@ certified_over problem cost (leaf (node.Split line at)) region shown fs feasible
 certified_over problem cost (leaf (node.Empty edge side)) region shown fs feasible inside =
     absurd (empty_is_none problem region edge shown.0 side shown.1 shown.2 fs feasible inside)
 certified_over problem cost (leaf (node.Bound ms)) region shown fs feasible inside =
-    up_to cost (bound_by problem region ms) (cost_of problem fs) shown.enough
-    (bound_is_least problem region ms (within problem cost region ms shown) fs feasible inside)
+    grind (arith, up_to, bound_is_least, within)
 certified_over problem cost (leaf node.Point) region shown fs feasible inside =
-    rw (one_concept region fs (one_by_one (λ range. range.lo ≡ range.hi) region shown.one) inside)
-    shown.enough
+    grind (arith, one_concept, one_by_one)
 certified_over problem cost (fork line at lower upper) region shown fs feasible inside =
     elim (split_covers region fs line at inside) [
       | inl below ↦ certified_over problem cost lower _ shown.1 fs feasible below
@@ -55,9 +51,7 @@ certified_over problem cost (fork line at lower upper) region shown fs feasible 
 pub certified_where_each : (problem : ProblemParts) (cost : ℤ) (nodes : List Node)
     → HasEachFeasible problem (root_of problem) → Certifies problem cost nodes
     → CostsAtLeast problem cost
-certified_where_each problem cost nodes each shown fs feasible =
-    certified_over problem cost shown.tree (root_of problem) shown.shows fs feasible
-    (each fs feasible)
+certified_where_each problem cost nodes each shown fs feasible = grind (arith, certified_over)
 
 -- the same of a line problem
 pub certified_costs : (problem : ProblemParts) (cost : ℤ) (nodes : List Node) → IsProblem problem

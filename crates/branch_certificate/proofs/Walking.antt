@@ -1,8 +1,7 @@
 -- From one node of a tree to the next: which regions wait.
 use Rattle.std.proofs.Common.{◌≡◌, ℕ, ◌+◌, ◌-◌, ◌<◌, ◌∙◌, Bool, true, false, if◌then◌else◌}
-use Rattle.std.proofs.Common.{slice_get, take, Some, None}
-use Rattle.std.proofs.Common.{List, [], ◌∷◌, ◌++◌, length, reverse, set, get_or, All, refl, ap, sym}
-use Rattle.std.proofs.Common.{subst, arith}
+use Rattle.std.proofs.Common.{slice_get, take, Some, None, List, [], ◌∷◌, ◌++◌, length, reverse}
+use Rattle.std.proofs.Common.{set, get_or, All, refl, ap, sym, subst, arith}
 use Rattle.std.proofs.lemmas.List.{set-set, set-get_or, length-set, reverse-append}
 use Rattle.std.proofs.lemmas.List.{length-append, get_or_push, get_or_default, take_all, take_more}
 use Rattle.std.proofs.lemmas.Option.{get_or_from_slice_get, slice_get-get_or, slice_get_within}
@@ -22,9 +21,7 @@ waits : (splits : List OpenSplit) (split : OpenSplit) (region : List LineRange) 
     ≡ (if in_lower then upper_of split region ∷ waiting_of splits (closed split region)
     else waiting_of splits (closed split region))
 unfolding waiting_of
-waits splits split region in_lower is =
-    ap (λ in_lower. if in_lower then upper_of split region ∷ waiting_of splits (closed split region)
-    else waiting_of splits (closed split region)) is
+waits splits split region in_lower is = grind arith
 
 turned : (splits : List OpenSplit) (split : OpenSplit)
     → reverse (splits ++ split ∷ []) ≡ split ∷ reverse splits
@@ -169,12 +166,7 @@ pub last_turned : (items others : List OpenSplit) (split own : OpenSplit) (last 
     → set items last (record own { in_lower = false })
     ≡ others ++ record split { in_lower = false } ∷ []
 last_turned items others split own last last_is own_is are =
-    let long : last ≡ length others =
-    omega (arith, last_is, ap length are, length-append others (split ∷ [])) in
-    let same : own ≡ split = own_is ∙ (λ i. get_or (are i) (long i) own)
-    ∙ get_or_push others split own (length others) refl in
-    (λ i. set (are i) (long i) (record (same i) { in_lower = false }))
-    ∙ set_last others split (record split { in_lower = false })
+    grind (arith, length-append, get_or, get_or_push, set_last)
 
 -- ---- the regions that are walked
 
@@ -204,19 +196,4 @@ pub entered : (splits items : List OpenSplit) (region now : RegionParts) (before
       waiting = part_from before.region line (at + 1) ∷ before.waiting;
     }
 entered splits items region now before line at lo hi is lo_is hi_is items_are now_is =
-    let ranges = region.ranges in
-    let lower : now ≡ record region { ranges = part_up_to ranges line at } =
-    now_is
-    ∙ ap (λ lo. record region { ranges = set ranges line (record { lo = lo; hi = at }) }) lo_is in
-    let waiting = lower_is_walked items splits ranges line at lo hi lo_is hi_is items_are in
-    (λ i. walk_of items (lower i))
-    ∙ (λ i. record {
-      problem = region.problem;
-      region = part_up_to ranges line at;
-      waiting = waiting i;
-    })
-    ∙ (λ i. record {
-      problem = (is i).problem;
-      region = part_up_to (is i).region line at;
-      waiting = part_from (is i).region line (at + 1) ∷ (is i).waiting;
-    })
+    grind (arith, lower_is_walked)

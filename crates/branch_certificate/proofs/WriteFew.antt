@@ -41,10 +41,7 @@ climbs next (one ∷ rest) up low = (
         rw next at above
 
     first : 0 < length rest → one.edge + 1 ≤ get_or edges 0 0
-    first h =
-        let above : get_or (one.edge ∷ edges) 0 0 < get_or (one.edge ∷ edges) (0 + 1) 0 =
-        up 0 (omega (arith, length-map rest (λ (one : Multiplier). one.edge))) in
-        omega (arith, above)
+    first h = grind (arith, get_or, length-map)
 
 few_climb : (most next : ℕ) (multipliers : List Multiplier) → next ≤ most
     → ClimbFrom next multipliers
@@ -77,8 +74,7 @@ behind : (low high : ℕ) (id : ℤ) (ids : List ℤ) → LiesBetween low high i
     → AllByRecursion (LiesBetween (low + 1) high) ids
 behind low high id [] own rise all = tt
 behind low high id (other ∷ ids) own rise all =
-    let less = is_less id other rise.0 in
-    ((omega (arith, ints, own.0, less), all.0.1), behind low high id ids own rise.1 all.1)
+    grind (arith, is_less, ints, behind low high id ids own rise.1 all.1)
 
 few_between : (low high : ℕ) (ids : List ℤ) → low ≤ high + 1 → IsStrictlySortedBy int_cmp ids
     → AllByRecursion (LiesBetween low high) ids → low + length ids ≤ high + 1
@@ -100,13 +96,7 @@ ids_between (edge ∷ edges) all =
     ((first.id.low, first.id.high), ids_between edges (λ k d h. all (suc k) d (omega (arith, h))))
 
 pub few_edges : (problem : ProblemParts) → IsProblem problem → length problem.edges ≤ 1000000000
-few_edges problem sound =
-    omega (
-      arith,
-      few_between 1 1000000000 (map (λ edge. edge.id) problem.edges) (omega arith) sound.edges_rise
-          (ids_between problem.edges sound.edges),
-      length-map problem.edges (λ edge. edge.id),
-    )
+few_edges problem sound = grind (arith, few_between, ids_between, length-map)
 
 pub climb_of : (multipliers : List Multiplier) → AreMultipliers multipliers
     → ClimbFrom 0 multipliers

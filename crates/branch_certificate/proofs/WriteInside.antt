@@ -1,6 +1,6 @@
 -- The rows of a tree that is written are in the ranges of their columns.
-use Rattle.std.proofs.Common.{◌≡◌, ◌≤◌, ◌<◌, ℕ, ℤ, pos, zero, suc, ◌≤ℤ◌, arith, List, [], ◌∷◌, length}
-use Rattle.std.proofs.Common.{map, slice_get, refl, subst, option_map, unwrap_or, All, Some}
+use Rattle.std.proofs.Common.{◌≡◌, ◌≤◌, ◌<◌, ℕ, ℤ, pos, zero, suc, ◌≤ℤ◌, arith, List, [], ◌∷◌}
+use Rattle.std.proofs.Common.{length, map, slice_get, subst, option_map, unwrap_or, All, Some}
 use Rattle.std.specs.List.{flat_map}
 use Rattle.std.proofs.lemmas.Int.{ints}
 use Rattle.std.proofs.lemmas.List.Elements.{All-nil, All-cons, All-head, All-tail, All-append}
@@ -31,30 +31,16 @@ id_there id (x ∷ xs) (suc i) all h = id_there id xs i (λ k d l. all (suc k) d
 up_to : (n most : ℕ) → n ≤ most → pos n ≤ℤ pos most
 up_to n most h = omega (arith, ints)
 
-from_0 : (n : ℕ) → pos 0 ≤ℤ pos n
-from_0 n = omega (arith, ints)
-
 -- four cells in the ranges of their columns
 pub inside : (kind value multiplier : ℕ) (id : ℤ) → kind < 5 → pos 0 ≤ℤ id → id ≤ℤ pos 1000000000
     → value ≤ 1000000000 → multiplier ≤ 1000000000000000000
     → InColumns tree_columns (cells_row (pos kind) id (pos value) (pos multiplier)).cells
-inside kind value multiplier id known low high few amount = (
-  (kind, known, refl),
-  (
-    (low, high),
-    (
-      (from_0 value, up_to value 1000000000 few),
-      ((from_0 multiplier, up_to multiplier 1000000000000000000 amount), tt),
-    ),
-  ),
-)
+inside kind value multiplier id known low high few amount = grind arith
 
 -- the row of a bound is in the ranges of its columns
 pub bound_inside : (count : ℕ) → count ≤ 1000000000
     → InColumns tree_columns (cells_row (pos 2) (pos count) (pos 0) (pos 0)).cells
-bound_inside count few =
-    inside 2 0 0 (pos count) (omega arith) (from_0 count) (up_to count 1000000000 few)
-    (omega arith) (omega arith)
+bound_inside count few = grind arith
 
 module _ (problem : ProblemParts) (sound : IsProblem problem) where
   pub line_there : (line : ℕ) → line < length problem.lines → IsId (line_id problem line)
@@ -127,9 +113,7 @@ module _ (problem : ProblemParts) (sound : IsProblem problem) where
       All-cons (λ (row : TableRow). InColumns tree_columns row.cells) _ _
       (bound_inside (length multipliers) (few_multipliers problem multipliers sound can named))
       (multipliers_inside multipliers named can.amounts)
-  node_inside node.Point named can =
-      one_row _ (inside 4 0 0 (pos 0) (omega arith) (from_0 0) (up_to 0 1000000000 (omega arith))
-      (omega arith) (omega arith))
+  node_inside node.Point named can = grind arith
 
   pub rows_inside : (nodes : List Node) → All (NamesWhatIs problem) nodes → All CanBeWritten nodes
       → All (λ row. InColumns tree_columns row.cells) (flat_map (node_rows problem) nodes)

@@ -1,6 +1,6 @@
 -- The text of a tree, node by node.
-use Rattle.std.proofs.Common.{◌≡◌, ℕ, ◌+◌, ◌≤◌, List, [], ◌∷◌, ◌++◌, length, take, slice_get, get_or}
-use Rattle.std.proofs.Common.{Some, All, ap, subst, sym, ◌∙◌, refl, arith, append_assoc}
+use Rattle.std.proofs.Common.{◌≡◌, ℕ, ◌+◌, ◌≤◌, List, [], ◌∷◌, ◌++◌, length, take, slice_get}
+use Rattle.std.proofs.Common.{get_or, Some, All, ap, subst, sym, ◌∙◌, refl, arith, append_assoc}
 use Rattle.std.specs.List.{flat_map}
 use Rattle.std.proofs.lemmas.Grind.{flat_map-append}
 use Rattle.std.proofs.lemmas.List.{take_all, take_more}
@@ -45,9 +45,7 @@ pub all_lines : (problem : ProblemParts) (nodes : List Node) (i : ℕ) → lengt
     → tree_header ++ 10 ∷ flat_map (line_text tree_columns) (flat_map (node_rows problem) (take i nodes))
     ≡ tree_text problem nodes
 unfolding tree_text table_text
-all_lines problem nodes i past =
-    ap (λ nodes. tree_header ++ 10 ∷ flat_map (line_text tree_columns) (flat_map (node_rows problem) nodes))
-    (take_all i nodes past)
+all_lines problem nodes i past = grind (arith, take_all)
 
 -- and it is read back
 pub text_back : (problem : ProblemParts) → IsProblem problem → (nodes : List Node)

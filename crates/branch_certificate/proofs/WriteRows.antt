@@ -14,9 +14,7 @@ use Rattle.branch_certificate.specs.TreeTexts.{cells_row}
 pub lone_line : (bytes new : List ℕ) (made row : TableRow) → made ≡ row
     → new ≡ bytes ++ line_text tree_columns made
     → new ≡ bytes ++ flat_map (line_text tree_columns) (row ∷ [])
-lone_line bytes new made row same pushed =
-    pushed ∙ ap (λ row. bytes ++ line_text tree_columns row) same
-    ∙ ap (λ some. bytes ++ some) (sym (append-nil (line_text tree_columns row)))
+lone_line bytes new made row same pushed = grind (arith, append-nil)
 
 -- and behind those of other rows
 pub line_behind : (bytes old new : List ℕ) (rows : List TableRow) (made row : TableRow) → made ≡ row
@@ -24,17 +22,12 @@ pub line_behind : (bytes old new : List ℕ) (rows : List TableRow) (made row : 
     → new ≡ old ++ line_text tree_columns made
     → new ≡ bytes ++ flat_map (line_text tree_columns) (rows ++ row ∷ [])
 line_behind bytes old new rows made row same are pushed =
-    let line = flat_map (line_text tree_columns) (row ∷ []) in
-    lone_line old new made row same pushed ∙ ap (λ some. some ++ line) are
-    ∙ append_assoc bytes (flat_map (line_text tree_columns) rows) line
-    ∙ ap (λ some. bytes ++ some) (sym (flat_map-append (line_text tree_columns) rows (row ∷ [])))
+    grind (arith, lone_line, append_assoc, flat_map-append)
 
 -- rows with equal cells
 pub same_row : (kind a id b value c multiplier : ℤ) → a ≡ id → b ≡ value → c ≡ multiplier
     → cells_row kind a b c ≡ cells_row kind id value multiplier
-same_row kind a id b value c multiplier first second third =
-    ap (λ x. cells_row kind x b c) first ∙ ap (λ x. cells_row kind id x c) second
-    ∙ ap (λ x. cells_row kind id value x) third
+same_row kind a id b value c multiplier first second third = grind arith
 
 -- the rows of the first items, with those of one more
 pub rows_more : {X Y : Type 0} (rows : X → List Y) (xs : List X) (i : ℕ) (x : X) (old new : List Y)

@@ -1,9 +1,7 @@
 -- A tree that is written is read back.
-use Rattle.std.proofs.Common.{◌≡◌, ℕ, ℤ, pos, ◌<◌, ◌≤◌, ◌≤ℤ◌, ◌^◌, arith, Bool}
-use Rattle.std.proofs.Common.{true, false, not, nat_lt, int_eq, List, [], ◌∷◌, ◌++◌}
-use Rattle.std.proofs.Common.{length, get_or, map, refl, sym, ap, subst, ◌∙◌}
-use Rattle.std.proofs.Common.{append_assoc, append-nil}
-use Rattle.std.proofs.Common.{All}
+use Rattle.std.proofs.Common.{◌≡◌, ℕ, ℤ, pos, ◌<◌, ◌≤◌, ◌≤ℤ◌, ◌^◌, arith, Bool, true, false, not}
+use Rattle.std.proofs.Common.{nat_lt, int_eq, List, [], ◌∷◌, ◌++◌, length, get_or, map, refl, sym}
+use Rattle.std.proofs.Common.{ap, subst, ◌∙◌, append_assoc, append-nil, All}
 use Rattle.std.specs.List.{flat_map}
 use Rattle.std.proofs.lemmas.Bool.Decides.{Decides-int_eq}
 use Rattle.std.proofs.lemmas.Int.{ints}
@@ -34,7 +32,7 @@ use Rattle.branch_certificate.specs.TreeFiles.{nodes_of, tree_input, tree_rules,
 use Rattle.branch_certificate.specs.TreeFiles.{read_faults}
 use Rattle.branch_certificate.specs.TreeTexts.{CanBeWritten, NamesWhatIs, edge_id, line_id}
 use Rattle.branch_certificate.specs.TreeTexts.{node_rows, side_place, ReadsBackAs}
-use Rattle.branch_certificate.proofs.ReadRules.{out_of_order, or_false, split_says, empty_says}
+use Rattle.branch_certificate.proofs.ReadRules.{split_says, empty_says}
 use Rattle.branch_certificate.proofs.ReadRules.{multiplier_says}
 use Rattle.branch_certificate.proofs.ReadSteps.{node_more, bound_more}
 use Rattle.branch_certificate.proofs.ReadSteps.{nodes_none}
@@ -59,12 +57,7 @@ module _ (problem : ProblemParts) (sound : IsProblem problem) where
 
   fits : (kind value multiplier : ℕ) (id : ℤ) → kind ≤ 4 → IsId id → value ≤ 1000000000
       → multiplier ≤ 1000000000000000000 → IsTreeRow (row kind id value multiplier)
-  fits kind value multiplier id known is few amount = record {
-    kind = number kind 4 known;
-    id = (omega (arith, ints, is.low), is.high);
-    value = number value 1000000000 few;
-    multiplier = number multiplier 1000000000000000000 amount;
-  }
+  fits kind value multiplier id known is few amount = grind arith
 
   split_row : (line at : ℕ) → line < length problem.lines → at ≤ 1000000000
       → SaysNode ids (row 0 (line_id problem line) at 0) (node.Split line at)
@@ -85,23 +78,10 @@ module _ (problem : ProblemParts) (sound : IsProblem problem) where
       (own_index (λ (edge : BoundedEdge). edge.id) problem.edges edge sound.edges_rise h) refl refl
 
   bound_row : (count : ℕ) → SaysBound ids (row 2 (pos count) 0 0) count
-  bound_row count = record {
-    alone = refl;
-    stands_for = λ behind. refl;
-    due = refl;
-    place = λ before. out_of_order (is_due before) false false false (is_due before)
-        (or_false (is_due before));
-  }
+  bound_row count = grind arith
 
   point_row : SaysNode ids (row 4 (pos 0) 0 0) node.Point
-  point_row = record {
-    alone = refl;
-    stands_for = λ behind. refl;
-    none_due = refl;
-    place = λ before. out_of_order (is_due before) false false false (is_due before)
-        (or_false (is_due before));
-    sound = (tt, tt);
-  }
+  point_row = grind arith
 
   abbrev multiplier_row : Multiplier → TreeRow
   multiplier_row one = row 3 (edge_id problem one.edge) 0 one.amount
@@ -133,9 +113,7 @@ module _ (problem : ProblemParts) (sound : IsProblem problem) where
   named_there : (multipliers : List Multiplier)
       → All (λ one. one.edge < length problem.edges) multipliers
       → All (λ one. one.edge < length ids.edges) multipliers
-  named_there multipliers named k d h =
-      let own : (get_or multipliers k d).edge < length problem.edges = named k d h in
-      omega (arith, length-map problem.edges (λ (edge : BoundedEdge). edge.id))
+  named_there multipliers named k d h = grind (arith, get_or, length-map)
 
   -- what the rows of a node stand for
   abbrev written : Node → List TreeRow
@@ -184,11 +162,7 @@ module _ (problem : ProblemParts) (sound : IsProblem problem) where
       → (before : List TreeRow) (nodes : List Node) → IsClosed ids before nodes
       → Kept before nodes (map (λ row. tree_row row.cells) (flat_map (node_rows problem) these))
       these
-  nodes_kept [] named can before nodes h = (
-    tt,
-    subst (λ all. IsClosed ids all (nodes ++ [])) (sym (append-nil before))
-        (subst (IsClosed ids before) (sym (append-nil nodes)) h),
-  )
+  nodes_kept [] named can before nodes h = grind (arith, append-nil)
   nodes_kept (this ∷ these) named can before nodes h =
       let first = node_kept this (All-head (NamesWhatIs problem) this these named)
       (All-head CanBeWritten this these can) before nodes h in

@@ -182,9 +182,7 @@ module _ (left : ℕ) (file text : List ℕ) (old : Reading) where
       (mid next : Reading) → all ≡ row ∷ rest → after ≡ contents → Leads contents all mid
       → IfSome after (λ folder. ReadOn (brings folder row) mid next) → Leads contents rest next
   rows_more None after all rest row mid next is same leads read = tt
-  rows_more (Some folder) after all rest row mid next is same leads read =
-      let on : ReadOn (brings folder row) mid next = rw same at read in
-      λ new result gives. leads new result (rw is (gives_more _ _ mid next new result on gives))
+  rows_more (Some folder) after all rest row mid next is same leads read = grind (arith, gives_more)
 
   -- a row ends the reading of a text
   pub rows_refused : (contents after : Option Folder) (all rest : List Row) (row : Row)
@@ -194,8 +192,7 @@ module _ (left : ℕ) (file text : List ℕ) (old : Reading) where
       → result ≡ Err end → TextGives contents new result
   rows_refused None after all rest row mid new end result is same leads read e = tt
   rows_refused (Some folder) after all rest row mid new end result is same leads read e =
-      let over : ReadGives (brings folder row) mid new (Err end) = rw same at read in
-      leads new result (rw (is, e) (refused_among _ _ mid new end over))
+      grind (arith, refused_among)
 
   -- all rows of a text have been read
   pub rows_all : (contents : Option Folder) (all : List Row) (new : Reading) → all ≡ []
@@ -210,9 +207,7 @@ pub config_refused : (contents : Option Folder) (old new : Reading) (end : Confi
     → result ≡ Err end
     → IfSome contents (λ folder. ReadGives (config_items (look_in folder)) old new result)
 config_refused None old new end result h e = tt
-config_refused (Some folder) old new end result h e =
-    rw e (unfound (expanded (look_in folder) most_levels) true config_name
-    (look_in folder config_name) old new end h)
+config_refused (Some folder) old new end result h e = grind (arith, unfound)
 
 -- a config file that is not there
 pub config_absent : (contents : Option Folder) (reading : Reading)

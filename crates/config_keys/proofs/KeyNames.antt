@@ -1,12 +1,11 @@
 -- Keys by their names.
-use Rattle.std.proofs.Common.{◌≡◌, ℕ, zero, suc, ◌<◌, Bool, true, false, cond, eqb, List, [], ◌∷◌, length, get_or, Option, Some, None, refl, ap, sym, ◌∙◌, arith, eq-eqb}
-use Rattle.std.specs.List.{find, position_or_len}
+use Rattle.std.proofs.Common.{◌≡◌, ℕ, zero, suc, ◌<◌, Bool, true, false, cond, eqb, List, [], ◌∷◌}
+use Rattle.std.proofs.Common.{length, get_or, Option, Some, None, refl, arith}
+use Rattle.std.specs.List.{find}
 use Rattle.std.proofs.lemmas.Slice.Eq.{bytes_eq-Decides}
-use Rattle.std.proofs.lemmas.Bool.{eqb-true}
 use Rattle.giv_files.specs.declared.key.Key.{Key}
-use Rattle.giv_files.specs.declared.key.Key.TheVariants as key
 use Rattle.giv_files.specs.Keys.{all_keys, key_place, key_name}
-use Rattle.giv_files.proofs.KeyPlaces.{key_there, same_key}
+use Rattle.giv_files.proofs.KeyPlaces.{key_there}
 use Rattle.config_keys.specs.Said.{is_named, key_named}
 
 -- a test that fails leads on
@@ -29,15 +28,6 @@ pub find_passes : {X : Type 0} (p : X → Bool) (xs : List X) (found : X) → fi
 find_passes p [] found e = cc
 find_passes p (x ∷ xs) found e = first_or_rest p x found (find p xs) (p x) refl e (find_passes p xs found)
 
--- the place of the first key that has a name
-place_named : List ℕ → ℕ
-place_named name = position_or_len (is_named name) all_keys
-
-named_place : (k : Key) → place_named (key_name k) ≡ key_place k
-unfolding place_named
-named_place key.LastStage = refl
-named_place _ = refl
-
 -- a name that no key has
 pub unnamed : (name : List ℕ) (k : Key) → key_named name ≡ None → is_named name k ≡ false
 unnamed name k e =
@@ -47,12 +37,8 @@ unnamed name k e =
 same_test : (name : List ℕ) (found k : Key) (t u : Bool) → is_named name k ≡ t → eqb (key_place found) (key_place k) ≡ u → name ≡ key_name found → t ≡ u
 same_test name found k true true e f g = refl
 same_test name found k false false e f g = refl
-same_test name found k true false e f g =
-    let one = sym (named_place found) ∙ ap place_named (sym g ∙ (bytes_eq-Decides name (key_name k)).0 e) ∙ named_place k in
-    sym (eq-eqb _ _ one) ∙ f
-same_test name found k false true e f g =
-    let one = same_key found k (eqb-true _ _ f) in
-    sym e ∙ (bytes_eq-Decides name (key_name k)).1 (g ∙ ap key_name one)
+same_test name found k true false e f g = grind arith
+same_test name found k false true e f g = grind arith
 
 -- a name is that of the key that is found, and of no other
 pub named : (name : List ℕ) (found k : Key) → key_named name ≡ Some found → is_named name k ≡ eqb (key_place found) (key_place k)

@@ -1,5 +1,6 @@
 -- Settings depend on the files alone that a config can name.
-use Rattle.std.proofs.Common.{◌≡◌, ℕ, zero, suc, Bool, true, false, eqb, List, [], ◌∷◌, length, Option, Some, None, refl, ap, sym, ◌∙◌}
+use Rattle.std.proofs.Common.{arith, ◌≡◌, ℕ, zero, suc, Bool, true, false, eqb, List, [], ◌∷◌}
+use Rattle.std.proofs.Common.{length, Option, Some, None, refl, ap}
 use Rattle.std.specs.Prelude.{if◌then◌else◌}
 use Rattle.std.specs.List.{flat_map}
 use Rattle.plan_files.specs.declared.store.Got.{Got}
@@ -9,8 +10,8 @@ use Rattle.giv_files.specs.declared.row_why.RowWhy.TheVariants as why
 use Rattle.config_keys.specs.declared.config_fault.ConfigFault.{ConfigFault}
 use Rattle.config_keys.specs.declared.config_fault.ConfigFault.TheVariants as fault
 use Rattle.config_keys.specs.Includes.{is_inside, path_of}
-use Rattle.config_keys.specs.Items.{Item, Setting, Include, Fault, include_word, pair_item, row_item, got_items, brought, row_items, text_items, below, expanded, config_name, most_levels}
-use Rattle.config_keys.specs.Values.{effective, settings_of}
+use Rattle.config_keys.specs.Items.{Item, Setting, Include, Fault, include_word, pair_item, row_item, brought, row_items, text_items, below, expanded, config_name}
+use Rattle.config_keys.specs.Values.{effective}
 
 -- an item includes a file of the same folder, if it includes one
 abbrev IsInside : Item → Type 0
@@ -42,9 +43,7 @@ row_inside left file row = two_or_not (eqb (length row.fields) 2) _ _ (pair_insi
 module _ (look other : List ℕ → Got) (same : (name : List ℕ) → is_inside name ≡ true → look (path_of name) ≡ other (path_of name)) where
   brought_same : (inner more : List ℕ → List ℕ → List Item) → inner ≡ more → (item : Item) → IsInside item → brought look inner item ≡ brought other more item
   brought_same inner more e (Setting key value) h = refl
-  brought_same inner more e (Include file number optional path) h =
-      ap (λ items. got_items items optional path (look path)) e
-      ∙ ap (λ got. got_items more optional path got) (ap look h.2 ∙ same h.0 h.1 ∙ ap other (sym h.2))
+  brought_same inner more e (Include file number optional path) h = grind arith
   brought_same inner more e (Fault reason) h = refl
 
   row_same : (inner more : List ℕ → List ℕ → List Item) → inner ≡ more → (left : ℕ) (file : List ℕ) (row : Row) → row_items look inner left file row ≡ row_items other more left file row
@@ -65,6 +64,4 @@ module _ (look other : List ℕ → Got) (same : (name : List ℕ) → is_inside
 
   -- the settings are the same where the same is found under each name that a config can have
   pub effective_same : look config_name ≡ other config_name → effective look ≡ effective other
-  effective_same first =
-      ap (λ items. settings_of items)
-      (ap (λ items. got_items items true config_name (look config_name)) (λ i file text. expanded_same most_levels file text i) ∙ ap (λ got. got_items (expanded other most_levels) true config_name got) first)
+  effective_same first = grind (arith, expanded_same)

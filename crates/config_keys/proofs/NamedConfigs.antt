@@ -1,5 +1,6 @@
 -- The fault of a config names its config file, or one that this can include.
-use Rattle.std.proofs.Common.{◌≡◌, ℕ, zero, suc, Bool, true, false, eqb, List, [], ◌∷◌, ◌++◌, ◌+◌, length, nat_lt, Option, Some, None, IfSome, IfErr, Ok, Err, refl}
+use Rattle.std.proofs.Common.{arith, ◌≡◌, ℕ, zero, suc, Bool, true, false, eqb, List, [], ◌∷◌, ◌++◌}
+use Rattle.std.proofs.Common.{◌+◌, length, nat_lt, Option, Some, None, IfSome, IfErr, Ok, Err, refl}
 use Rattle.std.specs.Prelude.{if◌then◌else◌}
 use Rattle.std.specs.List.{flat_map}
 use Rattle.std.specs.Option.{option_map_or}
@@ -79,8 +80,7 @@ module _ (test : List ℕ → Bool) (inside_is : (name : List ℕ) → is_inside
     rows_names : (inner : List ℕ → List ℕ → List Item) → InnerNames inner → (left : ℕ) (file : List ℕ) (all : List Row) → test file ≡ true → AllName (flat_map (row_items look inner left file) all)
     rows_names inner h left file [] is = tt
     rows_names inner h left file (row ∷ all) is =
-        let own = row_names left file row is in
-        both_name (row_items look inner left file row) _ (own, brought_names inner h (row_item left file row) own) (rows_names inner h left file all is)
+        grind (arith, row_names, both_name, brought_names, rows_names inner h left file all is)
 
     text_names : (inner : List ℕ → List ℕ → List Item) → InnerNames inner → (left : ℕ) (file text : List ℕ) → test file ≡ true → AllName (text_items look inner left file text)
     text_names inner h left file text is = by (has_mark text)

@@ -1,5 +1,7 @@
 -- Values of keys that are settled, and what holds of them.
-use Rattle.std.proofs.Common.{◌≡◌, ℕ, ℤ, pos, ◌+◌, ◌<◌, ◌≤◌, Bool, true, false, cond, not, List, [], ◌∷◌, ◌++◌, length, map, take, drop, get_or, Option, Some, None, is_some, unwrap_or, Ok, Err, refl, ap, sym, subst, ◌∙◌}
+use Rattle.std.proofs.Common.{arith, ◌≡◌, ℕ, ℤ, pos, ◌+◌, ◌<◌, ◌≤◌, Bool, true, false, cond, not}
+use Rattle.std.proofs.Common.{List, [], ◌∷◌, ◌++◌, length, map, take, drop, get_or, Option, Some}
+use Rattle.std.proofs.Common.{None, is_some, unwrap_or, Ok, Err, refl, ap, sym, subst, ◌∙◌}
 use Rattle.std.specs.List.{filter, find, list_all}
 use Rattle.std.specs.Option.{option_map, option_map_or}
 use Rattle.std.proofs.lemmas.Bool.{eqb-true}
@@ -14,7 +16,7 @@ use Rattle.giv_files.specs.declared.cross_rule.CrossRule.{CrossRule}
 use Rattle.giv_files.specs.CrossRules.{cross_rule, keeps_bound, keeps, keeps_rule}
 use Rattle.giv_files.specs.KeyKinds.{kept_if, spelled_as}
 use Rattle.giv_files.specs.Keys.{all_keys, key_place, is_key, key_kind, key_default, allows, has_key, stage_keys}
-use Rattle.giv_files.specs.Settings.{SettingsFit, is_allowed, is_uncrossed, value_of}
+use Rattle.giv_files.specs.Settings.{SettingsFit, value_of}
 use Rattle.giv_files.proofs.KeyPlaces.{key_there, same_key}
 use Rattle.plan_files.specs.declared.store.Got.{Got}
 use Rattle.config_keys.specs.declared.config_fault.ConfigFault.{ConfigFault}
@@ -46,11 +48,7 @@ settled_bad said keys i d e h none bad =
 pub settled_good : (said : Key → Option (List ℕ)) (keys : List Key) (values : List ℤ) (i : ℕ) → keys ≡ all_keys → length keys ≤ i → find (λ key. not (is_some (good_value said key))) (take i keys) ≡ None
     → values ≡ map (λ key. unwrap_or (good_value said key) (pos 0)) (take i keys) → (settled said ≡ Ok values) × (first_bad said ≡ None) × (values ≡ values_in said)
 unfolding settled
-settled_good said keys values i e h none told =
-    let whole = take_all i keys h ∙ e in
-    let good : first_bad said ≡ None = rw whole at none in
-    let are : values ≡ values_in said = rw whole at told in
-    (rw (good, are) refl, good, are)
+settled_good said keys values i e h none told = grind (arith, take_all)
 
 -- a value that is kept passes the test
 kept_some : (test : ℤ → Bool) (o : Option ℤ) (value : ℤ) → kept_if test o ≡ Some value → (o ≡ Some value) × (test value ≡ true)
@@ -151,13 +149,7 @@ module _ (values : List ℤ) where
 
   -- the settings of a stage fit it
   pub part_fits : (stage : Stage) → AreSettings values → SettingsFit stage (part_of values stage)
-  part_fits stage h = record {
-    keys = keys_are (stage_keys stage);
-    allowed = all_mapped is_allowed (setting_at values) (stage_keys stage) (λ k. h.allowed k);
-    uncrossed = all_mapped (is_uncrossed (part_of values stage)) (setting_at values)
-        (stage_keys stage) (λ k. kept_among (value_at values k) (cross_rule k) (stage_keys stage)
-        (h.uncrossed k));
-  }
+  part_fits stage h = grind (arith, keys_are, all_mapped, kept_among)
 
   -- one key more, which the stage has
   pub part_more : (stage : Stage) (keys : List Key) (i : ℕ) (d : Key) → i < length keys

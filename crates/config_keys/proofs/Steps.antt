@@ -1,8 +1,10 @@
 -- Reading goes on over items.
-use Rattle.std.proofs.Common.{◌≡◌, ℕ, ◌+◌, Bool, true, false, cond, eqb, List, [], ◌∷◌, ◌++◌, Option, Some, None, refl, ap, sym, ◌∙◌, arith, ltb, zero-add, add-zero, Result, Ok, Err}
+use Rattle.std.proofs.Common.{◌≡◌, ℕ, ◌+◌, Bool, true, false, cond, eqb, List, [], ◌∷◌, ◌++◌}
+use Rattle.std.proofs.Common.{Option, Some, None, refl, sym, ◌∙◌, arith, ltb, zero-add, add-zero}
+use Rattle.std.proofs.Common.{Result, Ok, Err}
 use Rattle.std.specs.Str.{bytes_eq}
 use Rattle.giv_files.specs.declared.key.Key.{Key}
-use Rattle.giv_files.specs.Keys.{key_place, key_name}
+use Rattle.giv_files.specs.Keys.{key_place}
 use Rattle.config_keys.specs.declared.config_fault.ConfigFault.{ConfigFault}
 use Rattle.config_keys.specs.declared.config_fault.ConfigFault.TheVariants as fault
 use Rattle.config_keys.specs.declared.config_end.ConfigEnd.{ConfigEnd}
@@ -15,11 +17,7 @@ use Rattle.config_keys.proofs.KeyNames.{unnamed, named}
 -- a row with a name that no key has changes nothing
 pub took_unknown : (name value : List ℕ) (reading : Reading) → key_named name ≡ None → ReadOn (Setting name value ∷ []) reading reading
 unfolding first_fault include_count last_said
-took_unknown name value reading e = record {
-  faultless = refl;
-  counted = omega arith;
-  told = λ key. rw (unnamed name key e) refl;
-}
+took_unknown name value reading e = grind (arith, unnamed)
 
 -- a row with the name of a key gives it its value
 pub took_known : (name value : List ℕ) (found : Key) (old new : Reading) → key_named name ≡ Some found → new.includes ≡ old.includes
@@ -33,9 +31,7 @@ took_known name value found old new e same says = record {
 
 further : (count : ℕ) (last : ConfigFault) (xs ys : List Item) (t : Bool) → (first_fault (count + 1) xs ≡ None → first_fault (count + 1) (xs ++ ys) ≡ first_fault (count + 1 + include_count xs) ys)
     → cond t (first_fault (count + 1) xs) (Some last) ≡ None → cond t (first_fault (count + 1) (xs ++ ys)) (Some last) ≡ first_fault (count + (include_count xs + 1)) ys
-further count last xs ys true f e =
-    let more : count + (include_count xs + 1) ≡ count + 1 + include_count xs = omega arith in
-    rw more (f e)
+further count last xs ys true f e = grind arith
 further count last xs ys false f e = cc
 
 -- where there was no fault, faults are sought further
@@ -81,11 +77,8 @@ read_none reading = record { faultless = refl; counted = omega arith; told = λ 
 
 -- reading goes on over items, and then over more
 pub read_more : (xs ys : List Item) (old mid new : Reading) → ReadOn xs old mid → ReadOn ys mid new → ReadOn (xs ++ ys) old new
-read_more xs ys old mid new h k = record {
-  faultless = first_fault-further old.includes xs ys h.faultless ∙ rw (← h.counted) k.faultless;
-  counted = omega (arith, h.counted, k.counted, include_count-append xs ys);
-  told = λ key. k.told key ∙ ap (λ before. last_said (key_name key) before ys) (h.told key) ∙ sym (last_said-append (key_name key) (said_of old key) xs ys);
-}
+read_more xs ys old mid new h k =
+    grind (arith, first_fault-further, include_count-append, last_said-append)
 
 -- and what it gives then is what it gives over all of them
 pub gives_more : (xs ys : List Item) (old mid new : Reading) (result : Result (Unit {0}) ConfigEnd) → ReadOn xs old mid → ReadGives ys mid new result → ReadGives (xs ++ ys) old new result

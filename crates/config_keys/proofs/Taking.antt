@@ -1,5 +1,7 @@
 -- What a row says, by what was found in it.
-use Rattle.std.proofs.Common.{◌≡◌, ◌≢◌, ℕ, ◌+◌, ◌<◌, ◌≤◌, Bool, true, false, eqb, ltb, List, [], ◌∷◌, length, Option, Some, None, Result, Err, string_bytes, slice_index_or, refl, arith}
+use Rattle.std.proofs.Common.{◌≡◌, ◌≢◌, ℕ, ◌+◌, ◌<◌, ◌≤◌, Bool, true, false, eqb, List, [], ◌∷◌}
+use Rattle.std.proofs.Common.{length, Option, Some, None, Result, Err, string_bytes, slice_index_or}
+use Rattle.std.proofs.Common.{refl, arith}
 use Rattle.std.proofs.lemmas.Bool.Decides.{nat_tests}
 use Rattle.giv_files.specs.declared.row_why.RowWhy.TheVariants as why
 use Rattle.giv_files.specs.Rows.{Row}
@@ -33,9 +35,7 @@ follow left file row optional name e some = let more : eqb left 0 ≡ false = gr
 pub too_many : (count left : ℕ) (file : List ℕ) (row : ℕ) (optional : Bool) (name told : List ℕ) → is_inside name ≡ true → 0 < left → 1000 ≤ count → told ≡ file
     → first_fault count (include_item left file row optional name ∷ []) ≡ Some (fault.TooManyIncludes told row)
 unfolding first_fault
-too_many count left file row optional name told e some many f =
-    let last : ltb count 1000 ≡ false = grind (arith, nat_tests) in
-    rw (follow left file row optional name e some, f, last) refl
+too_many count left file row optional name told e some many f = grind (arith, nat_tests, follow)
 
 -- an include row that is followed
 pub followed : (left : ℕ) (file : List ℕ) (row : ℕ) (optional : Bool) (name : List ℕ) (old new : Reading) (included : Included) → is_inside name ≡ true → 0 < left → old.includes < 1000
@@ -43,17 +43,7 @@ pub followed : (left : ℕ) (file : List ℕ) (row : ℕ) (optional : Bool) (nam
     → Taken left (include_item left file row optional name) old new included
 unfolding first_fault include_count last_said
 followed left file row optional name old new included e some few count same passed path =
-    let item = follow left file row optional name e some in
-    let more : ltb old.includes 1000 ≡ true = grind (arith, nat_tests) in
-    record {
-      room = some;
-      follows = λ look inner. rw (item, passed, path) refl;
-      read = rw item (record {
-        faultless = rw more refl;
-        counted = omega (arith, count);
-        told = λ key. rw same refl;
-      });
-    }
+    grind (arith, follow, nat_tests, passed)
 
 -- a row without two fields
 pub odd_row : (count left : ℕ) (file : List ℕ) (row : Row) (told : List ℕ) (number found : ℕ) → length row.fields ≢ 2 → told ≡ file → number ≡ row.number → found ≡ length row.fields
@@ -82,6 +72,4 @@ take_refused left item said old new NoMemory result e f h = rw f tt
 -- a row of a key with its value is taken
 pub passed : (left : ℕ) (file : List ℕ) (row : Row) (key value : List ℕ) (old new : Reading) → length row.fields ≡ 2 → key ≡ slice_index_or row.fields 0 [] → value ≡ slice_index_or row.fields 1 [] → include_word key ≡ None
     → ReadOn (Setting key value ∷ []) old new → Passed (row_item left file row) old new
-passed left file row key value old new two k v word h =
-    let item = setting_row left file row key value two k v word in
-    record { alone = λ look inner. rw item refl; read = rw item h }
+passed left file row key value old new two k v word h = grind (arith, setting_row)

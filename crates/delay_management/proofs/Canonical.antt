@@ -1,6 +1,8 @@
 -- The reasons of a problem that are made are the canonical ones, and name ids that are not too
 -- great.
-use Rattle.std.proofs.Common.{◌≡◌, ◌∙◌, ℕ, ◌+◌, ◌<◌, ◌≤◌, Bool, true, false, cond, nat_eq, ltb, List, [], ◌∷◌, ◌++◌, length, map, filter, get_or, All, Result, Ok, Err, IfOk, refl, ap, sym, subst, arith}
+use Rattle.std.proofs.Common.{◌≡◌, ◌∙◌, ℕ, ◌+◌, ◌<◌, ◌≤◌, Bool, true, false, cond, nat_eq, ltb}
+use Rattle.std.proofs.Common.{List, [], ◌∷◌, ◌++◌, length, map, filter, get_or, All, Result, Ok}
+use Rattle.std.proofs.Common.{Err, IfOk, refl, sym, subst, arith}
 use Rattle.std.specs.List.{fold, items_where_true, range_with_len, reduce}
 use Rattle.std.proofs.lemmas.Bool.{ltb-true}
 use Rattle.std.proofs.lemmas.List.Elements.{All-append, All-contains, All-filter, All-map}

@@ -1,12 +1,14 @@
 -- The changes that are chosen, one after the other.
-use Rattle.std.proofs.Common.{◌≡◌, ◌∙◌, ℕ, ℤ, zero, suc, ◌+◌, ◌<◌, ◌≤◌, Bool, true, false, cond, List, [], ◌∷◌, ◌++◌, length, map, filter, take, drop, get_or, Result, Ok, Err, IfOk, refl, ap, sym, arith}
+use Rattle.std.proofs.Common.{◌≡◌, ◌∙◌, ℕ, ℤ, zero, suc, ◌+◌, ◌<◌, ◌≤◌, Bool, true, false, cond}
+use Rattle.std.proofs.Common.{List, [], ◌∷◌, ◌++◌, length, map, filter, take, drop, get_or, Result}
+use Rattle.std.proofs.Common.{Ok, Err, IfOk, refl, ap, sym, arith}
 use Rattle.std.specs.List.{items_where_true}
 use Rattle.std.proofs.lemmas.List.{drop_all}
 use Rattle.event_tables.specs.declared.expanded_event.ExpandedEvent.{ExpandedEvent}
 use Rattle.delay_management.specs.declared.step.Activity.{Activity}
 use Rattle.delay_management.specs.LeastTimes.{least_times, time_at}
 use Rattle.delay_management.specs.Problems.{DelayProblem, planned_at}
-use Rattle.delay_management.specs.Waiting.{chosen_changes, is_kept, kept_changes, times_alone, waits}
+use Rattle.delay_management.specs.Waiting.{chosen_changes, kept_changes, waits}
 
 pub none_left : {X : Type 0} (kept : List Bool) → items_where_true {X = X} kept [] ≡ []
 none_left [] = refl

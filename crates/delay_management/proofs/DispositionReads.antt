@@ -1,5 +1,6 @@
 -- The disposition that is made is right over what the stage was given.
-use Rattle.std.proofs.Common.{filter, ◌≡◌, ◌∙◌, ℕ, ◌<◌, ◌≤◌, List, [], ◌++◌, length, map, All, Result, Ok, Err, IfOk, None, refl, sym, subst, arith}
+use Rattle.std.proofs.Common.{filter, ◌≡◌, ◌∙◌, ℕ, ◌<◌, ◌≤◌, List, [], ◌++◌, length, map, All}
+use Rattle.std.proofs.Common.{Result, Ok, Err, IfOk, None, refl, sym, subst, arith}
 use Rattle.std.specs.List.{range_with_len}
 use Rattle.std.proofs.lemmas.List.Elements.{All-append, All-contains}
 use Rattle.giv_files.specs.declared.made.Made.{Made}

@@ -1,15 +1,14 @@
 -- Whether an event is early, or its reason is right, by the activities that count and the turns.
-use Rattle.std.proofs.Common.{arith}
-use Rattle.std.proofs.Common.{◌≡◌, ◌∙◌, ℕ, ◌==◌, ◌&&◌, ◌||◌, Bool, true, false, cond, eqb, nat_eq, nat_lt, List, [], ◌∷◌, ◌++◌, map, filter, refl, ap, sym}
+use Rattle.std.proofs.Common.{arith, ◌≡◌, ◌∙◌, ℕ, ◌==◌, ◌&&◌, ◌||◌, Bool, true, false, nat_eq}
+use Rattle.std.proofs.Common.{nat_lt, List, [], ◌∷◌, ◌++◌, map, filter, refl, ap, sym}
 use Rattle.std.specs.List.{list_any}
-use Rattle.std.proofs.lemmas.Bool.{eqb-true}
 use Rattle.std.proofs.lemmas.List.Folds.{list_any-append}
 use Rattle.delay_management.specs.declared.reason.Reason.{Reason}
 use Rattle.delay_management.specs.declared.reason.Reason.TheVariants as reason
 use Rattle.delay_management.specs.declared.step.Activity.{Activity}
 use Rattle.delay_management.specs.declared.step.Step.{Step}
-use Rattle.delay_management.specs.EarlyEvents.{is_before, is_early_by, is_just, is_right_by}
-use Rattle.delay_management.specs.Judged.{is_ahead, is_early}
+use Rattle.delay_management.specs.EarlyEvents.{is_early_by, is_just, is_right_by}
+use Rattle.delay_management.specs.Judged.{is_early}
 use Rattle.delay_management.specs.LeastTimes.{asked, time_at}
 use Rattle.delay_management.specs.Marks.{is_source, is_turn, names}
 use Rattle.delay_management.specs.Problems.{DelayProblem, earliest_at, steps_with}

@@ -1,5 +1,6 @@
 -- The first of so many numbers that pass a test.
-use Rattle.std.proofs.Common.{◌≡◌, ◌∙◌, ℕ, suc, ◌+◌, ◌-◌, ◌<◌, ◌≤◌, Bool, true, false, cond, List, [], ◌∷◌, filter, slice_get, Some, ap, arith}
+use Rattle.std.proofs.Common.{◌≡◌, ◌∙◌, ℕ, ◌+◌, ◌-◌, ◌<◌, ◌≤◌, Bool, true, false, cond, List, []}
+use Rattle.std.proofs.Common.{◌∷◌, filter, slice_get, Some, ap, arith}
 use Rattle.std.specs.List.{range_with_len}
 
 module _ (test : ℕ → Bool) (n i : ℕ) where

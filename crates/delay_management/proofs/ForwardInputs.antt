@@ -1,6 +1,6 @@
 -- Inputs without a fault go forward.
-use Rattle.std.proofs.Common.{◌≡◌, ◌∙◌, ℕ, ◌+◌, ◌<◌, ◌≤◌, Bool, true, false, not, List, ◌++◌, length, filter, get_or, All, Some, None, refl, ap, sym, subst, arith}
-use Rattle.std.specs.List.{enumerate_from}
+use Rattle.std.proofs.Common.{◌≡◌, ◌∙◌, ℕ, ◌+◌, ◌<◌, ◌≤◌, Bool, true, false, not, List, ◌++◌}
+use Rattle.std.proofs.Common.{length, filter, get_or, All, refl, sym, subst, arith}
 use Rattle.std.specs.List.Sorted.{IsNonDecreasingBy, IsPermutation}
 use Rattle.std.proofs.lemmas.List.{length-append, length-map}
 use Rattle.std.proofs.lemmas.List.Elements.{All-append, All-filter, All-map, All-weaker, filter_passes}
@@ -13,15 +13,15 @@ use Rattle.event_tables.specs.declared.expanded_event.ExpandedEvent.{ExpandedEve
 use Rattle.event_tables.specs.declared.schedule_row.ScheduleRow.{ScheduleRow}
 use Rattle.event_tables.specs.Delays.{AreDelays}
 use Rattle.event_tables.specs.ExpandedFiles.{AreExpandedActivities, AreExpandedEvents, IsExpandedActivity}
-use Rattle.event_tables.specs.ForwardOrder.{goes_forward, stands_before}
+use Rattle.event_tables.specs.ForwardOrder.{goes_forward}
 use Rattle.event_tables.specs.Places.{AreNumbered, IsOneOf}
 use Rattle.event_tables.specs.Schedules.{AreScheduleRows, IsScheduleRow, is_empty_row}
 use Rattle.event_tables.proofs.RanksRise.{at_places, id_at}
 use Rattle.delay_management.specs.declared.links.Link.{Link}
 use Rattle.delay_management.specs.declared.step.Activity.{Activity}
 use Rattle.delay_management.specs.declared.step.Step.{Step}
-use Rattle.delay_management.specs.Links.{IsLinked, change_links, link_of, links_of, ride_links, turn_links}
-use Rattle.delay_management.specs.Problems.{DelayProblem, GoesForward, IsForward, activities_of, delayed, earliest_of, event_at, index_of, is_of, problem_over, turn_of}
+use Rattle.delay_management.specs.Links.{IsLinked, change_links, links_of, ride_links, turn_links}
+use Rattle.delay_management.specs.Problems.{DelayProblem, GoesForward, IsForward, activities_of, delayed, earliest_of, index_of, is_of, problem_over, turn_of}
 use Rattle.delay_management.proofs.PassIsLeast.{steps_all}
 use Rattle.delay_management.proofs.SoonInputs.{ids_rise, none_early, steps_gain}
 
@@ -84,8 +84,14 @@ module _ (turnover : ℕ) (events : List ExpandedEvent) (activities : List Expan
 
   few_links : length (links_of problem) ≤ 502000
   few_links =
-      grind (arith, length-filter_both, both_kinds, length-append, length-map,
-      length-enumerate_from)
+      grind (
+        arith,
+        length-filter_both,
+        both_kinds,
+        length-append,
+        length-map,
+        length-enumerate_from,
+      )
 
   -- the first event of each step is there
   pub rides_start : (changes : Bool) → All (λ at. at.step.from < length events) (activities_of changes activity_rows activities)

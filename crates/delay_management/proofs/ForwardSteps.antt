@@ -1,12 +1,10 @@
 -- The steps of a problem that was read join its events.
-use Rattle.std.proofs.Common.{ℕ, ◌≤◌, ◌++◌, List, length, All, Some, arith}
-use Rattle.std.specs.List.{enumerate_from}
+use Rattle.std.proofs.Common.{◌≤◌, List, length, All, arith}
 use Rattle.std.proofs.lemmas.List.{length-append, length-map}
 use Rattle.std.proofs.lemmas.List.FromFn.{length-enumerate_from}
 use Rattle.std.proofs.lemmas.List.Sorted.{length_permutation}
-use Rattle.delay_management.specs.declared.step.Activity.{Activity}
 use Rattle.delay_management.specs.declared.links.Link.{Link}
-use Rattle.delay_management.specs.Links.{IsLinked, change_links, link_of, links_of, ride_links, turn_links}
+use Rattle.delay_management.specs.Links.{IsLinked}
 use Rattle.delay_management.specs.Problems.{DelayProblem, GoesForward, Joins}
 use Rattle.delay_management.proofs.PassIsLeast.{back_all, change_steps, front_all, ride_steps, turn_steps}
 

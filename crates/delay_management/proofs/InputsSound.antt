@@ -1,5 +1,6 @@
 -- What is known of inputs without a fault.
-use Rattle.std.proofs.Common.{◌≡◌, ◌≤◌, Bool, true, false, List, [], ◌++◌, length, map, filter, get_or, All, refl, sym, subst, arith}
+use Rattle.std.proofs.Common.{◌≡◌, ◌≤◌, Bool, true, false, List, [], ◌++◌, length, map, filter}
+use Rattle.std.proofs.Common.{get_or, All, refl, sym, subst, arith}
 use Rattle.std.proofs.lemmas.Int.{ints}
 use Rattle.std.proofs.lemmas.List.Elements.{All-append, All-filter, All-map}
 use Rattle.giv_files.specs.declared.file_id.FileId.TheVariants as file

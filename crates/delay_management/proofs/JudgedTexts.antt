@@ -1,6 +1,8 @@
 -- Two texts that break no rule of a disposition hold feasible times with right reasons, and
 -- conversely.
-use Rattle.std.proofs.Common.{◌≡◌, ◌∙◌, ℕ, zero, suc, ◌+◌, ◌<◌, ◌≤◌, ◌==◌, ◌&&◌, ◌||◌, not, Bool, true, false, cond, eqb, ltb, nat_eq, nat_lt, List, [], ◌∷◌, length, map, filter, get_or, slice_get, All, None, refl, ap, sym, subst, arith}
+use Rattle.std.proofs.Common.{◌≡◌, ◌∙◌, ℕ, zero, suc, ◌+◌, ◌<◌, ◌≤◌, ◌==◌, ◌||◌, not, Bool, true}
+use Rattle.std.proofs.Common.{false, cond, eqb, ltb, nat_eq, nat_lt, List, [], ◌∷◌, length, map}
+use Rattle.std.proofs.Common.{filter, get_or, slice_get, All, None, refl, ap, sym, arith}
 use Rattle.std.specs.List.{enumerate_from, list_all, list_any, range_with_len}
 use Rattle.std.proofs.lemmas.Bool.{and_from, and_parts, eq-eqb, eqb-true, ltb-false, ltb-true, le-ltb, not-false, or_parts}
 use Rattle.std.proofs.lemmas.List.{length-map}
@@ -18,9 +20,9 @@ use Rattle.delay_management.specs.DispositionStage.{ReasonRow}
 use Rattle.delay_management.specs.declared.step.Activity.{Activity}
 use Rattle.delay_management.specs.declared.step.Step.{Step}
 use Rattle.delay_management.specs.DispositionStage.{reason_rows, time_rows}
-use Rattle.delay_management.specs.Judged.{are_all, broken_reasons, broken_rows, broken_rules, broken_times, broken_where, events_where, first_broken_rule, is_ahead, is_early, is_table, is_wrong, reason_faults, reason_row, reasons_read, times_read}
-use Rattle.delay_management.specs.LeastTimes.{IsFeasible, asked, time_at}
-use Rattle.delay_management.specs.Problems.{DelayProblem, earliest_at, steps_with}
+use Rattle.delay_management.specs.Judged.{are_all, broken_reasons, broken_rows, broken_rules, broken_times, broken_where, events_where, first_broken_rule, is_early, is_table, is_wrong, reason_faults, reason_row, reasons_read, times_read}
+use Rattle.delay_management.specs.LeastTimes.{IsFeasible}
+use Rattle.delay_management.specs.Problems.{DelayProblem, steps_with}
 use Rattle.delay_management.specs.Reasons.{AreRight}
 use Rattle.delay_management.proofs.WrittenRows.{reasons_from, times_from}
 

@@ -1,7 +1,6 @@
 -- The latest of some times, and the least of some ids.
-use Rattle.std.proofs.Common.{◌≡◌, ℕ, ◌≤◌, ◌<◌, suc, true, false, cond, ltb, List, [], ◌∷◌, arith, refl, sym, ◌∙◌, ◌⊎◌, inl, inr}
+use Rattle.std.proofs.Common.{◌≡◌, ℕ, ◌≤◌, suc, List, [], ◌∷◌, arith, refl, sym, ◌∙◌, ◌⊎◌, inl, inr}
 use Rattle.std.specs.List.{All, Contains, fold}
-use Rattle.std.proofs.lemmas.Bool.{ltb-true, ltb-false}
 use Rattle.std.proofs.lemmas.List.Elements.{All-cons, All-nil}
 use Rattle.delay_management.specs.LeastTimes.{later, latest}
 use Rattle.delay_management.specs.Reasons.{lesser}

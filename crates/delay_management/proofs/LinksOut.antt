@@ -1,5 +1,6 @@
 -- The links out of each event, found one behind the other.
-use Rattle.std.proofs.Common.{◌≡◌, ◌≢◌, ◌∙◌, ℕ, ◌+◌, ◌<◌, cond, List, ◌∷◌, length, drop, get_or, slice_set, replicate, refl, ap, sym, arith}
+use Rattle.std.proofs.Common.{◌≡◌, ◌≢◌, ◌∙◌, ℕ, ◌+◌, ◌<◌, cond, List, ◌∷◌, length, drop, get_or}
+use Rattle.std.proofs.Common.{slice_set, replicate, refl, ap, sym, arith}
 use Rattle.std.proofs.lemmas.Bool.{eq-eqb, ne_eqb}
 use Rattle.std.proofs.lemmas.List.{drop_more, get_or-replicate, get_or-set_same, get_or-set_other, get_or_default, length-replicate, length-set}
 use Rattle.delay_management.specs.declared.links.Link.{Link}

@@ -1,5 +1,7 @@
 -- What times on trial tell, where one of them, a change or a note is another one.
-use Rattle.std.proofs.Common.{◌≡◌, ◌∙◌, ℕ, ℤ, ◌<◌, ◌≤◌, ◌+ℤ◌, ◌&&◌, Bool, false, List, ◌∷◌, ◌++◌, length, get_or, slice_set, All, Option, None, Some, ap, sym, subst, arith}
+use Rattle.std.proofs.Common.{◌≡◌, ◌∙◌, ℕ, ℤ, ◌<◌, ◌≤◌, ◌+ℤ◌, ◌&&◌, Bool, false, List, ◌∷◌, ◌++◌}
+use Rattle.std.proofs.Common.{length, get_or, slice_set, All, Option, None, Some, ap, sym, subst}
+use Rattle.std.proofs.Common.{arith}
 use Rattle.std.specs.Prelude.{MatchOption, option_to_list, reverse}
 use Rattle.std.proofs.lemmas.List.{append-nil, length-reverse, length-set}
 use Rattle.std.proofs.lemmas.List.Elements.{All-head, All-set, All-tail}

@@ -1,5 +1,7 @@
 -- What the pass along the links of a problem gives are its least times.
-use Rattle.std.proofs.Common.{◌≡◌, ◌∙◌, ℕ, zero, suc, ◌+◌, ◌<◌, ◌≤◌, Bool, true, false, List, [], ◌∷◌, ◌++◌, length, map, get_or, All, Option, Some, None, Result, Ok, Err, IfOk, refl, ap, sym, subst, arith}
+use Rattle.std.proofs.Common.{◌≡◌, ◌∙◌, ℕ, zero, suc, ◌+◌, ◌<◌, ◌≤◌, Bool, true, false, List, []}
+use Rattle.std.proofs.Common.{◌∷◌, ◌++◌, length, map, get_or, All, Option, Some, None, Result, Ok}
+use Rattle.std.proofs.Common.{Err, IfOk, refl, ap, sym, subst, arith}
 use Rattle.std.specs.List.{Contains, enumerate_from, items_where_true}
 use Rattle.std.proofs.lemmas.List.{get_or-map, get_or-append-add, length-append, length-map}
 use Rattle.std.proofs.Math.ListN.{get_or-append}

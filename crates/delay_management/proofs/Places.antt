@@ -1,5 +1,6 @@
 -- Lists that tell one thing of each place.
-use Rattle.std.proofs.Common.{◌≡◌, ◌≢◌, ◌∙◌, ℕ, ◌+◌, ◌<◌, ◌++◌, append_assoc, true, false, eqb, List, [], ◌∷◌, length, map, get_or, slice_set, refl, ap, sym, arith}
+use Rattle.std.proofs.Common.{◌≡◌, ◌≢◌, ◌∙◌, ℕ, ◌+◌, ◌<◌, ◌++◌, append_assoc, true, false, eqb}
+use Rattle.std.proofs.Common.{List, [], ◌∷◌, length, map, get_or, slice_set, refl, ap, sym, arith}
 use Rattle.std.specs.List.{range_with_len}
 use Rattle.std.proofs.lemmas.Bool.{eqb-true, eqb-false}
 use Rattle.std.proofs.lemmas.List.{ext_get_or, get_or-set_same, get_or-set_other, length-set}

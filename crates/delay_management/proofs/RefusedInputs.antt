@@ -1,5 +1,5 @@
 -- From the reading of one input after the other to the faults of all of them.
-use Rattle.std.proofs.Common.{◌≡◌, ◌∙◌, ℕ, List, [], ◌++◌, Result, Vec, ap, sym, subst, arith}
+use Rattle.std.proofs.Common.{◌≡◌, ℕ, List, [], ◌++◌, Result, Vec, sym, subst, arith}
 use Rattle.std.specs.Global.{Global}
 use Rattle.giv_files.specs.declared.refusal.Refusal.{Refusal}
 use Rattle.giv_files.specs.declared.refusal.StageFault.{StageFault}
@@ -29,10 +29,6 @@ refused_behind some others fault none h =
 module _ (bundle : BundleParts) where
   abbrev first_made : List Refusal
   first_made = activity_faults bundle ++ schedule_faults bundle
-
-  no_made : event_faults bundle ≡ [] → activity_faults bundle ≡ [] → schedule_faults bundle ≡ []
-      → made_faults bundle ≡ []
-  no_made no_events no_activities no_schedule = grind arith
 
   pub no_faults : event_faults bundle ≡ [] → activity_faults bundle ≡ [] → schedule_faults bundle ≡ []
       → event_delay_faults bundle ≡ [] → activity_delay_faults bundle ≡ []

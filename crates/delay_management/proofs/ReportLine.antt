@@ -1,6 +1,6 @@
 -- The line of a disposition in a report, piece by piece.
-use Rattle.std.proofs.Common.{arith}
-use Rattle.std.proofs.Common.{◌≡◌, ◌∙◌, ℕ, List, [], ◌∷◌, ◌++◌, append_assoc, codes, decimal, Result, Ok, Err, IfOk, ap, sym}
+use Rattle.std.proofs.Common.{arith, ◌≡◌, ◌∙◌, ℕ, List, [], ◌∷◌, ◌++◌, append_assoc, codes, decimal}
+use Rattle.std.proofs.Common.{Result, Ok, Err, IfOk, ap}
 use Rattle.giv_files.specs.declared.stage.Stage.TheVariants as stage
 use Rattle.giv_files.specs.ReportLines.{count_text, report_line}
 

@@ -1,5 +1,7 @@
 -- The delay of all arrivals where the time of one event is another one.
-use Rattle.std.proofs.Common.{◌≡◌, ◌∙◌, ℕ, ℤ, zero, suc, ◌+◌, ◌*◌, ◌<◌, ◌≤◌, ◌+ℤ◌, ◌-ℤ◌, ◌≤ℤ◌, pos, negsuc, cond, Bool, true, false, List, [], ◌∷◌, length, get_or, slice_set, All, ap, of_z, to_z, subst, arith}
+use Rattle.std.proofs.Common.{◌≡◌, ◌∙◌, ℕ, ℤ, zero, suc, ◌+◌, ◌*◌, ◌<◌, ◌≤◌, ◌+ℤ◌, ◌-ℤ◌, ◌≤ℤ◌, pos}
+use Rattle.std.proofs.Common.{cond, Bool, true, false, List, [], ◌∷◌, length, get_or, slice_set}
+use Rattle.std.proofs.Common.{All, ap, of_z, to_z, subst, arith}
 use Rattle.std.specs.Prelude.{filter, neg_ℤ, zip}
 use Rattle.std.specs.List.{fold}
 use Rattle.std.proofs.lemmas.Int.{ints, to_z-of_z}
@@ -109,13 +111,6 @@ pub delay_bounded : (events : List ExpandedEvent) (times : List ℕ)
     → Bounded (delay_at events times) (0 + length events)
 delay_bounded events times soon small =
     sums_bounded events times (pos 0) 0 soon small (record { least = omega (arith, ints); most = omega (arith, ints) })
-
--- what is no larger than the delays of 100001 events fits in 128 bits
-small_fits : (z : ℤ) → neg_ℤ (pos 100001000000000000000000) ≤ℤ z → z ≤ℤ pos 100001000000000000000000 → SFits w128 z
-small_fits (pos n) least most =
-    let small : n < 170141183460469231731687303715884105728 = omega (arith, ints, most) in record { sfits = small }
-small_fits (negsuc n) least most =
-    let small : n < 170141183460469231731687303715884105728 = omega (arith, ints, least) in record { sfits = small }
 
 module _ (sum more : ℤ) (bounded : Bounded sum 100000) where
   pub sum_fits : SFits w128 sum

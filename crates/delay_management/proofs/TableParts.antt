@@ -1,5 +1,6 @@
 -- Parts of what the rows of a table stand for, one after the other.
-use Rattle.std.proofs.Common.{◌≡◌, ◌∙◌, ℕ, ℤ, ◌+◌, ◌<◌, ◌≤◌, ◌&&◌, Bool, true, nat_eq, List, [], ◌∷◌, ◌++◌, drop, get_or, length, map, take, ap, sym, arith}
+use Rattle.std.proofs.Common.{◌≡◌, ◌∙◌, ℕ, ℤ, ◌+◌, ◌<◌, ◌≤◌, ◌&&◌, Bool, true, nat_eq, List, []}
+use Rattle.std.proofs.Common.{◌∷◌, ◌++◌, drop, get_or, length, map, take, ap, sym, arith}
 use Rattle.std.specs.List.{enumerate_from, list_all}
 use Rattle.std.proofs.lemmas.List.{drop_all, drop_more, get_or-map, length-map, take_all, take_more}
 use Rattle.std.proofs.lemmas.Simd.{map-map}

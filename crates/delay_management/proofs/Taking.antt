@@ -1,5 +1,7 @@
 -- Changes that are kept one after the other, and taken back.
-use Rattle.std.proofs.Common.{◌≡◌, ◌∙◌, ℕ, zero, suc, ◌+◌, ◌<◌, ◌≤◌, ◌⊎◌, inl, inr, Bool, true, false, List, [], ◌∷◌, ◌++◌, length, get_or, not, slice_set, All, Option, None, Some, ap, refl, sym, subst, arith}
+use Rattle.std.proofs.Common.{◌≡◌, ◌∙◌, ℕ, zero, suc, ◌+◌, ◌<◌, ◌≤◌, ◌⊎◌, inl, inr, Bool, true}
+use Rattle.std.proofs.Common.{false, List, [], ◌∷◌, ◌++◌, length, get_or, not, slice_set, All}
+use Rattle.std.proofs.Common.{Option, None, Some, ap, refl, sym, subst, arith}
 use Rattle.std.specs.Prelude.{replicate}
 use Rattle.std.specs.List.{items_where_true}
 use Rattle.std.proofs.lemmas.Bool.{false≢true}
@@ -14,9 +16,9 @@ use Rattle.delay_management.specs.declared.step.Activity.{Activity}
 use Rattle.delay_management.specs.declared.taken.Taken.{Taken}
 use Rattle.delay_management.specs.LeastTimes.{IsFeasible, IsLeast, least_times, time_at}
 use Rattle.delay_management.specs.Links.{IsLinked, counts, links_of}
-use Rattle.delay_management.specs.OnTrial.{AreOnce, AreSaved, Follows, IsSettling, IsTaken, IsTrial, NoneWaits, StartsTrial, TrialTimes, WaitBy, decided_in, kept_flags, rewound}
+use Rattle.delay_management.specs.OnTrial.{AreOnce, AreSaved, Follows, IsSettling, IsTaken, IsTrial, NoneWaits, StartsTrial, TrialTimes, WaitBy, decided_in, rewound}
 use Rattle.delay_management.specs.Problems.{DelayProblem, IsForward}
-use Rattle.delay_management.specs.Trials.{is_decided, is_kept, times_of}
+use Rattle.delay_management.specs.Trials.{is_decided, is_kept}
 use Rattle.delay_management.specs.Waiting.{chosen_changes}
 use Rattle.delay_management.proofs.Apart.{by_less, by_same, set_back, set_here, set_there}
 use Rattle.delay_management.proofs.PassIsLeast.{links_all, links_hold, steps_hold}
@@ -29,8 +31,17 @@ counts_more : (kept : List Bool) (change : ℕ) (at : Option ℕ) → counts kep
     → counts (slice_set kept change true) at ≡ true
 counts_more kept change None is = is
 counts_more kept change (Some k) is =
-    grind (arith, by_same, by_less, get_or, slice_set, set_here, false≢true, get_or-eq_default,
-    set_there)
+    grind (
+      arith,
+      by_same,
+      by_less,
+      get_or,
+      slice_set,
+      set_here,
+      false≢true,
+      get_or-eq_default,
+      set_there,
+    )
 
 counts_but : (kept : List Bool) (change : ℕ) (at : Option ℕ) → counts (slice_set kept change true) at ≡ true
     → (counts kept at ≡ true) ⊎ (at ≡ Some change)

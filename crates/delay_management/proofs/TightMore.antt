@@ -1,5 +1,7 @@
 -- One tight activity more.
-use Rattle.std.proofs.Common.{◌≡◌, ◌∙◌, ℕ, suc, ◌+◌, ◌<◌, ◌≤◌, ◌&&◌, Bool, true, false, cond, eqb, nat_eq, List, [], ◌∷◌, ◌++◌, append_assoc, length, map, filter, take, get_or, slice_set, Option, Some, None, refl, ap, sym, subst, arith}
+use Rattle.std.proofs.Common.{◌≡◌, ◌∙◌, ℕ, suc, ◌+◌, ◌<◌, ◌≤◌, ◌&&◌, Bool, true, false, cond, eqb}
+use Rattle.std.proofs.Common.{nat_eq, List, [], ◌∷◌, ◌++◌, append_assoc, length, map, take, get_or}
+use Rattle.std.proofs.Common.{slice_set, Option, Some, None, refl, ap, sym, subst, arith}
 use Rattle.std.specs.List.{items_where_true, range_with_len, reduce}
 use Rattle.std.proofs.lemmas.Bool.{eq-eqb, eqb-true, false≢true, ne_eqb}
 use Rattle.std.proofs.lemmas.List.{append-nil, take_all}
@@ -49,8 +51,17 @@ module _ (times : List ℕ) (n : ℕ) (some : List Activity) (at : Activity) whe
       (Some (with_id (get_or (map (least_id some) (range_with_len 0 n)) at.step.to None) at.id))
       ≡ map (least_id (some ++ at ∷ [])) (range_with_len 0 n)
   tight_noted inside tight =
-      grind (arith, told_anew, get_or, with_tight, nat_eq, eq-eqb, get_or-map-range_with_len,
-      without, ne_eqb)
+      grind (
+        arith,
+        told_anew,
+        get_or,
+        with_tight,
+        nat_eq,
+        eq-eqb,
+        get_or-map-range_with_len,
+        without,
+        ne_eqb,
+      )
 
   pub slack_passed : nat_eq (asked times at.step) (time_at times at.step.to) ≡ false
       → map (least_id some) (range_with_len 0 n) ≡ map (least_id (some ++ at ∷ [])) (range_with_len 0 n)

@@ -1,5 +1,6 @@
 -- How late arrivals are behind decisions: never below 0, and not too much.
-use Rattle.std.proofs.Common.{◌≡◌, ℕ, ℤ, suc, ◌+◌, ◌*◌, ◌<◌, ◌≤◌, ◌+ℤ◌, ◌≤ℤ◌, pos, cond, Bool, true, false, List, [], ◌∷◌, length, All, subst, arith}
+use Rattle.std.proofs.Common.{◌≡◌, ℕ, ℤ, suc, ◌+◌, ◌*◌, ◌<◌, ◌≤◌, ◌+ℤ◌, ◌≤ℤ◌, pos, cond, Bool, true}
+use Rattle.std.proofs.Common.{false, List, [], ◌∷◌, length, All, subst, arith}
 use Rattle.std.specs.Prelude.{filter, zip}
 use Rattle.std.specs.List.{fold}
 use Rattle.std.proofs.lemmas.Int.{ints}

@@ -1,5 +1,8 @@
 -- Decisions one after the other, and the least times behind each.
-use Rattle.std.proofs.Common.{◌≢◌, ◌≡◌, ◌∙◌, ℕ, zero, suc, ◌+◌, ◌<◌, ◌≤◌, ◌&&◌, ◌||◌, not, cond, eqb, nat_lt, Bool, true, false, List, [], ◌∷◌, ◌++◌, length, map, get_or, slice_get, slice_set, All, Option, Some, None, refl, ap, sym, subst, arith}
+use Rattle.std.proofs.Common.{◌≢◌, ◌≡◌, ◌∙◌, ℕ, zero, suc, ◌+◌, ◌<◌, ◌≤◌, ◌&&◌, ◌||◌, not, cond}
+use Rattle.std.proofs.Common.{eqb, nat_lt, Bool, true, false, List, [], ◌∷◌, ◌++◌, length, map}
+use Rattle.std.proofs.Common.{get_or, slice_get, slice_set, All, Option, Some, None, refl, ap, sym}
+use Rattle.std.proofs.Common.{subst, arith}
 use Rattle.std.specs.Prelude.{option_map, position, replicate, reverse}
 use Rattle.std.specs.List.{enumerate_from, prefix_len, range_with_len}
 use Rattle.std.proofs.lemmas.Bool.{both_ways, eq-eqb, ne_eqb, ltb-true, ltb-false, lt-ltb, le-ltb}

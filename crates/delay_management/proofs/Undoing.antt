@@ -1,5 +1,5 @@
 -- Events that were made later have their times before again, one after the other.
-use Rattle.std.proofs.Common.{◌≡◌, ◌∙◌, ℕ, List, [], ◌∷◌, ◌++◌, length, get_or, slice_set, Some, ap, drop, sym, arith}
+use Rattle.std.proofs.Common.{◌≡◌, ℕ, List, [], ◌∷◌, ◌++◌, slice_set, Some, arith}
 use Rattle.delay_management.specs.declared.moved.Moved.{Moved}
 use Rattle.delay_management.specs.OnTrial.{IsLastMoved, IsUndoing, TrialTimes, rewound}
 

@@ -1,5 +1,6 @@
 -- The reasons that are made are those that are written.
-use Rattle.std.proofs.Common.{◌≡◌, ◌∙◌, ℕ, List, length, map, get_or, Option, None, Result, Ok, Err, IfOk, ap, arith}
+use Rattle.std.proofs.Common.{◌≡◌, ℕ, List, length, map, get_or, Option, None, Result, Ok, Err}
+use Rattle.std.proofs.Common.{IfOk, arith}
 use Rattle.std.specs.List.{range_with_len, reduce}
 use Rattle.std.proofs.lemmas.List.FromFn.{get_or-map-range_with_len}
 use Rattle.delay_management.specs.declared.reason.Reason.{Reason}

@@ -1,5 +1,8 @@
 -- Rows of demand: their rules, and the paths of their customers.
-use Rattle.std.proofs.Common.{◌≡◌, ℕ, ℤ, pos, ◌<◌, int_lt, Bool, true, false, not, ◌&&◌, cond, List, [], ◌∷◌, ◌++◌, length, get_or, slice_get, refl, ap, sym, ◌∙◌, arith, unsigned_abs, Option, Some, None, option_map, unwrap_or, is_some, position, inl, inr}
+use Rattle.std.proofs.Common.{◌≡◌, ℕ, ℤ, pos, ◌<◌, int_lt, Bool, true, false, not, ◌&&◌, cond, List}
+use Rattle.std.proofs.Common.{[], ◌∷◌, ◌++◌, length, get_or, slice_get, refl, ap, ◌∙◌, arith}
+use Rattle.std.proofs.Common.{unsigned_abs, Option, Some, None, option_map, unwrap_or, is_some}
+use Rattle.std.proofs.Common.{position}
 use Rattle.std.specs.Ordering.{int_eq}
 use Rattle.std.proofs.lemmas.Bool.{cases_lt}
 use Rattle.std.proofs.lemmas.List.{get_or_push, get_or_past, length_push}
@@ -22,14 +25,7 @@ use Rattle.ptn_network.specs.Paths.{PathParts, paths_from}
 pub none_more : (known : List (Option PathParts)) (from : ℕ)
     → ((at : ℕ) → get_or known at None ≡ None) → get_or (known ++ None ∷ []) from None ≡ None
 none_more known from none =
-    elim (cases_lt from (length known)) [
-      | inl lt ↦ get_or-append known (None ∷ []) None from lt ∙ none from
-      | inr ge ↦ elim (cases_lt (length known) from) [
-        | inl past ↦ get_or_past (known ++ None ∷ []) from None
-            (omega (arith, length_push known None))
-        | inr same ↦ get_or_push known None None from (omega arith)
-      ]
-    ]
+    grind (arith, cases_lt, known, get_or-append, get_or_past, length_push, get_or_push)
 
 module _ (network : NetworkParts) (from : ℕ) where
   some_mapped : (sum : Option ℕ) → is_some (option_map pos sum) ≡ is_some sum
@@ -41,11 +37,7 @@ module _ (network : NetworkParts) (from : ℕ) where
       → to < length network.stops → is_some (get_or paths.lengths to None)
       ≡ is_some (least_sum network edge_length from to)
   is_reached paths to is within =
-      ap (λ (some : PathParts). is_some (get_or some.lengths to None)) is
-      ∙ ap is_some (get_or-map-range_with_len (λ to. option_map pos
-      (least_sum network edge_length from to)) 0 (length network.stops) to to None within
-      (omega arith))
-      ∙ some_mapped (least_sum network edge_length from to)
+      grind (arith, is_some, get_or, get_or-map-range_with_len, option_map, some_mapped)
 
 -- ---- the stops of a row
 
@@ -86,28 +78,16 @@ module _ (network : NetworkParts) (row : DemandRow) where
     at_right = ap (λ o. unwrap_or o 0) to
 
     same_joined : is_joined network row ≡ is_some (least_sum network edge_length left right)
-    same_joined = ap (λ start. is_some (least_sum network edge_length start
-        (index_in network.stops row.right))) at_left ∙ ap (λ end. is_some
-        (least_sum network edge_length left end)) at_right
+    same_joined = grind arith
 
     pub no_path : int_lt (pos 0) row.customers ≡ true
         → is_some (least_sum network edge_length left right) ≡ false
         → slice_get (broken_whys (demand_input network).row_rules [] row) 0 ≡ Some why.NoPath
-    no_path some none = rw (
-      known network.stops row.left left from,
-      known network.stops row.right right to,
-      some,
-      same_joined,
-      none,
-    ) refl
+    no_path some none = grind (arith, known, same_joined)
 
     pub nobody_fits : int_lt (pos 0) row.customers ≡ false
         → broken_whys (demand_input network).row_rules [] row ≡ []
-    nobody_fits none = rw (
-      known network.stops row.left left from,
-      known network.stops row.right right to,
-      none,
-    ) refl
+    nobody_fits none = grind (arith, known)
 
     pub row_fits : is_some (least_sum network edge_length left right) ≡ true
         → broken_whys (demand_input network).row_rules [] row ≡ []
@@ -126,8 +106,4 @@ module _ (network : NetworkParts) (row : DemandRow) where
     -- the customers go over the edges of the path between the two stops
     pub same_load : (index : ℕ) → cond (goes_over network index left right)
         (unsigned_abs row.customers) 0 ≡ row_load network index row
-    same_load index =
-        sym (ap (λ start. cond (goes_over network index start (index_in network.stops row.right))
-        (unsigned_abs row.customers) 0) at_left
-        ∙ ap (λ end. cond (goes_over network index left end) (unsigned_abs row.customers) 0)
-        at_right)
+    same_load index = grind arith

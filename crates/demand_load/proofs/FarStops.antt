@@ -1,9 +1,11 @@
 -- Stops by their distance.
-use Rattle.std.proofs.Common.{◌≡◌, ℕ, ℤ, ◌<◌, ◌≤◌, nat_eq, List, length, get_or, map, slice_get, unsigned_abs, option_map, unwrap_or, Option, Some, None, refl, ap, subst, sym, ◌∙◌, arith, inl, inr}
+use Rattle.std.proofs.Common.{◌≡◌, ℕ, ℤ, ◌<◌, ◌≤◌, nat_eq, List, length, get_or, map, slice_get}
+use Rattle.std.proofs.Common.{unsigned_abs, option_map, unwrap_or, Option, Some, refl, ap, subst}
+use Rattle.std.proofs.Common.{sym, ◌∙◌, arith, inl, inr}
 use Rattle.std.specs.List.{list_any, range_with_len, Contains}
 use Rattle.std.specs.List.Sorted.{IsNonDecreasingBy, IsPermutation}
 use Rattle.std.proofs.lemmas.List.{get_or-map, length-map}
-use Rattle.std.proofs.lemmas.List.Elements.{All-from_get_or, All-get_or, Contains-get_or}
+use Rattle.std.proofs.lemmas.List.Elements.{All-from_get_or, Contains-get_or}
 use Rattle.std.proofs.lemmas.List.FromFn.{get_or-map-range_with_len, length-map-range_with_len}
 use Rattle.std.proofs.lemmas.List.Sorted.{All-permutation, Contains-permutation, length_permutation}
 use Rattle.std.proofs.lemmas.Option.{get_or_from_slice_get}
@@ -24,10 +26,7 @@ module _ (network : NetworkParts) (from : ℕ) where
       → paths ≡ paths_from network from → slice_get paths.lengths stop ≡ Some told
       → unwrap_or (option_map unsigned_abs told) 0 ≡ distance network from stop
   distance_told paths stop told is there =
-      ap (λ (length : Option ℤ). unwrap_or (option_map unsigned_abs length) 0)
-      (sym (get_or_from_slice_get paths.lengths stop told None there))
-      ∙ ap (λ (some : PathParts). unwrap_or (option_map unsigned_abs
-      (get_or some.lengths stop None)) 0) is
+      grind (arith, unwrap_or, option_map, unsigned_abs, get_or_from_slice_get, get_or)
 
   -- all stops, sorted
   pub by_distance : (before after : List FarStop)
@@ -62,14 +61,7 @@ module _ (network : NetworkParts) (from : ℕ) where
     pub no_nearer : (place later : ℕ) → place ≤ later → later < length stops
         → distance network from (get_or stops place no_stop).stop
         ≤ distance network from (get_or stops later no_stop).stop
-    no_nearer place later before h =
-        let one = (All-get_or (λ far. (far.stop < length network.stops)
-        × (far.distance ≡ distance network from far.stop)) stops place no_stop
-        (omega arith) are.right).1 in
-        let two = (All-get_or (λ far. (far.stop < length network.stops)
-        × (far.distance ≡ distance network from far.stop)) stops later no_stop h are.right).1 in
-        let rise = are.rise place later no_stop before h in
-        omega arith
+    no_nearer place later before h = grind arith
 
     -- where nobody is left at any stop, nobody is left who goes over an edge
     pub all_gone : (left : List ℕ) → length left ≡ length network.stops

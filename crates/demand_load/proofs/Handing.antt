@@ -1,5 +1,8 @@
 -- Customers are handed back along the last edges of paths.
-use Rattle.std.proofs.Common.{◌≡◌, ◌≢◌, ℕ, zero, suc, ◌+◌, ◌<◌, ◌≤◌, Bool, true, false, ◌||◌, cond, nat_eq, List, [], ◌∷◌, ◌++◌, length, get_or, set, slice_get, refl, ap, subst, sym, ◌∙◌, arith, Option, Some, None, is_some, unwrap_or, inl, inr, add-zero, get_or-set_other, get_or-set_same}
+use Rattle.std.proofs.Common.{◌≡◌, ◌≢◌, ℕ, zero, suc, ◌+◌, ◌<◌, ◌≤◌, Bool, true, false, ◌||◌, cond}
+use Rattle.std.proofs.Common.{nat_eq, List, [], ◌∷◌, ◌++◌, length, get_or, set, slice_get, refl, ap}
+use Rattle.std.proofs.Common.{subst, sym, ◌∙◌, arith, Option, Some, None, is_some, unwrap_or, inl}
+use Rattle.std.proofs.Common.{inr, add-zero, get_or-set_other, get_or-set_same}
 use Rattle.std.specs.List.{All, list_any, cons_option}
 use Rattle.std.proofs.lemmas.Bool.{cases_eq, eq-eqb, eqb-true, ne_eqb, false≢true}
 use Rattle.std.proofs.lemmas.List.{length-set}
@@ -110,9 +113,7 @@ module _ (network : NetworkParts) (from : ℕ) (sound : IsNetwork network) (path
     one_edge_more = longer (length network.stops) refl
 
     pub there : (index < length network.edges) × (before < length network.stops)
-    there =
-        let h = last_there network.edges lengths to index is in
-        (h, before_there network.edges (length network.stops) index to sound.edges h within)
+    there = grind (arith, last_there, is, before_there)
 
     -- the stop before is nearer
     pub nearer : distance network from before < distance network from to
@@ -182,39 +183,30 @@ module _ (network : NetworkParts) (from : ℕ) (sound : IsNetwork network) (path
       sums_moved passes = moved passes left to stop (omega arith) (omega (arith, stop_there))
 
       pub still_all : sum_where everyone 0 handed ≡ sum_where everyone 0 left
-      still_all =
-          let m : sum_where everyone 0 handed + customers ≡ sum_where everyone 0 left + customers =
-          sums_moved everyone in
-          omega arith
+      still_all = grind (arith, sums_moved)
 
       over_stop : (other : ℕ) → cond (goes_over network other from to) customers 0
           ≡ cond (goes_over network other from stop) customers 0 + cond (nat_eq other index)
           customers 0
-      over_stop other = over_last other customers
-          ∙ ap (λ at. cond (goes_over network other from at) customers 0
-          + cond (nat_eq other index) customers 0) (sym stop_is)
+      over_stop other = grind (arith, over_last, nat_eq)
 
       pub same_load : (other : ℕ) → get_or (set loads index (load + customers)) other 0
           + sum_where (goes_over network other from) 0 handed
           ≡ get_or loads other 0 + sum_where (goes_over network other from) 0 left
       same_load other =
-          let sums = sums_moved (goes_over network other from) in
-          let over = over_stop other in
-          elim (cases_eq other index) [
-            | inl same ↦
-                let here : cond (nat_eq other index) customers 0 ≡ customers =
-                ap (λ b. cond b customers 0) (eq-eqb other index same) in
-                let new : get_or (set loads index (load + customers)) other 0 ≡ load + customers =
-                ap (λ at. get_or (set loads index (load + customers)) at 0) same
-                ∙ get_or-set_same loads index (load + customers) 0 (omega (arith, there.0)) in
-                let old : get_or loads other 0 ≡ load = ap (λ at. get_or loads at 0) same in
-                omega arith
-            | inr off ↦
-                let away : cond (nat_eq other index) customers 0 ≡ 0 =
-                ap (λ b. cond b customers 0) (ne_eqb other index off) in
-                let new = get_or-set_other loads index other (load + customers) 0 off in
-                omega arith
-          ]
+          grind (
+            arith,
+            sums_moved,
+            over_stop,
+            cases_eq,
+            nat_eq,
+            eq-eqb,
+            get_or,
+            get_or-set_same,
+            there,
+            ne_eqb,
+            get_or-set_other,
+          )
 
       pub nobody_left : NobodyLeft network from handed to
       nobody_left =
@@ -279,6 +271,4 @@ module _ (network : NetworkParts) (from : ℕ) (sound : IsNetwork network) (path
 
   pub none_unreached : (left : List ℕ) (to : ℕ) → to < length network.stops
       → get_or paths.last to None ≡ None → NobodyLeft network from left to
-  none_unreached left to within told =
-      inr (none_before network.edges lengths from (length network.stops) to
-      (sym (last_known network from paths to are.is within) ∙ told))
+  none_unreached left to within told = grind (arith, none_before, last_known, is)

@@ -1,5 +1,6 @@
 -- The stage of loads, from what each of its inputs gives.
-use Rattle.std.proofs.Common.{◌≡◌, ◌≢◌, ℕ, cond, true, false, List, [], ◌∷◌, ◌++◌, length, map, ap, refl, subst, sym, ◌∙◌, Ok, Err}
+use Rattle.std.proofs.Common.{arith, ◌≡◌, ◌≢◌, ℕ, cond, true, false, List, [], ◌∷◌, length, map, ap}
+use Rattle.std.proofs.Common.{refl, subst, sym, ◌∙◌, Ok, Err}
 use Rattle.std.proofs.lemmas.Bool.{ne_eqb, eq-eqb}
 use Rattle.std.proofs.lemmas.List.{length-map}
 use Rattle.std.proofs.lemmas.List.FromFn.{length-map-range_with_len}
@@ -15,10 +16,10 @@ use Rattle.giv_files.specs.Settings.{BundleParts, SettingsFit, Fits, amount}
 use Rattle.giv_files.specs.StageCalls.{input_text, StageGives}
 use Rattle.giv_files.proofs.Inputs.{refused_append}
 use Rattle.giv_files.proofs.SettingFacts.{amount_within}
-use Rattle.giv_files.proofs.StageCalls.{stage_refused, stage_made}
+use Rattle.giv_files.proofs.StageCalls.{stage_refused}
 use Rattle.ptn_network.specs.Networks.{NetworkParts, network_of, network_faults}
 use Rattle.ptn_network.specs.declared.edge_load.EdgeLoad.{EdgeLoad}
-use Rattle.demand_load.specs.Demand.{demand_input, demand_loads, load_of}
+use Rattle.demand_load.specs.Demand.{demand_input, demand_loads}
 use Rattle.giv_files.specs.declared.file_id.FileId.TheVariants as file
 use Rattle.ptn_network.specs.Loads.{load_input, loads_of}
 use Rattle.ptn_network.proofs.LoadRows.{loads_count as edge_loads_count}
@@ -53,9 +54,7 @@ module _ (settings : List Setting) (network : NetworkParts) (text : List ℕ) wh
 
     pub loads_given : loads_of file.LoadGiven network.edges text ≡ loads_by settings network text
     unfolding loads_by
-    loads_given = sym (ap (λ b. cond b (map (bounded settings)
-        (demand_loads network (records_of (demand_input network) text)))
-        (loads_of file.LoadGiven network.edges text)) other)
+    loads_given = grind arith
 
   module _ (none : amount settings key.LoadSource ≡ 0) where
     own : takes_demand settings ≡ true
@@ -69,24 +68,12 @@ module _ (settings : List Setting) (network : NetworkParts) (text : List ℕ) wh
     pub loads_of_demand : map (bounded settings) (demand_loads network
         (records_of (demand_input network) text)) ≡ loads_by settings network text
     unfolding loads_by
-    loads_of_demand = sym (ap
-        (λ b. cond b (map (bounded settings) (demand_loads network
-        (records_of (demand_input network) text))) (loads_of file.LoadGiven network.edges text))
-        own)
+    loads_of_demand = grind arith
 
   -- each edge has a load
   pub loads_count : length (loads_by settings network text) ≡ length network.edges
   unfolding loads_by
-  loads_count =
-      elim (takes_demand settings) as
-      (λ b. length (cond b (map (bounded settings) (demand_loads network
-      (records_of (demand_input network) text))) (loads_of file.LoadGiven network.edges text))
-      ≡ length network.edges) [
-        | true ↦ length-map (demand_loads network (records_of (demand_input network) text))
-            (bounded settings) ∙ length-map-range_with_len
-            (load_of network (records_of (demand_input network) text)) 0 (length network.edges)
-        | false ↦ edge_loads_count file.LoadGiven network.edges text
-      ]
+  loads_count = grind (arith, length-map, length-map-range_with_len, edge_loads_count)
 
 -- ---- the stage
 
@@ -102,19 +89,13 @@ module _ (bundle : BundleParts) where
       → Refuses (network_faults (input_text bundle 0) (input_text bundle 1)) reason
       → StageGives (load_stage bundle) (Err reason)
   unfolding load_stage
-  network_refused reason h = stage_refused (or_else (load_faults bundle) _) _ reason
-      (refused_first (load_faults bundle) _ reason (refused_append
-      (network_faults (input_text bundle 0) (input_text bundle 1)) _ reason h))
+  network_refused reason h = grind (arith, stage_refused, refused_first, refused_append)
 
   module _ (network : NetworkParts) (none : network_faults (input_text bundle 0)
       (input_text bundle 1) ≡ []) (is : network ≡ network_of (input_text bundle 0)
       (input_text bundle 1)) where
     later : text_faults bundle.settings network (input_text bundle 2) ≡ load_faults bundle
-    later =
-        ap (λ some. text_faults bundle.settings some (input_text bundle 2)) is
-        ∙ ap (λ first. first ++ text_faults bundle.settings
-        (network_of (input_text bundle 0) (input_text bundle 1)) (input_text bundle 2))
-        (sym none)
+    later = grind arith
 
     -- a text that gives no loads
     pub text_refused : (reason : StageFault)
@@ -130,25 +111,14 @@ module _ (bundle : BundleParts) where
       loads_are : loads ≡ loads_in bundle
       loads_are = read ∙ ap (λ some. loads_by bundle.settings some (input_text bundle 2)) is
 
-      all_faults : frequency_faults loads ≡ or_else (load_faults bundle)
-          (frequency_faults (loads_in bundle))
-      all_faults = ap frequency_faults loads_are ∙ ap (λ first. or_else first
-          (frequency_faults (loads_in bundle))) (sym faultless ∙ later)
-
       -- a frequency that is too great
       pub frequency_refused : (reason : StageFault) → Refuses (frequency_faults loads) reason
           → StageGives (load_stage bundle) (Err reason)
       unfolding load_stage
-      frequency_refused reason h = stage_refused (or_else (load_faults bundle)
-          (frequency_faults (loads_in bundle))) _ reason
-          (subst (λ all. Refuses all reason) all_faults h)
+      frequency_refused reason h = grind arith
 
       -- texts without a fault
       pub stage_given : (made : Made) → frequency_faults loads ≡ []
           → made ≡ loads_made network.edges loads → StageGives (load_stage bundle) (Ok made)
       unfolding load_stage
-      stage_given made rare given =
-          stage_made (or_else (load_faults bundle) (frequency_faults (loads_in bundle))) _ made
-          (sym all_faults ∙ rare)
-          (given ∙ ap (loads_made network.edges) loads_are
-          ∙ ap (λ some. loads_made some.edges (loads_in bundle)) is)
+      stage_given made rare given = grind arith

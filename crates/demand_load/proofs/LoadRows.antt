@@ -1,7 +1,7 @@
 -- The rows of the table of loads, and that their cells are in their columns.
-use Rattle.std.proofs.Common.{◌≡◌, ℕ, pos, ◌+◌, ◌<◌, ◌≤◌, ◌≤ℤ◌, int_lt, Bool, true, false, T, not, cond, List, [], ◌∷◌, ◌++◌, length, take, get_or, refl, ap, subst, sym, ◌∙◌, arith, All, unsigned_abs}
-use Rattle.std.specs.Int.Signed.{lt_z_no}
-use Rattle.std.proofs.lemmas.Int.{ints}
+use Rattle.std.proofs.Common.{◌≡◌, ℕ, pos, ◌+◌, ◌<◌, ◌≤◌, ◌≤ℤ◌, int_lt, Bool, true, false, cond}
+use Rattle.std.proofs.Common.{List, [], ◌∷◌, ◌++◌, length, take, get_or, refl, ap, sym, ◌∙◌, arith}
+use Rattle.std.proofs.Common.{All, unsigned_abs}
 use Rattle.std.proofs.lemmas.List.{take_more, take_all, length-take-le}
 use Rattle.std.proofs.lemmas.List.Elements.{All-nil, All-cons, All-head, All-tail}
 use Rattle.giv_files.specs.declared.counted.Counted.TheVariants as counted
@@ -53,15 +53,7 @@ rows_all edges loads i h k = ap (λ front. load_rows front (take i loads)) (take
 
 row_in_columns : (edge : Edge) (load : EdgeLoad) → HasId edge → IsBounded load
     → load.most ≤ℤ pos 1000 → InColumns load_columns (load_row edge load).cells
-row_in_columns edge load id bounded rare =
-    let low : pos 0 ≤ℤ load.least = bounded.least_low in
-    let order : load.least ≤ℤ load.most = bounded.in_order in (
-      (id.low, id.high),
-      (
-        (bounded.load_low, bounded.load_high),
-        ((low, omega (arith, ints)), ((omega (arith, ints), rare), tt)),
-      ),
-    )
+row_in_columns edge load id bounded rare = grind arith
 
 -- the cells of all rows are in their columns
 pub rows_in_columns : (edges : List Edge) (loads : List EdgeLoad) → All HasId edges
@@ -93,10 +85,12 @@ pub all_rare : (loads : List EdgeLoad) → frequency_faults loads ≡ []
     → All (λ load. load.most ≤ℤ pos 1000) loads
 all_rare [] none = All-nil (λ (load : EdgeLoad). load.most ≤ℤ pos 1000)
 all_rare (load ∷ loads) none =
-    let rare : int_lt (pos 1000) load.most ≡ false = not_passed _ (refusal.TooMany counted.Frequency
-    (unsigned_abs load.most)) (frequency_faults loads) none in
-    All-cons (λ (load : EdgeLoad). load.most ≤ℤ pos 1000) load loads
-    (lt_z_no (subst (λ b. T (not b)) (sym rare) tt))
-    (all_rare loads (back_none (cond (int_lt (pos 1000) load.most)
-    (refusal.TooMany counted.Frequency (unsigned_abs load.most) ∷ []) [])
-    (frequency_faults loads) none))
+    grind (
+      arith,
+      int_lt,
+      not_passed,
+      unsigned_abs,
+      All-cons,
+      back_none,
+      all_rare loads (back_none (cond (int_lt (pos 1000) load.most) (refusal.TooMany counted.Frequency (unsigned_abs load.most) ∷ []) []) (frequency_faults loads) none),
+    )

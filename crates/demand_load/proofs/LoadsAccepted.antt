@@ -1,13 +1,11 @@
 -- The loads that are made are accepted by the rules of their kind.
-use Rattle.std.proofs.Common.{◌≡◌, ℕ, ℤ, int_lt, ◌≤ℤ◌, Bool, true, false, not, is_some, Option, Some, None, option_map, List, [], ◌∷◌, length, map, refl, ap, subst, sym, ◌∙◌, arith, All}
-use Rattle.std.specs.Int.Signed.{◌<ℤ◌, lt_z_yes}
+use Rattle.std.proofs.Common.{◌≡◌, ℕ, ℤ, int_lt, ◌≤ℤ◌, Bool, true, false, not, is_some, Option}
+use Rattle.std.proofs.Common.{Some, None, option_map, List, [], ◌∷◌, length, map, refl, ap, subst}
+use Rattle.std.proofs.Common.{sym, ◌∙◌, arith, All}
 use Rattle.std.specs.List.{AllByRecursion, list_any}
 use Rattle.std.specs.List.Sorted.{IsStrictlySortedBy}
 use Rattle.std.specs.Ordering.{int_eq, int_cmp}
-use Rattle.std.proofs.lemmas.Float.{T_from_true}
-use Rattle.std.proofs.lemmas.Int.{ints}
 use Rattle.std.proofs.lemmas.List.Elements.{All-head, All-tail}
-use Rattle.std.proofs.lemmas.Bool.{false_from_ne_true}
 use Rattle.giv_files.specs.declared.file_id.FileId.TheVariants as file
 use Rattle.giv_files.specs.declared.row_why.RowWhy.TheVariants as why
 use Rattle.giv_files.specs.Columns.{load_columns}
@@ -23,9 +21,7 @@ use Rattle.ptn_network.proofs.LoadRows.{fits}
 use Rattle.demand_load.specs.LoadTables.{load_rows}
 
 not_below : (least most : ℤ) → least ≤ℤ most → int_lt most least ≡ false
-not_below least most order = false_from_ne_true (int_lt most least) (λ is.
-    let less : most <ℤ least = lt_z_yes (T_from_true _ is) in
-    omega (arith, ints))
+not_below least most order = grind arith
 
 -- an edge that is there is found
 is_known : (edges : List Edge) (id : ℤ) → list_any (λ edge. int_eq id edge.id) edges ≡ true
@@ -48,16 +44,19 @@ good : (edges all : List Edge) (loads : List EdgeLoad) → AllByRecursion (λ id
     → AllByRecursion (λ row. (list_any (λ edge. int_eq row.edge edge.id) all ≡ true) × (int_lt row.load.most row.load.least ≡ false)) (records (load_input file.Load all) (load_rows edges loads))
 good [] all loads known bounded = tt
 good (edge ∷ edges) all [] known bounded = tt
-good (edge ∷ edges) all (load ∷ loads) known bounded = (
-  (sym (any_mapped (int_eq edge.id) (λ (other : Edge). other.id) all) ∙ known.0, not_below load.least load.most (All-head IsBounded load loads bounded).in_order),
-  good edges all loads known.1 (All-tail IsBounded load loads bounded),
-)
+good (edge ∷ edges) all (load ∷ loads) known bounded =
+    grind (
+      arith,
+      any_mapped,
+      not_below,
+      All-head,
+      All-tail,
+      good edges all loads known.1 (All-tail IsBounded load loads bounded),
+    )
 
 module _ (edges : List Edge) (loads : List EdgeLoad) (same : length loads ≡ length edges) where
   has_load : (edge : Edge) → is_some (given_for (records (load_input file.Load edges) (load_rows edges loads)) edge) ≡ list_any (int_eq edge.id) (map (λ (edge : Edge). edge.id) edges)
-  has_load edge =
-      let rows = records (load_input file.Load edges) (load_rows edges loads) in
-      any_found (λ row. int_eq edge.id row.edge) (λ row. row.load) rows ∙ sym (any_mapped (int_eq edge.id) (λ row. row.edge) rows) ∙ ap (list_any (int_eq edge.id)) (ids_are edges edges loads same)
+  has_load edge = grind (arith, any_found, any_mapped, ids_are)
 
   all_have : list_any (λ edge. not (is_some (given_for (records (load_input file.Load edges) (load_rows edges loads)) edge))) edges ≡ false
   all_have =

@@ -1,7 +1,7 @@
 -- Rows have not many customers, so loads are not great.
-use Rattle.std.proofs.Common.{ℕ, ℤ, pos, ◌*◌, ◌≤◌, ◌≤ℤ◌, Bool, true, false, cond, List, length, arith, unsigned_abs, lit<}
+use Rattle.std.proofs.Common.{ℕ, ℤ, pos, ◌*◌, ◌≤◌, ◌≤ℤ◌, Bool, true, false, cond, List, length}
+use Rattle.std.proofs.Common.{arith, unsigned_abs}
 use Rattle.std.specs.List.{All}
-use Rattle.std.proofs.lemmas.Int.{ints}
 use Rattle.std.proofs.lemmas.List.Elements.{All-map, All-weaker}
 use Rattle.std.proofs.lemmas.List.Sums.{sum_by-le}
 use Rattle.giv_files.specs.declared.column.ColumnKind.TheVariants as kind
@@ -9,7 +9,6 @@ use Rattle.giv_files.specs.Columns.{od_columns}
 use Rattle.giv_files.specs.Tables.{TableRow}
 use Rattle.giv_files.specs.Inputs.{records}
 use Rattle.giv_files.specs.Writing.{InColumns}
-use Rattle.giv_files.proofs.WriteFacts.{in_column}
 use Rattle.ptn_network.specs.Networks.{NetworkParts}
 use Rattle.demand_load.specs.declared.demand_row.DemandRow.{DemandRow}
 use Rattle.demand_load.specs.Demand.{demand_input, demand_row, row_load, load_of}
@@ -18,11 +17,7 @@ use Rattle.demand_load.specs.Demand.{demand_input, demand_row, row_load, load_of
 pub customers_in : (cells : List ℤ) → InColumns od_columns cells
     → (pos 0 ≤ℤ (demand_row cells).customers) × (unsigned_abs
     (demand_row cells).customers ≤ 1000000000000)
-customers_in cells within =
-    let p = in_column od_columns cells 2 kind.Skip (pos 0) within (lit< tt) in
-    let low : pos 0 ≤ℤ (demand_row cells).customers = p.0 in
-    let high : (demand_row cells).customers ≤ℤ pos 1000000000000 = p.1 in
-    (low, omega (arith, ints))
+customers_in cells within = grind arith
 
 module _ (network : NetworkParts) where
   pub few_customers : (rows : List TableRow) → All (λ row. InColumns od_columns row.cells) rows

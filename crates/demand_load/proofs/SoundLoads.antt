@@ -1,8 +1,8 @@
 -- What holds of the loads of each text without a fault.
-use Rattle.std.proofs.Common.{◌≡◌, ℕ, ℤ, pos, ◌≤◌, true, false, cond, List, [], ◌∷◌, length, map, get_or, refl, arith, lit<}
+use Rattle.std.proofs.Common.{◌≡◌, ℕ, ℤ, pos, ◌≤◌, true, false, cond, List, [], ◌∷◌, length, map}
+use Rattle.std.proofs.Common.{get_or, refl, arith, lit<}
 use Rattle.std.specs.List.{All, range_with_len}
 use Rattle.std.specs.Map.{values_of}
-use Rattle.std.proofs.lemmas.Int.{ints}
 use Rattle.std.proofs.lemmas.List.Elements.{All-nil, All-cons, All-head, All-tail, All-map, All-weaker}
 use Rattle.giv_files.specs.declared.column.ColumnKind.TheVariants as kind
 use Rattle.giv_files.specs.declared.counted.Counted.TheVariants as counted
@@ -78,13 +78,7 @@ demand_small network text none =
 
 bounded_sound : (settings : List Setting) (load : ℕ) → load ≤ 100000000000000000
     → IsBounded (bounded settings load)
-bounded_sound settings load small = record {
-  load_low = omega (arith, ints);
-  load_high = omega
-      (arith, ints);
-  least_low = omega (arith, ints);
-  in_order = omega (arith, ints);
-}
+bounded_sound settings load small = grind arith
 
 -- the loads of a text without a fault are bounded
 pub loads_sound : (settings : List Setting) (network : NetworkParts) (text : List ℕ)

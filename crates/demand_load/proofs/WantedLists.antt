@@ -1,5 +1,7 @@
 -- The lists of customers who want to go, by the stop where they start.
-use Rattle.std.proofs.Common.{◌≡◌, ℕ, ◌+◌, ◌<◌, ◌≤◌, Bool, true, false, cond, List, [], length, get_or, set, replicate, refl, ap, ◌∙◌, arith, inl, inr, get_or-set_other, get_or-set_same}
+use Rattle.std.proofs.Common.{◌≡◌, ℕ, ◌+◌, ◌<◌, ◌≤◌, Bool, true, false, cond, List, [], length}
+use Rattle.std.proofs.Common.{get_or, set, replicate, refl, ap, arith, get_or-set_other}
+use Rattle.std.proofs.Common.{get_or-set_same}
 use Rattle.std.proofs.lemmas.Bool.{cases_eq}
 use Rattle.std.proofs.lemmas.List.{length-set}
 use Rattle.ptn_network.specs.Networks.{NetworkParts}
@@ -12,37 +14,17 @@ module _ (network : NetworkParts) (wanted : List (List ℕ)) (from : ℕ)
   pub list_set : (amounts : List ℕ) → length amounts ≡ length network.stops
       → AreWanted network (set wanted from amounts)
   list_set amounts size =
-      let here : from < length wanted = omega (arith, are.size) in
-      record {
-        size = length-set wanted from amounts ∙ are.size;
-        each = λ at h. elim (cases_eq at from) [
-          | inl same ↦ inr (ap (λ stop. length (get_or (set wanted from amounts) stop [])) same
-              ∙ ap length (get_or-set_same wanted from amounts [] here) ∙ size)
-          | inr off ↦ elim (are.each at h) [
-            | inl none ↦ inl (get_or-set_other wanted from at amounts [] off ∙ none)
-            | inr long ↦ inr (ap length (get_or-set_other wanted from at amounts [] off) ∙ long)
-          ]
-        ];
-      }
+      grind (arith, length-set, cases_eq, get_or, get_or-set_same, get_or-set_other)
 
   pub list_there : (amounts : List ℕ) → get_or (set wanted from amounts) from [] ≡ amounts
-  list_there amounts =
-      let here : from < length wanted = omega (arith, are.size) in
-      get_or-set_same wanted from amounts [] here
+  list_there amounts = grind (arith, get_or-set_same)
 
   -- a list of zeros in the place of none
   pub zeros_same : get_or wanted from [] ≡ [] → (passes : ℕ → ℕ → Bool)
       → sum_between passes 0 (set wanted from (replicate (length network.stops) 0))
       ≡ sum_between passes 0 wanted
   unfolding sum_where
-  zeros_same none passes =
-      let here : from < length wanted = omega (arith, are.size) in
-      let other = sum_between-set passes 0 from from wanted (replicate (length network.stops) 0)
-      (omega arith) here in
-      let old : sum_where (passes from) 0 (get_or wanted from []) ≡ 0 =
-      ap (sum_where (passes from) 0) none in
-      let new = sum_where-zeros (passes from) (length network.stops) in
-      omega arith
+  zeros_same none passes = grind (arith, sum_between-set, get_or, sum_where-zeros)
 
   -- customers more
   module _ (amounts : List ℕ) (is : amounts ≡ get_or wanted from []) (to customers : ℕ)

@@ -1,5 +1,7 @@
 -- Sums of those amounts whose number passes a test.
-use Rattle.std.proofs.Common.{◌≡◌, ℕ, zero, suc, ◌+◌, ◌<◌, ◌≤◌, ◌⊎◌, Bool, true, false, cond, List, [], ◌∷◌, length, get_or, set, refl, ap, sym, ◌∙◌, arith, inl, inr, drop, replicate}
+use Rattle.std.proofs.Common.{◌≡◌, ℕ, zero, suc, ◌+◌, ◌<◌, ◌≤◌, ◌⊎◌, Bool, true, false, cond, List}
+use Rattle.std.proofs.Common.{[], ◌∷◌, length, get_or, set, refl, ap, ◌∙◌, arith, inl, inr, drop}
+use Rattle.std.proofs.Common.{replicate}
 use Rattle.std.proofs.lemmas.List.{drop_all, length-set, length-replicate, get_or-replicate}
 use Rattle.std.proofs.Math.Seq.{drop-cons}
 use Rattle.demand_load.specs.Wanted.{sum_where, sum_between, everyone}
@@ -19,12 +21,9 @@ module _ (passes : ℕ → Bool) where
       ≡ sum_where passes first amounts + cond (passes k) amount 0
   unfolding sum_where
   sum_where-set first i k [] amount e h = absurd (omega arith)
-  sum_where-set first zero k (old ∷ amounts) amount e h =
-      let same : k ≡ first = omega arith in
-      rw same (omega arith)
+  sum_where-set first zero k (old ∷ amounts) amount e h = grind arith
   sum_where-set first (suc i) k (old ∷ amounts) amount e h =
-      let rest = sum_where-set (suc first) i k amounts amount (omega arith) (omega arith) in
-      omega arith
+      grind (arith, sum_where-set (suc first) i k amounts amount (omega arith) (omega arith))
 
   -- nothing is in it
   pub sum_where-none : (first : ℕ) (amounts : List ℕ) → ((i k : ℕ) → first + i ≡ k
@@ -96,12 +95,9 @@ module _ (passes : ℕ → ℕ → Bool) where
       ≡ sum_between passes first lists + sum_where (passes k) 0 amounts
   unfolding sum_between
   sum_between-set first i k [] amounts e h = absurd (omega arith)
-  sum_between-set first zero k (old ∷ lists) amounts e h =
-      let same : k ≡ first = omega arith in
-      rw same (omega arith)
+  sum_between-set first zero k (old ∷ lists) amounts e h = grind arith
   sum_between-set first (suc i) k (old ∷ lists) amounts e h =
-      let rest = sum_between-set (suc first) i k lists amounts (omega arith) (omega arith) in
-      omega arith
+      grind (arith, sum_between-set (suc first) i k lists amounts (omega arith) (omega arith))
 
   pub sum_between-none : (first : ℕ) (lists : List (List ℕ))
       → ((i : ℕ) → get_or lists i [] ≡ []) → sum_between passes first lists ≡ 0
@@ -118,11 +114,7 @@ module _ (passes : ℕ → ℕ → Bool) where
       → sum_between passes i (drop i lists) ≡ sum_where (passes i) 0 (get_or lists i [])
       + sum_between passes (i + 1) (drop (i + 1) lists)
   unfolding sum_between
-  sum_between-drop i lists h =
-      let next : i + 1 ≡ suc i = omega arith in
-      ap (sum_between passes i) (drop-cons lists i [] h)
-      ∙ ap (λ n. sum_where (passes i) 0 (get_or lists i []) + sum_between passes n (drop n lists))
-      (sym next)
+  sum_between-drop i lists h = grind (arith, drop-cons, get_or)
 
   pub sum_between-end : (i : ℕ) (lists : List (List ℕ)) → length lists ≤ i
       → sum_between passes i (drop i lists) ≡ 0
@@ -143,9 +135,7 @@ pub sum_between-le : (passes : ℕ → ℕ → Bool) (first : ℕ) (lists : List
 unfolding sum_between
 sum_between-le passes first [] = omega arith
 sum_between-le passes first (amounts ∷ lists) =
-    let rest = sum_between-le passes (suc first) lists in
-    let here = sum_where-le (passes first) 0 amounts in
-    omega arith
+    grind (arith, sum_where-le, sum_between-le passes (suc first) lists)
 
 -- nobody is in no list, nor in one of zeros
 pub sum_where-nil : (passes : ℕ → Bool) → sum_where passes 0 [] ≡ 0
@@ -153,6 +143,4 @@ unfolding sum_where
 sum_where-nil passes = refl
 
 pub sum_where-zeros : (passes : ℕ → Bool) (n : ℕ) → sum_where passes 0 (replicate n 0) ≡ 0
-sum_where-zeros passes n =
-    sum_where-none passes 0 (replicate n 0) (λ i k e h.
-    inl (get_or-replicate n i 0 0 (omega (arith, length-replicate {A = ℕ} n 0))))
+sum_where-zeros passes n = grind (arith, sum_where-none, get_or-replicate, length-replicate)

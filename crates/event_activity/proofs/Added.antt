@@ -1,5 +1,6 @@
 -- Lists to which parts are added one by one.
-use Rattle.std.proofs.Common.{◌≡◌, ℕ, ◌+◌, ◌*◌, ◌<◌, zero, suc, arith, List, [], ◌∷◌, ◌++◌, length, map, take, get_or, ap, sym, ◌∙◌}
+use Rattle.std.proofs.Common.{◌≡◌, ℕ, ◌+◌, ◌*◌, ◌<◌, zero, suc, arith, List, [], ◌∷◌, ◌++◌, length}
+use Rattle.std.proofs.Common.{map, take, get_or, ap, sym, ◌∙◌}
 use Rattle.std.specs.List.{flat_map, range_with_len, enumerate_from}
 use Rattle.std.proofs.lemmas.List.{append_assoc, map-id, flat_map_more, length-append, take_more, length-take-le}
 use Rattle.std.proofs.lemmas.List.FromFn.{map-range_with_len_more}
@@ -15,18 +16,12 @@ module _ {X : Type 0} (old now after : List X) where
   pub added_part : (f : ℕ → List X) (n j : ℕ) → 1 + n ≡ j
       → now ≡ old ++ flat_map f (range_with_len 1 n) → after ≡ now ++ f j
       → after ≡ old ++ flat_map f (range_with_len 1 (n + 1))
-  added_part f n j e so_far more =
-      more ∙ ap (λ xs. xs ++ f j) so_far ∙ flat_map_more f old (range_with_len 1 n) j
-      ∙ ap (λ xs. old ++ flat_map f xs) (sym (range_more 1 n j e))
+  added_part f n j e so_far more = grind (arith, flat_map_more, range_more)
 
   -- the same for one thing each, of the numbers from 0 on
   pub added_one : (f : ℕ → X) (n : ℕ) (x : X) → x ≡ f n → now ≡ old ++ map f (range_with_len 0 n)
       → after ≡ now ++ x ∷ [] → after ≡ old ++ map f (range_with_len 0 (n + 1))
-  added_one f n x is so_far more =
-      more ∙ ap (λ xs. xs ++ x ∷ []) so_far
-      ∙ append_assoc old (map f (range_with_len 0 n)) (x ∷ [])
-      ∙ ap (λ y. old ++ (map f (range_with_len 0 n) ++ y ∷ [])) is
-      ∙ ap (λ xs. old ++ xs) (sym (map-range_with_len_more f 0 n n (omega arith)))
+  added_one f n x is so_far more = grind (arith, append_assoc, map-range_with_len_more)
 
 -- one thing more with its number
 numbered_more : {X Y : Type 0} (f : ℕ × X → Y) (a : ℕ) (xs : List X) (x : X) (j : ℕ)
@@ -43,10 +38,7 @@ pub added_numbered : {X Y : Type 0} (f : ℕ × X → Y) (xs : List X) (i : ℕ)
     → after ≡ now ++ f (i + 1, get_or xs i d) ∷ []
     → after ≡ map f (enumerate_from 1 (take (i + 1) xs))
 added_numbered f xs i d now after h so_far more =
-    more ∙ ap (λ ys. ys ++ f (i + 1, get_or xs i d) ∷ []) so_far
-    ∙ sym (numbered_more f 1 (take i xs) (get_or xs i d) (i + 1)
-    (omega (arith, length-take-le i xs (omega (arith, h)))))
-    ∙ ap (λ ys. map f (enumerate_from 1 ys)) (sym (take_more xs i d h))
+    grind (arith, get_or, numbered_more, length-take-le, take_more)
 
 -- parts of one size
 pub parts_size : {X : Type 0} (f : ℕ → List X) (size : ℕ) → ((j : ℕ) → length (f j) ≡ size)

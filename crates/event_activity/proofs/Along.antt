@@ -1,27 +1,25 @@
 -- The stops of a line's walk, and what stands along a line.
-use Rattle.std.proofs.Common.{◌≡◌, ℕ, pos, ◌-◌, ◌<◌, arith, inl, inr, All, List, [], ◌∷◌, length, get_or, refl, subst, sym, ◌∙◌, Option, Some, None}
+use Rattle.std.proofs.Common.{◌≡◌, ℕ, pos, ◌-◌, ◌<◌, arith, All, List, [], ◌∷◌, length, get_or}
+use Rattle.std.proofs.Common.{refl, subst, sym, Option, Some}
 use Rattle.std.specs.List.{cons_option}
 use Rattle.std.proofs.lemmas.List.{get_or-reverse, length-reverse}
 use Rattle.std.proofs.lemmas.List.Elements.{All-nil, All-cons, All-head, All-tail, All-get_or}
 use Rattle.std.proofs.lemmas.Option.{slice_get-get_or, same_Some}
 use Rattle.event_tables.specs.declared.direction.Direction.{Direction}
 use Rattle.event_tables.specs.declared.direction.Direction.TheVariants as direction
-use Rattle.line_pool.specs.Pools.{LineParts, walk_from, or_walk, walk_of, IsLine}
+use Rattle.line_pool.specs.Pools.{LineParts, walk_from, walk_of, IsLine}
 use Rattle.ptn_network.specs.declared.edge.Edge.{Edge}
 use Rattle.ptn_network.specs.Networks.{NetworkParts, IsEdge, IsNetwork}
 use Rattle.ptn_network.specs.Paths.{edges_at}
 use Rattle.ptn_network.specs.Walks.{across}
 use Rattle.event_activity.specs.Runs.{along}
-use Rattle.event_activity.proofs.Crossings.{across_ends, step_of}
+use Rattle.event_activity.proofs.Crossings.{step_of}
 
 -- what holds of all things holds of those along a line, in each direction
 pub all_along : (P : ℕ → Type 0) (way : Direction) (things : List ℕ) → All P things
     → All P (along way things)
 all_along P direction.Forward things all = all
-all_along P direction.Backward things all = λ k d h.
-    let within : k < length things = omega (arith, h, length-reverse things) in
-    subst P (sym (get_or-reverse things k d within))
-    (all (length things - 1 - k) d (omega (arith, within)))
+all_along P direction.Backward things all = grind (arith, length-reverse, get_or-reverse)
 
 -- as many things stand along a line in each direction
 pub length-along : (way : Direction) (things : List ℕ) → length (along way things) ≡ length things
@@ -31,10 +29,7 @@ length-along direction.Backward things = length-reverse things
 -- the stop across an edge is one of its ends
 across_inside : (count stop next : ℕ) (edge : Edge) → IsEdge count edge
     → across edge stop ≡ Some next → next < count
-across_inside count stop next edge is goes = elim (across_ends edge stop next goes) [
-  | inl ends ↦ omega (arith, ends.1, is.right)
-  | inr ends ↦ omega (arith, ends.1, is.left)
-]
+across_inside count stop next edge is goes = grind arith
 
 module _ (count : ℕ) where
   abbrev Inside : ℕ → Type 0
@@ -55,13 +50,7 @@ module _ (count : ℕ) where
   walk_of_inside : (edges : List Edge) (stops : List ℕ) → All (IsEdge count) edges
       → walk_of edges ≡ Some stops → All Inside stops
   walk_of_inside [] stops all e = subst (All Inside) (same_Some _ _ e) (All-nil Inside)
-  walk_of_inside (edge ∷ edges) stops all e =
-      let is = All-head (IsEdge count) edge edges all in
-      elim (walk_from edge.left (edge ∷ edges)) as (λ left. walk_from edge.left (edge ∷ edges)
-      ≡ left → or_walk left (walk_from edge.right (edge ∷ edges)) ≡ Some stops → All Inside stops) [
-        | None ↦ λ l h. walk_inside (edge ∷ edges) edge.right stops all is.right h
-        | Some found ↦ λ l h. walk_inside (edge ∷ edges) edge.left stops all is.left (l ∙ h)
-      ] refl e
+  walk_of_inside (edge ∷ edges) stops all e = grind (arith, All-head, walk_inside)
 
   all_edges : (edges : List Edge) (indexes : List ℕ) → All (IsEdge count) edges
       → All (λ index. index < length edges) indexes → All (IsEdge count) (edges_at edges indexes)

@@ -1,10 +1,11 @@
 -- Each drive of a run goes over its edge, from the one of its ends to the other.
-use Rattle.std.proofs.Common.{◌≡◌, ℕ, zero, suc, ◌+◌, ◌*◌, ◌-◌, ◌/◌, ◌%◌, ◌<◌, arith, eqb, eqb-true, ◌⊎◌, inl, inr, All, List, [], ◌∷◌, length, get_or, refl, ap, subst, sym, ◌∙◌, Some, None, option_map}
+use Rattle.std.proofs.Common.{◌≡◌, ℕ, zero, suc, ◌+◌, ◌*◌, ◌-◌, ◌/◌, ◌%◌, ◌<◌, arith, ◌⊎◌, inl, inr}
+use Rattle.std.proofs.Common.{All, List, [], ◌∷◌, length, get_or, refl, ap, subst, sym, ◌∙◌, Some}
+use Rattle.std.proofs.Common.{None}
 use Rattle.std.specs.List.{cons_option}
 use Rattle.std.proofs.lemmas.List.{get_or-reverse}
 use Rattle.std.proofs.lemmas.List.Elements.{All-head, All-tail}
-use Rattle.std.proofs.lemmas.Option.{option_and_then_some, slice_get-get_or, same_Some}
-use Rattle.std.proofs.lemmas.Bool.{cases_Bool}
+use Rattle.std.proofs.lemmas.Option.{slice_get-get_or, same_Some}
 use Rattle.event_tables.specs.declared.direction.Direction.{Direction}
 use Rattle.event_tables.specs.declared.direction.Direction.TheVariants as direction
 use Rattle.line_pool.specs.Pools.{LineParts, walk_from, or_walk, walk_of, IsLine}
@@ -25,15 +26,7 @@ turned edge from to (inl ends) = inr (ends.1, ends.0)
 turned edge from to (inr ends) = inl (ends.1, ends.0)
 
 pub across_ends : (edge : Edge) (stop next : ℕ) → across edge stop ≡ Some next → AreEnds edge stop next
-across_ends edge stop next goes =
-    elim (cases_Bool (eqb edge.left stop)) [
-      | inl left ↦ inl (sym (eqb-true edge.left stop left), sym (same_Some _ _ (rw left at goes)))
-      | inr other ↦ elim (cases_Bool (eqb edge.right stop)) [
-        | inl right ↦
-            inr (sym (eqb-true edge.right stop right), sym (same_Some _ _ (rw (other, right) at goes)))
-        | inr none ↦ absurd (let e = rw (other, none) at goes in cc)
-      ]
-    ]
+across_ends edge stop next goes = grind arith
 
 -- a walk over an edge and others
 pub record IsStep (edge : Edge) (edges : List Edge) (stop : ℕ) (stops : List ℕ) : Type 0 where
@@ -46,19 +39,7 @@ pub record IsStep (edge : Edge) (edges : List Edge) (stop : ℕ) (stops : List �
 pub step_of : (edge : Edge) (edges : List Edge) (stop : ℕ) (stops : List ℕ)
     → walk_from stop (edge ∷ edges) ≡ Some stops → IsStep edge edges stop stops
 unfolding walk_from
-step_of edge edges stop stops e =
-    option_and_then_some (λ next. option_map (λ more. stop ∷ more) (walk_from next edges)) (across edge stop) stops e
-    (λ next a h. elim (walk_from next edges) as (λ walk. walk_from next edges ≡ walk
-    → option_map (λ more. stop ∷ more) walk ≡ Some stops → IsStep edge edges stop stops) [
-      | None ↦ λ w k. cc
-      | Some rest ↦ λ w k. record {
-        next = next;
-        rest = rest;
-        goes = a;
-        walk = w;
-        are = same_Some _ _ k;
-      }
-    ] refl h)
+step_of edge edges stop stops e = grind arith
 
 -- it begins at its stop
 begins : (edges : List Edge) (stop : ℕ) (stops : List ℕ) (d : ℕ) → walk_from stop edges ≡ Some stops
@@ -139,21 +120,7 @@ module _ (network : NetworkParts) (line : LineParts) (is : IsLine network.edges 
       → AreEnds (edge_at network (get_or (along way line.edges) j 0))
       (get_or (along way line.stops) j 0) (get_or (along way line.stops) (suc j) 0)
   along_ends direction.Forward j h = line_ends j h
-  along_ends direction.Backward j h =
-      let edges = line.edges in
-      let stops = line.stops in
-      let k = length edges - 1 - j in
-      let size = is.stops in
-      let here : length stops - 1 - j ≡ suc k = omega (arith, size, h) in
-      let there : length stops - 1 - suc j ≡ k = omega (arith, size, h) in
-      rw (
-        get_or-reverse edges j 0 h,
-        get_or-reverse stops j 0 (omega (arith, size, h)),
-        get_or-reverse stops (suc j) 0 (omega (arith, size, h)),
-        here,
-        there,
-      ) (turned (edge_at network (get_or edges k 0)) (get_or stops k 0) (get_or stops (suc k) 0)
-      (line_ends k (omega (arith, h))))
+  along_ends direction.Backward j h = grind (arith, get_or-reverse, turned, get_or, line_ends)
 
   -- so a drive of a run goes over its edge
   pub drive_crosses : (way : Direction) (repetition place : ℕ) → place + 1 < 2 * length line.edges

@@ -1,12 +1,11 @@
 -- What holds of the events of lines.
-use Rattle.std.proofs.Common.{◌≡◌, ℕ, ℤ, pos, negsuc, ◌*◌, ◌/◌, ◌<◌, ◌≤◌, ◌≤ℤ◌, arith, All, List, length, get_or, unsigned_abs, subst, sym}
+use Rattle.std.proofs.Common.{◌≡◌, ℕ, ◌*◌, ◌/◌, ◌<◌, ◌≤◌, arith, All, List, length, get_or, subst}
+use Rattle.std.proofs.Common.{sym}
 use Rattle.std.specs.List.{flat_map, range_with_len}
-use Rattle.std.proofs.lemmas.Int.{ints}
 use Rattle.std.proofs.lemmas.List.Elements.{All-append, All-map, All-weaker, All-get_or, All-from_get_or}
 use Rattle.event_tables.specs.declared.direction.Direction.{Direction}
 use Rattle.event_tables.specs.declared.direction.Direction.TheVariants as direction
 use Rattle.line_pool.specs.Pools.{LineParts, IsLine}
-use Rattle.line_pool.proofs.SoundLines.{unsigned_within}
 use Rattle.ptn_network.specs.declared.edge.Edge.{Edge}
 use Rattle.ptn_network.specs.Networks.{NetworkParts, IsEdge}
 use Rattle.giv_files.proofs.Members.{All-flat_map as all_parts}
@@ -18,19 +17,9 @@ use Rattle.event_activity.proofs.LineEvents.{numbered_size}
 use Rattle.event_activity.proofs.Numbered.{all_numbers, all_numbered}
 use Rattle.event_activity.proofs.StopsOfRuns.{stop_within, id_within}
 
-unsigned_order : (low high : ℤ) → pos 1 ≤ℤ low → low ≤ℤ high → unsigned_abs low ≤ unsigned_abs high
-unsigned_order (pos m) (pos n) some order = omega (arith, ints)
-unsigned_order (pos m) (negsuc n) some order = absurd (omega (arith, ints))
-unsigned_order (negsuc m) high some order = absurd (omega (arith, ints))
-
 -- the bounds of the drives over an edge
 drive_good : (count : ℕ) (edge : Edge) → IsEdge count edge → AreBounds (drive_bounds edge)
-drive_good count edge is =
-    let low : pos 0 ≤ℤ edge.upper = omega (arith, ints, is.some_time, is.in_order) in
-    record {
-      in_order = unsigned_order edge.lower edge.upper is.some_time is.in_order;
-      soon = unsigned_within edge.upper 10000 low is.soon;
-    }
+drive_good count edge is = grind arith
 
 module _ (network : NetworkParts) (lines : List LineParts) (served : AreServed network lines)
     (line : ℕ) (h : line < length lines) where
@@ -88,17 +77,7 @@ module _ (network : NetworkParts) (lines : List LineParts) (served : AreServed n
 
   with_a_number : (count n : ℕ) (event : RunEvent) → 1 ≤ n → n ≤ count → IsDriven event
       → IsNumbered count (with_id (n, event))
-  with_a_number count n event low high is = record {
-    driven = record {
-      stop = is.stop;
-      line = is.line;
-      repetition = is.repetition;
-      served = is.served;
-      edge = is.edge;
-    };
-    first = low;
-    last = high;
-  }
+  with_a_number count n event low high is = grind arith
 
   -- all events are driven, and numbered up to their count
   pub events_numbered : All (IsNumbered (length (concept_events network lines)))

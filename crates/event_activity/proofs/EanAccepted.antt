@@ -1,5 +1,5 @@
 -- The files that are made are accepted by the rules of their kinds.
-use Rattle.std.proofs.Common.{◌≡◌, ℕ, ◌≤◌, All, List, [], ◌∷◌, length, refl, subst, sym}
+use Rattle.std.proofs.Common.{◌≡◌, ℕ, ◌≤◌, All, List, [], ◌∷◌, length, refl, subst, sym, arith}
 use Rattle.std.specs.List.{range_with_len}
 use Rattle.std.proofs.lemmas.Bool.{le-ltb}
 use Rattle.std.proofs.lemmas.List.Elements.{recursion_from_All}
@@ -24,12 +24,7 @@ activity_keeps : (count : ℕ) (before : List PeriodicActivity) (row : PeriodicA
     → IsPeriodicActivity count row
     → broken_whys (known_ends (range_with_len 1 count) (λ (at : PeriodicActivity). at.from)
     (λ at. at.to) ∷ bounds_in_order (λ at. at.lower) (λ at. at.upper) ∷ []) before row ≡ []
-activity_keeps count before row is =
-    rw (
-      is_known count row.from is.from,
-      is_known count row.to is.to,
-      le-ltb row.upper row.lower is.in_order,
-    ) refl
+activity_keeps count before row is = grind (arith, is_known, le-ltb)
 
 -- a text of events, which are numbered and not too many
 pub events_accepted : (events : List PeriodicEvent) (text : List ℕ)

@@ -1,5 +1,6 @@
 -- The stage of events and activities, from what each of its inputs gives.
-use Rattle.std.proofs.Common.{◌≡◌, ℕ, ◌<◌, ◌≤◌, List, [], ◌++◌, length, ap, subst, sym, ◌∙◌, Result, Ok, Err, slice_get}
+use Rattle.std.proofs.Common.{arith, ◌≡◌, ℕ, ◌<◌, ◌≤◌, List, [], length, subst, sym, ◌∙◌, Result}
+use Rattle.std.proofs.Common.{Ok, Err}
 use Rattle.giv_files.specs.declared.counted.Counted.TheVariants as counted
 use Rattle.giv_files.specs.declared.made.Made.{Made}
 use Rattle.giv_files.specs.declared.refusal.Refusal.TheVariants as refusal
@@ -10,8 +11,8 @@ use Rattle.giv_files.specs.Inputs.{Refuses, UnlessFault, or_else}
 use Rattle.giv_files.specs.Settings.{BundleParts}
 use Rattle.giv_files.specs.StageCalls.{input_text, StageGives}
 use Rattle.giv_files.proofs.Inputs.{refused_append}
-use Rattle.giv_files.proofs.InTurn.{refused_before, after_none, over_limit, under_limit}
-use Rattle.giv_files.proofs.StageCalls.{stage_refused, stage_made}
+use Rattle.giv_files.proofs.InTurn.{refused_before, after_none}
+use Rattle.giv_files.proofs.StageCalls.{stage_refused}
 use Rattle.event_activity.specs.declared.run_event.RunEvent.{RunEvent}
 use Rattle.event_activity.specs.Activities.{concept_activities}
 use Rattle.event_activity.specs.EanStage.{ean_made, ean_faults, ean_stage, events_in, activities_in, long_activities, too_many, rows_of}
@@ -25,27 +26,20 @@ module _ (bundle : BundleParts) where
       → Refuses (network_faults (input_text bundle 0) (input_text bundle 1)) end
       → StageGives (ean_stage bundle) (Err end)
   unfolding ean_stage
-  network_refused end h =
-      stage_refused _ _ end (refused_before (ean_faults bundle) _ end
-      (refused_append (network_faults (input_text bundle 0) (input_text bundle 1)) _ end h))
+  network_refused end h = grind (arith, stage_refused, refused_before, refused_append)
 
   module _ (network : NetworkParts)
       (none : network_faults (input_text bundle 0) (input_text bundle 1) ≡ [])
       (is : network ≡ network_of (input_text bundle 0) (input_text bundle 1)) where
     later : concept_faults network (input_text bundle 2) ≡ ean_faults bundle
-    later =
-        ap (λ some. concept_faults some (input_text bundle 2)) is
-        ∙ ap (λ first. first ++ concept_faults
-        (network_of (input_text bundle 0) (input_text bundle 1)) (input_text bundle 2)) (sym none)
+    later = grind arith
 
     -- a text that gives no line concept
     pub concept_refused : (end : StageFault)
         → Refuses (concept_faults network (input_text bundle 2)) end
         → StageGives (ean_stage bundle) (Err end)
     unfolding ean_stage
-    concept_refused end h =
-        stage_refused _ _ end (refused_before (ean_faults bundle) _ end
-        (subst (λ all. Refuses all end) later h))
+    concept_refused end h = grind arith
 
     module _ (lines : List LineParts)
         (faultless : concept_faults network (input_text bundle 2) ≡ [])
@@ -54,9 +48,7 @@ module _ (bundle : BundleParts) where
       all_none = sym later ∙ faultless
 
       events_are : concept_events network lines ≡ events_in bundle
-      events_are =
-          ap (concept_events network) read
-          ∙ ap (λ some. concept_events some (concept_of some (input_text bundle 2))) is
+      events_are = grind arith
 
       left : or_else (ean_faults bundle) (too_many (events_in bundle) (activities_in bundle))
           ≡ too_many (events_in bundle) (activities_in bundle)
@@ -68,27 +60,17 @@ module _ (bundle : BundleParts) where
           → StageGives (ean_stage bundle)
           (Err (fault.Refused (refusal.TooMany counted.PeriodicEvents count)))
       unfolding ean_stage
-      events_refused count told over =
-          stage_refused _ _ (fault.Refused (refusal.TooMany counted.PeriodicEvents count))
-          (ap (λ all. slice_get all 0) (left ∙ ap (λ some. some ++ long_activities (activities_in
-          bundle)) (over_limit counted.PeriodicEvents 4000 (events_in bundle) count
-          (told ∙ ap length events_are) over)))
+      events_refused count told over = grind arith
 
       module _ (settings : List Setting) (set : settings ≡ bundle.settings)
           (events : List RunEvent) (made : events ≡ concept_events network lines)
           (few : length events ≤ 4000) where
         activities_are : concept_activities settings events ≡ activities_in bundle
-        activities_are =
-            ap (λ some. concept_activities some events) set
-            ∙ ap (concept_activities bundle.settings) (made ∙ events_are)
+        activities_are = grind arith
 
         faults_are : or_else (ean_faults bundle) (too_many (events_in bundle) (activities_in bundle))
             ≡ long_activities (concept_activities settings events)
-        faults_are =
-            left ∙ ap (λ some. some ++ long_activities (activities_in bundle))
-            (under_limit counted.PeriodicEvents 4000 (events_in bundle)
-            (subst (λ some. length some ≤ 4000) (made ∙ events_are) few))
-            ∙ ap long_activities (sym activities_are)
+        faults_are = grind arith
 
         -- and else what the events come to
         pub ean_given : (result : Result Made StageFault)
@@ -96,9 +78,6 @@ module _ (bundle : BundleParts) where
             (λ made. made ≡ ean_made (rows_of events) (concept_activities settings events)) result
             → StageGives (ean_stage bundle) result
         unfolding ean_stage
-        ean_given (Ok result) h =
-            stage_made _ _ result (faults_are ∙ h.0)
-            (h.1 ∙ ap (ean_made (rows_of events)) activities_are
-            ∙ ap (λ some. ean_made (rows_of some) (activities_in bundle)) (made ∙ events_are))
+        ean_given (Ok result) h = grind arith
         ean_given (Err why) h =
             stage_refused _ _ why (subst (λ all. Refuses all why) (sym faults_are) h)

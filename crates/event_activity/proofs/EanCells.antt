@@ -5,28 +5,18 @@ use Rattle.std.proofs.lemmas.List.Elements.{All-map, All-weaker}
 use Rattle.giv_files.specs.declared.words.WordTable.TheVariants as table
 use Rattle.giv_files.specs.Columns.{events_p_columns, activities_p_columns, word}
 use Rattle.giv_files.specs.Writing.{InColumn, InColumns}
-use Rattle.event_tables.specs.declared.direction.Direction.{Direction}
 use Rattle.event_tables.specs.declared.direction.Direction.TheVariants as direction
-use Rattle.event_tables.specs.declared.event_kind.EventKind.{EventKind}
 use Rattle.event_tables.specs.declared.event_kind.EventKind.TheVariants as event
 use Rattle.event_tables.specs.declared.periodic_activity.PeriodicActivity.{PeriodicActivity}
 use Rattle.event_tables.specs.declared.periodic_event.PeriodicEvent.{PeriodicEvent}
 use Rattle.event_tables.specs.declared.periodic_kind.PeriodicKind.{PeriodicKind}
 use Rattle.event_tables.specs.declared.periodic_kind.PeriodicKind.TheVariants as kind
 use Rattle.event_tables.specs.Cells.{periodic_event_cells, periodic_activity_cells}
-use Rattle.event_tables.specs.Kinds.{event_kind_place, direction_place, periodic_kind_place}
+use Rattle.event_tables.specs.Kinds.{periodic_kind_place}
 use Rattle.event_activity.specs.declared.run_event.RunEvent.{RunEvent}
 use Rattle.event_activity.specs.EanStage.{rows_of}
 use Rattle.event_activity.specs.Fitting.{IsNumbered}
 use Rattle.event_activity.proofs.MadeActivities.{IsNumberedOne}
-
-event_kind_in : (kind : EventKind) → InColumn (word table.EventKind) (pos (event_kind_place kind))
-event_kind_in event.Departure = (0, omega arith, refl)
-event_kind_in event.Arrival = (1, omega arith, refl)
-
-direction_in : (way : Direction) → InColumn (word table.Direction) (pos (direction_place way))
-direction_in direction.Forward = (0, omega arith, refl)
-direction_in direction.Backward = (1, omega arith, refl)
 
 kind_in : (of : PeriodicKind) → InColumn (word table.PeriodicKind) (pos (periodic_kind_place of))
 kind_in kind.Drive = (0, omega arith, refl)
@@ -38,28 +28,9 @@ kind_in kind.Headway = (4, omega arith, refl)
 id_in : (id : ℕ) → 1 ≤ id → id ≤ 1000000000 → (pos 1 ≤ℤ pos id) × (pos id ≤ℤ pos 1000000000)
 id_in id low high = (omega (arith, ints), omega (arith, ints))
 
-bound_in : (minutes : ℕ) → minutes ≤ 10000
-    → (pos 0 ≤ℤ pos minutes) × (pos minutes ≤ℤ pos 100000)
-bound_in minutes high = (omega (arith, ints), omega (arith, ints))
-
 event_in : (count : ℕ) → count ≤ 4000 → (one : RunEvent) → IsNumbered count one
     → InColumns events_p_columns (periodic_event_cells one.row)
-event_in count few one is = (
-  id_in one.row.id is.first (omega (arith, is.last)),
-  (
-    event_kind_in one.row.kind,
-    (
-      id_in one.row.stop is.driven.stop.0 is.driven.stop.1,
-      (
-        id_in one.row.line is.driven.line.0 is.driven.line.1,
-        (
-          direction_in one.row.direction,
-          (id_in one.row.repetition is.driven.repetition.0 is.driven.repetition.1, tt),
-        ),
-      ),
-    ),
-  ),
-)
+event_in count few one is = grind arith
 
 -- those of all events
 pub events_in_columns : (count : ℕ) (events : List RunEvent) → count ≤ 4000
@@ -72,32 +43,8 @@ events_in_columns count events few numbered =
     (λ one. InColumns events_p_columns (periodic_event_cells one.row)) (event_in count few) events
     numbered)
 
-activity_in : (count many : ℕ) → count ≤ 4000 → many ≤ 200000 → (one : PeriodicActivity)
-    → IsNumberedOne count many one
-    → InColumns activities_p_columns (periodic_activity_cells one)
-activity_in count many few short one is =
-    let sound = is.made.sound in (
-      id_in one.id is.first (omega (arith, is.last)),
-      (
-        kind_in one.kind,
-        (
-          id_in one.from sound.from.0 (omega (arith, sound.from.1)),
-          (
-            id_in one.to sound.to.0 (omega (arith, sound.to.1)),
-            (
-              bound_in one.lower (omega (arith, sound.in_order, is.made.soon)),
-              (bound_in one.upper is.made.soon, tt),
-            ),
-          ),
-        ),
-      ),
-    )
-
 -- and those of all activities
 pub activities_in_columns : (count many : ℕ) (activities : List PeriodicActivity) → count ≤ 4000
     → many ≤ 200000 → All (IsNumberedOne count many) activities
     → All (λ row. InColumns activities_p_columns (periodic_activity_cells row)) activities
-activities_in_columns count many activities few short numbered =
-    All-weaker (IsNumberedOne count many)
-    (λ one. InColumns activities_p_columns (periodic_activity_cells one))
-    (activity_in count many few short) activities numbered
+activities_in_columns count many activities few short numbered = grind arith

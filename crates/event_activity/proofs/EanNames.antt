@@ -1,16 +1,16 @@
 -- Which files the stage of events and activities names where it refuses a row.
-use Rattle.std.proofs.Common.{◌≡◌, ℕ, Bool, true, List, [], ◌∷◌, Err, nat_lt}
+use Rattle.std.proofs.Common.{◌≡◌, ℕ, Bool, true, List, [], ◌∷◌, Err, arith}
 use Rattle.giv_files.specs.declared.counted.Counted.{Counted}
 use Rattle.giv_files.specs.declared.counted.Counted.TheVariants as counted
 use Rattle.giv_files.specs.declared.file_id.FileId.{FileId}
 use Rattle.giv_files.specs.declared.file_id.FileId.TheVariants as file
 use Rattle.giv_files.specs.declared.refusal.Refusal.{Refusal}
 use Rattle.giv_files.specs.declared.refusal.Refusal.TheVariants as refusal
-use Rattle.giv_files.specs.Inputs.{Limit, limit_faults, row_limit}
+use Rattle.giv_files.specs.Inputs.{limit_faults, row_limit}
 use Rattle.giv_files.specs.NamedFiles.{NamesInput}
 use Rattle.giv_files.specs.Settings.{BundleParts}
 use Rattle.giv_files.specs.StageCalls.{input_text}
-use Rattle.giv_files.proofs.Named.{AllName, names_both, names_or_else, names_where, input_names, refused_names}
+use Rattle.giv_files.proofs.Named.{AllName, names_both, names_or_else, input_names, refused_names}
 use Rattle.line_pool.specs.Pools.{line_faults, concept_faults}
 use Rattle.ptn_network.specs.Networks.{NetworkParts, network_faults}
 use Rattle.ptn_network.proofs.NamedFaults.{network_names}
@@ -25,9 +25,7 @@ concept_names test concept network text = input_names test _ text concept
 -- a list that is too long names no file
 length_names : {X : Type 0} (test : FileId → Bool) (what : Counted) (most : ℕ) (rows : List X)
     → AllName test (limit_faults (row_limit what most ∷ []) rows)
-length_names {X} test what most rows =
-    names_where {X = Limit X} test (λ limit. nat_lt limit.most (limit.count rows))
-    (λ limit. refusal.TooMany limit.what (limit.count rows)) (λ _. tt) (row_limit what most ∷ [])
+length_names {X} test what most rows = grind arith
 
 -- a refusal by a row names the file of stops, of edges, or what the faults of the concept do
 pub ean_stage_names : (test : FileId → Bool) → test file.Stop ≡ true → test file.Edge ≡ true

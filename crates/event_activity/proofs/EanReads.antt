@@ -1,5 +1,6 @@
 -- The events and activities that are made, read again, are right.
-use Rattle.std.proofs.Common.{◌≡◌, ℕ, ◌≤◌, All, Contains, unsigned_abs, List, [], ◌∷◌, length, map, refl, ap, subst, sym, ◌∙◌, arith, Ok, Err, Result}
+use Rattle.std.proofs.Common.{◌≡◌, ℕ, ◌≤◌, All, Contains, unsigned_abs, List, [], length, map, refl}
+use Rattle.std.proofs.Common.{ap, subst, sym, arith, Ok, Err, Result}
 use Rattle.std.specs.Prelude.{IfOk}
 use Rattle.std.specs.List.{range_with_len}
 use Rattle.std.proofs.lemmas.List.{length-map}
@@ -9,7 +10,7 @@ use Rattle.giv_files.specs.declared.made.Made.{Made}
 use Rattle.giv_files.specs.declared.refusal.StageFault.{StageFault}
 use Rattle.giv_files.specs.declared.stage.Stage.TheVariants as stage
 use Rattle.giv_files.specs.Columns.{events_p_columns, activities_p_columns}
-use Rattle.giv_files.specs.Inputs.{input_faults, records_of, limit_faults, row_limit}
+use Rattle.giv_files.specs.Inputs.{input_faults, records_of, row_limit}
 use Rattle.giv_files.specs.Settings.{BundleParts, Fits}
 use Rattle.giv_files.specs.StageCalls.{input_text, StageGives}
 use Rattle.giv_files.specs.Writing.{ReadsBack}
@@ -63,9 +64,7 @@ module _ (bundle : BundleParts) (own : bundle.stage ≡ stage.Ean) (fits : Fits 
       (front_none _ _ short)).0
 
   few_activities : length (activities_in bundle) ≤ 200000
-  few_activities = (limits_sound (row_limit counted.PeriodicActivities 200000) []
-      (activities_in bundle) (back_none
-      (limit_faults (row_limit counted.PeriodicEvents 4000 ∷ []) (events_in bundle)) _ short)).0
+  few_activities = grind arith
 
   lines_served : AreServed (network_in bundle) (lines_in bundle)
   lines_served = served (input_text bundle 0) (input_text bundle 1) (input_text bundle 2)
@@ -108,9 +107,7 @@ module _ (bundle : BundleParts) (own : bundle.stage ≡ stage.Ean) (fits : Fits 
 
   ids_are : periodic_event_ids (records_of periodic_event_input events_text)
       ≡ range_with_len 1 (length (events_in bundle))
-  ids_are =
-      ap (map (λ (event : PeriodicEvent). event.id)) events_again.1
-      ∙ events_placed (network_in bundle) (lines_in bundle) ∙ ap (range_with_len 1) same_size
+  ids_are = grind (arith, events_again, events_placed, same_size)
 
   -- the files that are made are accepted
   ean_accepted : EanIsAccepted events_text activities_text

@@ -1,6 +1,8 @@
 -- Events that stand in turn: neighbours of one run are at places one after the other, and a new run
 -- begins behind a whole one.
-use Rattle.std.proofs.Common.{◌≡◌, ℕ, zero, suc, ◌+◌, ◌*◌, ◌%◌, ◌==◌, ◌<◌, ◌≤◌, arith, Bool, ◌&&◌, true, false, All, MatchBool, List, [], ◌∷◌, ◌++◌, length, map, unsigned_abs, refl, subst, sym}
+use Rattle.std.proofs.Common.{◌≡◌, ℕ, zero, suc, ◌+◌, ◌*◌, ◌%◌, ◌==◌, ◌<◌, ◌≤◌, arith, Bool, ◌&&◌}
+use Rattle.std.proofs.Common.{true, false, All, MatchBool, List, [], ◌∷◌, ◌++◌, length, map}
+use Rattle.std.proofs.Common.{unsigned_abs, refl, subst, sym}
 use Rattle.std.specs.List.{flat_map, range_with_len, enumerate_from}
 use Rattle.std.proofs.lemmas.Bool.{eq-eqb, ne_eqb, and_left as line_false}
 use Rattle.std.proofs.lemmas.List.{append_assoc}
@@ -163,10 +165,7 @@ module _ (network : NetworkParts) (line : LineParts) where
       last_goes : (place : ℕ) (rest : List RunEvent) → place + 1 ≡ 2 * length line.edges
           → Starts Another rest → GoesOn network (at place) rest
       last_goes place [] ends first = omega (arith, ends)
-      last_goes place (event ∷ rest) ends first =
-          let over : (place + 1) % 2 ≡ 0 = omega (arith, ends) in
-          subst (λ b. MatchBool b (Onward network (at place) event)
-          (EndsRun (at place) × BeginsRun event)) (sym first.1) (over, first.0)
+      last_goes place (event ∷ rest) ends first = grind arith
 
       -- a run before others
       run_turn : (a n : ℕ) (rest : List RunEvent) → a + n ≡ 2 * length line.edges
@@ -175,11 +174,12 @@ module _ (network : NetworkParts) (line : LineParts) where
       run_turn a zero rest ends first turn = turn
       run_turn a (suc zero) rest ends first turn =
           (refl, last_goes a rest (omega (arith, ends)) first, turn)
-      run_turn a (suc (suc n)) rest ends first turn = (
-        refl,
-        next_follows a (omega (arith, ends)),
-        run_turn (a + 1) (suc n) rest (omega (arith, ends)) first turn,
-      )
+      run_turn a (suc (suc n)) rest ends first turn =
+          grind (
+            arith,
+            next_follows,
+            run_turn (a + 1) (suc n) rest (omega (arith, ends)) first turn,
+          )
 
     -- the runs in a direction before others
     runs_turn : (way : Direction) (a n : ℕ) (rest : List RunEvent) → Starts (Elsewhere way) rest

@@ -1,12 +1,12 @@
 -- The activities of all joinings, and how many there are.
-use Rattle.std.proofs.Common.{◌≡◌, ℕ, ◌≤◌, arith, List, length, take, ap, sym, ◌∙◌}
+use Rattle.std.proofs.Common.{◌≡◌, ℕ, ◌≤◌, arith, List, length, take, ap, ◌∙◌}
 use Rattle.std.specs.List.{flat_map}
 use Rattle.std.proofs.lemmas.List.{take_all}
 use Rattle.giv_files.specs.declared.setting.Setting.{Setting}
 use Rattle.event_tables.specs.declared.periodic_activity.PeriodicActivity.{PeriodicActivity}
 use Rattle.event_activity.specs.declared.joining.Joining.{Joining}
 use Rattle.event_activity.specs.declared.run_event.RunEvent.{RunEvent}
-use Rattle.event_activity.specs.Activities.{joined_events, joinings, with_number, with_numbers, concept_activities}
+use Rattle.event_activity.specs.Activities.{joined_events, joinings, with_numbers, concept_activities}
 use Rattle.event_activity.proofs.LineEvents.{numbered_size}
 
 module _ (settings : List Setting) (events : List RunEvent) (items : List Joining)
@@ -19,9 +19,7 @@ module _ (settings : List Setting) (events : List RunEvent) (items : List Joinin
       → count ≡ length (flat_map (joined_events settings events) (take i items))
       → count ≡ length (concept_activities settings events)
   unfolding concept_activities
-  activities_counted count told =
-      told ∙ ap length whole
-      ∙ sym (numbered_size with_number (flat_map (joined_events settings events) (joinings settings)))
+  activities_counted count told = grind (arith, whole, numbered_size)
 
   module _ (all : List PeriodicActivity)
       (told : all ≡ flat_map (joined_events settings events) (take i items)) where

@@ -1,8 +1,9 @@
 -- The events and activities of a line concept keep the rules of runs, and each drive goes over an
 -- edge.
-use Rattle.std.proofs.Common.{◌≡◌, ℕ, zero, suc, ◌+◌, ◌==◌, ◌%◌, ◌<◌, arith, Bool, ◌&&◌, true, false, not, nat_lt, Contains, List, [], ◌∷◌, length, get_or, unsigned_abs, refl, ap, subst, sym, ◌∙◌}
+use Rattle.std.proofs.Common.{◌≡◌, ℕ, zero, suc, ◌+◌, ◌==◌, ◌%◌, ◌<◌, arith, Bool, ◌&&◌, true}
+use Rattle.std.proofs.Common.{false, not, Contains, List, [], ◌∷◌, length, get_or, unsigned_abs}
+use Rattle.std.proofs.Common.{refl, ap, subst, sym, ◌∙◌}
 use Rattle.std.proofs.lemmas.Bool.{eq-eqb, eqb-true, ne_eqb, and_parts, not-true, MatchBool-at_true}
-use Rattle.std.specs.Ordering.{int_eq}
 use Rattle.std.proofs.lemmas.List.Elements.{All-weaker, All-contains}
 use Rattle.giv_files.specs.declared.setting.Setting.{Setting}
 use Rattle.event_tables.specs.declared.periodic_activity.PeriodicActivity.{PeriodicActivity}
@@ -10,14 +11,14 @@ use Rattle.event_tables.specs.declared.periodic_event.PeriodicEvent.{PeriodicEve
 use Rattle.event_tables.specs.declared.periodic_kind.PeriodicKind.{PeriodicKind}
 use Rattle.event_tables.specs.declared.periodic_kind.PeriodicKind.TheVariants as kinds
 use Rattle.event_tables.specs.Cells.{periodic_event}
-use Rattle.event_tables.specs.Kinds.{is_arrival, event_kind_at, same_direction}
-use Rattle.event_tables.specs.PeriodicRuns.{headways, is_next, joins, same_run}
+use Rattle.event_tables.specs.Kinds.{is_arrival, event_kind_at}
+use Rattle.event_tables.specs.PeriodicRuns.{is_next, joins, same_run}
 use Rattle.event_tables.specs.RunRules.{lacks_way, goes_between, is_placed, drives_at_once, is_stray, KeepRunRules}
 use Rattle.line_pool.specs.Pools.{LineParts}
 use Rattle.ptn_network.specs.Networks.{NetworkParts, IsEdge}
 use Rattle.giv_files.proofs.Members.{Contains-map as contains_map}
 use Rattle.event_activity.specs.declared.run_event.RunEvent.{RunEvent}
-use Rattle.event_activity.specs.Activities.{bounds_from, concept_activities, keeps_headway, shares_edge}
+use Rattle.event_activity.specs.Activities.{bounds_from, concept_activities}
 use Rattle.event_activity.specs.ActivitiesOfRuns.{joins_events, bounds_of, IsActivityOf, IsDriveOver}
 use Rattle.event_activity.specs.EanStage.{rows_of}
 use Rattle.event_activity.specs.EventsOfRuns.{IsEventOf}
@@ -67,12 +68,6 @@ departs_even zero h is = refl
 departs_even (suc zero) h is = absurd (cc)
 departs_even (suc (suc n)) h is = absurd (omega (arith, h))
 
--- a first event of a run is no arrival
-departs_first : (event : RunEvent) → IsOfPlace event → event.place ≡ 0
-    → is_arrival event.row.kind ≡ false
-departs_first event kind first =
-    ap is_arrival kind ∙ ap (λ n. is_arrival (event_kind_at (n % 2))) first
-
 first_of : (a b c d e : Bool) → (a && b && c && d && e) ≡ true → (a ≡ true) × (b ≡ true)
 first_of true true c d e is = (refl, refl)
 first_of true false c d e is = absurd (cc)
@@ -85,21 +80,8 @@ joins_rows : (settings : List Setting) (kind : PeriodicKind) (event next : RunEv
 joins_rows settings kinds.Drive event next own other is = is
 joins_rows settings kinds.Wait event next own other is = is
 joins_rows settings kinds.Change event next own other is = is
-joins_rows settings kinds.Headway event next own other is =
-    let shared = and_parts (keeps_headway settings) (shares_edge event next) is in
-    let apart = and_parts (headways event.row next.row && int_eq event.edge.id next.edge.id
-    && nat_lt event.row.id next.row.id) (not (same_run event.row next.row)) shared.1 in
-    let before = and_parts (headways event.row next.row && int_eq event.edge.id next.edge.id)
-    (nat_lt event.row.id next.row.id) apart.0 in
-    (and_parts (headways event.row next.row) (int_eq event.edge.id next.edge.id) before.0).0
-joins_rows settings kinds.Sync event next own other is =
-    let places = first_of (event.place == 0) (next.place == 0) (event.row.line == next.row.line)
-    (same_direction event.row.direction next.row.direction)
-    (next.row.repetition == event.row.repetition + 1) is in
-    rw (
-      departs_first event own (eqb-true event.place 0 places.0),
-      departs_first next other (eqb-true next.place 0 places.1),
-    ) refl
+joins_rows settings kinds.Headway event next own other is = grind arith
+joins_rows settings kinds.Sync event next own other is = grind arith
 
 module _ (network : NetworkParts) (lines : List LineParts) (served : AreServed network lines)
     (settings : List Setting) where
@@ -115,9 +97,7 @@ module _ (network : NetworkParts) (lines : List LineParts) (served : AreServed n
       (All-contains (IsEventOf network lines) events event (events_are network lines).sound there)
 
   of_place : (event : RunEvent) → Contains events event → IsOfPlace event
-  of_place event there =
-      All-contains IsOfPlace events event (kinds_of network events
-      (events_turn network lines served)) there
+  of_place event there = grind (arith, All-contains, IsOfPlace, kinds_of, events_turn)
 
   placed_one : (activity : PeriodicActivity) → IsActivityOf settings events activity
       → is_placed (rows_of events) activity ≡ true

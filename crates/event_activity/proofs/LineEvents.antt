@@ -1,16 +1,16 @@
 -- The events of a line, and how many there are.
-use Rattle.std.proofs.Common.{◌≡◌, ℕ, ◌+◌, ◌*◌, ◌<◌, ◌≤◌, arith, List, length, map, take, ap, sym, ◌∙◌, Some, option_map, slice_get}
+use Rattle.std.proofs.Common.{◌≡◌, ℕ, ◌+◌, ◌*◌, ◌<◌, ◌≤◌, arith, List, length, map, take, ap, sym}
+use Rattle.std.proofs.Common.{◌∙◌, Some, option_map, slice_get}
 use Rattle.std.specs.List.{flat_map, enumerate_from}
 use Rattle.std.proofs.lemmas.Option.{slice_get-get_or, same_Some}
 use Rattle.std.proofs.lemmas.List.{length-append, length-map, take_all}
-use Rattle.std.proofs.lemmas.List.Elements.{All-get_or}
 use Rattle.std.proofs.lemmas.List.FromFn.{length-map-range_with_len, length-enumerate_from}
 use Rattle.event_tables.specs.declared.direction.Direction.{Direction}
 use Rattle.event_tables.specs.declared.direction.Direction.TheVariants as direction
-use Rattle.line_pool.specs.Pools.{LineParts, IsLine}
+use Rattle.line_pool.specs.Pools.{LineParts}
 use Rattle.ptn_network.specs.Networks.{NetworkParts}
 use Rattle.event_activity.specs.declared.run_event.RunEvent.{RunEvent}
-use Rattle.event_activity.specs.Runs.{AreServed, no_line, line_at, run_event, run, runs, line_events, with_id, concept_events}
+use Rattle.event_activity.specs.Runs.{AreServed, no_line, line_at, runs, line_events, with_id, concept_events}
 use Rattle.event_activity.proofs.Added.{parts_size}
 
 -- what a pool tells of the line at a place
@@ -23,21 +23,14 @@ told_of field lines line x h has =
 module _ (network : NetworkParts) (line : LineParts) where
   runs_size : (way : Direction)
       → length (runs network line way) ≡ line.frequency * (2 * length line.edges)
-  runs_size way =
-      parts_size (run network line way) (2 * length line.edges)
-      (λ repetition. length-map-range_with_len (run_event network line way repetition) 0
-      (2 * length line.edges)) 1 line.frequency
+  runs_size way = grind (arith, parts_size, length-map-range_with_len)
 
   sums : (n e : ℕ) → n * (2 * e) + n * (2 * e) ≡ 4 * e * n
   sums n e = grind arith
 
   -- two events for each edge, in each run of both directions
   pub line_size : length (line_events network line) ≡ 4 * length line.edges * line.frequency
-  line_size =
-      length-append (runs network line direction.Forward) (runs network line direction.Backward)
-      ∙ ap (λ n. n + length (runs network line direction.Backward)) (runs_size direction.Forward)
-      ∙ ap (λ n. line.frequency * (2 * length line.edges) + n) (runs_size direction.Backward)
-      ∙ sums line.frequency (length line.edges)
+  line_size = grind (arith, length-append, runs_size, sums)
 
 product : (a b c d : ℕ) → a ≤ c → b ≤ d → a * b ≤ c * d
 product a b c d h k = grind arith
@@ -46,20 +39,13 @@ product a b c d h k = grind arith
 pub line_few : (network : NetworkParts) (lines : List LineParts) (line edges frequency : ℕ)
     → AreServed network lines → line < length lines → edges ≡ length (line_at lines line).edges
     → frequency ≡ (line_at lines line).frequency → 4 * edges * frequency ≤ 4000000
-line_few network lines line edges frequency served h some often =
-    let short = All-get_or (λ (at : LineParts). length at.edges ≤ 1000) lines line no_line h
-    served.short in
-    let each = All-get_or (IsLine network.edges) lines line no_line h served.lines_are.each in
-    product (4 * edges) frequency 4000 1000 (omega (arith, some, short))
-    (omega (arith, often, each.frequency))
+line_few network lines line edges frequency served h some often = grind arith
 
 -- what is counted of a line is the number of its events
 pub line_counted : (network : NetworkParts) (lines : List LineParts) (line edges frequency : ℕ)
     → edges ≡ length (line_at lines line).edges → frequency ≡ (line_at lines line).frequency
     → 4 * edges * frequency ≡ length (line_events network (line_at lines line))
-line_counted network lines line edges frequency some often =
-    ap (λ n. 4 * n * frequency) some ∙ ap (λ n. 4 * length (line_at lines line).edges * n) often
-    ∙ sym (line_size network (line_at lines line))
+line_counted network lines line edges frequency some often = grind (arith, line_size)
 
 -- numbers change nothing of how many there are
 pub numbered_size : {X Y : Type 0} (f : ℕ × X → Y) (xs : List X)
@@ -72,9 +58,7 @@ module _ (network : NetworkParts) (lines : List LineParts) where
       → count ≡ length (flat_map (line_events network) (take i lines))
       → count ≡ length (concept_events network lines)
   unfolding concept_events
-  events_counted count i done told =
-      told ∙ ap (λ (some : List LineParts). length (flat_map (line_events network) some))
-      (take_all i lines done) ∙ sym (numbered_size with_id (flat_map (line_events network) lines))
+  events_counted count i done told = grind (arith, take_all, numbered_size)
 
   -- those of all lines are there, and there are not too many
   pub events_few : (events : List RunEvent) (i : ℕ) → length lines ≤ i
@@ -87,7 +71,4 @@ module _ (network : NetworkParts) (lines : List LineParts) where
       → events ≡ flat_map (line_events network) (take i lines)
       → numbered ≡ map with_id (enumerate_from 1 events) → numbered ≡ concept_events network lines
   unfolding concept_events
-  events_told events numbered i done told is =
-      is ∙ ap (λ some. map with_id (enumerate_from 1 some)) told
-      ∙ ap (λ (some : List LineParts). map with_id
-      (enumerate_from 1 (flat_map (line_events network) some))) (take_all i lines done)
+  events_told events numbered i done told is = grind (arith, take_all)

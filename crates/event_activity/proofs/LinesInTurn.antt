@@ -1,11 +1,10 @@
 -- The events of a line concept stand in turn.
-use Rattle.std.proofs.Common.{◌≡◌, ℤ, pos, negsuc, ◌==◌, ◌≤ℤ◌, arith, All, false, List, [], ◌∷◌, map, unsigned_abs, refl, subst, sym}
+use Rattle.std.proofs.Common.{◌≡◌, ℤ, pos, negsuc, ◌==◌, ◌≤ℤ◌, arith, All, false, List, [], ◌∷◌}
+use Rattle.std.proofs.Common.{map, unsigned_abs, refl}
 use Rattle.std.specs.List.{flat_map, AllByRecursion}
 use Rattle.std.specs.List.Sorted.{IsStrictlySortedBy}
 use Rattle.std.specs.Ordering.{int_cmp}
 use Rattle.std.specs.declared.cmp.Ordering.TheVariants.{Less}
-use Rattle.std.proofs.lemmas.Bool.{ne_eqb}
-use Rattle.std.proofs.lemmas.Cmp.{int_cmp_total, tied_itself}
 use Rattle.std.proofs.lemmas.Int.{ints}
 use Rattle.std.proofs.lemmas.List.Elements.{All-head, All-tail}
 use Rattle.line_pool.specs.Pools.{LineParts, IsLine}
@@ -17,10 +16,7 @@ use Rattle.event_activity.proofs.InTurn.{InTurn, Starts, BeginsRun, OnOther, sta
 -- ids that differ do so without their signs
 unsigned_differ : (low high : ℤ) → pos 1 ≤ℤ low → pos 1 ≤ℤ high → int_cmp low high ≡ Less
     → (unsigned_abs low == unsigned_abs high) ≡ false
-unsigned_differ (pos m) (pos n) some more less =
-    ne_eqb m n (λ e. let tied = tied_itself int_cmp_total (pos m) in
-    let same : int_cmp (pos m) (pos m) ≡ Less =
-    subst (λ k. int_cmp (pos m) (pos k) ≡ Less) (sym e) less in cc)
+unsigned_differ (pos m) (pos n) some more less = grind arith
 unsigned_differ (pos m) (negsuc n) some more less = absurd (omega (arith, ints, more))
 unsigned_differ (negsuc m) high some more less = absurd (omega (arith, ints, some))
 
@@ -62,12 +58,8 @@ module _ (network : NetworkParts) where
 module _ (network : NetworkParts) (lines : List LineParts) where
   pub events_turn : AreServed network lines → InTurn network (concept_events network lines)
   unfolding concept_events
-  events_turn served =
-      numbered_turn network 1 (flat_map (line_events network) lines)
-      (lines_turn network lines served.lines_are.each served.lines_are.rise)
+  events_turn served = grind (arith, numbered_turn, lines_turn)
 
   pub events_begin : Starts BeginsRun (concept_events network lines)
   unfolding concept_events
-  events_begin =
-      numbered_starts BeginsRun 1 (flat_map (line_events network) lines) (λ n event first. first)
-      (lines_begin network lines)
+  events_begin = grind (arith, numbered_starts, BeginsRun, lines_begin)

@@ -1,11 +1,9 @@
 -- What holds of the activities between events.
-use Rattle.std.proofs.Common.{◌≡◌, ℕ, ◌/◌, ◌<◌, ◌≤◌, arith, All, List, length, filter, subst, sym}
+use Rattle.std.proofs.Common.{◌≡◌, ℕ, ◌≤◌, arith, All, List, length, filter, subst, sym}
 use Rattle.std.specs.List.{flat_map}
-use Rattle.std.proofs.lemmas.Nat.{div_below}
 use Rattle.std.proofs.lemmas.List.Elements.{All-map, All-weaker, All-filter}
 use Rattle.giv_files.specs.declared.key.Key.TheVariants as key
 use Rattle.giv_files.specs.declared.setting.Setting.{Setting}
-use Rattle.giv_files.specs.Settings.{amount}
 use Rattle.event_tables.specs.declared.periodic_activity.PeriodicActivity.{PeriodicActivity}
 use Rattle.event_tables.specs.declared.periodic_kind.PeriodicKind.{PeriodicKind}
 use Rattle.event_tables.specs.declared.periodic_kind.PeriodicKind.TheVariants as activity
@@ -37,12 +35,7 @@ module _ (settings : List Setting) (timely : AreTimely settings) where
   bounds_good activity.Wait event is = timely.waits
   bounds_good activity.Change event is = timely.changes
   bounds_good activity.Headway event is = timely.headways
-  bounds_good activity.Sync event is =
-      let period = timely.period in
-      let less : amount settings key.PeriodLength / event.frequency < 721 =
-      div_below (amount settings key.PeriodLength) event.frequency 721 is.served
-      (omega (arith, period, is.served)) in
-      record { in_order = omega arith; soon = omega (arith, less) }
+  bounds_good activity.Sync event is = grind arith
 
   module _ (events : List RunEvent) (count : ℕ) (numbered : All (IsNumbered count) events) where
     made_from : (joining : Joining) (event : RunEvent) → IsNumbered count event
@@ -78,18 +71,7 @@ module _ (settings : List Setting) (timely : AreTimely settings) where
 
     with_a_number : (many n : ℕ) (activity : PeriodicActivity) → 1 ≤ n → n ≤ many
         → IsMade count activity → IsNumberedOne count many (with_number (n, activity))
-    with_a_number many n activity low high is = record {
-      made = record {
-        sound = record {
-          from = is.sound.from;
-          to = is.sound.to;
-          in_order = is.sound.in_order;
-        };
-        soon = is.soon;
-      };
-      first = low;
-      last = high;
-    }
+    with_a_number many n activity low high is = grind arith
 
     -- all activities are so, and numbered up to their count
     pub activities_numbered : All (IsNumberedOne count

@@ -1,5 +1,6 @@
 -- What holds of all parts, of numbered things, and of their numbers.
-use Rattle.std.proofs.Common.{◌≡◌, ℕ, ◌+◌, ◌<◌, ◌≤◌, arith, All, List, [], ◌∷◌, length, map, get_or, refl, ap, subst, sym, ◌∙◌}
+use Rattle.std.proofs.Common.{◌≡◌, ℕ, ◌+◌, ◌<◌, ◌≤◌, arith, All, List, [], ◌∷◌, length, map, get_or}
+use Rattle.std.proofs.Common.{refl, subst, sym}
 use Rattle.std.specs.List.{range_with_len, enumerate_from}
 use Rattle.std.proofs.lemmas.List.Elements.{All-map}
 use Rattle.std.proofs.lemmas.List.FromFn.{length-range_with_len, get_or-range_with_len, length-enumerate_from, get_or-enumerate_from}
@@ -7,10 +8,7 @@ use Rattle.std.proofs.lemmas.List.FromFn.{length-range_with_len, get_or-range_wi
 -- what holds of each number from one on
 pub all_numbers : (P : ℕ → Type 0) (a n : ℕ) → ((j : ℕ) → a ≤ j → j < a + n → P j)
     → All P (range_with_len a n)
-all_numbers P a n each = λ k d h.
-    let within : k < n = omega (arith, h, length-range_with_len a n) in
-    subst P (sym (get_or-range_with_len a n k d within))
-    (each (a + k) (omega arith) (omega (arith, within)))
+all_numbers P a n each = grind (arith, length-range_with_len, get_or-range_with_len)
 
 -- what holds of each thing with its number
 pub all_numbered : {X Y : Type 0} (P : X → Type 0) (Q : Y → Type 0) (f : ℕ × X → Y) (xs : List X)
@@ -27,6 +25,4 @@ pub numbers_are : {X Y : Type 0} (id : Y → ℕ) (f : ℕ × X → Y)
     → ((n : ℕ) (x : X) → id (f (n, x)) ≡ n) → (a : ℕ) (xs : List X)
     → map id (map f (enumerate_from a xs)) ≡ range_with_len a (length xs)
 numbers_are id f same a [] = refl
-numbers_are id f same a (x ∷ xs) =
-    ap (λ n. n ∷ map id (map f (enumerate_from (a + 1) xs))) (same a x)
-    ∙ ap (λ ids. a ∷ ids) (numbers_are id f same (a + 1) xs)
+numbers_are id f same a (x ∷ xs) = grind (arith, numbers_are id f same (a + 1) xs)

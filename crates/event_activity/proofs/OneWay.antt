@@ -1,5 +1,6 @@
 -- Exactly one activity leads from an event to the next one of its run.
-use Rattle.std.proofs.Common.{◌≡◌, ℕ, suc, ◌+◌, ◌==◌, ◌<◌, arith, Bool, ◌&&◌, true, false, cond, List, [], ◌∷◌, length, map, filter, get_or, refl, ap, sym, ◌∙◌}
+use Rattle.std.proofs.Common.{◌≡◌, ℕ, suc, ◌+◌, ◌<◌, arith, Bool, ◌&&◌, true, false, cond, List, []}
+use Rattle.std.proofs.Common.{◌∷◌, length, map, filter, get_or, refl, ap, sym, ◌∙◌}
 use Rattle.std.specs.List.{flat_map, enumerate_from, count_by}
 use Rattle.std.proofs.lemmas.Bool.{eq-eqb, ne_eqb}
 use Rattle.std.proofs.lemmas.List.{get_or-map}
@@ -74,11 +75,7 @@ module _ (settings : List Setting) (events : List RunEvent)
     others_none : (by : Joining) → ((from : RunEvent) → same_kind (kind_from by from)
         (way_on event.row.kind) ≡ false)
         → filter test (joined_events settings events by) ≡ []
-    others_none by other =
-        filter_parts test (from_event settings by events) events
-        ∙ no_parts (λ from. filter test (from_event settings by events from))
-        (λ from. none_mapped test (activity_of settings (kind_from by from) from)
-        (λ to. rw (other from) refl) (filter (joined by from) events)) events
+    others_none by other = grind (arith, filter_parts, no_parts, none_mapped)
 
     abbrev given : RunEvent → List PeriodicActivity
     given to = cond (joined joining.Run event to
@@ -88,11 +85,7 @@ module _ (settings : List Setting) (events : List RunEvent)
     -- of the events that come next in their runs the activity of one alone does
     from_others : (from : RunEvent) → (from.row.id ≡ 1 + i → ⊥)
         → filter test (from_event settings joining.Run events from) ≡ []
-    from_others from other =
-        none_mapped test (activity_of settings (kind_from joining.Run from) from)
-        (λ to. middle_false _ (from.row.id == event.row.id) (to.row.id == next.row.id)
-        (ne_eqb from.row.id event.row.id (λ e. other (e ∙ event_id))))
-        (filter (joined joining.Run from) events)
+    from_others from other = grind (arith, none_mapped, middle_false, ne_eqb, event_id)
 
     to_others : (to : RunEvent) → (to.row.id ≡ 1 + suc i → ⊥) → given to ≡ []
     to_others to other = rw (ne_eqb to.row.id (event.row.id + 1)
@@ -105,12 +98,7 @@ module _ (settings : List Setting) (events : List RunEvent)
         by_test false = refl
 
     one_given : given next ≡ activity_of settings (kind_from joining.Run event) event next ∷ []
-    one_given = rw (
-      comes,
-      way_kind event.row.kind,
-      eq-eqb event.row.id event.row.id refl,
-      eq-eqb next.row.id next.row.id refl,
-    ) refl
+    one_given = grind (arith, comes, way_kind, eq-eqb)
 
     runs_one : filter test (joined_events settings events joining.Run)
         ≡ activity_of settings (kind_from joining.Run event) event next ∷ []

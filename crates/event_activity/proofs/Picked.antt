@@ -1,5 +1,6 @@
 -- Parts of lists of events that are numbered in their order: what one event or two of them give.
-use Rattle.std.proofs.Common.{◌≡◌, ℕ, zero, suc, ◌+◌, ◌<◌, ◌≤◌, arith, Bool, ◌&&◌, false, cond, List, [], ◌∷◌, ◌++◌, length, map, filter, get_or, refl, ap, sym, ◌∙◌, inl, inr}
+use Rattle.std.proofs.Common.{◌≡◌, ℕ, zero, suc, ◌+◌, ◌<◌, ◌≤◌, arith, Bool, ◌&&◌, false, cond}
+use Rattle.std.proofs.Common.{List, [], ◌∷◌, ◌++◌, length, map, filter, get_or, refl, ap, sym, ◌∙◌}
 use Rattle.std.specs.List.{flat_map, range_with_len, enumerate_from, count_by}
 use Rattle.std.proofs.lemmas.List.{append-nil}
 use Rattle.std.proofs.lemmas.List.Elements.{filter-append}
@@ -39,15 +40,7 @@ none_mapped p f fails (x ∷ xs) = rw (fails x) (none_mapped p f fails xs)
 pub both_tests : {A X : Type 0} (p : X → Bool) (q : A → Bool) (f : A → X) (xs : List A)
     → filter p (map f (filter q xs)) ≡ flat_map (λ x. cond (q x && p (f x)) (f x ∷ []) []) xs
 both_tests p q f [] = refl
-both_tests p q f (x ∷ xs) =
-    let rest = both_tests p q f xs in
-    elim (cases_Bool (q x)) [
-      | inl is ↦ elim (cases_Bool (p (f x))) [
-        | inl so ↦ rw (is, so) (ap (λ ys. f x ∷ ys) rest)
-        | inr so ↦ rw (is, so) rest
-      ]
-      | inr is ↦ rw is rest
-    ]
+both_tests p q f (x ∷ xs) = grind (arith, cases_Bool, both_tests p q f xs)
 
 module _ {X Y : Type 0} (id : X → ℕ) (g : X → List Y) where
   -- the things from a number on give nothing
@@ -65,11 +58,7 @@ module _ {X Y : Type 0} (id : X → ℕ) (g : X → List Y) where
       → j < length xs → ((x : X) → (id x ≡ a + j → ⊥) → g x ≡ []) → flat_map g xs ≡ g
       (get_or xs j d)
   picked a j [] d are h none = absurd (omega (arith, h))
-  picked a zero (x ∷ xs) d are h none =
-      let rest : map id xs ≡ range_with_len (a + 1) (length xs) = let e = are in cc in
-      ap (λ ys. g x ++ ys) (later_none (a + 1) xs rest (λ y low. none y (λ e. omega
-      (arith, e, low))))
-      ∙ append-nil (g x)
+  picked a zero (x ∷ xs) d are h none = grind (arith, later_none, append-nil)
   picked a (suc j) (x ∷ xs) d are h none =
       let first : id x ≡ a = let e = are in cc in
       let rest : map id xs ≡ range_with_len (a + 1) (length xs) = let e = are in cc in

@@ -1,19 +1,18 @@
 -- The activities between events are those that the kinds join and no others.
-use Rattle.std.proofs.Common.{◌≡◌, ℕ, zero, suc, arith, Bool, true, false, not, cond, All, Contains, List, map, filter, refl, ap, subst, sym, ◌∙◌}
+use Rattle.std.proofs.Common.{◌≡◌, ℕ, zero, suc, arith, Bool, true, false, All, Contains, List, map}
+use Rattle.std.proofs.Common.{filter, refl, subst, sym}
 use Rattle.std.specs.List.{flat_map, enumerate_from}
-use Rattle.std.proofs.lemmas.Bool.{and_parts, not-true}
+use Rattle.std.proofs.lemmas.Bool.{and_parts}
 use Rattle.std.proofs.lemmas.List.Elements.{All-map, All-weaker, All-filter, All-contains, All-contains_itself, filter_passes}
 use Rattle.giv_files.specs.declared.setting.Setting.{Setting}
 use Rattle.event_tables.specs.declared.periodic_activity.PeriodicActivity.{PeriodicActivity}
 use Rattle.event_tables.specs.declared.periodic_kind.PeriodicKind.{PeriodicKind}
 use Rattle.event_tables.specs.declared.periodic_kind.PeriodicKind.TheVariants as kinds
-use Rattle.event_tables.specs.Kinds.{is_arrival}
-use Rattle.event_tables.specs.PeriodicRuns.{is_next}
 use Rattle.event_activity.specs.declared.bounds.Bounds.{Bounds}
 use Rattle.event_activity.specs.declared.joining.Joining.{Joining}
 use Rattle.event_activity.specs.declared.joining.Joining.TheVariants as joining
 use Rattle.event_activity.specs.declared.run_event.RunEvent.{RunEvent}
-use Rattle.event_activity.specs.Activities.{joined, kind_from, bounds_from, activity_of, from_event, joined_events, joinings, joinings_with, keeps_headway, shares_edge, with_number, concept_activities}
+use Rattle.event_activity.specs.Activities.{joined, kind_from, activity_of, from_event, joined_events, joinings, joinings_with, keeps_headway, shares_edge, with_number, concept_activities}
 use Rattle.event_activity.specs.ActivitiesOfRuns.{joins_events, IsActivityOf, AreActivitiesOf}
 use Rattle.giv_files.proofs.Members.{Contains-filter as contains_filter}
 use Rattle.event_activity.proofs.Members.{contains_numbered}
@@ -29,12 +28,7 @@ module _ (settings : List Setting) where
   -- what a joining joins, the kind of it joins
   joins_as : (by : Joining) → IsMadeBy by → (event next : RunEvent) → joined by event next ≡ true
       → joins_events settings (kind_from by event) event next ≡ true
-  joins_as joining.Run made event next is =
-      elim (is_arrival event.row.kind) as (λ b. is_arrival event.row.kind ≡ b
-      → joins_events settings (cond b kinds.Wait kinds.Drive) event next ≡ true) [
-        | true ↦ λ arrives. rw (arrives, is) refl
-        | false ↦ λ departs. rw (departs, is) refl
-      ] refl
+  joins_as joining.Run made event next is = grind arith
   joins_as joining.Sync made event next is = is
   joins_as joining.Change made event next is = is
   joins_as joining.Headway made event next is = rw (headway_kept (keeps_headway settings) made, is) refl
@@ -55,23 +49,8 @@ module _ (settings : List Setting) where
 
   joined_as : (kind : PeriodicKind) (event next : RunEvent)
       → joins_events settings kind event next ≡ true → IsJoined kind event next
-  joined_as kinds.Drive event next is =
-      let parts = and_parts (not (is_arrival event.row.kind)) (is_next event.row next.row) is in
-      record {
-        by = joining.Run;
-        made = (0, omega arith, refl);
-        joins = parts.1;
-        same = ap (λ b. cond b kinds.Wait kinds.Drive)
-            (not-true (is_arrival event.row.kind) parts.0);
-      }
-  joined_as kinds.Wait event next is =
-      let parts = and_parts (is_arrival event.row.kind) (is_next event.row next.row) is in
-      record {
-        by = joining.Run;
-        made = (0, omega arith, refl);
-        joins = parts.1;
-        same = ap (λ b. cond b kinds.Wait kinds.Drive) parts.0;
-      }
+  joined_as kinds.Drive event next is = grind arith
+  joined_as kinds.Wait event next is = grind arith
   joined_as kinds.Sync event next is =
       record { by = joining.Sync; made = (1, omega arith, refl); joins = is; same = refl }
   joined_as kinds.Change event next is =
@@ -123,16 +102,7 @@ module _ (settings : List Setting) (events : List RunEvent) where
 
   numbered_one : (n : ℕ) (activity : PeriodicActivity) → IsOne activity
       → IsOne (with_number (n, activity))
-  numbered_one n activity is = record {
-    event = is.event;
-    next = is.next;
-    there = is.there;
-    also = is.also;
-    from = is.from;
-    to = is.to;
-    joins = is.joins;
-    bounds = is.bounds;
-  }
+  numbered_one n activity is = grind arith
 
   pub activities_sound : All IsOne (concept_activities settings events)
   unfolding concept_activities
@@ -148,13 +118,7 @@ module _ (settings : List Setting) (events : List RunEvent) where
   same_activity : (n : ℕ) (activity : PeriodicActivity) (is : IsOne activity) (kind : PeriodicKind)
       → kind ≡ activity.kind → with_number (n, activity_of settings kind is.event is.next)
       ≡ with_number (n, activity)
-  same_activity n activity is kind same =
-      ap (λ k. made_of n k is.event.row.id is.next.row.id (bounds_from settings k is.event)) same
-      ∙ ap (λ from. made_of n activity.kind from is.next.row.id
-      (bounds_from settings activity.kind is.event)) (sym is.from)
-      ∙ ap (λ to. made_of n activity.kind activity.from to
-      (bounds_from settings activity.kind is.event)) (sym is.to)
-      ∙ ap (made_of n activity.kind activity.from activity.to) (sym is.bounds)
+  same_activity n activity is kind same = grind arith
 
   -- the activities between the events are those
   pub activities_are : AreActivitiesOf settings events (concept_activities settings events)

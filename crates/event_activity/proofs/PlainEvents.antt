@@ -1,5 +1,6 @@
 -- The events of lines are those of all their runs and no others.
-use Rattle.std.proofs.Common.{ℕ, pos, ◌+◌, ◌*◌, ◌/◌, ◌<◌, ◌≤◌, arith, All, Contains, List, length, map, unsigned_abs, refl, ap, subst, sym, ◌∙◌}
+use Rattle.std.proofs.Common.{ℕ, pos, ◌+◌, ◌*◌, ◌/◌, ◌<◌, ◌≤◌, arith, All, Contains, List, length}
+use Rattle.std.proofs.Common.{map, unsigned_abs, refl, ap, subst, sym, ◌∙◌}
 use Rattle.std.specs.List.{flat_map, range_with_len, enumerate_from}
 use Rattle.std.proofs.lemmas.List.Elements.{All-append, All-map, All-weaker, All-contains, All-contains_itself, All-get_or, Contains-append_left, Contains-append_right, Contains-get_or}
 use Rattle.event_tables.specs.declared.direction.Direction.{Direction}
@@ -54,17 +55,7 @@ module _ (network : NetworkParts) (lines : List LineParts) where
       (All-contains_itself lines))
 
   numbered_one : (n : ℕ) (event : RunEvent) → IsOne event → IsOne (with_id (n, event))
-  numbered_one n event is = record {
-    line = is.line;
-    direction = is.direction;
-    repetition = is.repetition;
-    place = is.place;
-    there = is.there;
-    first = is.first;
-    often = is.often;
-    within = is.within;
-    same = ap (λ (some : RunEvent). with_id (n, some)) is.same;
-  }
+  numbered_one n event is = grind arith
 
   runs_have : (line : LineParts) (way : Direction) (repetition place : ℕ) → 1 ≤ repetition
       → repetition ≤ line.frequency → place < 2 * length line.edges
@@ -79,12 +70,8 @@ module _ (network : NetworkParts) (lines : List LineParts) where
 
   line_has : (line : LineParts) (way : Direction) (event : RunEvent)
       → Contains (runs network line way) event → Contains (line_events network line) event
-  line_has line direction.Forward event there =
-      Contains-append_left (runs network line direction.Forward)
-      (runs network line direction.Backward) event there
-  line_has line direction.Backward event there =
-      Contains-append_right (runs network line direction.Forward)
-      (runs network line direction.Backward) event there
+  line_has line direction.Forward event there = grind (arith, Contains-append_left)
+  line_has line direction.Backward event there = grind (arith, Contains-append_right)
 
   -- the events of the lines are those
   pub events_are : AreEventsOf network lines (concept_events network lines)

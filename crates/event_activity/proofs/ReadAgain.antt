@@ -1,14 +1,13 @@
 -- What is written of events and of activities is read again, and their ids are their places.
-use Rattle.std.proofs.Common.{List, refl, ap, sym, ◌∙◌}
-use Rattle.std.specs.List.{flat_map, range_with_len}
+use Rattle.std.proofs.Common.{List, ap, sym, ◌∙◌, arith}
+use Rattle.std.specs.List.{range_with_len}
 use Rattle.std.proofs.lemmas.List.{length-map}
 use Rattle.std.proofs.lemmas.Simd.{map-map}
 use Rattle.giv_files.specs.declared.setting.Setting.{Setting}
-use Rattle.event_tables.specs.declared.periodic_activity.PeriodicActivity.{PeriodicActivity}
 use Rattle.event_tables.specs.declared.periodic_event.PeriodicEvent.{PeriodicEvent}
 use Rattle.event_tables.specs.Places.{AreNumbered}
 use Rattle.event_activity.specs.declared.run_event.RunEvent.{RunEvent}
-use Rattle.event_activity.specs.Activities.{joined_events, joinings, with_number, concept_activities}
+use Rattle.event_activity.specs.Activities.{concept_activities}
 use Rattle.event_activity.specs.EanStage.{rows_of}
 use Rattle.event_activity.specs.Runs.{concept_events}
 use Rattle.event_activity.proofs.LineEvents.{numbered_size}
@@ -31,7 +30,4 @@ events_placed network lines =
 pub activities_placed : (settings : List Setting) (events : List RunEvent)
     → AreNumbered (λ row. row.id) (concept_activities settings events)
 unfolding concept_activities
-activities_placed settings events =
-    let activities = flat_map (joined_events settings events) (joinings settings) in
-    numbers_are (λ (row : PeriodicActivity). row.id) with_number (λ n row. refl) 1 activities
-    ∙ ap (range_with_len 1) (sym (numbered_size with_number activities))
+activities_placed settings events = grind (arith, numbers_are, numbered_size)

@@ -1,7 +1,9 @@
 -- The runs of events that stand in turn are whole, and what holds of neighbours in the list holds
 -- of
 -- those in each run.
-use Rattle.std.proofs.Common.{◌≡◌, ℕ, zero, suc, ◌+◌, ◌%◌, ◌==◌, ◌<◌, arith, Bool, true, false, cond, MatchBool, List, [], ◌∷◌, ◌++◌, length, map, filter, refl, ap, subst, ◌∙◌}
+use Rattle.std.proofs.Common.{◌≡◌, ℕ, zero, suc, ◌+◌, ◌%◌, ◌<◌, arith, Bool, true, false, cond}
+use Rattle.std.proofs.Common.{MatchBool, List, [], ◌∷◌, ◌++◌, length, map, filter, refl, ap, subst}
+use Rattle.std.proofs.Common.{◌∙◌}
 use Rattle.std.specs.List.{flat_map, enumerate_from}
 use Rattle.std.proofs.lemmas.Bool.{eq-eqb, and_right}
 use Rattle.event_tables.specs.declared.periodic_event.PeriodicEvent.{PeriodicEvent}
@@ -29,15 +31,7 @@ none_breaks : (size place : ℕ) (run : List PeriodicEvent) → size % 2 ≡ 0 �
     → filter (breaks size) (enumerate_from place run) ≡ []
 none_breaks size place [] even turn = refl
 none_breaks size place (event ∷ run) even turn =
-    let kind : event_kind_place event.kind ≡ place % 2 =
-    ap event_kind_place turn.0 ∙ their_place (place % 2) (omega arith) in
-    rw (
-      eq-eqb (event_kind_place event.kind) (place % 2) kind,
-      even,
-      and_right
-          (place + 1 == size) false refl,
-    )
-    (none_breaks size (place + 1) run even turn.1)
+    grind (arith, their_place, eq-eqb, and_right, none_breaks size (place + 1) run even turn.1)
 
 even_size : (place : ℕ) (run : List PeriodicEvent) → Alternates place run
     → (place + length run) % 2 ≡ 0
@@ -45,9 +39,7 @@ even_size place [] turn = omega (arith, turn)
 even_size place (event ∷ run) turn = omega (arith, even_size (place + 1) run turn.1)
 
 whole_run : (run : List PeriodicEvent) → Alternates 0 run → broken_in run ≡ []
-whole_run run turn =
-    ap (λ (all : List (ℕ × PeriodicEvent)). map (λ at. at.1) all)
-    (none_breaks (length run) 0 run (omega (arith, even_size 0 run turn)) turn)
+whole_run run turn = grind (arith, none_breaks, even_size)
 
 module _ (network : NetworkParts) (test : PeriodicEvent × PeriodicEvent → Bool) where
   -- the events of a run that fail with the next one

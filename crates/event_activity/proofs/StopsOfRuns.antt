@@ -1,11 +1,11 @@
 -- The stop and the edge at a place of a run.
-use Rattle.std.proofs.Common.{◌≡◌, ℕ, ℤ, pos, negsuc, ◌+◌, ◌*◌, ◌/◌, ◌<◌, ◌≤◌, ◌≤ℤ◌, arith, List, length, get_or, ap, subst, sym, ◌∙◌, Some, slice_get, unsigned_abs}
+use Rattle.std.proofs.Common.{◌≡◌, ℕ, ℤ, pos, negsuc, ◌+◌, ◌*◌, ◌/◌, ◌<◌, ◌≤◌, ◌≤ℤ◌, arith, List}
+use Rattle.std.proofs.Common.{length, get_or, ap, subst, sym, ◌∙◌, Some, slice_get, unsigned_abs}
 use Rattle.std.proofs.lemmas.Int.{ints}
 use Rattle.std.proofs.lemmas.List.Elements.{All-get_or}
 use Rattle.std.proofs.lemmas.Option.{slice_get-get_or, same_Some}
 use Rattle.event_tables.specs.declared.direction.Direction.{Direction}
 use Rattle.line_pool.specs.Pools.{LineParts, IsLine}
-use Rattle.line_pool.proofs.SoundLines.{unsigned_within}
 use Rattle.ptn_network.specs.Networks.{NetworkParts}
 use Rattle.event_activity.specs.Fitting.{IsId}
 use Rattle.event_activity.specs.Runs.{AreServed, along, no_line, line_at, stop_id}
@@ -18,9 +18,7 @@ unsigned_some (negsuc n) low = absurd (omega (arith, ints))
 
 -- an id without its sign is one
 pub id_within : (z : ℤ) → pos 1 ≤ℤ z → z ≤ℤ pos 1000000000 → IsId (unsigned_abs z)
-id_within z low high =
-    let least : pos 0 ≤ℤ z = omega (arith, ints, low) in
-    (unsigned_some z low, unsigned_within z 1000000000 least high)
+id_within z low high = grind arith
 
 module _ (network : NetworkParts) (lines : List LineParts) (served : AreServed network lines)
     (line place : ℕ) (h : line < length lines)
@@ -30,10 +28,7 @@ module _ (network : NetworkParts) (lines : List LineParts) (served : AreServed n
 
   -- there is a stop at the place
   pub stop_place : (place + 1) / 2 < length (line_at lines line).stops
-  stop_place =
-      let two : place + 1 ≤ 2 * length (line_at lines line).edges = omega (arith, inside) in
-      let half : (place + 1) / 2 ≤ length (line_at lines line).edges = omega (arith, two) in
-      omega (arith, half, line_is.stops)
+  stop_place = grind arith
 
   -- which is one of the network
   pub stop_inside : get_or (along way (line_at lines line).stops) ((place + 1) / 2) 0
@@ -47,10 +42,7 @@ module _ (network : NetworkParts) (lines : List LineParts) (served : AreServed n
   -- and has an id
   pub stop_within : IsId (stop_id network (get_or (along way (line_at lines line).stops)
       ((place + 1) / 2) 0))
-  stop_within =
-      let id = All-get_or (λ id. (pos 1 ≤ℤ id) × (id ≤ℤ pos 1000000000)) network.stops _ (pos 0)
-      stop_inside served.stop_ids in
-      id_within _ id.0 id.1
+  stop_within = grind (arith, All-get_or, stop_inside, id_within)
 
 -- the id of a stop that is there
 pub stop_is : (network : NetworkParts) (stop : ℕ) (id : ℤ) → stop < length network.stops

@@ -1,5 +1,7 @@
 -- The cells of a row in the ranges of their columns, and the record that they stand for.
-use Rattle.std.proofs.Common.{◌≡◌, ℕ, ℤ, pos, negsuc, zero, suc, ◌+◌, ◌<◌, ◌≤◌, ◌≤ℤ◌, arith, true, false, ◌&&◌, Bool, List, [], ◌∷◌, length, map, get_or, int_le, refl, ap, sym, subst, ◌∙◌, unsigned_abs}
+use Rattle.std.proofs.Common.{◌≡◌, ℕ, ℤ, pos, negsuc, zero, suc, ◌+◌, ◌<◌, ◌≤◌, ◌≤ℤ◌, arith, true}
+use Rattle.std.proofs.Common.{false, ◌&&◌, Bool, List, [], ◌∷◌, length, map, get_or, int_le, refl}
+use Rattle.std.proofs.Common.{ap, sym, subst, ◌∙◌, unsigned_abs}
 use Rattle.std.specs.List.{list_all, range_with_len}
 use Rattle.std.specs.Int.Signed.{le_z_yes}
 use Rattle.std.proofs.lemmas.Bool.{and_parts}
@@ -44,11 +46,7 @@ few_words table.WaitKind = omega arith
 
 small_in : (column : ColumnKind) (cell : ℤ) → is_small column ≡ true → InColumn column cell
     → IsSmall cell
-small_in (kind.Whole min max) cell small h =
-    let parts = and_parts (int_le (pos 0) min) (int_le max (pos 4294967295)) small in
-    let low : pos 0 ≤ℤ min = le_z_yes (T_from_true _ parts.0) in
-    let high : max ≤ℤ pos 4294967295 = le_z_yes (T_from_true _ parts.1) in
-    (omega (arith, ints, low, h.0), omega (arith, ints, high, h.1))
+small_in (kind.Whole min max) cell small h = grind arith
 small_in (kind.Word words) cell small h = subst IsSmall (sym h.2)
     (omega (arith, ints), omega (arith, ints, few_words words, h.1))
 small_in (kind.Fixed min max) cell small h = cc
@@ -123,26 +121,6 @@ pub cell_back : (kinds : List ColumnKind) (cells : List ℤ) (i : ℕ) → InCol
     → i < length kinds → is_low (get_or kinds i kind.Skip) ≡ true
     → pos (unsigned_abs (get_or cells i (pos 0))) ≡ get_or cells i (pos 0)
 cell_back kinds cells i h within low = number_back (get_or cells i (pos 0)) (low_in (get_or kinds i kind.Skip) (get_or cells i (pos 0)) low (in_column kinds cells i h within))
-
-pub event_kind_back : (cell : ℤ) → InColumn (kind.Word table.EventKind) cell
-    → pos (event_kind_place (event_kind_at (unsigned_abs cell))) ≡ cell
-event_kind_back cell (zero, within, is) = rw is refl
-event_kind_back cell (suc zero, within, is) = rw is refl
-event_kind_back cell (suc (suc more), within, is) = absurd (omega arith)
-
-pub direction_back : (cell : ℤ) → InColumn (kind.Word table.Direction) cell
-    → pos (direction_place (direction_at (unsigned_abs cell))) ≡ cell
-direction_back cell (zero, within, is) = rw is refl
-direction_back cell (suc zero, within, is) = rw is refl
-direction_back cell (suc (suc more), within, is) = absurd (omega arith)
-
-pub activity_kind_back : (cell : ℤ) → InColumn (kind.Word table.ActivityKind) cell
-    → pos (activity_kind_place (activity_kind_at (unsigned_abs cell))) ≡ cell
-activity_kind_back cell (zero, within, is) = rw is refl
-activity_kind_back cell (suc zero, within, is) = rw is refl
-activity_kind_back cell (suc (suc zero), within, is) = rw is refl
-activity_kind_back cell (suc (suc (suc zero)), within, is) = rw is refl
-activity_kind_back cell (suc (suc (suc (suc more))), within, is) = absurd (omega arith)
 
 pub periodic_kind_back : (cell : ℤ) → InColumn (kind.Word table.PeriodicKind) cell
     → pos (periodic_kind_place (periodic_kind_at (unsigned_abs cell))) ≡ cell

@@ -11,22 +11,14 @@ use Rattle.event_tables.specs.declared.periodic_time.PeriodicTime.{PeriodicTime}
 use Rattle.event_tables.specs.declared.schedule_row.ScheduleRow.{ScheduleRow}
 use Rattle.event_tables.specs.declared.trip.Trip.{Trip}
 use Rattle.event_tables.specs.Cells.{periodic_event, periodic_activity, periodic_time, expanded_event, expanded_activity, trip, schedule_row, delay_row, disposed_time, periodic_event_cells, periodic_activity_cells, periodic_time_cells, expanded_event_cells, expanded_activity_cells, trip_cells, schedule_cells, delay_cells, disposed_time_cells}
-use Rattle.event_tables.proofs.CellFacts.{in_column, listed, cell_back, event_kind_back, direction_back, activity_kind_back, periodic_kind_back, schedule_kind_back, event_kind_same, direction_same, activity_kind_same, periodic_kind_same, schedule_kind_same}
+use Rattle.event_tables.proofs.CellFacts.{in_column, listed, cell_back, periodic_kind_back, schedule_kind_back, event_kind_same, direction_same, activity_kind_same, periodic_kind_same, schedule_kind_same}
 
 pub periodic_event_same : (row : PeriodicEvent) → periodic_event (periodic_event_cells row) ≡ row
 periodic_event_same row = rw (event_kind_same row.kind, direction_same row.direction) refl
 
 pub periodic_event_back : (cells : List ℤ) → InColumns events_p_columns cells
     → periodic_event_cells (periodic_event cells) ≡ cells
-periodic_event_back cells h =
-    rw (
-      cell_back events_p_columns cells 0 h (omega arith) refl,
-      event_kind_back (get_or cells 1 (pos 0)) (in_column events_p_columns cells 1 h (omega arith)),
-      cell_back events_p_columns cells 2 h (omega arith) refl,
-      cell_back events_p_columns cells 3 h (omega arith) refl,
-      direction_back (get_or cells 4 (pos 0)) (in_column events_p_columns cells 4 h (omega arith)),
-      cell_back events_p_columns cells 5 h (omega arith) refl,
-    ) (sym (listed events_p_columns cells h))
+periodic_event_back cells h = grind arith
 
 pub periodic_activity_same : (row : PeriodicActivity)
     → periodic_activity (periodic_activity_cells row) ≡ row
@@ -35,40 +27,21 @@ periodic_activity_same row = rw (periodic_kind_same row.kind) refl
 pub periodic_activity_back : (cells : List ℤ) → InColumns activities_p_columns cells
     → periodic_activity_cells (periodic_activity cells) ≡ cells
 periodic_activity_back cells h =
-    rw (
-      cell_back activities_p_columns cells 0 h (omega arith) refl,
-      periodic_kind_back (get_or cells 1 (pos 0)) (in_column activities_p_columns cells 1 h
-          (omega arith)),
-      cell_back activities_p_columns cells 2 h (omega arith) refl,
-      cell_back activities_p_columns cells 3 h (omega arith) refl,
-      cell_back activities_p_columns cells 4 h (omega arith) refl,
-      cell_back activities_p_columns cells 5 h (omega arith) refl,
-    ) (sym (listed activities_p_columns cells h))
+    grind (arith, cell_back, periodic_kind_back, get_or, in_column, listed)
 
 pub periodic_time_same : (row : PeriodicTime) → periodic_time (periodic_time_cells row) ≡ row
 periodic_time_same row = refl
 
 pub periodic_time_back : (cells : List ℤ) → InColumns times_p_columns cells
     → periodic_time_cells (periodic_time cells) ≡ cells
-periodic_time_back cells h =
-    rw (
-      cell_back times_p_columns cells 0 h (omega arith) refl,
-      cell_back times_p_columns cells 1 h (omega arith) refl,
-    ) (sym (listed times_p_columns cells h))
+periodic_time_back cells h = grind arith
 
 pub expanded_event_same : (row : ExpandedEvent) → expanded_event (expanded_event_cells row) ≡ row
 expanded_event_same row = rw (event_kind_same row.kind) refl
 
 pub expanded_event_back : (cells : List ℤ) → InColumns events_x_columns cells
     → expanded_event_cells (expanded_event cells) ≡ cells
-expanded_event_back cells h =
-    rw (
-      cell_back events_x_columns cells 0 h (omega arith) refl,
-      cell_back events_x_columns cells 1 h (omega arith) refl,
-      event_kind_back (get_or cells 2 (pos 0)) (in_column events_x_columns cells 2 h (omega arith)),
-      cell_back events_x_columns cells 3 h (omega arith) refl,
-      cell_back events_x_columns cells 4 h (omega arith) refl,
-    ) (sym (listed events_x_columns cells h))
+expanded_event_back cells h = grind arith
 
 pub expanded_activity_same : (row : ExpandedActivity)
     → expanded_activity (expanded_activity_cells row) ≡ row
@@ -76,34 +49,13 @@ expanded_activity_same row = rw (activity_kind_same row.kind) refl
 
 pub expanded_activity_back : (cells : List ℤ) → InColumns activities_x_columns cells
     → expanded_activity_cells (expanded_activity cells) ≡ cells
-expanded_activity_back cells h =
-    rw (
-      cell_back activities_x_columns cells 0 h (omega arith) refl,
-      cell_back activities_x_columns cells 1 h (omega arith) refl,
-      activity_kind_back (get_or cells 2 (pos 0)) (in_column activities_x_columns cells 2 h
-          (omega arith)),
-      cell_back activities_x_columns cells 3 h (omega arith) refl,
-      cell_back activities_x_columns cells 4 h (omega arith) refl,
-      cell_back activities_x_columns cells 5 h (omega arith) refl,
-      cell_back activities_x_columns cells 6 h (omega arith) refl,
-    ) (sym (listed activities_x_columns cells h))
+expanded_activity_back cells h = grind arith
 
 pub trip_same : (row : Trip) → trip (trip_cells row) ≡ row
 trip_same row = refl
 
 pub trip_back : (cells : List ℤ) → InColumns trips_columns cells → trip_cells (trip cells) ≡ cells
-trip_back cells h =
-    rw (
-      cell_back trips_columns cells 0 h (omega arith) refl,
-      cell_back trips_columns cells 1 h (omega arith) refl,
-      cell_back trips_columns cells 2 h (omega arith) refl,
-      cell_back trips_columns cells 3 h (omega arith) refl,
-      cell_back trips_columns cells 4 h (omega arith) refl,
-      cell_back trips_columns cells 5 h (omega arith) refl,
-      cell_back trips_columns cells 6 h (omega arith) refl,
-      cell_back trips_columns cells 7 h (omega arith) refl,
-      cell_back trips_columns cells 8 h (omega arith) refl,
-    ) (sym (listed trips_columns cells h))
+trip_back cells h = grind arith
 
 pub schedule_row_same : (row : ScheduleRow) → schedule_row (schedule_cells row) ≡ row
 schedule_row_same row = rw (schedule_kind_same row.kind) refl
@@ -130,19 +82,11 @@ schedule_row_back cells h =
 
 pub delay_row_back : (cells : List ℤ) → InColumns delays_columns cells
     → delay_cells (delay_row cells) ≡ cells
-delay_row_back cells h =
-    rw (
-      cell_back delays_columns cells 0 h (omega arith) refl,
-      cell_back delays_columns cells 1 h (omega arith) refl,
-    ) (sym (listed delays_columns cells h))
+delay_row_back cells h = grind arith
 
 pub disposed_time_same : (row : DisposedTime) → disposed_time (disposed_time_cells row) ≡ row
 disposed_time_same row = refl
 
 pub disposed_time_back : (cells : List ℤ) → InColumns disposed_columns cells
     → disposed_time_cells (disposed_time cells) ≡ cells
-disposed_time_back cells h =
-    rw (
-      cell_back disposed_columns cells 0 h (omega arith) refl,
-      cell_back disposed_columns cells 1 h (omega arith) refl,
-    ) (sym (listed disposed_columns cells h))
+disposed_time_back cells h = grind arith

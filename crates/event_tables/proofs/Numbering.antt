@@ -1,5 +1,7 @@
 -- Ids that are the places of rows.
-use Rattle.std.proofs.Common.{◌≡◌, ◌≢◌, ◌==◌, ℕ, zero, suc, ◌+◌, ◌-◌, ◌<◌, ◌≤◌, arith, Bool, true, false, not, ◌||◌, nat_eq, nat_lt, eqb, ltb, List, [], ◌∷◌, ◌++◌, length, map, get_or, refl, ap, sym, subst, ◌∙◌, Some}
+use Rattle.std.proofs.Common.{◌≡◌, ◌≢◌, ◌==◌, ℕ, zero, suc, ◌+◌, ◌-◌, ◌<◌, ◌≤◌, arith, Bool, true}
+use Rattle.std.proofs.Common.{false, ◌||◌, nat_eq, nat_lt, eqb, ltb, List, [], ◌∷◌, ◌++◌, length}
+use Rattle.std.proofs.Common.{map, get_or, refl, ap, sym, subst, ◌∙◌, Some}
 use Rattle.std.proofs.lemmas.Bool.{eqb-true, ltb-true, eqb-false, ltb-false, ne_eqb, eq-eqb, lt-ltb, le-ltb, false≢true, not-false}
 use Rattle.std.proofs.lemmas.List.{length_push, length-map}
 use Rattle.std.proofs.lemmas.List.Folds.{list_any_at}
@@ -49,21 +51,7 @@ there id a n low high = any_in (nat_eq id) id a n low high (eq-eqb id id refl)
 pub none_of_places : (count id : ℕ) → is_none_of (range_with_len 1 count) id
     ≡ (nat_eq id 0 || nat_lt count id)
 none_of_places count id =
-    elim (list_any (nat_eq id) (range_with_len 1 count)) as
-    (λ b. list_any (nat_eq id) (range_with_len 1 count) ≡ b → not b
-    ≡ (nat_eq id 0 || nat_lt count id)) [
-      | true ↦ λ is. let low : 1 ≤ id = (among id 1 count is).0 in let high : id < 1 + count = (among id 1 count is).1 in
-          rw (ne_eqb id 0 (λ e. omega (arith, e, low)), le-ltb count id (omega (arith, high))) refl
-      | false ↦ λ is.
-          elim (eqb id 0) as (λ z. eqb id 0 ≡ z → true ≡ (z || nat_lt count id)) [
-            | true ↦ λ zero_is. refl
-            | false ↦ λ zero_is. let other : id ≢ 0 = eqb-false id 0 zero_is in
-                elim (ltb count id) as (λ t. ltb count id ≡ t → true ≡ t) [
-                  | true ↦ λ over. refl
-                  | false ↦ λ over. let few : id ≤ count = ltb-false count id over in absurd (false≢true (sym is ∙ there id 1 count (omega (arith, other)) (omega (arith, few))))
-                ] refl
-          ] refl
-    ] refl
+    grind (arith, nat_eq, nat_lt, among, ne_eqb, le-ltb, eqb-false, ltb-false, false≢true, there)
 
 -- of so many ids one is missing among fewer of them
 pub some_missing : (n count : ℕ)

@@ -1,11 +1,9 @@
 -- Rows of which no two have one id.
-use Rattle.std.proofs.Common.{◌≡◌, ◌≢◌, ℕ, pos, arith, true, false, nat_eq, eqb, List, [], ◌∷◌, ◌++◌, map, refl, ap, sym, subst, ◌∙◌, append_assoc}
+use Rattle.std.proofs.Common.{◌≡◌, ℕ, pos, arith, false, nat_eq, List, [], ◌∷◌, ◌++◌, map, refl}
+use Rattle.std.proofs.Common.{sym, subst, ◌∙◌, append_assoc}
 use Rattle.std.specs.List.{list_any, IsDistinct}
 use Rattle.std.specs.Cmp.{nat_eq_equiv}
 use Rattle.std.specs.Ordering.{int_eq}
-use Rattle.std.proofs.lemmas.Bool.{eqb-true, eqb-false}
-use Rattle.std.proofs.lemmas.Bool.Decides.{Decides-int_eq}
-use Rattle.std.proofs.lemmas.Int.{ints}
 use Rattle.std.proofs.lemmas.List.{append-nil, map_push}
 use Rattle.std.proofs.lemmas.Map.Keys.{IsDistinct-push}
 use Rattle.giv_files.specs.declared.file_id.FileId.{FileId}
@@ -18,18 +16,7 @@ use Rattle.giv_files.proofs.Ranges.{front_none, back_none, unmapped}
 
 -- two numbers are one as whole numbers where they are
 pub same_number : (a b : ℕ) → int_eq (pos a) (pos b) ≡ nat_eq a b
-same_number a b =
-    elim (eqb a b) as (λ t. eqb a b ≡ t → int_eq (pos a) (pos b) ≡ t) [
-      | true ↦ λ is. (Decides-int_eq (pos a) (pos b)).1 (ap pos (eqb-true a b is))
-      | false ↦ λ is.
-          let other : a ≢ b = eqb-false a b is in
-          elim (int_eq (pos a) (pos b)) as (λ t. int_eq (pos a) (pos b) ≡ t → t ≡ false) [
-            | true ↦ λ same. let one : pos a
-                ≡ pos b = (Decides-int_eq (pos a) (pos b)).0 same in absurd
-                (omega (arith, ints, one, other))
-            | false ↦ λ same. refl
-          ] refl
-    ] refl
+same_number a b = grind arith
 
 ids_among : {X : Type 0} (id : X → ℕ) (before : List X) (n : ℕ)
     → list_any (nat_eq n) (map id before) ≡ list_any

@@ -1,5 +1,6 @@
 -- Rows whose ids are their places keep that rule, and the events that they name are there.
-use Rattle.std.proofs.Common.{◌≡◌, ℕ, ◌+◌, cond, not, arith, false, List, [], ◌∷◌, ◌++◌, length, map, refl, ap, sym, ◌∙◌}
+use Rattle.std.proofs.Common.{◌≡◌, ℕ, ◌+◌, cond, not, arith, false, List, [], ◌∷◌, ◌++◌, length}
+use Rattle.std.proofs.Common.{map, ap, sym, ◌∙◌}
 use Rattle.std.specs.List.{AllByRecursion, range_with_len}
 use Rattle.std.proofs.lemmas.Bool.{eq-eqb, ne_eqb, le-ltb}
 use Rattle.std.proofs.lemmas.List.{length_push}
@@ -29,6 +30,4 @@ module _ {X : Type 0} (id : X → ℕ) (rules : List (RowRule X)) (Good : X → 
 
 -- the event of an id is there
 pub is_known : (count id : ℕ) → IsOneOf count id → is_none_of (range_with_len 1 count) id ≡ false
-is_known count id is =
-    none_of_places count id
-    ∙ rw (ne_eqb id 0 (λ e. omega (arith, e, is.0)), le-ltb count id is.1) refl
+is_known count id is = grind (arith, none_of_places, ne_eqb, le-ltb)

@@ -1,10 +1,12 @@
 -- The forward order as one number.
-use Rattle.std.proofs.Common.{◌≡◌, ◌∙◌, ℕ, ◌+◌, ◌*◌, ◌-◌, ◌<◌, ◌≤◌, ◌⊎◌, inl, inr, Bool, true, false, cond, eqb, ltb, List, [], ◌∷◌, length, get_or, Some, refl, ap, sym, arith}
+use Rattle.std.proofs.Common.{◌≡◌, ◌∙◌, ℕ, ◌+◌, ◌*◌, ◌-◌, ◌<◌, ◌≤◌, ◌⊎◌, inl, inr, Bool, true}
+use Rattle.std.proofs.Common.{false, cond, List, [], ◌∷◌, length, get_or, Some, refl, ap, sym}
+use Rattle.std.proofs.Common.{arith}
 use Rattle.std.specs.Cmp.Lexicographic.{slice_cmp}
 use Rattle.std.specs.Ordering.{nat_cmp, is_lt, ordering_then}
 use Rattle.std.specs.declared.cmp.Ordering.{Ordering}
-use Rattle.std.specs.declared.cmp.Ordering.TheVariants.{Less, Equal, Greater}
-use Rattle.std.proofs.lemmas.Bool.{eqb-true, ltb-true, false≢true}
+use Rattle.std.specs.declared.cmp.Ordering.TheVariants.{Equal}
+use Rattle.std.proofs.lemmas.Bool.{false≢true}
 use Rattle.std.proofs.lemmas.List.{get_or-map}
 use Rattle.std.proofs.lemmas.List.FromFn.{get_or-range_with_len}
 use Rattle.event_tables.specs.declared.expanded_event.ExpandedEvent.{ExpandedEvent}
@@ -42,17 +44,7 @@ at_places events from to are one other goes =
 -- the first of two numbers that differ decides
 decided : (x y : ℕ) (rest : Ordering) → is_lt (ordering_then (nat_cmp x y) rest) ≡ true
     → (x < y) ⊎ ((x ≡ y) × (is_lt rest ≡ true))
-decided x y rest =
-    elim (ltb x y) as (λ b. ltb x y ≡ b → is_lt (ordering_then (cond b Less (cond (eqb x y) Equal Greater)) rest) ≡ true
-    → (x < y) ⊎ ((x ≡ y) × (is_lt rest ≡ true))) [
-      | true ↦ λ is h. inl (ltb-true x y is)
-      | false ↦ λ is.
-          elim (eqb x y) as (λ b. eqb x y ≡ b → is_lt (ordering_then (cond b Equal Greater) rest) ≡ true
-          → (x < y) ⊎ ((x ≡ y) × (is_lt rest ≡ true))) [
-            | true ↦ λ same h. inr (eqb-true x y same, h)
-            | false ↦ λ same h. absurd (false≢true h)
-          ] refl
-    ] refl
+decided x y rest = grind arith
 
 -- what comes later of an arrival and of a departure
 lateness : (b : Bool) → ℕ
@@ -101,10 +93,7 @@ rank_rises events from to are few from_there to_there before =
     by_id : a.time ≡ b.time → place_of (is_arrival a.kind) ≡ place_of (is_arrival b.kind)
         → (a.id < b.id) ⊎ ((a.id ≡ b.id) × (is_lt Equal ≡ true))
         → rank a.time (is_arrival a.kind) from < rank b.time (is_arrival b.kind) to
-    by_id time kind (inl less) =
-        let first = id_at (λ event. event.id) events from (expanded_event []) are from_there in
-        let second = id_at (λ event. event.id) events to (expanded_event []) are to_there in
-        omega (arith, time, same_place (is_arrival a.kind) (is_arrival b.kind) kind, less, first, second)
+    by_id time kind (inl less) = grind (arith, id_at, same_place, b)
     by_id time kind (inr both) = absurd (false≢true both.1)
 
     by_kind : a.time ≡ b.time

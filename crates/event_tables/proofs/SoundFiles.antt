@@ -1,20 +1,19 @@
 -- What holds of the records of each file, where its text has no fault.
-use Rattle.std.proofs.Common.{◌≡◌, ℕ, List, [], ◌∷◌, length, refl, ap, sym, subst, ◌∙◌, Result, Ok, Err, IfOk}
+use Rattle.std.proofs.Common.{arith, ◌≡◌, ℕ, List, [], refl, sym, subst, Result, Ok, Err, IfOk}
 use Rattle.std.specs.List.{range_with_len}
 use Rattle.std.proofs.lemmas.Bool.{or_parts, ltb-false, not-false}
 use Rattle.giv_files.specs.declared.counted.Counted.TheVariants as counted
 use Rattle.giv_files.specs.declared.refusal.Refusal.{Refusal}
 use Rattle.giv_files.specs.declared.refusal.StageFault.{StageFault}
-use Rattle.giv_files.specs.Inputs.{UnlessFault, RowRule, row_limit, input_faults, records_of, broken_whys}
+use Rattle.giv_files.specs.Inputs.{UnlessFault, row_limit, input_faults, records_of, broken_whys}
 use Rattle.giv_files.proofs.Inputs.{few_rows, rules_sound}
 use Rattle.event_tables.specs.declared.periodic_activity.PeriodicActivity.{PeriodicActivity}
 use Rattle.event_tables.specs.declared.expanded_activity.ExpandedActivity.{ExpandedActivity}
 use Rattle.event_tables.specs.declared.expanded_event.ExpandedEvent.{ExpandedEvent}
-use Rattle.event_tables.specs.ExpandedFiles.{expanded_event_input, expanded_activity_input, expanded_activity_rules, expanded_event_ids, no_sync, forward, AreExpandedEvents, AreExpandedActivities, IsExpandedActivity}
-use Rattle.event_tables.specs.ForwardOrder.{goes_forward}
+use Rattle.event_tables.specs.ExpandedFiles.{expanded_event_input, expanded_activity_input, expanded_activity_rules, AreExpandedEvents, AreExpandedActivities, IsExpandedActivity}
 use Rattle.event_tables.specs.PeriodicFiles.{periodic_event_input, periodic_activity_input, periodic_activity_rules, ArePeriodicEvents, ArePeriodicActivities, IsPeriodicActivity}
 use Rattle.event_tables.specs.Cells.{periodic_event_cells, periodic_activity_cells, expanded_event_cells, expanded_activity_cells}
-use Rattle.event_tables.specs.Places.{own_place, known_ends, bounds_in_order, is_none_of, AreNumbered}
+use Rattle.event_tables.specs.Places.{AreNumbered}
 use Rattle.event_tables.proofs.CellsBack.{periodic_event_back, periodic_activity_back, expanded_event_back, expanded_activity_back}
 use Rattle.event_tables.proofs.Fitting.{fitting_records, sound_records}
 use Rattle.event_tables.proofs.Numbering.{numbered_rows, is_place}
@@ -48,18 +47,7 @@ module _ (count : ℕ) (text : List ℕ) (none : input_faults (periodic_activity
   activity_sound : (some : List PeriodicActivity) (row : PeriodicActivity)
       → broken_whys (periodic_activity_rules (range_with_len 1 count)) some row ≡ []
       → IsPeriodicActivity count row
-  activity_sound some row kept =
-      let ids = range_with_len 1 count in
-      let bounds : RowRule PeriodicActivity = bounds_in_order (λ at. at.lower) (λ at. at.upper) in
-      let ends : RowRule PeriodicActivity = known_ends ids (λ at. at.from) (λ at. at.to) in
-      let behind = rules_sound (own_place (λ at. at.id)) (ends ∷ bounds ∷ []) some row kept in
-      let known = rules_sound ends (bounds ∷ []) some row behind.1 in
-      let parts = or_parts (is_none_of ids row.from) (is_none_of ids row.to) known.0 in
-      record {
-        from = is_place count row.from parts.0;
-        to = is_place count row.to parts.1;
-        in_order = ltb-false row.upper row.lower (rules_sound bounds [] some row known.1).0;
-      }
+  activity_sound some row kept = grind (arith, rules_sound, or_parts, is_place, ltb-false)
 
   pub periodic_activities_sound : ArePeriodicActivities count
       (records_of (periodic_activity_input (range_with_len 1 count)) text)
@@ -78,24 +66,7 @@ module _ (events : List ExpandedEvent) (text : List ℕ) (are : AreNumbered
   expanded_sound : (some : List ExpandedActivity) (row : ExpandedActivity)
       → broken_whys (expanded_activity_rules events) some row ≡ [] → IsExpandedActivity events row
   expanded_sound some row kept =
-      let ids = expanded_event_ids events in
-      let count = length events in
-      let ends : RowRule ExpandedActivity = known_ends ids (λ at. at.from) (λ at. at.to) in
-      let bounds : RowRule ExpandedActivity = bounds_in_order (λ at. at.lower) (λ at. at.upper) in
-      let behind = rules_sound (own_place (λ at. at.id)) (ends ∷ bounds ∷ no_sync ∷ forward events
-      ∷ []) some row kept in
-      let known = rules_sound ends (bounds ∷ no_sync ∷ forward events ∷ []) some row behind.1 in
-      let order = rules_sound bounds (no_sync ∷ forward events ∷ []) some row known.1 in
-      let joins = rules_sound no_sync (forward events ∷ []) some row order.1 in
-      let goes = rules_sound (forward events) [] some row joins.1 in
-      let parts = or_parts (is_none_of ids row.from) (is_none_of ids row.to) known.0 in
-      record {
-        from = is_place count row.from (ap (λ ids. is_none_of ids row.from) (sym are) ∙ parts.0);
-        to = is_place count row.to (ap (λ ids. is_none_of ids row.to) (sym are) ∙ parts.1);
-        in_order = ltb-false row.upper row.lower order.0;
-        no_sync = joins.0;
-        forward = not-false (goes_forward events row.from row.to) goes.0;
-      }
+      grind (arith, rules_sound, or_parts, is_place, ltb-false, not-false)
 
   pub expanded_activities_sound : AreExpandedActivities events
       (records_of (expanded_activity_input events) text)

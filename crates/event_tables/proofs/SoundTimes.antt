@@ -1,16 +1,16 @@
 -- What holds of periodic and of disposed times, where their texts have no fault.
-use Rattle.std.proofs.Common.{◌≡◌, ℕ, ◌<◌, List, [], ◌∷◌, refl}
+use Rattle.std.proofs.Common.{◌≡◌, ℕ, ◌<◌, List, [], refl, arith}
 use Rattle.std.specs.List.{range_with_len}
 use Rattle.std.proofs.lemmas.Bool.{leb-false}
 use Rattle.giv_files.specs.declared.file_id.FileId.{FileId}
-use Rattle.giv_files.specs.Inputs.{RowRule, input_faults, records_of, broken_whys}
+use Rattle.giv_files.specs.Inputs.{input_faults, records_of, broken_whys}
 use Rattle.giv_files.proofs.Inputs.{rules_sound}
 use Rattle.event_tables.specs.declared.disposed_time.DisposedTime.{DisposedTime}
 use Rattle.event_tables.specs.declared.periodic_time.PeriodicTime.{PeriodicTime}
 use Rattle.event_tables.specs.Cells.{periodic_time_cells, disposed_time_cells}
 use Rattle.event_tables.specs.DisposedTimes.{disposed_time_input, disposed_time_rules, AreDisposedTimes}
-use Rattle.event_tables.specs.PeriodicFiles.{periodic_time_input, periodic_time_rules, in_period, ArePeriodicTimes}
-use Rattle.event_tables.specs.Places.{own_place, known_event, IsOneOf}
+use Rattle.event_tables.specs.PeriodicFiles.{periodic_time_input, periodic_time_rules, ArePeriodicTimes}
+use Rattle.event_tables.specs.Places.{IsOneOf}
 use Rattle.event_tables.proofs.CellsBack.{periodic_time_back, disposed_time_back}
 use Rattle.event_tables.proofs.Fitting.{fitting_records, sound_records}
 use Rattle.event_tables.proofs.Numbering.{numbered_rows, is_place}
@@ -20,12 +20,7 @@ module _ (file : FileId) (period count : ℕ) (text : List ℕ) (none : input_fa
   time_sound : (some : List PeriodicTime) (row : PeriodicTime)
       → broken_whys (periodic_time_rules period (range_with_len 1 count)) some row ≡ []
       → IsOneOf count row.event × (row.time < period)
-  time_sound some row kept =
-      let known : RowRule PeriodicTime = known_event (range_with_len 1 count) (λ at. at.event) in
-      let behind = rules_sound (own_place (λ at. at.event)) (known ∷ in_period period
-      ∷ []) some row kept in
-      let there = rules_sound known (in_period period ∷ []) some row behind.1 in
-      (is_place count row.event there.0, leb-false period row.time (rules_sound (in_period period) [] some row there.1).0)
+  time_sound some row kept = grind (arith, rules_sound, is_place, leb-false)
 
   pub periodic_times_sound : ArePeriodicTimes period count
       (records_of (periodic_time_input file period (range_with_len 1 count)) text)
@@ -46,10 +41,7 @@ module _ (count : ℕ) (text : List ℕ) (none : input_faults (disposed_time_inp
   disposed_sound : (some : List DisposedTime) (row : DisposedTime)
       → broken_whys (disposed_time_rules (range_with_len 1 count)) some row ≡ []
       → IsOneOf count row.event
-  disposed_sound some row kept =
-      let known : RowRule DisposedTime = known_event (range_with_len 1 count) (λ at. at.event) in
-      let behind = rules_sound (own_place (λ at. at.event)) (known ∷ []) some row kept in
-      is_place count row.event (rules_sound known [] some row behind.1).0
+  disposed_sound some row kept = grind (arith, rules_sound, is_place)
 
   pub disposed_times_sound : AreDisposedTimes count
       (records_of (disposed_time_input (range_with_len 1 count)) text)

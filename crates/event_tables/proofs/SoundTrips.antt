@@ -1,7 +1,8 @@
 -- What holds of trips, of delays and of the rows of a schedule, where their texts have no fault.
-use Rattle.std.proofs.Common.{◌≡◌, ℕ, ℤ, pos, Bool, true, false, ◌&&◌, ◌||◌, List, [], ◌∷◌, length, refl, ap, sym, ◌∙◌, Option}
+use Rattle.std.proofs.Common.{arith, ◌≡◌, ℕ, ℤ, pos, Bool, true, false, ◌&&◌, ◌||◌, List, [], ◌∷◌}
+use Rattle.std.proofs.Common.{length, refl, ap, sym, ◌∙◌, Option}
 use Rattle.std.specs.List.{range_with_len}
-use Rattle.std.proofs.lemmas.Bool.{leb-false, ltb-false, or_parts, not-false}
+use Rattle.std.proofs.lemmas.Bool.{ltb-false, or_parts, not-false}
 use Rattle.giv_files.specs.declared.counted.Counted.TheVariants as counted
 use Rattle.giv_files.specs.declared.file_id.FileId.{FileId}
 use Rattle.giv_files.specs.declared.row_why.RowWhy.{RowWhy}
@@ -31,13 +32,7 @@ module _ (stops : Option (List ℤ)) (text : List ℕ) (none : input_faults (tri
     ≡ []) where
   trip_sound : (some : List Trip) (row : Trip) → broken_whys (trip_rules stops) some row ≡ []
       → IsTrip stops row
-  trip_sound some row kept =
-      let behind = rules_sound own_start (known_stops stops ∷ takes_time ∷ []) some row kept in
-      let known = rules_sound (known_stops stops) (takes_time ∷ []) some row behind.1 in
-      record {
-        ends = known.0;
-        takes_time = leb-false row.end.time row.start.time (rules_sound takes_time [] some row known.1).0;
-      }
+  trip_sound some row kept = grind arith
 
   pub trips_sound : AreTrips stops (records_of (trip_input stops) text)
   trips_sound = record {

@@ -1,5 +1,5 @@
 -- The day of texts, from what each of them gives.
-use Rattle.std.proofs.Common.{◌≡◌, ◌∙◌, ℕ, List, [], ◌++◌, Option, ap, sym, subst}
+use Rattle.std.proofs.Common.{◌≡◌, ◌∙◌, ℕ, List, [], ◌++◌, Option, ap, sym, arith}
 use Rattle.giv_files.specs.declared.refusal.StageFault.{StageFault}
 use Rattle.giv_files.specs.Inputs.{Refuses, input_faults, records_of}
 use Rattle.giv_files.proofs.Inputs.{refused_append}
@@ -14,12 +14,7 @@ module _ (events_text activities_text : List ℕ) (times_text : Option (List ℕ
       → Refuses (input_faults expanded_event_input events_text) fault
       → Refuses (journey_faults events_text activities_text times_text) fault
   unfolding journey_faults
-  refused_events fault by =
-      refused_append (input_faults expanded_event_input events_text
-      ++ input_faults (expanded_activity_input (events_of events_text)) activities_text)
-      (time_faults_over (events_of events_text) times_text) fault
-      (refused_append (input_faults expanded_event_input events_text)
-      (input_faults (expanded_activity_input (events_of events_text)) activities_text) fault by)
+  refused_events fault by = grind (arith, refused_append)
 
   module _ (events : List ExpandedEvent)
       (no_fault : input_faults expanded_event_input events_text ≡ [])
@@ -33,15 +28,7 @@ module _ (events_text activities_text : List ℕ) (times_text : Option (List ℕ
         → Refuses (input_faults (expanded_activity_input events) activities_text) fault
         → Refuses (journey_faults events_text activities_text times_text) fault
     unfolding journey_faults
-    refused_activities fault by =
-        subst (λ first. Refuses (first
-        ++ input_faults (expanded_activity_input (events_of events_text)) activities_text
-        ++ time_faults_over (events_of events_text) times_text) fault) (sym no_fault)
-        (refused_append
-        (input_faults (expanded_activity_input (events_of events_text)) activities_text)
-        (time_faults_over (events_of events_text) times_text) fault
-        (subst (λ some. Refuses (input_faults (expanded_activity_input some) activities_text) fault)
-        are_events by))
+    refused_activities fault by = grind (arith, refused_append, are_events)
 
     module _ (activities : List ExpandedActivity)
         (no_more : input_faults (expanded_activity_input events) activities_text ≡ [])
@@ -62,8 +49,4 @@ module _ (events_text activities_text : List ℕ) (times_text : Option (List ℕ
       pub net_is : (times : List ℕ) → times ≡ times_over events times_text
           → net_over events times activities ≡ net_of events_text activities_text times_text
       unfolding net_of times_of activities_of
-      net_is times told =
-          ap (λ all. net_over events all activities) told
-          ∙ ap (λ some. net_over events (times_over events times_text) some) rows
-          ∙ ap (λ some. net_over some (times_over some times_text)
-          (records_of (expanded_activity_input some) activities_text)) are_events
+      net_is times told = grind (arith, are_events)

@@ -1,5 +1,6 @@
 -- The numbers of a range that pass a test.
-use Rattle.std.proofs.Common.{◌≡◌, ◌∙◌, ℕ, zero, suc, ◌+◌, ◌<◌, ◌⊎◌, inl, inr, Bool, true, false, cond, List, [], ◌∷◌, ◌++◌, filter, All, sym, ap, subst, arith}
+use Rattle.std.proofs.Common.{◌≡◌, ◌∙◌, ℕ, zero, suc, ◌+◌, ◌<◌, ◌⊎◌, inl, inr, Bool, true, false}
+use Rattle.std.proofs.Common.{cond, List, [], ◌∷◌, ◌++◌, filter, All, sym, ap, subst, arith}
 use Rattle.std.specs.Prelude.{Contains, ◌↔◌}
 use Rattle.std.specs.List.{range_with_len}
 use Rattle.std.proofs.lemmas.Bool.{cases_eq}
@@ -21,15 +22,11 @@ module _ (test : ℕ → Bool) where
   -- one number more, which passes or does not
   pub passes_more : (i : ℕ) (old new : List ℕ) → old ≡ filter test (range_with_len 0 i)
       → new ≡ old ++ i ∷ [] → test i ≡ true → new ≡ filter test (range_with_len 0 (i + 1))
-  passes_more i old new told is passes =
-      is ∙ ap (λ some. some ++ i ∷ []) told
-      ∙ ap (λ b. filter test (range_with_len 0 i) ++ cond b (i ∷ []) []) (sym passes) ∙ sym (more i)
+  passes_more i old new told is passes = grind (arith, more)
 
   pub fails_more : (i : ℕ) (old : List ℕ) → old ≡ filter test (range_with_len 0 i)
       → test i ≡ false → old ≡ filter test (range_with_len 0 (i + 1))
-  fails_more i old told fails =
-      told ∙ sym (append-nil (filter test (range_with_len 0 i)))
-      ∙ ap (λ b. filter test (range_with_len 0 i) ++ cond b (i ∷ []) []) (sym fails) ∙ sym (more i)
+  fails_more i old told fails = grind (arith, append-nil, more)
 
   -- a number that passes is in the filter of a range
   in_more : (m event : ℕ) → (event < m → Contains (filter test (range_with_len 0 m)) event)
@@ -57,10 +54,7 @@ module _ (test : ℕ → Bool) where
       in_more m event (λ less. in_range m event less passes) low passes
 
   range_below : (n : ℕ) → All (λ k. k < n) (range_with_len 0 n)
-  range_below n k d inside =
-      let low : k < n = omega (arith, inside, length-range_with_len 0 n) in
-      let here = get_or-range_with_len 0 n k d low in
-      omega (arith, here, low)
+  range_below n k d inside = grind (arith, length-range_with_len, get_or-range_with_len)
 
   -- the same, and conversely
   pub in_filter : (n event : ℕ) → Contains (filter test (range_with_len 0 n)) event
@@ -77,10 +71,10 @@ module _ (test : ℕ → Bool) where
 
   pub filter_rises : (n : ℕ) → is_rising (filter test (range_with_len 0 n)) ≡ true
   filter_rises n =
-      rising_from (filter test (range_with_len 0 n))
-      (IsStrictlyIncreasing-filter test (range_with_len 0 n)
-      (λ k inside.
-      let low : k + 1 < n = omega (arith, inside, length-range_with_len 0 n) in
-      let here = get_or-range_with_len 0 n k 0 (omega (arith, low)) in
-      let next = get_or-range_with_len 0 n (k + 1) 0 low in
-      omega (arith, here, next)))
+      grind (
+        arith,
+        rising_from,
+        IsStrictlyIncreasing-filter,
+        length-range_with_len,
+        get_or-range_with_len,
+      )

@@ -1,6 +1,7 @@
 -- The first arrival that can be reached, event by event.
-use Rattle.std.proofs.Common.{◌≡◌, ℕ, ℤ, ◌+◌, ◌<◌, ◌⊎◌, ◌&&◌, inl, inr, nat_lt, Bool, true, false, List, Option, Some, None, refl, sym, ap, subst, arith}
-use Rattle.std.proofs.lemmas.Bool.{and_from, and_parts, both_ways, cases_Bool, cases_eq, cases_order, cond_both, ltb-false, ltb-true}
+use Rattle.std.proofs.Common.{◌≡◌, ℕ, ℤ, ◌+◌, ◌<◌, ◌⊎◌, ◌&&◌, inl, inr, nat_lt, Bool, true, false}
+use Rattle.std.proofs.Common.{List, Option, Some, None, refl, sym, ap, subst, arith}
+use Rattle.std.proofs.lemmas.Bool.{and_parts, both_ways, cases_Bool, cases_eq, cases_order, cond_both, ltb-false, ltb-true}
 use Rattle.journeys.specs.declared.way.Way.{Way}
 use Rattle.journeys.specs.Earliest.{IsNoLater}
 use Rattle.journeys.specs.Ends.{IsFirstEnd, earlier_end, is_end}
@@ -10,9 +11,7 @@ use Rattle.journeys.specs.Ways.{is_reached, way_at}
 
 -- the first two of three tests
 front : (a b c : Bool) → (a && (b && c)) ≡ true → (a && b) ≡ true
-front a b c all =
-    let parts = and_parts a (b && c) all in
-    and_from a b parts.0 (and_parts b c parts.1).0
+front a b c all = grind arith
 
 third : (a b c : Bool) → (a && (b && c)) ≡ true → c ≡ true
 third a b c all = (and_parts b c (and_parts a (b && c) all).1).1
@@ -111,7 +110,4 @@ module _ (net : JourneyParts) (ways : List Way) (to : ℤ) (event : ℕ) where
           → is_end net ways to other ≡ true → (other < event) ⊎ (other ≡ event)
           → IsNoLater net end other
       by other fails ends (inl low) = told.2 other low ends
-      by other fails ends (inr same) =
-          subst (IsNoLater net end) (sym same)
-          (stays told.0 (third_fails arrives reached (sooner end) fails
-          (subst (λ e. is_end net ways to e ≡ true) same ends)))
+      by other fails ends (inr same) = grind arith

@@ -1,6 +1,7 @@
 -- Links that are followed from the first one on get to the end of a list of events exactly where it is
 -- a ride.
-use Rattle.std.proofs.Common.{◌≡◌, ℕ, suc, ◌≤◌, ◌&&◌, ◌==◌, nat_le, Bool, true, false, List, [], ◌∷◌, length, get_or, All, refl, sym, ap, ◌∙◌, subst, arith, inl, inr}
+use Rattle.std.proofs.Common.{◌≡◌, ℕ, suc, ◌≤◌, ◌&&◌, ◌==◌, nat_le, Bool, true, false, List, []}
+use Rattle.std.proofs.Common.{◌∷◌, length, get_or, All, refl, sym, ap, ◌∙◌, subst, arith, inl, inr}
 use Rattle.std.specs.List.{list_all, list_any}
 use Rattle.std.proofs.lemmas.Bool.{and_from, and_parts, both_ways, le-leb, leb-true, false_from_ne_true, cases_Bool}
 use Rattle.std.proofs.lemmas.Bool.Decides.{Decides-eqb}
@@ -124,22 +125,10 @@ module _ (connections : List Connection) (links : List Link)
   -- a link between two events is a connection between them, and conversely
   linked_by : (event next : ℕ) → list_any (leads event next) connections ≡ true
       → linked links event next ≡ true
-  linked_by event next some =
-      let any = Any-from_list_any (leads event next) connections some in
-      let held = are.each any.0 any.1
-      (slice_get_read connections (length connections) any.0 any.1 refl any.2 (sym any.3)) in
-      let link : Link
-      = record { rank = held.0; from = any.1.from; to = any.1.to; index = any.0 } in
-      list_any_at (joins event next) links held.1.0 link held.1.1
-      (ap (joins event next) held.1.2 ∙ any.4)
+  linked_by event next some = grind (arith, Any-from_list_any, slice_get_read, list_any_at)
 
   joined : All (λ link. list_any (leads link.from link.to) connections ≡ true) links
-  joined k d inside =
-      let link = get_or links k d in
-      any_passes_from_place (leads link.from link.to) connections link.index
-      (record { from = link.from; to = link.to }) (are.of k d inside)
-      (and_from (link.from == link.from) (link.to == link.to)
-      ((Decides-eqb link.from link.from).1 refl) ((Decides-eqb link.to link.to).1 refl))
+  joined k d inside = grind (arith, get_or, any_passes_from_place, and_from, Decides-eqb)
 
   pub ride_by_links : (events : List ℕ)
       → nat_le (length (followed links events)) 1

@@ -1,5 +1,6 @@
 -- The net of the rows of a day, with its links.
-use Rattle.std.proofs.Common.{◌≡◌, ◌∙◌, ℕ, ◌+◌, ◌<◌, ◌≤◌, true, not, List, [], length, filter, get_or, slice_get, zip, All, Some, refl, ap, sym, subst, arith}
+use Rattle.std.proofs.Common.{◌≡◌, ◌∙◌, ℕ, ◌+◌, ◌<◌, ◌≤◌, true, not, List, [], length, filter}
+use Rattle.std.proofs.Common.{get_or, slice_get, zip, All, Some, refl, ap, sym, subst, arith}
 use Rattle.std.specs.List.{enumerate_from}
 use Rattle.std.specs.List.Sorted.{IsNonDecreasingBy, IsPermutation}
 use Rattle.std.proofs.lemmas.Bool.{leb-true}
@@ -139,12 +140,7 @@ module _ (events : List ExpandedEvent) (activities : List ExpandedActivity) (tim
         (λ k d inside. (refl, forward k d inside))
 
     turn : IsInTurn links
-    turn i j d low high same =
-        let first = ranked i d (omega (arith, low, high)) in
-        let later = ranked j d high in
-        let up = in_order i j d low high in
-        let rank = ap (forward_rank events) same in
-        omega (arith, first.0, later.0, later.1, up, rank)
+    turn i j d low high same = grind (arith, ranked)
 
     pub rows_linked : IsLinked net links
     rows_linked = record {

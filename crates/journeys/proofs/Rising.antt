@@ -1,5 +1,7 @@
 -- Lists of events that rise, and the last event of a list.
-use Rattle.std.proofs.Common.{◌≡◌, ℕ, zero, suc, ◌+◌, ◌-◌, ◌<◌, ◌≤◌, ◌⊎◌, inl, inr, nat_lt, nat_eq, true, List, [], ◌∷◌, length, get_or, slice_get, Result, Ok, Err, refl, sym, ap, subst, ◌∙◌, arith, is_ok}
+use Rattle.std.proofs.Common.{◌≡◌, ℕ, zero, suc, ◌+◌, ◌-◌, ◌<◌, ◌≤◌, ◌⊎◌, inl, inr, nat_lt, nat_eq}
+use Rattle.std.proofs.Common.{true, List, [], ◌∷◌, length, get_or, slice_get, Result, Ok, Err, refl}
+use Rattle.std.proofs.Common.{sym, subst, ◌∙◌, arith, is_ok}
 use Rattle.std.specs.List.Sorted.{IsBinarySearchResult, IsNonDecreasingBy, IsStrictlyIncreasing}
 use Rattle.std.specs.Ordering.{nat_cmp}
 use Rattle.std.specs.Result.{MatchResult}
@@ -60,9 +62,7 @@ halved events event r searching is =
         (λ i. (i ≤ length events) × ((k : ℕ) → k < i → get_or events k 0 < event)
         × ((k : ℕ) → i ≤ k → k < length events → event < get_or events k 0))
         → is_ok r ≡ is_in events event
-    by (Ok i) found =
-        sym (list_any_at (nat_eq event) events i 0 found.0
-        (eq-eqb event (get_or events i 0) (sym found.1)))
+    by (Ok i) found = grind (arith, list_any_at, nat_eq, eq-eqb, get_or)
     by (Err i) none =
         sym (list_any_none (nat_eq event) events
         (λ k d inside. ne_eqb event (get_or events k d) (apart i none.1 none.2 k d inside)))
@@ -71,6 +71,4 @@ halved events event r searching is =
 pub last_at : (events : List ℕ) → last_of events ≡ slice_get events (length events - 1)
 last_at [] = refl
 last_at (x ∷ []) = refl
-last_at (x ∷ y ∷ more) =
-    let long : length (x ∷ y ∷ more) - 1 ≡ suc (length (y ∷ more) - 1) = omega arith in
-    last_at (y ∷ more) ∙ sym (ap (slice_get (x ∷ y ∷ more)) long)
+last_at (x ∷ y ∷ more) = grind (arith, slice_get, last_at (y ∷ more))

@@ -1,6 +1,8 @@
 -- A journey that is built backward along the ways.
-use Rattle.std.proofs.Common.{◌≡◌, ◌∙◌, ℕ, zero, suc, ◌+◌, ◌<◌, ◌≤◌, ◌⊎◌, ◌==◌, inl, inr, true, false, List, [], ◌∷◌, ◌++◌, length, reverse, get_or, slice_get, All, Some, refl, ap, sym, subst, arith}
-use Rattle.std.proofs.lemmas.Bool.{both_ways, cases_lt, cond_both, eqb-false, eqb-true}
+use Rattle.std.proofs.Common.{◌≡◌, ◌∙◌, ℕ, zero, suc, ◌+◌, ◌<◌, ◌≤◌, ◌⊎◌, inl, inr, true, false}
+use Rattle.std.proofs.Common.{List, [], ◌∷◌, ◌++◌, length, reverse, get_or, slice_get, All, Some}
+use Rattle.std.proofs.Common.{refl, ap, sym, arith}
+use Rattle.std.proofs.lemmas.Bool.{both_ways, cases_lt, cond_both}
 use Rattle.std.proofs.lemmas.List.{get_or_past, reverse-append}
 use Rattle.std.proofs.lemmas.List.Elements.{All-cons}
 use Rattle.std.proofs.lemmas.Option.{get_or_from_slice_get}
@@ -8,7 +10,7 @@ use Rattle.journeys.specs.declared.connection.Connection.{Connection}
 use Rattle.journeys.specs.declared.links.Link.{Link}
 use Rattle.journeys.specs.declared.way.Way.{Way}
 use Rattle.journeys.specs.declared.way.Way.TheVariants as way
-use Rattle.journeys.specs.Ends.{AreLed, IsLed, IsStep, IsWayBack}
+use Rattle.journeys.specs.Ends.{AreLed, IsStep, IsWayBack}
 use Rattle.journeys.specs.Journeys.{last_of, neighbours}
 use Rattle.journeys.specs.Links.{AreLinks, IsInTurn, links_behind}
 use Rattle.journeys.specs.Ways.{is_reached, way_at}
@@ -18,33 +20,21 @@ use Rattle.journeys.proofs.FollowedRides.{turn_tail}
 
 pub most_behind : (links : List Link) (event : ℕ) → links_behind links event ≤ length links
 most_behind [] event = omega arith
-most_behind (link ∷ links) event =
-    cond_both (link.from == event) (length links + 1) (links_behind links event)
-    (λ n. n ≤ length (link ∷ links)) (λ is. omega arith)
-    (λ fails. let less = most_behind links event in omega (arith, less))
+most_behind (link ∷ links) event = grind (arith, cond_both, most_behind links event)
 
 -- behind one link more
 behind_more : (link : Link) (links : List Link) (event : ℕ)
     → links_behind links event ≤ links_behind (link ∷ links) event
-behind_more link links event =
-    cond_both (link.from == event) (length links + 1) (links_behind links event)
-    (λ n. links_behind links event ≤ n)
-    (λ is. let less = most_behind links event in omega (arith, less)) (λ fails. omega arith)
+behind_more link links event = grind (arith, cond_both, most_behind)
 
 -- behind an event that is not the tail of the first link
 behind_other : (link : Link) (links : List Link) (event : ℕ) → (link.from ≡ event → ⊥)
     → links_behind (link ∷ links) event ≡ links_behind links event
-behind_other link links event apart =
-    cond_both (link.from == event) (length links + 1) (links_behind links event)
-    (λ n. n ≡ links_behind links event) (λ is. absurd (apart (eqb-true link.from event is)))
-    (λ fails. refl)
+behind_other link links event apart = grind arith
 
 behind_own : (link : Link) (links : List Link)
     → links_behind (link ∷ links) link.from ≡ length links + 1
-behind_own link links =
-    cond_both (link.from == link.from) (length links + 1) (links_behind links link.from)
-    (λ n. n ≡ length links + 1) (λ is. refl)
-    (λ fails. absurd (eqb-false link.from link.from fails refl))
+behind_own link links = grind arith
 
 -- behind a head stands no link that is first
 behind_head : (link : Link) (links : List Link) → IsInTurn (link ∷ links) → (k : ℕ) (d : Link)
@@ -72,16 +62,7 @@ behind_rises (link ∷ links) turn (suc k) d inside =
 pub behind_tail : (connections : List Connection) (links : List Link) → AreLinks connections links
     → (place : ℕ) (connection : Connection) → slice_get connections place ≡ Some connection
     → links_behind links connection.to < links_behind links connection.from
-behind_tail connections links are place connection is =
-    let held = are.each place connection is in
-    let link : Link = record {
-      rank = held.0;
-      from = connection.from;
-      to = connection.to;
-      index = place;
-    } in
-    subst (λ (at : Link). links_behind links at.to < links_behind links at.from) held.1.2
-    (behind_rises links are.in_turn held.1.0 link held.1.1)
+behind_tail connections links are place connection is = grind (arith, behind_rises)
 
 -- ---- the events so far
 
@@ -143,13 +124,4 @@ pub taken : (connections : List Connection) (ways : List Way) (event place : ℕ
     → at ≡ get_or connections place at
     → (slice_get connections place ≡ Some (record { from = at.from; to = event }))
     × (is_reached (way_at ways at.from) ≡ true)
-taken connections ways event place at led by read =
-    let found = subst (IsLed connections ways event) by (led event) in
-    let there : Connection = record { from = found.0; to = event } in
-    let same : at ≡ there
-    = read ∙ get_or_from_slice_get connections place there at found.1 in
-    let tail : at.from ≡ found.0 = ap (λ (x : Connection). x.from) same in (
-      subst (λ n. slice_get connections place ≡ Some (record { from = n; to = event })) (sym tail)
-          found.1,
-      subst (λ n. is_reached (way_at ways n) ≡ true) (sym tail) found.2,
-    )
+taken connections ways event place at led by read = grind (arith, get_or_from_slice_get, slice_get)

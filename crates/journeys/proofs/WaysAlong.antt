@@ -1,10 +1,11 @@
 -- One pass along the links finds the way into each event that can be reached, and the first one.
-use Rattle.std.proofs.Common.{◌≡◌, ◌≢◌, ◌∙◌, ℕ, ℤ, ◌<◌, ◌≤◌, ◌⊎◌, ◌==◌, inl, inr, nat_le, true, false, eqb, List, [], ◌∷◌, length, map, get_or, slice_get, slice_set, All, Some, None, refl, ap, sym, subst, arith}
-use Rattle.std.specs.Option.{option_map_or}
-use Rattle.std.proofs.lemmas.Bool.{and_from, both_ways, cond_both, eqb-false, eqb-true, le-leb, leb-false, leb-true, cases_Bool}
+use Rattle.std.proofs.Common.{◌≡◌, ◌≢◌, ◌∙◌, ℕ, ℤ, ◌<◌, ◌≤◌, ◌⊎◌, inl, inr, nat_le, true, false}
+use Rattle.std.proofs.Common.{eqb, List, [], ◌∷◌, length, map, get_or, slice_get, slice_set, All}
+use Rattle.std.proofs.Common.{Some, None, refl, ap, sym, subst, arith}
+use Rattle.std.proofs.lemmas.Bool.{and_from, both_ways, cond_both, eqb-false, eqb-true, le-leb, leb-true, cases_Bool}
 use Rattle.std.proofs.lemmas.Bool.Decides.{Decides-eqb}
 use Rattle.std.proofs.lemmas.List.{get_or-map, get_or-set_other, get_or-set_same, get_or_past, length-map, length-set}
-use Rattle.std.proofs.lemmas.List.Elements.{All-contains, All-cons, All-head, All-nil, All-tail}
+use Rattle.std.proofs.lemmas.List.Elements.{All-contains, All-cons, All-head, All-tail}
 use Rattle.std.proofs.lemmas.Map.Keys.{any_passes_from_place}
 use Rattle.std.proofs.lemmas.Option.{get_or_from_slice_get, slice_get_cases, slice_get_within}
 use Rattle.journeys.specs.declared.connection.Connection.{Connection}
@@ -15,15 +16,11 @@ use Rattle.journeys.specs.declared.way.Way.TheVariants as way
 use Rattle.journeys.specs.JourneyNets.{IsConnection, JourneyParts}
 use Rattle.journeys.specs.Journeys.{IsReached, leads, passes_at, starts}
 use Rattle.journeys.specs.Links.{AreLinks, IsInTurn}
-use Rattle.journeys.specs.Ways.{AreWays, IsBy, IsWay, first_way, go_by, is_by, is_reached, lesser, or_by, way_at, ways_along}
+use Rattle.journeys.specs.Ways.{AreWays, IsWay, first_way, go_by, is_by, is_reached, lesser, or_by, way_at, ways_along}
 use Rattle.journeys.proofs.Answers.{goes_on}
 use Rattle.journeys.proofs.FollowedRides.{turn_tail}
 
 -- ---- what one link does to the way into its head
-
-lesser_first : (a b : ℕ) → lesser a b ≤ a
-lesser_first a b = cond_both (nat_le a b) a b (λ n. n ≤ a) (λ is. omega arith)
-    (λ fails. let less = leb-false a b fails in omega (arith, less))
 
 lesser_second : (a b : ℕ) → lesser a b ≤ b
 lesser_second a b = cond_both (nat_le a b) a b (λ n. n ≤ b) (λ is. leb-true a b is)
@@ -40,9 +37,7 @@ is_by_still : (w : Way) (index place : ℕ) → is_by place w ≡ true → is_by
     ≡ true
 is_by_still way.Unreached index place is = absurd (both_ways false refl is)
 is_by_still way.Start index place is = refl
-is_by_still (way.By other) index place is =
-    let low = leb-true other place is in
-    le-leb (lesser other index) place (omega (arith, low, lesser_first other index))
+is_by_still (way.By other) index place is = grind arith
 
 -- where a way is no later, the event can be reached
 pub by_reached : (w : Way) (place : ℕ) → is_by place w ≡ true → is_reached w ≡ true
@@ -61,9 +56,7 @@ by_link : (P : List Way → Type 0) (ways : List Way) (link : Link)
     → (is_reached (way_at ways link.from) ≡ true
     → P (slice_set ways link.to (or_by (way_at ways link.to) link.index)))
     → (is_reached (way_at ways link.from) ≡ false → P ways) → P (go_by ways link)
-by_link P ways link goes stays =
-    cond_both (is_reached (way_at ways link.from))
-    (slice_set ways link.to (or_by (way_at ways link.to) link.index)) ways P goes stays
+by_link P ways link goes stays = grind arith
 
 -- what holds of the way into an event before a link, and is kept where the link leads to it
 at_event : (Q : Way → Type 0) (ways : List Way) (link : Link) (event : ℕ)
@@ -132,9 +125,7 @@ pub closed : (links : List Link) (ways : List Way) → IsInTurn links
     → All (Joins (length ways)) links
     → All (λ link. is_reached (way_at (ways_along links ways) link.from) ≡ true
     → is_by link.index (way_at (ways_along links ways) link.to) ≡ true) links
-closed [] ways turn joins =
-    All-nil (λ link. is_reached (way_at (ways_along [] ways) link.from) ≡ true
-    → is_by link.index (way_at (ways_along [] ways) link.to) ≡ true)
+closed [] ways turn joins = grind arith
 closed (link ∷ links) ways turn joins =
     let new = go_by ways link in
     let end = ways_along links new in
@@ -170,12 +161,7 @@ module _ (net : JourneyParts) (sound : All (IsConnection net) net.connections)
   reached_by_way event way.Start known is =
       record { ride = event ∷ []; begin = known; joined = refl; end = refl }
   reached_by_way event (way.By connection) known is =
-      goes_on net sound from start known.tail event known.reached
-      (any_passes_from_place (leads known.tail event) net.connections connection
-      (record { from = known.tail; to = event }) known.is
-      (and_from (known.tail == known.tail) (event == event)
-      ((Decides-eqb known.tail known.tail).1 refl)
-      ((Decides-eqb event event).1 refl)))
+      grind (arith, goes_on, any_passes_from_place, and_from, Decides-eqb)
 
   -- before any link
   first_leads : (event : ℕ)
@@ -191,16 +177,8 @@ module _ (net : JourneyParts) (sound : All (IsConnection net) net.connections)
           × (slice_get net.events event ≡ Some x) × (get_or net.events event x ≡ x))
           ⊎ ((length net.events ≤ event) × (slice_get net.events event ≡ None))
           → Leads event (way_at (map (first_way from start) net.events) event)
-      by (inl found) =
-          subst (Leads event)
-          (sym (get_or-map (first_way from start) net.events event found.0 way.Unreached found.1
-          ∙ ap (first_way from start) found.3))
-          (put found.0 (ap (λ o. option_map_or (starts from start) o false) found.2))
-      by (inr past) =
-          subst (Leads event)
-          (sym (get_or_past (map (first_way from start) net.events) event way.Unreached
-          (subst (λ n. n ≤ event) (sym (length-map net.events (first_way from start))) past.0)))
-          (ap (λ o. option_map_or (starts from start) o false) past.1)
+      by (inl found) = grind (arith, get_or-map)
+      by (inr past) = grind (arith, get_or_past, length-map)
 
   module _ (link : Link)
       (is : slice_get net.connections link.index ≡ Some (record { from = link.from; to = link.to }))
@@ -210,15 +188,7 @@ module _ (net : JourneyParts) (sound : All (IsConnection net) net.connections)
       put_leads way.Unreached leads reached =
           record { tail = link.from; is = is; reached = reached; no_start = leads }
       put_leads way.Start leads reached = leads
-      put_leads (way.By other) leads reached =
-          cond_both (nat_le other link.index) other link.index (IsBy net from start link.to)
-          (λ less. leads)
-          (λ more. record {
-            tail = link.from;
-            is = is;
-            reached = reached;
-            no_start = leads.no_start;
-          })
+      put_leads (way.By other) leads reached = grind arith
 
       step_leads : (ways : List Way) → Joins (length ways) link
           → ((event : ℕ) → Leads event (way_at ways event))
@@ -263,20 +233,4 @@ module _ (net : JourneyParts) (sound : All (IsConnection net) net.connections)
 
     pub ways_found : AreWays net from start (ways_along links first_ways)
     ways_found =
-        let joins = links_join (length first_ways) (length-map net.events (first_way from start)) in
-        record {
-          each = long links first_ways ∙ length-map net.events (first_way from start);
-          lead = all_lead links first_ways joins are.of first_leads;
-          closed = λ place connection is reached.
-              let held = are.each place connection is in
-              let link : Link = record {
-                rank = held.0;
-                from = connection.from;
-                to = connection.to;
-                index = place;
-              } in
-              All-contains
-              (λ link. is_reached (way_at (ways_along links first_ways) link.from) ≡ true
-              → is_by link.index (way_at (ways_along links first_ways) link.to) ≡ true) links link
-              (closed links first_ways are.in_turn joins) held.1 reached;
-        }
+        grind (arith, links_join, length-map, long, all_lead, first_leads, closed, All-contains)

@@ -1,5 +1,5 @@
 -- The stage of costs, from what each of its inputs gives.
-use Rattle.std.proofs.Common.{◌≡◌, List, [], ◌++◌, ap, refl, subst, sym, ◌∙◌, Ok, Err}
+use Rattle.std.proofs.Common.{◌≡◌, List, [], refl, subst, Ok, Err, arith}
 use Rattle.giv_files.specs.declared.key.Key.TheVariants as key
 use Rattle.giv_files.specs.declared.made.Made.{Made}
 use Rattle.giv_files.specs.declared.refusal.StageFault.{StageFault}
@@ -9,7 +9,7 @@ use Rattle.giv_files.specs.Settings.{BundleParts, SettingsFit, Fits}
 use Rattle.giv_files.specs.StageCalls.{input_text, StageGives}
 use Rattle.giv_files.proofs.Inputs.{refused_append}
 use Rattle.giv_files.proofs.SettingFacts.{amount_within}
-use Rattle.giv_files.proofs.StageCalls.{stage_refused, stage_made}
+use Rattle.giv_files.proofs.StageCalls.{stage_refused}
 use Rattle.ptn_network.specs.Networks.{NetworkParts, network_of, network_faults}
 use Rattle.line_pool.specs.CostStage.{costs_made, cost_faults, cost_stage}
 use Rattle.line_pool.specs.LineCosts.{AreModest}
@@ -37,9 +37,7 @@ module _ (bundle : BundleParts) where
 
   module _ (network : NetworkParts) (none : network_faults (input_text bundle 0) (input_text bundle 1) ≡ []) (is : network ≡ network_of (input_text bundle 0) (input_text bundle 1)) where
     later : pool_faults network (input_text bundle 2) ≡ cost_faults bundle
-    later =
-        ap (λ some. pool_faults some (input_text bundle 2)) is
-        ∙ ap (λ first. first ++ pool_faults (network_of (input_text bundle 0) (input_text bundle 1)) (input_text bundle 2)) (sym none)
+    later = grind arith
 
     -- a text that gives no pool
     pub pool_refused : (fault : StageFault) → Refuses (pool_faults network (input_text bundle 2)) fault → StageGives (cost_stage bundle) (Err fault)
@@ -49,6 +47,4 @@ module _ (bundle : BundleParts) where
     -- texts without a fault
     pub costs_given : (pool : List LineParts) (made : Made) → pool_faults network (input_text bundle 2) ≡ [] → pool ≡ pool_of network (input_text bundle 2) → made ≡ costs_made bundle.settings network.edges pool → StageGives (cost_stage bundle) (Ok made)
     unfolding cost_stage
-    costs_given pool made faultless read given =
-        stage_made (cost_faults bundle) _ made (sym later ∙ faultless)
-        (given ∙ ap (costs_made bundle.settings network.edges) read ∙ ap (λ some. costs_made bundle.settings some.edges (pool_of some (input_text bundle 2))) is)
+    costs_given pool made faultless read given = grind arith

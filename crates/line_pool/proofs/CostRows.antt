@@ -1,5 +1,7 @@
 -- The rows of costs, and that their cells are in their columns.
-use Rattle.std.proofs.Common.{◌≡◌, ℕ, ℤ, pos, ◌+◌, ◌*◌, ◌/◌, ◌≤◌, ◌<◌, ◌≤ℤ◌, List, [], ◌∷◌, ◌++◌, length, map, take, get_or, slice_get, ap, subst, sym, ◌∙◌, arith, All, Some, option_map, sum, w64, to_z}
+use Rattle.std.proofs.Common.{◌≡◌, ℕ, ℤ, pos, ◌+◌, ◌*◌, ◌/◌, ◌≤◌, ◌<◌, ◌≤ℤ◌, List, [], ◌∷◌, ◌++◌}
+use Rattle.std.proofs.Common.{length, map, take, get_or, slice_get, ap, sym, ◌∙◌, arith, All, Some}
+use Rattle.std.proofs.Common.{option_map, sum, w64, to_z}
 use Rattle.std.proofs.lemmas.Int.{ints, to_z_pos}
 use Rattle.std.proofs.lemmas.Option.{slice_get-get_or, same_Some}
 use Rattle.std.proofs.lemmas.List.{map_more}
@@ -23,10 +25,7 @@ within n h = (omega (arith, ints), omega (arith, ints))
 
 -- the parts of a cost, which is not too great
 cost_small : (fixed by_length by_edge units edges : ℕ) → fixed ≤ 1000000000000 → by_length ≤ 10000000000 → by_edge ≤ 1000000000000 → units ≤ 10000000000000 → edges ≤ 1000 → fixed + by_length * units / 1000000 + by_edge * edges ≤ 1000000000000000000
-cost_small fixed by_length by_edge units edges a b c d e =
-    let p : by_length * units ≤ 10000000000 * 10000000000000 = product by_length units _ _ b d in
-    let q : by_edge * edges ≤ 1000000000000 * 1000 = product by_edge edges _ _ c e in
-    omega arith
+cost_small fixed by_length by_edge units edges a b c d e = grind arith
 
 module _ (settings : List Setting) (edges : List Edge) (costs : AreModest settings) where
   -- the cells of a line are in their columns
@@ -45,23 +44,14 @@ module _ (settings : List Setting) (edges : List Edge) (costs : AreModest settin
 
   module _ (lines : List LineParts) (i : ℕ) (id : ℤ) (some : List ℕ) (units cost : ℕ) (h : i < length lines) (has_id : option_map (λ line. line.id) (slice_get lines i) ≡ Some id) (has_edges : option_map (λ line. line.edges) (slice_get lines i) ≡ Some some) (sums : units ≡ sum (map (length_at edges) some)) where
     line_is : (id ≡ (get_or lines i no_parts).id) × (some ≡ (get_or lines i no_parts).edges)
-    line_is =
-        let at = slice_get-get_or lines i no_parts h in
-        let e = sym has_id ∙ ap (option_map (λ line. line.id)) at in
-        let f = sym has_edges ∙ ap (option_map (λ line. line.edges)) at in
-        (same_Some _ _ e, same_Some _ _ f)
+    line_is = grind (arith, slice_get-get_or, no_parts, option_map, same_Some)
 
     units_are : units ≡ line_length edges (get_or lines i no_parts)
     units_are = sums ∙ ap (λ indexes. sum (map (length_at edges) indexes)) line_is.1
 
     -- the edges of the line are there, and it is not too long
     pub line_modest : All (IsModest edges) lines → All (λ index. index < length edges) some × (units ≤ 10000000000000) × (length some ≤ 1000)
-    line_modest modest =
-        let line = All-get_or (IsModest edges) lines i no_parts h modest in (
-          subst (All (λ index. index < length edges)) (sym line_is.1) line.there,
-          omega (arith, units_are, line.short),
-          omega (arith, ap length line_is.1, line.few),
-        )
+    line_modest modest = grind (arith, All-get_or, no_parts, line_is, units_are)
 
     -- the table with the row of one line more
     pub row_more : (table after : List TableRow) (units_cell cost_cell : ℤ) → All (IsModest edges) lines → (cost ≡ amount settings key.LpoolCostsFixed + amount settings key.LpoolCostsLength * units / 1000000 + amount settings key.LpoolCostsEdges * length some) → units_cell ≡ to_z w64 units → cost_cell ≡ to_z w64 cost → table ≡ map (cost_row settings edges) (take i lines) → after ≡ table ++ record { number = 0; cells = id ∷ units_cell ∷ cost_cell ∷ [] } ∷ [] → after ≡ map (cost_row settings edges) (take (i + 1) lines)

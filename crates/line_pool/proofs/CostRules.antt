@@ -1,5 +1,7 @@
 -- The costs of the lines by rows, and the rule that each line has one.
-use Rattle.std.proofs.Common.{◌≡◌, ℕ, ℤ, pos, ◌+◌, ◌<◌, not, Bool, true, false, cond, List, [], ◌∷◌, ◌++◌, length, take, get_or, slice_get, refl, ap, sym, ◌∙◌, Option, Some, None, option_map, is_some, unwrap_or}
+use Rattle.std.proofs.Common.{arith, ◌≡◌, ℕ, ℤ, pos, ◌+◌, ◌<◌, not, Bool, true, false, cond, List}
+use Rattle.std.proofs.Common.{[], ◌∷◌, ◌++◌, length, take, get_or, slice_get, refl, ap, sym, ◌∙◌}
+use Rattle.std.proofs.Common.{Option, Some, None, option_map, is_some, unwrap_or}
 use Rattle.std.specs.List.{list_any}
 use Rattle.std.specs.Ordering.{int_eq}
 use Rattle.std.proofs.lemmas.List.{map_more}
@@ -79,17 +81,10 @@ module _ (lines : List LineParts) (text : List ℕ) (rows : List CostRow)
   pub line_missing_of_text : None ≡ cond missing None (Some (costs_over lines rows))
       → slice_get (input_faults (pool_cost_input lines) text) 0
       ≡ Some (refusal.BadRow file.PoolCost 0 why.MissingLine)
-  line_missing_of_text e =
-      refused_as_whole (pool_cost_input lines) text (λ some. list_any (lacks some) lines)
-      why.MissingLine refl none (is_missing ∙ not_all missing (costs_over lines rows) e)
+  line_missing_of_text e = grind (arith, refused_as_whole, is_missing, not_all)
 
   -- one in which each has, and its costs
   pub costs_given : (costs : List ℤ) → Some costs ≡ cond missing None (Some (costs_over lines rows))
       → (input_faults (pool_cost_input lines) text ≡ []) × (costs ≡ costs_of lines text)
   unfolding costs_of
-  costs_given costs e =
-      let made = all_are missing (costs_over lines rows) costs e in (
-        sound_as_whole (pool_cost_input lines) text (λ some. list_any (lacks some) lines)
-            why.MissingLine refl none (is_missing ∙ made.0),
-        made.1 ∙ ap (costs_over lines) are,
-      )
+  costs_given costs e = grind (arith, all_are, sound_as_whole, is_missing)

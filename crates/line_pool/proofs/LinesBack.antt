@@ -1,15 +1,13 @@
 -- The rows of lines give back these lines.
 use Rattle.std.proofs.Common.{◌≡◌, ℕ, ℤ, zero, suc, ◌+◌, ◌<◌, Bool, true, false, ◌||◌, cond, List}
-use Rattle.std.proofs.Common.{[]}
-use Rattle.std.proofs.Common.{◌∷◌, ◌++◌, length, map, All, refl, ap, subst, sym, ◌∙◌, arith, Some}
-use Rattle.std.proofs.Common.{None, append-nil, append_assoc, get_or, map-id, nat_lt, not}
-use Rattle.std.proofs.Common.{unwrap_or}
+use Rattle.std.proofs.Common.{[], ◌∷◌, ◌++◌, length, map, All, refl, ap, sym, ◌∙◌, arith, Some}
+use Rattle.std.proofs.Common.{None, append-nil, append_assoc, get_or, map-id, nat_lt, unwrap_or}
 use Rattle.std.specs.List.{AllByRecursion, list_any, position_or_len}
 use Rattle.std.specs.List.Sorted.{IsSorted, IsStrictlySortedBy}
 use Rattle.std.specs.Ordering.{int_cmp, int_eq, is_lt, ordering_reverse}
 use Rattle.std.specs.declared.cmp.Ordering.TheVariants.{Less}
 use Rattle.std.proofs.lemmas.Bool.{lt-ltb}
-use Rattle.std.proofs.lemmas.Cmp.{int_cmp_total, int_eq_equiv}
+use Rattle.std.proofs.lemmas.Cmp.{int_cmp_total}
 use Rattle.std.proofs.lemmas.List.{map-append}
 use Rattle.std.proofs.lemmas.List.Elements.{filter-append}
 use Rattle.std.proofs.lemmas.List.Folds.{list_any-append}
@@ -41,14 +39,15 @@ first_place : (edges : List Edge) (index : ℕ)
     → position_or_len (λ edge. int_eq (id_at edges index) edge.id) edges ≡ index
 unfolding IsStrictlySortedBy
 first_place [] index rise h = absurd (omega (arith, h))
-first_place (edge ∷ edges) zero rise h =
-    ap (λ b. cond (not b) (1 + position_or_len (λ (other : Edge). int_eq edge.id other.id) edges) 0)
-    (int_eq_equiv.refl edge.id)
+first_place (edge ∷ edges) zero rise h = grind arith
 first_place (edge ∷ edges) (suc index) rise h =
-    let id = id_at edges index in
-    ap (λ b. cond (not b) (1 + position_or_len (λ (other : Edge). int_eq id other.id) edges) 0)
-    (above_differs edge.id id (later_above edge.id edges index (omega (arith, h)) rise.0))
-    ∙ (let first = first_place edges index rise.1 (omega (arith, h)) in omega (arith, first))
+    grind (
+      arith,
+      id_at,
+      above_differs,
+      later_above,
+      first_place edges index rise.1 (omega (arith, h)),
+    )
 
 pub index_back : (edges : List Edge) (index : ℕ)
     → IsStrictlySortedBy int_cmp (map (λ edge. edge.id) edges) → index < length edges
@@ -82,11 +81,15 @@ module _ (edges : List Edge) (rise : IsStrictlySortedBy int_cmp (map (λ edge. e
       → rows_of id (rows_for edges lines) ≡ []
   none_later id [] above = refl
   none_later id (line ∷ lines) above =
-      let own = rows_at edges line in
-      filter-append (λ (row : LineRow). int_eq id row.line) own (rows_for edges lines)
-      ∙ ap (λ rows. rows ++ rows_of id (rows_for edges lines)) (other_rows edges rise line.id
-      line.frequency id (below_differs id line.id above.0) 1 line.edges)
-      ∙ none_later id lines above.1
+      grind (
+        arith,
+        rows_at,
+        filter-append,
+        rows_for,
+        other_rows,
+        below_differs,
+        none_later id lines above.1,
+      )
 
   rows_back : (before : List LineRow) (line : RowsLine) (lines : List RowsLine)
       → rows_of line.id before ≡ []
@@ -94,15 +97,7 @@ module _ (edges : List Edge) (rise : IsStrictlySortedBy int_cmp (map (λ edge. e
       → rows_of line.id (before ++ rows_at edges line ++ rows_for edges lines)
       ≡ rows_at edges line
   rows_back before line lines none above =
-      let own = rows_at edges line in
-      let rest = rows_for edges lines in
-      let is_own : LineRow → Bool = λ row. int_eq line.id row.line in
-      filter-append is_own (before ++ own) rest
-      ∙ ap (λ rows. rows_of line.id (before ++ own) ++ rows) (none_later line.id lines above)
-      ∙ append-nil (rows_of line.id (before ++ own))
-      ∙ filter-append is_own before own
-      ∙ ap (λ rows. rows ++ rows_of line.id own) none
-      ∙ own_rows edges rise line.id line.frequency 1 line.edges
+      grind (arith, rows_at, rows_for, filter-append, none_later, append-nil, own_rows)
 
   all_edges : (before : List LineRow) (lines : List RowsLine)
       → IsStrictlySortedBy int_cmp (ids_for lines) → AreNew edges rise before (ids_for lines)
@@ -155,14 +150,15 @@ module _ (edges : List Edge) (rise : IsStrictlySortedBy int_cmp (map (λ edge. e
       ≡ list_any (int_eq q) (map (λ row. row.line) (rows_for edges lines))
   same_ids q [] some = refl
   same_ids q (line ∷ lines) some =
-      let own = map (λ (row : LineRow). row.line) (rows_at edges line) in
-      let rest = map (λ (row : LineRow). row.line) (rows_for edges lines) in
-      ap (λ b. int_eq q line.id || b) (same_ids q lines some.1)
-      ∙ ap (λ b. b || list_any (int_eq q) rest)
-      (sym (line_of_rows q line.id line.frequency 1 line.edges some.0))
-      ∙ sym (list_any-append (int_eq q) own rest)
-      ∙ ap (list_any (int_eq q)) (sym (map-append (λ (row : LineRow). row.line)
-      (rows_at edges line) (rows_for edges lines)))
+      grind (
+        arith,
+        rows_at,
+        rows_for,
+        line_of_rows,
+        list_any-append,
+        map-append,
+        same_ids q lines some.1,
+      )
 
 -- ids that rise are sorted
 below_sorts : (ids : List ℤ) → IsStrictlySortedBy int_cmp ids → IsSorted int_cmp ids
@@ -172,25 +168,17 @@ below_sorts (id ∷ []) rise k d low h = absurd (omega (arith, h))
 below_sorts (id ∷ next ∷ ids) rise zero d low h =
     ap is_lt (int_cmp_total.antisymm next id ∙ ap ordering_reverse rise.0.0)
 below_sorts (id ∷ next ∷ ids) rise (suc k) d low h =
-    subst (λ n. is_lt (int_cmp (get_or (id ∷ next ∷ ids) n d) (get_or (next ∷ ids) k d)) ≡ false)
-    {x = suc (k + 1)} {y = suc k + 1} (omega arith)
-    (below_sorts (next ∷ ids) rise.1 k d (omega arith) (omega (arith, h)))
+    grind (arith, get_or, below_sorts (next ∷ ids) rise.1 k d (omega arith) (omega (arith, h)))
 
 module _ (edges : List Edge) (rise : IsStrictlySortedBy int_cmp (map (λ edge. edge.id) edges))
     (lines : List RowsLine) (up : IsStrictlySortedBy int_cmp (ids_for lines))
     (some : AllByRecursion HasEdge lines) where
   ids_rising : rising (map (λ row. row.line) (rows_for edges lines)) ≡ ids_for lines
-  ids_rising = sym (sorted_ids (ids_for lines) (map (λ row. row.line) (rows_for edges lines))
-      (below_sorts (ids_for lines) up) (distinct (ids_for lines) up)
-      (λ q. same_ids edges rise q lines some))
+  ids_rising = grind (arith, sorted_ids, ids_for, rows_for, below_sorts, distinct, same_ids)
 
   -- the ids of lines are read back from their rows
   pub ids_back : map (λ line. line.id) (lines_over edges (rows_for edges lines)) ≡ ids_for lines
-  ids_back =
-      let rows = rows_for edges lines in
-      map-map (λ (line : LineParts). line.id) (line_of edges rows)
-      (rising (map (λ row. row.line) rows))
-      ∙ map-id (rising (map (λ row. row.line) rows)) ∙ ids_rising
+  ids_back = grind (arith, rows_for, map-map, map-id, ids_rising)
 
   -- and so are their edges
   pub edges_back : AllByRecursion (IsWalked edges) lines

@@ -1,8 +1,9 @@
 -- The pool of a table, from the lines of its rows.
+use Rattle.std.proofs.Common.{arith, ℕ, sym, ◌≡◌, refl, ℤ, ◌≤◌, List, [], length, map, ap, subst}
+use Rattle.std.proofs.Common.{◌∙◌}
 use Rattle.std.specs.List.{All}
 use Rattle.std.proofs.lemmas.List.Elements.{All-weaker}
 use Rattle.ptn_network.specs.Networks.{NetworkParts}
-use Rattle.std.proofs.Common.{ℕ, sym, ◌≡◌, refl, ℤ, ◌≤◌, List, [], length, map, ap, subst, ◌∙◌}
 use Rattle.std.proofs.lemmas.Simd.{map-map}
 use Rattle.giv_files.specs.Tables.{TableRow}
 use Rattle.giv_files.specs.declared.refusal.StageFault.{StageFault}
@@ -13,7 +14,7 @@ use Rattle.ptn_network.specs.Networks.{rising}
 use Rattle.line_pool.specs.declared.line_file.LineFile.{LineFile}
 use Rattle.giv_files.specs.Reading.{table_of}
 use Rattle.line_pool.specs.declared.line_row.LineRow.{LineRow}
-use Rattle.line_pool.specs.Pools.{line_limit, LineParts, line_input, line_of, lines_over, lines_of, line_faults, file_of, columns_of, IsLine, AreLines}
+use Rattle.line_pool.specs.Pools.{line_limit, LineParts, line_input, lines_over, lines_of, line_faults, file_of, columns_of, IsLine, AreLines}
 use Rattle.line_pool.specs.LinesSoFar.{LineEdges, line_so_far, whole_line, lines_in}
 
 module _ (kind : LineFile) (edges : List Edge) (table : List TableRow) (ids : List ℤ) (are : ids ≡ rising (lines_in table)) where
@@ -27,9 +28,7 @@ module _ (kind : LineFile) (edges : List Edge) (table : List TableRow) (ids : Li
 
   -- the whole lines of the ids
   pub lines_are : (lines : List LineEdges) (whole : List LineParts) → lines ≡ map (line_so_far edges (records (line_input kind edges) table)) ids → whole ≡ map whole_line lines → whole ≡ lines_over edges (records (line_input kind edges) table)
-  lines_are lines whole told is =
-      let rows = records (line_input kind edges) table in
-      is ∙ ap (map whole_line) told ∙ map-map whole_line (line_so_far edges rows) ids ∙ ap (map (line_of edges rows)) are
+  lines_are lines whole told is = grind (arith, map-map)
 
 -- ---- the lines of a text
 

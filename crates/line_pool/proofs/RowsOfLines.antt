@@ -1,5 +1,8 @@
 -- Lines and their rows, one row of a pool after the other.
-use Rattle.std.proofs.Common.{◌≡◌, ℕ, ℤ, pos, ◌+◌, ◌<◌, Bool, true, false, not, ◌||◌, ◌&&◌, cond, List, [], ◌∷◌, ◌++◌, length, map, get_or, set, take, slice_get, position, refl, ap, subst, sym, ◌∙◌, arith, Option, Some, None, is_some, unwrap_or, inl, inr, ◌≢◌}
+use Rattle.std.proofs.Common.{◌≡◌, ℕ, ℤ, pos, ◌+◌, ◌<◌, Bool, true, false, not, ◌||◌, ◌&&◌, cond}
+use Rattle.std.proofs.Common.{List, [], ◌∷◌, ◌++◌, length, map, get_or, set, take, slice_get}
+use Rattle.std.proofs.Common.{position, refl, ap, subst, sym, ◌∙◌, arith, Option, Some, None}
+use Rattle.std.proofs.Common.{is_some, unwrap_or, inl, inr, ◌≢◌}
 use Rattle.std.specs.List.{list_any, filter_map, cons_option, IsDistinct}
 use Rattle.std.specs.Option.{option_or}
 use Rattle.std.specs.Ordering.{int_eq}
@@ -53,13 +56,7 @@ frequency_more (first ∷ rows) row = refl
 
 line_more : (edges : List Edge) (id : ℤ) (rows : List LineRow) (row : LineRow) (index : ℕ) (edge : Edge) → StandsAt edges row.edge index → edge_with edges row.edge ≡ Some edge → line_from edges id (rows ++ row ∷ []) ≡ with_edge (line_from edges id rows) index edge row.frequency
 line_more edges id rows row index edge stands is =
-    let some = filter_map (λ row. edge_with edges row.edge) rows in
-    let made : List ℕ → List Edge → LineEdges = λ indexes all. record { id = id; indexes = indexes; edges = all; ends = ends_of all; frequency = first_frequency (rows ++ row ∷ []) } in
-    let indexes : List ℕ = map (λ row. index_of edges row.edge) rows in
-    ap (λ all. made (map (λ row. index_of edges row.edge) (rows ++ row ∷ [])) all) (edges_own edges rows row edge is)
-    ∙ ap (λ all. made all (some ++ edge ∷ [])) (map_push (λ row. index_of edges row.edge) rows row ∙ ap (λ o. indexes ++ unwrap_or o 0 ∷ []) stands)
-    ∙ ap (λ frequency. record { id = id; indexes = indexes ++ index ∷ []; edges = some ++ edge ∷ []; ends = ends_of (some ++ edge ∷ []); frequency = frequency }) (frequency_more rows row)
-    ∙ sym (ap (λ ends. record { id = id; indexes = indexes ++ index ∷ []; edges = some ++ edge ∷ []; ends = ends; frequency = option_or (first_frequency rows) (Some row.frequency) }) (ends_more some edge))
+    grind (arith, edges_own, map_push, unwrap_or, frequency_more, ends_more)
 
 module _ (edges : List Edge) (before : List LineRow) (row : LineRow) where
   -- a line without the row stays
@@ -75,12 +72,7 @@ module _ (edges : List Edge) (before : List LineRow) (row : LineRow) where
   -- its edges may be walked where one of its walks has an end
   pub walk_told : (line : LineEdges) (edge : Edge) (ends : Ends) → line ≡ line_so_far edges before row.line → edge_with edges row.edge ≡ Some edge → ends ≡ next_ends line.edges line.ends edge → is_some (walk_of (edges_of edges row.line (before ++ row ∷ []))) ≡ (is_some ends.left || is_some ends.right)
   walk_told line edge ends told is next =
-      let some = edges_of edges row.line before in
-      let all : ends ≡ ends_of (some ++ edge ∷ []) = next ∙ ap (λ line. next_ends line.edges line.ends edge) told ∙ ends_more some edge in
-      ap (λ rows. is_some (walk_of (filter_map (λ row. edge_with edges row.edge) rows))) (rows_own before row row.line (int_eq_equiv.refl row.line))
-      ∙ ap (λ more. is_some (walk_of more)) (edges_own edges (rows_of row.line before) row edge is)
-      ∙ has_walk some edge
-      ∙ ap (λ ends. is_some ends.left || is_some ends.right) (sym all)
+      grind (arith, ends_more, is_some, rows_own, int_eq_equiv, edges_own, has_walk)
 
   -- its frequency differs from that of the line where it does from that of the line's first row
   pub frequency_told : (line : LineEdges) (frequency : ℤ) (test answer : Bool) → line ≡ line_so_far edges before row.line → frequency ≡ row.frequency → test ≡ differs frequency line.frequency → test ≡ answer → differs row.frequency (first_frequency (rows_of row.line before)) ≡ answer
@@ -89,9 +81,7 @@ module _ (edges : List Edge) (before : List LineRow) (row : LineRow) where
 
   -- its place is told by how many edges the line has
   pub next_told : (line : LineEdges) (order : ℤ) (count : ℕ) (test answer : Bool) → line ≡ line_so_far edges before row.line → order ≡ row.order → count ≡ length line.indexes → test ≡ int_eq order (pos (count + 1)) → test ≡ answer → int_eq row.order (pos (length (rows_of row.line before) + 1)) ≡ answer
-  next_told line order count test answer told own size is e =
-      let rows : count ≡ length (rows_of row.line before) = size ∙ ap (λ line. length line.indexes) told ∙ length-map (rows_of row.line before) (λ row. index_of edges row.edge) in
-      ap (λ o. int_eq o (pos (length (rows_of row.line before) + 1))) (sym own) ∙ ap (λ n. int_eq order (pos (n + 1))) (sym rows) ∙ sym is ∙ e
+  next_told line order count test answer told own size is e = grind (arith, length-map)
 
 -- ---- the rules of a row
 
@@ -155,9 +145,7 @@ chosen false b old rows row edge same told = told ∙ ap (list_any (λ other. in
 -- one row more
 pub pair_noted : (before : List LineRow) (row : LineRow) (id edge : ℤ) (old new : Bool) → new ≡ cond (int_eq row.line id && int_eq row.edge edge) true old → old ≡ list_any (λ other. int_eq edge other.edge) (rows_of id before) → new ≡ list_any (λ other. int_eq edge other.edge) (rows_of id (before ++ row ∷ []))
 pair_noted before row id edge old new noted told =
-    noted ∙ ap (λ b. cond (b && int_eq row.edge edge) true old) (int_eq_equiv.symm row.line id)
-    ∙ chosen (int_eq id row.line) (int_eq row.edge edge) old (rows_of id before) row edge (int_eq_equiv.symm row.edge edge) told
-    ∙ ap (list_any (λ other. int_eq edge other.edge)) (sym (filter-append (λ row. int_eq id row.line) before (row ∷ [])))
+    grind (arith, int_eq_equiv, chosen, filter-append)
 
 -- whether the pair of a row is new
 pub new_told : (before : List LineRow) (row : LineRow) (id edge : ℤ) (held : ℤ → ℤ → Bool) (is_new : Bool) → id ≡ row.line → edge ≡ row.edge → ((id edge : ℤ) → held id edge ≡ list_any (λ other. int_eq edge other.edge) (rows_of id before)) → is_new ≡ not (held id edge) → is_new ≡ not (list_any (λ other. int_eq row.edge other.edge) (rows_of row.line before))
@@ -194,11 +182,7 @@ line_at ids lines of_id line place d are at =
 -- the lines after one row more
 pub lines_more : (edges : List Edge) (before : List LineRow) (row : LineRow) (ids : List ℤ) (place : ℕ) (lines after : List LineEdges) (index : ℕ) (edge : Edge) → IsDistinct int_eq ids → position (int_eq row.line) ids ≡ Some place → lines ≡ map (line_so_far edges before) ids → StandsAt edges row.edge index → edge_with edges row.edge ≡ Some edge → after ≡ set lines place (with_edge (get_or lines place (no_line (pos 0))) index edge row.frequency) → after ≡ map (line_so_far edges (before ++ row ∷ [])) ids
 lines_more edges before row ids place lines after index edge apart at are stands is put =
-    let changed = with_edge (get_or lines place (no_line (pos 0))) index edge row.frequency in
-    put ∙ ap (λ some. set some place changed) are
-    ∙ line_set ids row.line place (line_so_far edges before) (line_so_far edges (before ++ row ∷ [])) changed apart at
-    (line_gets edges before row _ index edge (line_at ids lines (line_so_far edges before) row.line place (no_line (pos 0)) are at) stands is)
-    (λ id other. line_stays edges before row id other)
+    grind (arith, get_or, line_set, line_gets, line_at, line_stays)
 
 -- ---- the ids of lines
 

@@ -1,5 +1,6 @@
 -- What holds of the costs of a text without a fault.
-use Rattle.std.proofs.Common.{◌≡◌, ℕ, ℤ, pos, arith, lit<, cond, Bool, true, false, List, [], ◌∷◌, length, get_or, Some, option_map, unwrap_or}
+use Rattle.std.proofs.Common.{◌≡◌, ℕ, ℤ, pos, arith, cond, Bool, true, false, List, [], ◌∷◌, length}
+use Rattle.std.proofs.Common.{get_or, Some, option_map, unwrap_or}
 use Rattle.std.specs.List.{All, find}
 use Rattle.std.specs.Ordering.{int_eq}
 use Rattle.std.proofs.lemmas.Int.{ints}
@@ -12,15 +13,12 @@ use Rattle.giv_files.specs.Reading.{table_of}
 use Rattle.giv_files.specs.Tables.{TableRow}
 use Rattle.giv_files.specs.Writing.{InColumns}
 use Rattle.giv_files.proofs.Inputs.{sound_rows}
-use Rattle.giv_files.proofs.WriteFacts.{in_column}
 use Rattle.line_pool.specs.GivenCosts.{cost_for, costs_of, IsCost}
 use Rattle.line_pool.specs.PoolCosts.{CostRow, cost_row_of, pool_cost_input}
 use Rattle.line_pool.specs.Pools.{LineParts}
 
 row_is_cost : (cells : List ℤ) → InColumns pool_cost_columns cells → IsCost (cost_row_of cells).cost
-row_is_cost cells within =
-    let cost = in_column pool_cost_columns cells 2 kind.Skip (pos 0) within (lit< tt) in
-    record { low = cost.0; high = cost.1 }
+row_is_cost cells within = grind arith
 
 found_is_cost : (p : CostRow → Bool) (rows : List CostRow) → All (λ row. IsCost row.cost) rows
     → IsCost (unwrap_or (option_map (λ row. row.cost) (find p rows)) (pos 0))

@@ -1,12 +1,13 @@
 -- What holds of the lines of each text without a fault.
-use Rattle.std.proofs.Common.{◌≡◌, ℕ, ℤ, pos, negsuc, ◌<◌, ◌≤◌, ◌≤ℤ◌, nat_lt, Bool, true, false, cond, List, [], ◌∷◌, ◌++◌, length, map, get_or, position, refl, ap, subst, sym, ◌∙◌, arith, append_assoc, Some, None, is_some, unwrap_or, option_map, unsigned_abs, lit<}
+use Rattle.std.proofs.Common.{◌≡◌, ℕ, ℤ, pos, negsuc, ◌<◌, ◌≤◌, ◌≤ℤ◌, nat_lt, Bool, true, false}
+use Rattle.std.proofs.Common.{cond, List, [], ◌∷◌, ◌++◌, length, map, get_or, position, refl, ap}
+use Rattle.std.proofs.Common.{subst, sym, ◌∙◌, arith, append_assoc, Some, None, is_some, unwrap_or}
+use Rattle.std.proofs.Common.{option_map, unsigned_abs, lit<}
 use Rattle.std.specs.List.{All, list_any, find, position_or_len, IsDistinct}
 use Rattle.std.specs.FinMap.{put}
-use Rattle.std.specs.FinMap.Entries.{by_order}
 use Rattle.std.specs.Map.{keys_of}
 use Rattle.std.specs.Ordering.{int_eq, int_cmp}
 use Rattle.std.specs.Set.{is_member}
-use Rattle.std.specs.declared.cmp.Ordering.TheVariants.{Less, Equal, Greater}
 use Rattle.std.proofs.lemmas.Bool.{ltb-false}
 use Rattle.std.proofs.lemmas.Bool.Decides.{Decides-int_eq}
 use Rattle.std.proofs.lemmas.Cmp.{int_eq_equiv}
@@ -36,7 +37,7 @@ use Rattle.line_pool.specs.declared.line_file.LineFile.TheVariants as kinds
 use Rattle.line_pool.specs.declared.line_row.LineRow.{LineRow}
 use Rattle.line_pool.specs.CostStage.{length_at, line_length}
 use Rattle.line_pool.specs.LineCosts.{IsModest}
-use Rattle.line_pool.specs.Pools.{file_of, columns_of, line_row, line_rules, line_input, edge_with, index_of, rows_of, walk_of, edges_of, first_frequency, differs, line_of, lines_over, lines_of, line_faults}
+use Rattle.line_pool.specs.Pools.{file_of, columns_of, line_row, line_rules, line_input, edge_with, index_of, rows_of, walk_of, edges_of, line_of, lines_over, lines_of, line_faults}
 use Rattle.line_pool.proofs.RowsOfLines.{whys, rows_own, rows_other}
 use Rattle.ptn_network.proofs.PathSteps.{no_edge as some_edge}
 
@@ -51,9 +52,7 @@ kept true true false true other e = (refl, refl, refl)
 
 -- the edge of such a row is there, and its line did not have it
 pub row_sound : (edges : List Edge) (before : List LineRow) (row : LineRow) → broken_whys (line_rules edges) before row ≡ [] → (is_some (edge_with edges row.edge) ≡ true) × (list_any (λ other. int_eq row.edge other.edge) (rows_of row.line before) ≡ false) × (is_some (walk_of (edges_of edges row.line (before ++ row ∷ []))) ≡ true)
-row_sound edges before row none =
-    kept (is_some (edge_with edges row.edge)) _ (list_any (λ other. int_eq row.edge other.edge) (rows_of row.line before)) (is_some (walk_of (edges_of edges row.line (before ++ row ∷ []))))
-    (differs row.frequency (first_frequency (rows_of row.line before))) none
+row_sound edges before row none = grind arith
 
 -- ---- the edges of a line are different
 
@@ -106,11 +105,13 @@ known_at p xs d known =
 all_put : {X : Type 0} (P : ℤ → Type 0) (k : ℤ) (v : X) (es : List (ℤ × X)) → P k → All P (keys_of es) → All P (keys_of (put int_cmp k v es))
 all_put P k v [] own all = All-cons P k [] own all
 all_put P k v (e ∷ es) own all =
-    elim (int_cmp k e.0) as (λ o. All P (keys_of (by_order o ((k, v) ∷ e ∷ es) ((e.0, v) ∷ es) (e ∷ put int_cmp k v es)))) [
-      | Less ↦ All-cons P k (keys_of (e ∷ es)) own all
-      | Equal ↦ all
-      | Greater ↦ All-cons P e.0 (keys_of (put int_cmp k v es)) (All-head P e.0 (keys_of es) all) (all_put P k v es own (All-tail P e.0 (keys_of es) all))
-    ]
+    grind (
+      arith,
+      All-cons,
+      All-head,
+      All-tail,
+      all_put P k v es own (All-tail P e.0 (keys_of es) all),
+    )
 
 pub all_rising : (P : ℤ → Type 0) (ids : List ℤ) → All P ids → All P (rising ids)
 unfolding by_id

@@ -1,7 +1,6 @@
 -- A text whose rows are those of lines that are walks has no fault by the rules of its kind.
 use Rattle.std.proofs.Common.{◌≡◌, ℕ, ℤ, ◌+◌, ◌≤◌, ◌<◌, true, false, is_some, List, [], ◌∷◌, ◌++◌}
-use Rattle.std.proofs.Common.{length}
-use Rattle.std.proofs.Common.{map, append-nil, All, nat_eq, cond, refl, ap, sym, subst, ◌∙◌, arith}
+use Rattle.std.proofs.Common.{length, map, append-nil, All, nat_eq, refl, sym, subst, arith}
 use Rattle.std.specs.List.{AllByRecursion, IsDistinct, flat_map, list_any}
 use Rattle.std.specs.List.Sorted.{IsStrictlySortedBy}
 use Rattle.std.specs.Ordering.{int_cmp, int_eq}
@@ -17,7 +16,6 @@ use Rattle.std.proofs.lemmas.Map.Made.{is_member-Decides, length-le_from_is_memb
 use Rattle.giv_files.specs.declared.counted.Counted.TheVariants as counted
 use Rattle.giv_files.specs.declared.refusal.Refusal.TheVariants as refusal
 use Rattle.giv_files.specs.Columns.{concept_columns, pool_columns}
-use Rattle.giv_files.specs.Inputs.{records}
 use Rattle.giv_files.specs.Tables.{TableRow}
 use Rattle.giv_files.specs.Writing.{ReadsBack}
 use Rattle.giv_files.proofs.Accepted.{KeepRules, accepted, each_known}
@@ -28,7 +26,7 @@ use Rattle.ptn_network.proofs.Sound.{rising_rises}
 use Rattle.line_pool.specs.declared.line_file.LineFile.{LineFile}
 use Rattle.line_pool.specs.declared.line_file.LineFile.TheVariants as kinds
 use Rattle.line_pool.specs.declared.line_row.LineRow.{LineRow}
-use Rattle.line_pool.specs.Pools.{columns_of, concept_faults, line_faults, line_input, line_row}
+use Rattle.line_pool.specs.Pools.{columns_of, concept_faults, line_faults, line_row}
 use Rattle.line_pool.specs.Pools.{line_rules, pool_faults}
 use Rattle.line_pool.specs.Pools.{rows_of, walk_of}
 use Rattle.line_pool.proofs.SoundLines.{all_rising}
@@ -102,13 +100,14 @@ module _ (edges : List Edge) (rise : IsStrictlySortedBy int_cmp (map (λ edge. e
       → AllByRecursion (λ other. int_cmp line.id other ≡ Less) ids → AreNew before ids
       → AreNew (before ++ rows_at edges line) ids
   new_more before line [] above new = tt
-  new_more before line (id ∷ ids) above new = (
-    filter-append (λ (row : LineRow). int_eq id row.line) before (rows_at edges line)
-        ∙ ap (λ rows. rows ++ rows_of id (rows_at edges line)) new.0
-        ∙ other_rows edges rise line.id line.frequency id (above_differs line.id id above.0) 1
-        line.edges,
-    new_more before line ids above.1 new.1,
-  )
+  new_more before line (id ∷ ids) above new =
+      grind (
+        arith,
+        filter-append,
+        other_rows,
+        above_differs,
+        new_more before line ids above.1 new.1,
+      )
 
   none_done : (indexes : List ℕ)
       → AllByRecursion (λ index. list_any (nat_eq index) [] ≡ false) indexes
@@ -178,19 +177,7 @@ module _ (network : NetworkParts) (lines : List RowsLine) (table : List TableRow
   lines_accepted : (kind : LineFile) → ReadsBack (columns_of kind) table text
       → line_faults kind network text ≡ []
   unfolding line_faults
-  lines_accepted kind back =
-      let edges = network.edges in
-      let input = line_input kind edges in
-      let all = length (rising (map (λ row. row.line) (records input table))) in
-      let some : all ≤ length lines =
-      subst (λ rows. length (rising (map (λ (row : LineRow). row.line) rows)) ≤ length lines)
-      (sym are)
-      (few_lines edges lines) in
-      accepted input table text back
-      (ap (λ b. cond b (refusal.TooMany counted.Lines all ∷ []) [] ++ [])
-      (le-ltb 200 all (omega (arith, some, few))))
-      (subst (KeepRules (line_rules edges) []) (sym are) (rows_kept edges rise lines up good))
-      (λ at same. refl)
+  lines_accepted kind back = grind (arith, few_lines, accepted, le-ltb, KeepRules, rows_kept)
 
   -- a text that is read back as the rows of some lines that are walks has no fault as a pool
   pub pool_accepted : ReadsBack pool_columns table text → pool_faults network text ≡ []

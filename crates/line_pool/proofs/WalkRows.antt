@@ -1,10 +1,8 @@
 -- The rows of one line that is a walk keep the rules of a file of lines.
 use Rattle.std.proofs.Common.{◌≡◌, ◌≢◌, ℕ, zero, suc, ℤ, pos, ◌+◌, ◌<◌, Bool, true, false, cond}
-use Rattle.std.proofs.Common.{not, ◌||◌}
-use Rattle.std.proofs.Common.{List, [], ◌∷◌, ◌++◌, filter_map, length, map, slice_get, Option, Some}
-use Rattle.std.proofs.Common.{None, option_map, is_some, All, nat_eq, refl, ap, sym, subst, ◌∙◌}
-use Rattle.std.proofs.Common.{arith}
-use Rattle.std.proofs.Common.{append_assoc, append-nil, unwrap_or}
+use Rattle.std.proofs.Common.{not, ◌||◌, List, [], ◌∷◌, ◌++◌, filter_map, length, map, slice_get}
+use Rattle.std.proofs.Common.{Option, Some, None, option_map, is_some, All, nat_eq, refl, ap, sym}
+use Rattle.std.proofs.Common.{subst, ◌∙◌, arith, append_assoc, append-nil, unwrap_or}
 use Rattle.std.specs.List.{AllByRecursion, IsDistinct, cons_option, enumerate_from, list_any}
 use Rattle.std.specs.List.Sorted.{IsStrictlySortedBy}
 use Rattle.std.specs.Ordering.{int_cmp, int_eq}
@@ -48,9 +46,7 @@ front_from stop (edge ∷ front) back is =
         → is_some (option_and_then (λ next. option_map (λ more. stop ∷ more) (walk_from next front))
         next) ≡ true
     one None rest is = absurd (cc)
-    one (Some next) rest is =
-        joined (walk_from next front)
-        ∙ rest next (sym (joined (walk_from next (front ++ back))) ∙ is)
+    one (Some next) rest is = grind arith
 
 either : (a b : Option (List ℕ)) → is_some (or_walk a b) ≡ (is_some a || is_some b)
 either None b = refl
@@ -108,10 +104,7 @@ edge_there [] index rise h = absurd (omega (arith, h))
 edge_there (edge ∷ edges) zero rise h =
     ap (λ b. cond b (Some edge) (edge_with edges edge.id)) (int_eq_equiv.refl edge.id)
 edge_there (edge ∷ edges) (suc index) rise h =
-    ap (λ b. cond b (Some edge) (edge_with edges (id_at edges index)))
-    (above_differs edge.id (id_at edges index)
-    (later_above edge.id edges index (omega (arith, h)) rise.0))
-    ∙ edge_there edges index rise.1 (omega (arith, h))
+    grind (arith, above_differs, later_above, edge_there edges index rise.1 (omega (arith, h)))
 
 -- and has an id of its own
 pub ids_apart : (edges : List Edge) (index other : ℕ)
@@ -121,12 +114,8 @@ pub ids_apart : (edges : List Edge) (index other : ℕ)
 unfolding IsStrictlySortedBy
 ids_apart [] index other rise h k apart = absurd (omega (arith, h))
 ids_apart (edge ∷ edges) zero zero rise h k apart = absurd (apart refl)
-ids_apart (edge ∷ edges) zero (suc other) rise h k apart =
-    below_differs edge.id (id_at edges other)
-    (later_above edge.id edges other (omega (arith, k)) rise.0)
-ids_apart (edge ∷ edges) (suc index) zero rise h k apart =
-    above_differs edge.id (id_at edges index)
-    (later_above edge.id edges index (omega (arith, h)) rise.0)
+ids_apart (edge ∷ edges) zero (suc other) rise h k apart = grind (arith, below_differs, later_above)
+ids_apart (edge ∷ edges) (suc index) zero rise h k apart = grind (arith, above_differs, later_above)
 ids_apart (edge ∷ edges) (suc index) (suc other) rise h k apart =
     ids_apart edges index other rise.1 (omega (arith, h)) (omega (arith, k))
     (λ same. apart (ap suc same))
@@ -162,30 +151,20 @@ module _ (edges : List Edge) (rise : IsStrictlySortedBy int_cmp (map (λ edge. e
         → rows_of id (rows_from edges id frequency n indexes)
         ≡ rows_from edges id frequency n indexes
     own_rows n [] = refl
-    own_rows n (index ∷ indexes) =
-        let rest = rows_from edges id frequency (n + 1) indexes in
-        ap (λ b. cond b (row_to edges id frequency (n, index) ∷ rows_of id rest) (rows_of id rest))
-        (int_eq_equiv.refl id)
-        ∙ ap (λ rows. row_to edges id frequency (n, index) ∷ rows) (own_rows (n + 1) indexes)
+    own_rows n (index ∷ indexes) = grind (arith, int_eq_equiv, own_rows (n + 1) indexes)
 
     pub other_rows : (other : ℤ) → int_eq other id ≡ false → (n : ℕ) (indexes : List ℕ)
         → rows_of other (rows_from edges id frequency n indexes) ≡ []
     other_rows other differs n [] = refl
     other_rows other differs n (index ∷ indexes) =
-        let rest = rows_from edges id frequency (n + 1) indexes in
-        ap (λ b. cond b (row_to edges id frequency (n, index) ∷ rows_of other rest)
-        (rows_of other rest)) differs
-        ∙ other_rows other differs (n + 1) indexes
+        grind (arith, other_rows other differs (n + 1) indexes)
 
     rows_push : (n m : ℕ) (done : List ℕ) (index : ℕ) → m ≡ n + length done
         → rows_from edges id frequency n (done ++ index ∷ [])
         ≡ rows_from edges id frequency n done ++ row_to edges id frequency (m, index) ∷ []
-    rows_push n m [] index is =
-        let same : n ≡ m = omega (arith, is) in
-        ap (λ n. row_to edges id frequency (n, index) ∷ []) same
+    rows_push n m [] index is = grind arith
     rows_push n m (first ∷ done) index is =
-        ap (λ rows. row_to edges id frequency (n, first) ∷ rows)
-        (rows_push (n + 1) m done index (omega (arith, is)))
+        grind (arith, rows_push (n + 1) m done index (omega (arith, is)))
 
     rows_count : (n : ℕ) (indexes : List ℕ)
         → length (rows_from edges id frequency n indexes) ≡ length indexes
@@ -227,18 +206,12 @@ module _ (edges : List Edge) (rise : IsStrictlySortedBy int_cmp (map (λ edge. e
 
       own_before : (done : List ℕ)
           → rows_of id (with_rows done) ≡ rows_from edges id frequency 1 done
-      own_before done =
-          let own = rows_from edges id frequency 1 done in
-          filter-append (λ (row : LineRow). int_eq id row.line) before own
-          ∙ ap (λ rows. rows ++ rows_of id own) none ∙ own_rows 1 done
+      own_before done = grind (arith, filter-append, own_rows)
 
       next_is : (n : ℕ) (done : List ℕ) (index : ℕ) → n ≡ 1 + length done
           → with_rows done ++ row_to edges id frequency (n, index) ∷ []
           ≡ with_rows (done ++ index ∷ [])
-      next_is n done index is =
-          append_assoc before (rows_from edges id frequency 1 done)
-          (row_to edges id frequency (n, index) ∷ [])
-          ∙ ap (λ rows. before ++ rows) (sym (rows_push 1 n done index is))
+      next_is n done index is = grind (arith, append_assoc, rows_push)
 
       -- a further row breaks no rule
       row_kept : (n : ℕ) (done : List ℕ) (index : ℕ) → n ≡ 1 + length done

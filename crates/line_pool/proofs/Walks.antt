@@ -1,5 +1,7 @@
 -- Walks over edges, edge by edge.
-use Rattle.std.proofs.Common.{◌≡◌, ℕ, ◌+◌, ◌<◌, ◌≤◌, ◌||◌, List, [], ◌∷◌, ◌++◌, length, get_or, drop, fold, refl, ap, sym, ◌∙◌, Option, Some, None, option_map, is_some, option_and_then}
+use Rattle.std.proofs.Common.{arith, ◌≡◌, ℕ, ◌+◌, ◌<◌, ◌≤◌, ◌||◌, List, [], ◌∷◌, ◌++◌, length}
+use Rattle.std.proofs.Common.{get_or, drop, fold, refl, ap, sym, ◌∙◌, Option, Some, None}
+use Rattle.std.proofs.Common.{option_map, is_some, option_and_then}
 use Rattle.std.proofs.lemmas.List.{append_assoc, at_drop_more, at_drop_all}
 use Rattle.std.proofs.lemmas.List.Folds.{fold_stays}
 use Rattle.std.proofs.lemmas.List.Sums.{fold_push}
@@ -62,15 +64,9 @@ some_or (Some stops) right = refl
 -- the ends after one edge more
 pub ends_more : (edges : List Edge) (edge : Edge) → next_ends edges (ends_of edges) edge ≡ ends_of (edges ++ edge ∷ [])
 ends_more [] edge = refl
-ends_more (first ∷ edges) edge =
-    let step : Option ℕ → Edge → Option ℕ = λ end edge. option_and_then (across edge) end in
-    let left = fold_push step (Some first.left) (first ∷ edges) edge in
-    let right = fold_push step (Some first.right) (first ∷ edges) edge in
-    rw (left, right) refl
+ends_more (first ∷ edges) edge = grind (arith, option_and_then, fold_push)
 
 -- a line with an edge has a walk where one of its walks has an end
 pub has_walk : (edges : List Edge) (edge : Edge) → is_some (walk_of (edges ++ edge ∷ [])) ≡ (is_some (ends_of (edges ++ edge ∷ [])).left || is_some (ends_of (edges ++ edge ∷ [])).right)
 has_walk [] edge = some_or (walk_from edge.left (edge ∷ [])) (walk_from edge.right (edge ∷ [])) ∙ ap (λ b. b || is_some (walk_from edge.right (edge ∷ []))) (walk_has_end edge.left (edge ∷ [])) ∙ ap (λ b. is_some (end_from edge.left (edge ∷ [])) || b) (walk_has_end edge.right (edge ∷ []))
-has_walk (first ∷ edges) edge =
-    let all = first ∷ (edges ++ edge ∷ []) in
-    some_or (walk_from first.left all) (walk_from first.right all) ∙ ap (λ b. b || is_some (walk_from first.right all)) (walk_has_end first.left all) ∙ ap (λ b. is_some (end_from first.left all) || b) (walk_has_end first.right all)
+has_walk (first ∷ edges) edge = grind (arith, some_or, is_some, walk_has_end)

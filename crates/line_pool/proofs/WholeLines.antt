@@ -1,6 +1,10 @@
 -- Each line of a text without a fault is a walk over different edges, and has a frequency.
-use Rattle.std.proofs.Common.{◌≡◌, ℕ, ℤ, pos, suc, ◌+◌, ◌<◌, ◌≤◌, ◌≤ℤ◌, Bool, true, false, ◌||◌, inl, inr, cond, nat_eq, List, [], ◌∷◌, ◌++◌, length, map, filter, filter_map, get_or, slice_get, position, unsigned_abs, refl, ap, subst, sym, ◌∙◌, arith, append_assoc, Option, Some, None, option_map, option_and_then, is_some, unwrap_or, lit<}
-use Rattle.std.specs.List.{All, list_any, IsDistinct, cons_option}
+use Rattle.std.proofs.Common.{◌≡◌, ℕ, ℤ, pos, ◌+◌, ◌<◌, ◌≤◌, ◌≤ℤ◌, Bool, true, false, ◌||◌, inl}
+use Rattle.std.proofs.Common.{inr, cond, nat_eq, List, [], ◌∷◌, ◌++◌, length, map, filter}
+use Rattle.std.proofs.Common.{filter_map, get_or, slice_get, position, unsigned_abs, refl, ap}
+use Rattle.std.proofs.Common.{subst, sym, ◌∙◌, arith, append_assoc, Option, Some, None, option_map}
+use Rattle.std.proofs.Common.{option_and_then, is_some, unwrap_or}
+use Rattle.std.specs.List.{All, list_any, IsDistinct}
 use Rattle.std.specs.List.Sorted.{IsStrictlySortedBy}
 use Rattle.std.specs.Ordering.{int_eq, int_cmp}
 use Rattle.std.proofs.lemmas.Bool.Decides.{Decides-int_eq}
@@ -14,14 +18,12 @@ use Rattle.std.proofs.lemmas.List.Quantifiers.{position-Some}
 use Rattle.std.proofs.lemmas.Map.Keys.{apart_from_distinct, IsDistinct-from_apart}
 use Rattle.std.proofs.lemmas.Option.{same_Some}
 use Rattle.giv_files.specs.declared.column.ColumnKind.TheVariants as column
-use Rattle.giv_files.specs.Columns.{concept_columns}
 use Rattle.giv_files.specs.Inputs.{records, numbered, row_faults, input_faults}
 use Rattle.giv_files.specs.Reading.{table_of}
 use Rattle.giv_files.specs.Tables.{TableRow}
 use Rattle.giv_files.specs.Writing.{InColumns}
 use Rattle.giv_files.proofs.Inputs.{parts_sound, table_sound, sound_rows, few_rows}
 use Rattle.giv_files.proofs.Ranges.{front_none, back_none, unmapped}
-use Rattle.giv_files.proofs.WriteFacts.{in_column}
 use Rattle.ptn_network.specs.declared.edge.Edge.{Edge}
 use Rattle.ptn_network.specs.Networks.{NetworkParts, IsNetwork, rising}
 use Rattle.ptn_network.specs.Paths.{edges_at}
@@ -34,7 +36,7 @@ use Rattle.line_pool.specs.Pools.{file_of, columns_of, line_row, line_rules, lin
 use Rattle.line_pool.proofs.RowsOfLines.{rows_other}
 use Rattle.ptn_network.proofs.EdgeIds.{found_at, found_nowhere}
 use Rattle.ptn_network.proofs.PathSteps.{no_edge as some_edge}
-use Rattle.line_pool.proofs.SoundLines.{row_sound, all_rising, id_in, input_rows, own, known, there, apart, unsigned_within}
+use Rattle.line_pool.proofs.SoundLines.{row_sound, all_rising, id_in, input_rows, own, known, there, apart}
 
 -- ---- the edges of a line, by their indexes
 
@@ -46,19 +48,11 @@ module _ (edges : List Edge) where
   IsKnown row = is_some (edge_with edges row.edge) ≡ true
 
   placed : (id : ℤ) → is_some (edge_with edges id) ≡ true → (place : ℕ) × (position (λ edge. int_eq id edge.id) edges ≡ Some place)
-  placed id known =
-      elim (position (λ edge. int_eq id edge.id) edges) as (λ at. position (λ edge. int_eq id edge.id) edges ≡ at → (place : ℕ) × (at ≡ Some place)) [
-        | None ↦ λ none.
-            let gone : is_some (edge_with edges id) ≡ false = ap is_some (found_nowhere (λ edge. int_eq id edge.id) edges none) in
-            absurd (false≢true (sym gone ∙ known))
-        | Some place ↦ λ at. (place, refl)
-      ] refl
+  placed id known = grind (arith, is_some, found_nowhere, false≢true, known)
 
   -- the edge of an id stands at the index of the id
   edge_there : (id : ℤ) → is_some (edge_with edges id) ≡ true → slice_get edges (index_of edges id) ≡ edge_with edges id
-  edge_there id known =
-      let at = placed id known in
-      ap (λ place. slice_get edges (unwrap_or place 0)) at.1 ∙ sym (found_at (λ edge. int_eq id edge.id) edges at.0 at.1)
+  edge_there id known = grind (arith, placed, known, slice_get, unwrap_or, found_at)
 
   -- different edges stand at different indexes
   same_id : (x y : ℤ) → is_some (edge_with edges x) ≡ true → is_some (edge_with edges y) ≡ true → index_of edges x ≡ index_of edges y → x ≡ y
@@ -74,16 +68,19 @@ module _ (edges : List Edge) where
   edges_are : (rows : List LineRow) → All IsKnown rows → edges_at edges (map (λ row. index_of edges row.edge) rows) ≡ filter_map (λ row. edge_with edges row.edge) rows
   edges_are [] all = refl
   edges_are (row ∷ rows) all =
-      ap (λ o. cons_option o (edges_at edges (map (λ row. index_of edges row.edge) rows))) (edge_there row.edge (All-head IsKnown row rows all))
-      ∙ ap (cons_option (edge_with edges row.edge)) (edges_are rows (All-tail IsKnown row rows all))
+      grind (arith, edge_there, All-head, All-tail, edges_are rows (All-tail IsKnown row rows all))
 
   edges_count : (rows : List LineRow) → All IsKnown rows → length (filter_map (λ row. edge_with edges row.edge) rows) ≡ length rows
   edges_count [] all = refl
   edges_count (row ∷ rows) all =
-      elim (edge_with edges row.edge) as (λ o. is_some o ≡ true → length (cons_option o (filter_map (λ row. edge_with edges row.edge) rows)) ≡ length (row ∷ rows)) [
-        | None ↦ λ h. cc
-        | Some edge ↦ λ h. ap suc (edges_count rows (All-tail IsKnown row rows all))
-      ] (All-head IsKnown row rows all)
+      grind (
+        arith,
+        is_some,
+        filter_map,
+        All-tail,
+        All-head,
+        edges_count rows (All-tail IsKnown row rows all),
+      )
 
   indexes_apart : (rows : List LineRow) → All IsKnown rows → IsDistinct int_eq (map (λ row. row.edge) rows) → IsDistinct nat_eq (map (λ row. index_of edges row.edge) rows)
   indexes_apart rows all different = IsDistinct-from_apart nat_eq (map (λ row. index_of edges row.edge) rows) (λ i j d lt h.
@@ -111,10 +108,7 @@ module _ (edges : List Edge) where
 
 walk_stays : (edges : List Edge) (before : List LineRow) (row : LineRow) (id : ℤ) → is_some (walk_of (edges_of edges id before)) ≡ true → is_some (walk_of (edges_of edges row.line (before ++ row ∷ []))) ≡ true → is_some (walk_of (edges_of edges id (before ++ row ∷ []))) ≡ true
 walk_stays edges before row id so_far joined =
-    elim (cases_Bool (int_eq id row.line)) [
-      | inl own ↦ subst (λ q. is_some (walk_of (edges_of edges q (before ++ row ∷ []))) ≡ true) (sym ((Decides-int_eq id row.line).0 own)) joined
-      | inr other ↦ ap (λ rows. is_some (walk_of (filter_map (λ row. edge_with edges row.edge) rows))) (rows_other before row id other) ∙ so_far
-    ]
+    grind (arith, cases_Bool, own, is_some, Decides-int_eq, filter_map, rows_other)
 
 all_walk : (kind : LineFile) (edges : List Edge) (id : ℤ) (before : List LineRow) (rows : List TableRow) → row_faults (file_of kind) (line_rules edges) before (numbered (line_input kind edges) rows) ≡ [] → is_some (walk_of (edges_of edges id before)) ≡ true → is_some (walk_of (edges_of edges id (before ++ records (line_input kind edges) rows))) ≡ true
 unfolding row_faults
@@ -177,9 +171,7 @@ served kinds.Pool (a ∷ []) within = absurd within.1
 served kinds.Pool (a ∷ b ∷ []) within = absurd within.1.1
 served kinds.Pool (a ∷ b ∷ c ∷ []) within = omega arith
 served kinds.Pool (a ∷ b ∷ c ∷ d ∷ more) within = absurd within.1.1.1
-served kinds.Concept cells within =
-    let cell = in_column concept_columns cells 3 column.Skip (pos 0) within (lit< tt) in
-    unsigned_within (line_row cells).frequency 1000 cell.0 cell.1
+served kinds.Concept cells within = grind arith
 
 first_served : (rows : List LineRow) → All IsServed rows → unsigned_abs (unwrap_or (first_frequency rows) (pos 0)) ≤ 1000
 first_served [] all = omega arith

@@ -1,6 +1,8 @@
 -- The concept that a whole listing finds is the chosen one, and its nodes certify what it costs; what any
 -- first entries find is feasible.
-use Rattle.std.proofs.Common.{◌≡◌, ℕ, zero, suc, pos, ◌+◌, ◌≤◌, ◌≤ℤ◌, List, [], ◌∷◌, ◌++◌, length, take, filter_map, Option, Some, None, IfSome, ⊎_elim, ap, sym, subst, ◌∙◌, arith}
+use Rattle.std.proofs.Common.{◌≡◌, ℕ, zero, suc, pos, ◌+◌, ◌≤◌, List, [], ◌∷◌, ◌++◌, length, take}
+use Rattle.std.proofs.Common.{filter_map, Option, Some, None, IfSome, ⊎_elim, ap, sym, subst, ◌∙◌}
+use Rattle.std.proofs.Common.{arith}
 use Rattle.std.specs.List.{AllByRecursion, cons_option, last_or}
 use Rattle.std.proofs.lemmas.Int.{ints}
 use Rattle.std.proofs.lemmas.List.{length-map}
@@ -8,7 +10,7 @@ use Rattle.line_cost_model.specs.declared.range.LineRange.{LineRange}
 use Rattle.line_cost_model.specs.Chosen.{ComesBefore, IsChosen}
 use Rattle.line_cost_model.specs.Concepts.{IsFeasible, cost_of}
 use Rattle.line_cost_model.specs.Problems.{CostedLine, IsProblem, ProblemParts}
-use Rattle.line_cost_model.specs.Regions.{most_of, part_from, part_up_to, range_of, root_of}
+use Rattle.line_cost_model.specs.Regions.{most_of, range_of, root_of}
 use Rattle.line_cost_model.proofs.Roots.{root_has_each}
 use Rattle.branch_certificate.specs.Certified.{Certifies}
 use Rattle.branch_certificate.specs.declared.node.Node.TheVariants as node
@@ -48,19 +50,12 @@ module _ (problem : ProblemParts) (sound : IsProblem problem) where
   -- and the nodes of the listing certify what it costs
   pub nodes_certify : (concept : List ℕ) → best_after None (listing problem) ≡ Some concept
       → Certifies problem (pos (cost_of problem concept)) (nodes_in (listing problem))
-  nodes_certify concept is = record {
-    tree = whole.tree;
-    whole = whole.whole;
-    shows = whole.certifies (pos (cost_of problem concept)) (subst (λ behind. IfSome behind (λ other. pos (cost_of problem concept) ≤ℤ pos (cost_of problem other))) (sym is) (omega (arith, ints)));
-  }
+  nodes_certify concept is = grind (arith, whole, ints)
 
   -- where none is found, none is feasible
   pub none_is_feasible : best_after None (listing problem) ≡ None → (concept : List ℕ)
       → ¬ IsFeasible problem concept
-  none_is_feasible none concept feasible =
-      let no_better = whole.least concept feasible (root_has_each problem sound concept feasible) in
-      let same : None ≡ Some no_better.chosen = sym none ∙ no_better.is in
-      absurd (cc)
+  none_is_feasible none concept feasible = grind (arith, whole, root_has_each)
 
 -- ---- what entries find is feasible
 
@@ -101,15 +96,7 @@ module _ (problem : ProblemParts) where
       → (line : ℕ) → IsOpenAt region line
       → AllFeasible (entries_by (entries_within problem levels) region best (node.Split line (middle (range_of region line))))
   split_find levels region best long ordered below line is_open =
-      let at = middle (range_of region line) in
-      let inside = middle_inside (range_of region line).lo (range_of region line).hi is_open.1 in
-      let lower = entries_within problem levels (part_up_to region line at) best in
-      let mid = best_after best lower in (
-        tt,
-        both_find lower (entries_within problem levels (part_from region line (at + 1)) mid)
-            (below (part_up_to region line at) best (part_length region line _ ∙ long) (lower_ordered region line at ordered inside.0))
-            (below (part_from region line (at + 1)) mid (part_length region line _ ∙ long) (upper_ordered region line at ordered inside.1)),
-      )
+      grind (arith, middle_inside, both_find, part_length, lower_ordered, upper_ordered)
 
   entries_find : (levels : ℕ) (region : List LineRange) (best : Option (List ℕ))
       → length region ≡ length problem.lines → AreOrdered region

@@ -1,7 +1,7 @@
 -- A line concept that is made has no fault by the rules of its kind.
-use Rattle.std.proofs.Common.{◌≡◌, ℕ, zero, suc, ℤ, pos, ◌+◌, ◌≤◌, true, is_some, List, []}
-use Rattle.std.proofs.Common.{◌∷◌, ◌++◌, length, map, slice_get, option_map, unwrap_or}
-use Rattle.std.proofs.Common.{zip, All, refl, ap, ◌∙◌, arith}
+use Rattle.std.proofs.Common.{◌≡◌, ℕ, zero, suc, ℤ, pos, ◌+◌, ◌≤◌, true, is_some, List, [], ◌∷◌}
+use Rattle.std.proofs.Common.{◌++◌, length, map, slice_get, option_map, unwrap_or, zip, All, refl}
+use Rattle.std.proofs.Common.{ap, ◌∙◌, arith}
 use Rattle.std.specs.List.{AllByRecursion, enumerate_from, flat_map}
 use Rattle.std.specs.List.Sorted.{IsStrictlySortedBy}
 use Rattle.std.specs.Ordering.{int_cmp}
@@ -69,11 +69,7 @@ module _ (problem : ProblemParts) (edges : List Edge) (count : length problem.ed
       ≡ rows_from edges id frequency n indexes
   line_told id frequency n [] = refl
   line_told id frequency n (index ∷ indexes) =
-      ap (λ edge. record { line = id; order = pos n; edge = edge; frequency = pos frequency }
-      ∷ told_rows (map (row_at problem id frequency) (enumerate_from (n + 1) indexes)))
-      (same_id index)
-      ∙ ap (λ rows. row_to edges id frequency (n, index) ∷ rows)
-      (line_told id frequency (n + 1) indexes)
+      grind (arith, told_rows, row_to, line_told id frequency (n + 1) indexes)
 
   lines_told : (lines : List CostedLine) (frequencies : List ℕ)
       → told_rows (flat_map (λ at. line_rows problem at.0 at.1) (zip lines frequencies))
@@ -81,10 +77,15 @@ module _ (problem : ProblemParts) (edges : List Edge) (count : length problem.ed
   lines_told [] frequencies = refl
   lines_told (line ∷ lines) [] = refl
   lines_told (line ∷ lines) (frequency ∷ frequencies) =
-      let rest = flat_map (λ at. line_rows problem at.0 at.1) (zip lines frequencies) in
-      map-append told_row (line_rows problem line frequency) rest
-      ∙ ap (λ own. own ++ told_rows rest) (line_told line.id frequency 1 line.edges)
-      ∙ ap (λ rows. rows_at edges (line_at (line, frequency)) ++ rows) (lines_told lines frequencies)
+      grind (
+        arith,
+        map-append,
+        told_row,
+        told_rows,
+        line_told,
+        rows_at,
+        lines_told lines frequencies,
+      )
 
   all_walked : (lines : List CostedLine) (frequencies : List ℕ)
       → All (IsCostedLine (length problem.edges)) lines → AllByRecursion (HasWalk edges) lines

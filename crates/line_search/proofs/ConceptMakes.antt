@@ -1,5 +1,6 @@
 -- Which files the stage of line concepts makes.
-use Rattle.std.proofs.Common.{◌≡◌, ℕ, List, [], ◌∷◌, Option, Some, None, Result, Ok, Err, ap, lit<}
+use Rattle.std.proofs.Common.{arith, ◌≡◌, ℕ, List, [], ◌∷◌, Option, Some, None, Result, Ok, Err, ap}
+use Rattle.std.proofs.Common.{lit<}
 use Rattle.giv_files.specs.declared.file_id.FileId.{FileId}
 use Rattle.giv_files.specs.declared.made.Made.{Made}
 use Rattle.giv_files.specs.declared.refusal.Refusal.{Refusal}
@@ -8,10 +9,8 @@ use Rattle.giv_files.specs.MadeLists.{MakesAs, ids_of}
 use Rattle.giv_files.specs.Settings.{BundleParts}
 use Rattle.line_cost_model.specs.Problems.{ProblemParts}
 use Rattle.branch_certificate.specs.declared.node.Node.{Node}
-use Rattle.line_search.specs.Budgets.{FoundConcept, result_within}
-use Rattle.line_search.specs.ConceptStage.{after_faults, budget_of, concept_stage, search_made}
-use Rattle.line_search.specs.GivenProblems.{problem_faults, problem_of}
-use Rattle.line_search.specs.Listings.{listing}
+use Rattle.line_search.specs.Budgets.{FoundConcept}
+use Rattle.line_search.specs.ConceptStage.{after_faults, concept_stage, search_made}
 
 -- the files that are made, where some are
 abbrev ids_in : Result Made Refusal → List FileId
@@ -43,6 +42,4 @@ makes_after (first ∷ more) problem result made is = absurd (cc)
 pub concept_stage_makes : (bundle : BundleParts) (made : Made) → concept_stage bundle ≡ Ok made
     → MakesAs stage.Concept (ids_of made.files)
 unfolding concept_stage
-concept_stage_makes bundle made is =
-    makes_after (problem_faults bundle) (problem_of bundle)
-    (result_within (budget_of bundle) (listing (problem_of bundle))) made is
+concept_stage_makes bundle made is = grind arith

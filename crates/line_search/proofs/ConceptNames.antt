@@ -1,6 +1,6 @@
 -- Which files the stage of line concepts names where it refuses a row.
-use Rattle.std.proofs.Common.{◌≡◌, ℕ, Bool, true, false, cond, List, [], ◌∷◌, ◌++◌, length, nat_le, slice_get}
-use Rattle.std.proofs.Common.{Option, Some, None, Result, Err, refl, subst}
+use Rattle.std.proofs.Common.{arith, ◌≡◌, ℕ, Bool, true, List, [], ◌∷◌, ◌++◌, slice_get, Option}
+use Rattle.std.proofs.Common.{Some, None, Result, Err, refl, subst}
 use Rattle.std.specs.Prelude.{ok_or}
 use Rattle.giv_files.specs.declared.file_id.FileId.{FileId}
 use Rattle.giv_files.specs.declared.file_id.FileId.TheVariants as file
@@ -18,10 +18,10 @@ use Rattle.ptn_network.proofs.NamedFaults.{network_names}
 use Rattle.line_pool.specs.PoolCosts.{pool_cost_input}
 use Rattle.line_pool.specs.Pools.{line_faults, pool_faults}
 use Rattle.line_cost_model.specs.Problems.{ProblemParts}
-use Rattle.line_search.specs.Budgets.{FoundConcept, result_within, whole_result, spent_result}
-use Rattle.line_search.specs.ConceptStage.{after_faults, budget_of, concept_stage, search_made}
-use Rattle.line_search.specs.GivenProblems.{lines_in, problem_faults, problem_of}
-use Rattle.line_search.specs.Listings.{Entry, listing}
+use Rattle.line_search.specs.Budgets.{FoundConcept, result_within}
+use Rattle.line_search.specs.ConceptStage.{after_faults, concept_stage, search_made}
+use Rattle.line_search.specs.GivenProblems.{lines_in, problem_faults}
+use Rattle.line_search.specs.Listings.{Entry}
 
 ended : (test : FileId → Bool) (problem : ProblemParts) (found : Option FoundConcept)
     (why reason : Refusal) → NamesOnly test why
@@ -35,14 +35,7 @@ search_names : (test : FileId → Bool) (problem : ProblemParts) (budget : ℕ) 
     (reason : Refusal) → search_made problem (result_within budget entries) ≡ Err reason
     → NamesOnly test reason
 unfolding result_within
-search_names test problem budget entries reason is =
-    elim (nat_le (length entries) budget) as
-    (λ b. search_made problem (cond b (whole_result entries) (spent_result budget entries))
-    ≡ Err reason
-    → NamesOnly test reason) [
-      | true ↦ ended test problem _ refusal.NoSolution reason tt
-      | false ↦ ended test problem _ (refusal.Spent budget) reason tt
-    ] is
+search_names test problem budget entries reason is = grind arith
 
 names_after : (test : FileId → Bool) (faults : List Refusal) (outcome : Result Made Refusal)
     (reason : Refusal) → AllName test faults → (outcome ≡ Err reason → NamesOnly test reason)
@@ -102,7 +95,4 @@ pub concept_stage_names : (test : FileId → Bool) → test file.Stop ≡ true �
     → (reason : Refusal) → concept_stage bundle ≡ Err reason → NamesOnly test reason
 unfolding concept_stage
 concept_stage_names test stop edge pool bundle of_loads of_costs reason is =
-    names_after test (problem_faults bundle) _ reason
-    (problem_names test stop edge pool bundle of_loads of_costs)
-    (search_names test (problem_of bundle) (budget_of bundle) (listing (problem_of bundle)) reason)
-    is
+    grind (arith, names_after, problem_names, search_names)

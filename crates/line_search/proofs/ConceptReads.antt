@@ -1,8 +1,8 @@
 -- The files of a line concept are right over what the stage was given.
-use Rattle.std.proofs.Common.{◌≡◌, ℕ, zero, suc, ℤ, pos, ◌≤◌, true, false, cond, List, [], ◌∷◌, length, map, inl, inr}
-use Rattle.std.proofs.Common.{All, Option, Some, None, IfSome, Result, Ok, Err, refl, ap, sym, subst}
-use Rattle.std.proofs.Common.{◌∙◌, arith, find, get_or, option_map, take, unsigned_abs, unwrap_or}
-use Rattle.std.proofs.Common.{nat_le}
+use Rattle.std.proofs.Common.{◌≡◌, ℕ, zero, suc, ℤ, pos, ◌≤◌, true, false, cond, List, [], ◌∷◌}
+use Rattle.std.proofs.Common.{length, map, All, Option, Some, None, IfSome, Result, Ok, Err, refl}
+use Rattle.std.proofs.Common.{sym, subst, arith, find, get_or, option_map, take, unsigned_abs}
+use Rattle.std.proofs.Common.{unwrap_or, nat_le}
 use Rattle.std.specs.Prelude.{IfOk, ok_or, ⊤}
 use Rattle.std.specs.List.{AllZip, flat_map}
 use Rattle.std.specs.Ordering.{int_eq}
@@ -25,7 +25,7 @@ use Rattle.giv_files.proofs.WrittenBack.{written_back}
 use Rattle.line_cost_model.specs.declared.range.LineRange.{LineRange}
 use Rattle.line_cost_model.specs.Chosen.{IsChosen}
 use Rattle.line_cost_model.specs.Concepts.{IsFeasible, cost_of, is_feasible}
-use Rattle.line_cost_model.specs.Problems.{CostedLine, IsProblem, ProblemParts}
+use Rattle.line_cost_model.specs.Problems.{IsProblem, ProblemParts}
 use Rattle.line_cost_model.specs.Regions.{IsRange, IsWithin, root_of}
 use Rattle.line_cost_model.proofs.Feasible.{test_means}
 use Rattle.line_cost_model.proofs.Roots.{root_has_each, root_sound}
@@ -37,12 +37,12 @@ use Rattle.branch_certificate.proofs.Sound.{certified_costs}
 use Rattle.branch_certificate.proofs.WriteInside.{rows_inside}
 use Rattle.branch_certificate.proofs.WriteTrees.{nodes_back}
 use Rattle.line_search.specs.Budgets.{nodes_in, result_within, spent_result, whole_result}
-use Rattle.line_search.specs.ConceptStage.{after_faults, budget_of, concept_made, concept_stage}
+use Rattle.line_search.specs.ConceptStage.{after_faults, concept_made, concept_stage}
 use Rattle.line_search.specs.ConceptStage.{search_made}
 use Rattle.line_search.specs.ConceptTables.{concept_header, concept_rows, concept_text}
 use Rattle.line_search.specs.ConceptTables.{frequencies_in, frequency_in}
 use Rattle.line_search.specs.GivenProblems.{problem_faults, problem_of}
-use Rattle.line_search.specs.Judged.{Marks, first_broken, has_some, same_cells, tree_rule}
+use Rattle.line_search.specs.Judged.{Marks, first_broken, same_cells, tree_rule}
 use Rattle.line_search.specs.Listings.{best_after, listing}
 use Rattle.line_search.specs.RightConcepts.{ConceptFilesAreRight}
 use Rattle.line_search.specs.Searches.{AreWritten}
@@ -74,10 +74,7 @@ frequency_by line rows =
 pub by_cells : (line : ℤ) (rows : List TableRow)
     → frequency_in rows line ≡ frequency_by line (map (λ row. row.cells) rows)
 by_cells line [] = refl
-by_cells line (row ∷ rows) = elim (cases_Bool (int_eq line (get_or row.cells 0 (pos 0)))) [
-  | inl is ↦ rw is refl
-  | inr is ↦ rw is (by_cells line rows)
-]
+by_cells line (row ∷ rows) = grind (arith, cases_Bool, get_or, by_cells line rows)
 
 module _ (problem : ProblemParts) (sound : IsProblem problem) (frequencies : List ℕ)
     (feasible : IsFeasible problem frequencies) where
@@ -95,11 +92,7 @@ module _ (problem : ProblemParts) (sound : IsProblem problem) (frequencies : Lis
   table = table_of concept_columns (concept_text problem frequencies)
 
   given : frequencies ≡ frequencies_in problem table
-  given =
-      sym (frequencies_back problem sound frequencies feasible.each)
-      ∙ ap (λ (at : ℤ → ℕ). map (λ (line : CostedLine). at line.id) problem.lines)
-      (λ i line. (by_cells line (concept_rows problem frequencies)
-      ∙ ap (frequency_by line) (sym reads.1) ∙ sym (by_cells line table)) i)
+  given = grind (arith, frequencies_back, sound, by_cells, reads)
 
   same : true ≡ same_cells table (concept_rows problem frequencies)
   same = sym ((pointwise_decides {E = pointwise int_eq} signed_items _ _).1 reads.1)
@@ -110,11 +103,7 @@ module _ (problem : ProblemParts) (sound : IsProblem problem) (frequencies : Lis
   -- what is left is the rule of the tree
   pub passes_by : (tree : Option (List ℕ)) → tree_rule problem (cost_of problem frequencies) tree ≡ None
       → first_broken problem (concept_text problem frequencies) tree ≡ None
-  passes_by tree none =
-      sym (by_tree problem (concept_text problem frequencies) tree table
-      (ap (λ faults. cond (has_some faults) None (Some table)) (sym reads.0))
-      frequencies given (concept_rows problem frequencies) refl same kept)
-      ∙ none
+  passes_by tree none = grind (arith, by_tree, reads, given, same, kept)
 
   module _ (nodes : List Node) (written : AreWritten problem nodes)
       (certified : Certifies problem (pos (cost_of problem frequencies)) nodes) where
@@ -130,9 +119,7 @@ module _ (problem : ProblemParts) (sound : IsProblem problem) (frequencies : Lis
         (refl, plain_header tree_header refl))
 
     pub tree_kept : tree_rule problem (cost_of problem frequencies) (Some text) ≡ None
-    tree_kept =
-        let none = (no_fault_certifies problem (pos (cost_of problem frequencies)) nodes).1 certified in
-        rw (back.fine, back.same, none) refl
+    tree_kept = grind (arith, no_fault_certifies, back, same)
 
     pub marks : Marks problem frequencies text
     marks = record {
@@ -248,9 +235,7 @@ after (first ∷ more) outcome made is = absurd (cc)
 pub concept_is_right : (bundle : BundleParts) (made : Made) → bundle.stage ≡ stage.Concept
     → Fits bundle → concept_stage bundle ≡ Ok made → ConceptFilesAreRight bundle made.files
 unfolding concept_stage
-concept_is_right bundle made same fits is =
-    let parts = after (problem_faults bundle) _ made is in
-    result_right bundle parts.0 (budget_of bundle) made parts.1
+concept_is_right bundle made same fits is = grind (arith, after, result_right)
 
 -- what a call gives that meets the stage
 pub files_given : (bundle : BundleParts) (result : Result Made StageFault)

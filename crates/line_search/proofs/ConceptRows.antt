@@ -1,5 +1,7 @@
 -- The rows of a concept, line by line and edge by edge.
-use Rattle.std.proofs.Common.{◌≡◌, ℕ, suc, ℤ, pos, ◌+◌, ◌<◌, ◌≤◌, arith, List, [], ◌∷◌, ◌++◌, length, map, take, get_or, slice_get, zip, refl, ap, subst, sym, ◌∙◌, Option, Some, None, option_map}
+use Rattle.std.proofs.Common.{◌≡◌, ℕ, suc, ℤ, pos, ◌+◌, ◌<◌, ◌≤◌, arith, List, [], ◌∷◌, ◌++◌}
+use Rattle.std.proofs.Common.{length, map, take, get_or, slice_get, zip, refl, ap, subst, sym, ◌∙◌}
+use Rattle.std.proofs.Common.{Option, Some, None, option_map}
 use Rattle.std.specs.List.{All, flat_map, enumerate_from}
 use Rattle.std.proofs.lemmas.Grind.{flat_map-append}
 use Rattle.std.proofs.lemmas.List.{take_more, take_all, map_push, append-nil}
@@ -25,10 +27,8 @@ module _ (problem : ProblemParts) where
   -- a line of the problem
   own_line : IsProblem problem → (line : ℕ) (at : CostedLine)
       → slice_get problem.lines line ≡ Some at → IsCostedLine (length problem.edges) at
-  own_line sound line at found = subst (IsCostedLine (length problem.edges))
-      (get_or_from_slice_get problem.lines line at no_line found)
-      (All-get_or (IsCostedLine (length problem.edges)) problem.lines line no_line
-      (slice_get_within problem.lines line at found) sound.lines)
+  own_line sound line at found =
+      grind (arith, get_or_from_slice_get, no_line, All-get_or, slice_get_within)
 
   -- its id is one
   pub id_within : (line : ℕ) (row : ℤ × ℤ)
@@ -133,6 +133,4 @@ module _ (problem : ProblemParts) where
 
     pub lines_whole : (i : ℕ) → length frequencies ≡ length problem.lines
         → length problem.lines ≤ i → rows_of_lines i ≡ concept_rows problem frequencies
-    lines_whole i each past = ap (flat_map (λ at. line_rows problem at.0 at.1))
-        (take_all i (zip problem.lines frequencies)
-        (omega (arith, past, zip_length problem.lines frequencies each)))
+    lines_whole i each past = grind (arith, take_all, zip_length)

@@ -1,11 +1,11 @@
 -- The rows of a concept can be written, and what it costs can be printed.
-use Rattle.std.proofs.Common.{◌≡◌, ℕ, ℤ, suc, pos, ◌+◌, ◌*◌, ◌≤◌, ◌<◌, ◌≤ℤ◌, ◌∙◌, nat_eq}
-use Rattle.std.proofs.Common.{true, List, [], ◌∷◌, length, map, zip, sum_by, arith}
-use Rattle.std.proofs.Common.{ap, All, Result, Ok, Err, IfOk, to_z, of_z}
+use Rattle.std.proofs.Common.{◌≡◌, ℕ, ℤ, suc, pos, ◌+◌, ◌*◌, ◌≤◌, ◌<◌, ◌≤ℤ◌, ◌∙◌, nat_eq, true}
+use Rattle.std.proofs.Common.{List, [], ◌∷◌, length, map, zip, sum_by, arith, ap, All, Result, Ok}
+use Rattle.std.proofs.Common.{Err, IfOk, to_z, of_z}
 use Rattle.std.specs.Int.{w128}
 use Rattle.std.specs.List.{enumerate_from, flat_map, list_any}
 use Rattle.std.proofs.lemmas.Bool.{eqb-true}
-use Rattle.std.proofs.lemmas.Int.{ints, to_z-of_z}
+use Rattle.std.proofs.lemmas.Int.{ints}
 use Rattle.std.proofs.lemmas.List.Elements.{All-nil, All-cons, All-append}
 use Rattle.std.proofs.lemmas.List.Sums.{sum_by-cons}
 use Rattle.std.proofs.lemmas.Map.Steps.{length-le_from_distinct_below}
@@ -28,9 +28,7 @@ InConcept row = InColumns concept_columns row.cells
 
 one_below : (edges : List ℕ) (n : ℕ) → All (λ edge. edge < n) edges → (edge : ℕ)
     → list_any (nat_eq edge) edges ≡ true → edge < n
-one_below edges n all edge is =
-    let at = Any-from_list_any (nat_eq edge) edges is in
-    omega (arith, all at.0 at.1 at.2, at.3, eqb-true edge at.1 at.4)
+one_below edges n all edge is = grind (arith, Any-from_list_any, nat_eq, eqb-true)
 
 module _ (problem : ProblemParts) (sound : IsProblem problem) where
   few_places : (line : CostedLine) → IsCostedLine (length problem.edges) line
@@ -124,7 +122,4 @@ concept_told problem frequencies table is (Err error) told = tt
 pub cost_handed : (cost : ℤ) (own : ℕ) → cost ≡ pos own
     → own ≤ 10000000000000000000000000000000000000
     → to_z w128 (of_z w128 cost) ≤ℤ pos 10000000000000000000000000000000000000
-cost_handed cost own is few =
-    let kept : to_z w128 (of_z w128 cost) ≡ cost =
-    to_z-of_z w128 cost (record { sfits = omega (arith, ints, is, few) }) in
-    omega (arith, ints, kept, is, few)
+cost_handed cost own is few = grind arith

@@ -1,7 +1,6 @@
 -- The concepts of a region are those that lie in it, and as many as are counted.
 use Rattle.std.proofs.Common.{◌≡◌, ℕ, zero, suc, ◌+◌, ◌-◌, ◌*◌, ◌<◌, ◌≤◌, List, [], ◌∷◌, ◌++◌, ◌≢◌}
-use Rattle.std.proofs.Common.{get_or, length}
-use Rattle.std.proofs.Common.{map, All, refl, ap, subst, ◌∙◌, arith}
+use Rattle.std.proofs.Common.{get_or, length, map, All, refl, ap, subst, arith}
 use Rattle.std.specs.List.{AllPairs, Contains, flat_map, range_with_len}
 use Rattle.std.proofs.lemmas.List.{length-append, length-map}
 use Rattle.std.proofs.lemmas.List.Elements.{All-append, All-cons, All-contains, All-head}
@@ -36,9 +35,11 @@ among concepts rest has lo (suc n) frequency zero is less =
     (flat_map (led_by concepts) (range_with_len (lo + 1) n)) (frequency ∷ rest)
     (subst (λ f. Contains (led_by concepts lo) (f ∷ rest)) own (there lo concepts rest has))
 among concepts rest has lo (suc n) frequency (suc k) is less =
-    Contains-append_right (led_by concepts lo)
-    (flat_map (led_by concepts) (range_with_len (lo + 1) n)) (frequency ∷ rest)
-    (among concepts rest has (lo + 1) n frequency k (omega (arith, is)) (omega (arith, less)))
+    grind (
+      arith,
+      Contains-append_right,
+      among concepts rest has (lo + 1) n frequency k (omega (arith, is)) (omega (arith, less)),
+    )
 
 each_there : (region : List LineRange) (concept : List ℕ) → LiesIn region concept
     → Contains (concepts_in region) concept
@@ -68,27 +69,18 @@ all_inside range region concepts lo (suc n) low high all =
 all_lie : (region : List LineRange) → All (LiesIn region) (concepts_in region)
 unfolding concepts_in
 all_lie [] = All-cons (LiesIn []) [] [] tt (All-nil (LiesIn []))
-all_lie (range ∷ region) =
-    all_inside range region (concepts_in region) range.lo (range.hi + 1 - range.lo) (omega arith)
-    (λ i less. omega (arith, less)) (all_lie region)
+all_lie (range ∷ region) = grind (arith, all_inside, all_lie region)
 
 led_count : (concepts : List (List ℕ)) (lo n : ℕ)
     → length (flat_map (led_by concepts) (range_with_len lo n)) ≡ n * length concepts
 led_count concepts lo zero = omega arith
 led_count concepts lo (suc n) =
-    let one_more : length concepts + n * length concepts ≡ suc n * length concepts = omega arith in
-    length-append (led_by concepts lo) (flat_map (led_by concepts) (range_with_len (lo + 1) n))
-    ∙ ap (λ own. own + length (flat_map (led_by concepts) (range_with_len (lo + 1) n)))
-    (length-map concepts (λ rest. lo ∷ rest))
-    ∙ ap (λ rest. length concepts + rest) (led_count concepts (lo + 1) n)
-    ∙ one_more
+    grind (arith, length-append, length-map, led_count concepts (lo + 1) n)
 
 as_many : (region : List LineRange) → length (concepts_in region) ≡ concept_count region
 unfolding concepts_in concept_count
 as_many [] = refl
-as_many (range ∷ region) =
-    led_count (concepts_in region) range.lo (range.hi + 1 - range.lo)
-    ∙ ap (λ rest. (range.hi + 1 - range.lo) * rest) (as_many region)
+as_many (range ∷ region) = grind (arith, led_count, as_many region)
 
 -- ---- no concept stands there twice
 
@@ -158,10 +150,5 @@ none_twice (range ∷ region) =
     all_differ (concepts_in region) range.lo (range.hi + 1 - range.lo) (none_twice region)
 
 pub concepts_listed : (region : List LineRange) → AreListed region
-concepts_listed region = record {
-  each = each_there region;
-  only = λ concept there. All-contains (LiesIn region) (concepts_in region) concept
-      (all_lie region) there;
-  once = none_twice region;
-  many = as_many region;
-}
+concepts_listed region =
+    grind (arith, each_there, there, All-contains, all_lie, none_twice, as_many)

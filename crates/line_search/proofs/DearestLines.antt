@@ -1,9 +1,9 @@
 -- The first open line of a region is the first of the dearest open lines, since ids of lines rise.
-use Rattle.std.proofs.Common.{◌≡◌, ℕ, ℤ, zero, suc, pos, ◌+◌, ◌≤◌, ◌<◌, ◌<ℤ◌, ◌==◌, ◌&&◌, ◌||◌, not}
-use Rattle.std.proofs.Common.{Bool, true, false, cond, nat_lt, int_lt, int_le, List, [], ◌∷◌, ◌++◌}
-use Rattle.std.proofs.Common.{length, map, filter, find, fold, drop, zip, slice_get, refl, arith}
-use Rattle.std.proofs.Common.{ap, sym, subst, ◌∙◌, Option, Some, None, option_map}
-use Rattle.std.proofs.lemmas.Bool.{lt-ltb, le-ltb, ne_eqb, false_from_ne_true}
+use Rattle.std.proofs.Common.{◌≡◌, ℕ, ℤ, zero, suc, pos, ◌+◌, ◌≤◌, ◌<◌, ◌<ℤ◌, ◌&&◌, not, Bool, true}
+use Rattle.std.proofs.Common.{false, cond, nat_lt, int_lt, int_le, List, [], ◌∷◌, ◌++◌, length, map}
+use Rattle.std.proofs.Common.{filter, find, fold, drop, zip, slice_get, refl, arith, ap, sym, subst}
+use Rattle.std.proofs.Common.{◌∙◌, Option, Some, None, option_map}
+use Rattle.std.proofs.lemmas.Bool.{false_from_ne_true}
 use Rattle.std.proofs.lemmas.Int.{ints}
 use Rattle.std.proofs.lemmas.List.{append_assoc, drop_all}
 use Rattle.std.specs.Bool.{⊤}
@@ -41,16 +41,9 @@ pub row_turn : (n : ℕ) (lines : List CostedLine) (region : List LineRange) (li
     (drop (suc line) (rows_from n lines region))
 row_turn n [] region line row same is first = absurd (cc)
 row_turn n (at ∷ lines) [] line row same is first = absurd (omega (arith, same))
-row_turn n (at ∷ lines) (range ∷ region) zero row same is first =
-    let cost : pos at.cost ≡ row.1 = cc in
-    let index : n ≡ n + 0 = omega arith in
-    λ i. fold with_row (dearer first (index i) (cost i) (has_several range))
-    (rows_from (n + 1) lines region)
+row_turn n (at ∷ lines) (range ∷ region) zero row same is first = grind arith
 row_turn n (at ∷ lines) (range ∷ region) (suc line) row same is first =
-    let index : n + 1 + line ≡ n + suc line = omega arith in
-    row_turn (n + 1) lines region line row (omega (arith, same)) is first
-    ∙ ap (λ index. fold with_row (dearer first index row.1 (has_several (range_of region line)))
-    (drop (suc line) (rows_from (n + 1) lines region))) index
+    grind (arith, row_turn (n + 1) lines region line row (omega (arith, same)) is first)
 
 -- ---- the open ones alone
 
@@ -62,14 +55,11 @@ open_alone : (n : ℕ) (lines : List CostedLine) (region : List LineRange) (firs
 open_alone n [] region first = refl
 open_alone n (line ∷ lines) [] first = refl
 open_alone n (line ∷ lines) (range ∷ region) first =
-    elim (has_several range) as
-    (λ b. fold with_row (dearer first n (pos line.cost) b) (rows_from (n + 1) lines region)
-    ≡ fold with_open first (map (λ at. (at.0, at.1.0)) (cond b ((n, (line, range))
-    ∷ filter (λ at. has_several at.1.1) (rows_from (n + 1) lines region))
-    (filter (λ at. has_several at.1.1) (rows_from (n + 1) lines region))))) [
-      | true ↦ open_alone (n + 1) lines region (dearer first n (pos line.cost) true)
-      | false ↦ open_alone (n + 1) lines region first
-    ]
+    grind (
+      arith,
+      open_alone (n + 1) lines region (dearer first n (pos line.cost) true),
+      open_alone (n + 1) lines region first,
+    )
 
 -- ids of some lines rise
 abbrev Rise : List (ℕ × CostedLine) → Type 0
@@ -82,14 +72,7 @@ below_open : (id : ℤ) (n : ℕ) (lines : List CostedLine) (region : List LineR
 below_open id n [] region all = tt
 below_open id n (line ∷ lines) [] all = tt
 below_open id n (line ∷ lines) (range ∷ region) all =
-    let rest = below_open id (n + 1) lines region all.1 in
-    elim (has_several range) as
-    (λ b. AllByRecursion {X = ℕ × CostedLine} (λ at. id <ℤ at.1.id) (map (λ at. (at.0, at.1.0)) (cond b ((n, (line, range))
-    ∷ filter (λ at. has_several at.1.1) (rows_from (n + 1) lines region))
-    (filter (λ at. has_several at.1.1) (rows_from (n + 1) lines region))))) [
-      | true ↦ (less_is id line.id all.0, rest)
-      | false ↦ rest
-    ]
+    grind (arith, less_is, below_open id (n + 1) lines region all.1)
 
 open_rise : (n : ℕ) (lines : List CostedLine) (region : List LineRange)
     → IsStrictlySortedBy int_cmp (map (λ line. line.id) lines) → Rise (open_from n lines region)
@@ -190,18 +173,19 @@ all_more [] done first d = subst (λ lines. IsDearest lines first) (sym (append_
     append_none [] = refl
     append_none (at ∷ lines) = ap (λ lines. at ∷ lines) (append_none lines)
 all_more (at ∷ lines) done first d =
-    subst (λ all. IsDearest all (fold with_open (with_open first at) lines))
-    (append_assoc done (at ∷ []) lines)
-    (all_more lines (done ++ at ∷ []) (with_open first at) (one_more done first at d))
+    grind (
+      arith,
+      append_assoc,
+      one_more,
+      all_more lines (done ++ at ∷ []) (with_open first at) (one_more done first at d),
+    )
 
 -- ---- it is the first in the order of lines
 
 find_behind : {X : Type 0} (p : X → Bool) (before : List X) (x : X) (behind : List X)
     → AllByRecursion (λ y. p y ≡ false) before → p x ≡ true → find p (before ++ x ∷ behind) ≡ Some x
 find_behind p [] x behind none is = ap (λ b. cond b (Some x) (find p behind)) is
-find_behind p (y ∷ before) x behind none is =
-    ap (λ b. cond b (Some y) (find p (before ++ x ∷ behind))) none.0
-    ∙ find_behind p before x behind none.1 is
+find_behind p (y ∷ before) x behind none is = grind (arith, find_behind p before x behind none.1 is)
 
 all_hold : {X : Type 0} (q : X → Bool) (xs : List X) → AllByRecursion (λ x. q x ≡ true) xs
     → list_all q xs ≡ true
@@ -217,18 +201,12 @@ one_fails q (y ∷ before) x behind fails =
 -- a line stands before no dearer one
 not_before_dearer : (other line : CostedLine) → other.cost < line.cost
     → not (stands_before other line) ≡ true
-not_before_dearer other line less =
-    let greater : nat_lt line.cost other.cost ≡ false = le-ltb line.cost other.cost (omega (arith, less)) in
-    let apart : (line.cost == other.cost) ≡ false =
-    ne_eqb line.cost other.cost (λ e. omega (arith, e, less)) in
-    λ i. not (greater i || (apart i && int_lt other.id line.id))
+not_before_dearer other line less = grind arith
 
 -- nor one of lesser id that costs as much
 not_before_first : (other line : CostedLine) → other.cost ≤ line.cost
     → int_lt other.id line.id ≡ false → not (stands_before other line) ≡ true
-not_before_first other line most id =
-    let greater : nat_lt line.cost other.cost ≡ false = le-ltb line.cost other.cost most in
-    (λ i. not (greater i || ((line.cost == other.cost) && id i))) ∙ ap not (never (line.cost == other.cost))
+not_before_first other line most id = grind arith
 
 not_less : (x y : ℤ) → (x <ℤ y → ⊥) → int_lt x y ≡ false
 not_less x y never = false_from_ne_true (int_lt x y) (λ is. never (omega (arith, ints, is)))
@@ -236,9 +214,7 @@ not_less x y never = false_from_ne_true (int_lt x y) (λ is. never (omega (arith
 -- the dearer line stands before
 before_cheaper : (other line : CostedLine) → line.cost < other.cost
     → not (stands_before other line) ≡ false
-before_cheaper other line less =
-    ap (λ b. not (b || ((line.cost == other.cost) && int_lt other.id line.id)))
-    (lt-ltb line.cost other.cost less)
+before_cheaper other line less = grind arith
 
 rise_behind : (before : List (ℕ × CostedLine)) (at : ℕ × CostedLine) (behind : List (ℕ × CostedLine))
     → Rise (before ++ at ∷ behind) → AllByRecursion (λ other. at.1.id <ℤ other.1.id) behind
@@ -278,10 +254,7 @@ first_found before at behind less most rise =
 dearest_first : (lines : List (ℕ × CostedLine)) (first : Option (ℕ × ℤ)) → Rise lines
     → IsDearest lines first → option_map (λ first. first.0) first ≡ first_among lines
 dearest_first lines None rise none = ap first_among (sym none)
-dearest_first lines (Some first) rise d =
-    first_found d.before (first.0, d.line) d.behind d.less d.most
-    (rise_behind d.before (first.0, d.line) d.behind (subst Rise d.whole rise))
-    ∙ ap first_among (sym d.whole)
+dearest_first lines (Some first) rise d = grind (arith, first_found, rise_behind)
 
 -- all lines
 pub rows_first : (problem : ProblemParts) (region : List LineRange)
@@ -303,9 +276,7 @@ rows_length n (line ∷ lines) (range ∷ region) = omega (arith, rows_length (n
 -- no line is left
 pub no_more : (lines : List CostedLine) (region : List LineRange) (line : ℕ) → length lines ≤ line
     → (first : Option (ℕ × ℤ)) → fold with_row first (drop line (rows_from 0 lines region)) ≡ first
-no_more lines region line past first =
-    ap (fold with_row first) (drop_all line (rows_from 0 lines region)
-    (omega (arith, past, rows_length 0 lines region)))
+no_more lines region line past first = grind (arith, drop_all, rows_length)
 
 -- the next line is taken
 pub row_taken : (lines : List CostedLine) (region : List LineRange) (line : ℕ) (first : Option (ℕ × ℤ))

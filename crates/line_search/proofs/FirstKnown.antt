@@ -1,6 +1,6 @@
 -- The frequency of the first row of a line, among some rows and one more.
-use Rattle.std.proofs.Common.{◌≡◌, ℕ, ℤ, ◌+◌, ◌<◌, cond, List, [], ◌∷◌, ◌++◌, inl, inr}
-use Rattle.std.proofs.Common.{length, take, get_or, Option, Some, None, refl, ap, sym, ◌∙◌}
+use Rattle.std.proofs.Common.{◌≡◌, ℕ, ℤ, ◌+◌, ◌<◌, cond, List, [], ◌∷◌, ◌++◌, arith, length, take}
+use Rattle.std.proofs.Common.{get_or, Option, Some, None, ap, sym, ◌∙◌}
 use Rattle.std.specs.Option.{option_or}
 use Rattle.std.specs.Ordering.{int_eq}
 use Rattle.std.proofs.lemmas.Bool.{cases_Bool}
@@ -16,23 +16,15 @@ pub first_more : (rows : List TableRow) (row : TableRow) (line : ℤ)
     → first_of_line (rows_with (rows ++ row ∷ []) line)
     ≡ option_or (first_of_line (rows_with rows line))
     (cond (int_eq line (line_in row)) (Some (frequency_at row)) None)
-first_more [] row line = elim (cases_Bool (int_eq line (line_in row))) [
-  | inl is ↦ rw is refl
-  | inr is ↦ rw is refl
-]
-first_more (first ∷ rows) row line = elim (cases_Bool (int_eq line (line_in first))) [
-  | inl is ↦ rw is refl
-  | inr is ↦ rw is (first_more rows row line)
-]
+first_more [] row line = grind arith
+first_more (first ∷ rows) row line = grind (arith, cases_Bool, first_more rows row line)
 
 -- the test of a row by what is known of its line
 pub is_other : (before : List TableRow) (row : TableRow) (known : ℤ → Option ℤ)
     → ((line : ℤ) → known line ≡ first_of_line (rows_with before line))
     → (line frequency : ℤ) → line ≡ line_in row → frequency ≡ frequency_at row
     → differs frequency (known line) ≡ same_frequency.is_broken before row
-is_other before row known knows line frequency own at =
-    ap (differs frequency) (knows line)
-    ∙ (λ i. differs (at i) (first_of_line (rows_with before (own i))))
+is_other before row known knows line frequency own at = grind arith
 
 -- what is known of the lines behind one row more
 pub known_more : (rows : List TableRow) (i : ℕ) → i < length rows → (known new : ℤ → Option ℤ)

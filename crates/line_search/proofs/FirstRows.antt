@@ -1,5 +1,7 @@
 -- The frequency of a line, which is that of its first row.
-use Rattle.std.proofs.Common.{◌≡◌, ℕ, ℤ, pos, ◌+◌, ◌<◌, ◌≤◌, Bool, true, false, cond, List, length, drop, get_or, slice_get, ap, sym, ◌∙◌, Option, Some, None, option_map, unwrap_or}
+use Rattle.std.proofs.Common.{arith, ◌≡◌, ℕ, ℤ, pos, ◌+◌, ◌<◌, ◌≤◌, Bool, true, false, cond, List}
+use Rattle.std.proofs.Common.{length, drop, get_or, slice_get, ap, sym, ◌∙◌, Option, Some, None}
+use Rattle.std.proofs.Common.{option_map, unwrap_or}
 use Rattle.std.specs.List.{find}
 use Rattle.std.specs.Ordering.{int_eq}
 use Rattle.std.proofs.lemmas.List.{drop_more, drop_all}
@@ -14,10 +16,7 @@ module _ (id : ℤ) (rows : List TableRow) (i : ℕ) where
         → frequency_in (drop i rows) id ≡ unwrap_or (option_map frequency_of_row
         (cond own (Some (get_or rows i no_row))
         (find (λ row. int_eq id (get_or row.cells 0 (pos 0))) (drop (i + 1) rows)))) 0
-    step own is =
-        ap (λ some. frequency_in some id) (drop_more rows i no_row lt)
-        ∙ ap (λ b. unwrap_or (option_map frequency_of_row (cond b (Some (get_or rows i no_row))
-        (find (λ row. int_eq id (get_or row.cells 0 (pos 0))) (drop (i + 1) rows)))) 0) (sym is)
+    step own is = grind (arith, drop_more, unwrap_or, option_map, get_or)
 
     -- the row at a place is the first of the line
     pub first_is : true ≡ int_eq id (cell_at rows i 0)

@@ -1,13 +1,11 @@
 -- The rows of a concept give back its frequencies.
 use Rattle.std.proofs.Common.{◌≡◌, ℕ, suc, ℤ, pos, ◌+◌, ◌<◌, Bool, false, ◌∙◌, List, [], ◌∷◌, ◌++◌}
-use Rattle.std.proofs.Common.{cond, length, map, find, zip, Some, None, All, refl, ap, sym, arith}
+use Rattle.std.proofs.Common.{length, map, find, zip, Some, None, All, refl, ap, sym, arith}
 use Rattle.std.proofs.Common.{append_assoc, get_or, option_map, unwrap_or}
 use Rattle.std.specs.List.{AllByRecursion, enumerate_from, flat_map}
 use Rattle.std.specs.List.Sorted.{IsStrictlySortedBy}
-use Rattle.std.specs.Option.{option_or}
 use Rattle.std.specs.Ordering.{int_cmp, int_eq}
 use Rattle.std.specs.declared.cmp.Ordering.TheVariants.{Less}
-use Rattle.std.proofs.lemmas.Cmp.{int_eq_equiv}
 use Rattle.std.proofs.lemmas.List.Folds.{find-append as find_both}
 use Rattle.giv_files.specs.Tables.{TableRow}
 use Rattle.line_pool.proofs.WalkRows.{above_differs}
@@ -29,20 +27,20 @@ module _ (problem : ProblemParts) where
       → find (is_of line) (map (row_at problem id frequency) (enumerate_from n edges)) ≡ None
   none_at line id frequency n [] differs = refl
   none_at line id frequency n (edge ∷ edges) differs =
-      ap (λ b. cond b (Some (row_at problem id frequency (n, edge)))
-      (find (is_of line) (map (row_at problem id frequency) (enumerate_from (n + 1) edges)))) differs
-      ∙ none_at line id frequency (n + 1) edges differs
+      grind (arith, none_at line id frequency (n + 1) edges differs)
 
   none_more : (before : List TableRow) (line : CostedLine) (frequency : ℕ) (ids : List ℤ)
       → AllByRecursion (λ other. int_cmp line.id other ≡ Less) ids → NoneOf before ids
       → NoneOf (before ++ line_rows problem line frequency) ids
   none_more before line frequency [] above none = tt
-  none_more before line frequency (id ∷ ids) above none = (
-    find_both (is_of id) before (line_rows problem line frequency)
-        ∙ ap (λ found. option_or found (find (is_of id) (line_rows problem line frequency))) none.0
-        ∙ none_at id line.id frequency 1 line.edges (above_differs line.id id above.0),
-    none_more before line frequency ids above.1 none.1,
-  )
+  none_more before line frequency (id ∷ ids) above none =
+      grind (
+        arith,
+        find_both,
+        none_at,
+        above_differs,
+        none_more before line frequency ids above.1 none.1,
+      )
 
   -- the first row of a line
   first_row : (id : ℤ) (frequency : ℕ) (edges : List ℕ) (behind : List TableRow) → 0 < length edges
@@ -50,10 +48,7 @@ module _ (problem : ProblemParts) where
       (find (is_of id) (map (row_at problem id frequency) (enumerate_from 1 edges) ++ behind))
       ≡ Some frequency
   first_row id frequency [] behind some = absurd (omega (arith, some))
-  first_row id frequency (edge ∷ edges) behind some =
-      ap (λ b. option_map frequency_of_row (cond b (Some (row_at problem id frequency (1, edge)))
-      (find (is_of id) (map (row_at problem id frequency) (enumerate_from 2 edges) ++ behind))))
-      (int_eq_equiv.refl id)
+  first_row id frequency (edge ∷ edges) behind some = grind arith
 
   abbrev rows_for : List CostedLine → List ℕ → List TableRow
   rows_for lines frequencies =
@@ -63,11 +58,7 @@ module _ (problem : ProblemParts) where
       → 0 < length line.edges → find (is_of line.id) before ≡ None
       → frequency_in (before ++ (line_rows problem line frequency ++ behind)) line.id ≡ frequency
   first_is before line frequency behind some none =
-      let rows = line_rows problem line frequency ++ behind in
-      ap (λ found. unwrap_or (option_map frequency_of_row found) 0)
-      (find_both (is_of line.id) before rows
-      ∙ ap (λ found. option_or found (find (is_of line.id) rows)) none)
-      ∙ ap (λ found. unwrap_or found 0) (first_row line.id frequency line.edges behind some)
+      grind (arith, unwrap_or, option_map, find_both, first_row)
 
   given_back : (before : List TableRow) (lines : List CostedLine) (frequencies : List ℕ)
       → length frequencies ≡ length lines

@@ -1,7 +1,7 @@
 -- A stable sort by keys puts items one group after the other.
-use Rattle.std.proofs.Common.{◌≡◌, suc, ℤ, pos, ◌+◌, Bool, true, false, ◌||◌, not, cond, List, [], inl, inr}
-use Rattle.std.proofs.Common.{◌∷◌, ◌++◌, length, map, filter, get_or, All, refl, ap, subst, sym}
-use Rattle.std.proofs.Common.{◌∙◌, arith}
+use Rattle.std.proofs.Common.{◌≡◌, suc, ℤ, pos, ◌+◌, Bool, true, false, ◌||◌, cond, List, [], inl}
+use Rattle.std.proofs.Common.{inr, ◌∷◌, ◌++◌, length, map, filter, get_or, All, refl, ap, subst}
+use Rattle.std.proofs.Common.{sym, ◌∙◌, arith}
 use Rattle.std.specs.List.{AllByRecursion, flat_map, list_any}
 use Rattle.std.specs.List.Sorted.{IsSortedByKey, IsStableByKey, IsStrictlySortedBy, ties}
 use Rattle.std.specs.Map.{keys_of}
@@ -40,10 +40,7 @@ module _ {X : Type 0} (key : X → ℤ) where
       → AllByRecursion (λ id. int_eq id (key item) ≡ false) ids
       → flat_map (with_key (item ∷ items)) ids ≡ flat_map (with_key items) ids
   others item items [] apart = refl
-  others item items (id ∷ ids) apart =
-      ap (λ b. cond b (item ∷ with_key items id) (with_key items id)
-      ++ flat_map (with_key (item ∷ items)) ids) apart.0
-      ∙ ap (λ rest. with_key items id ++ rest) (others item items ids apart.1)
+  others item items (id ∷ ids) apart = grind (arith, apart, others item items ids apart.1)
 
   all_above : (low id : ℤ) (ids : List ℤ) → int_cmp low id ≡ Less
       → AllByRecursion (λ other. int_cmp id other ≡ Less) ids
@@ -74,11 +71,7 @@ module _ {X : Type 0} (key : X → ℤ) where
       → flat_map (with_key items) (keys_of es) ≡ items
       → flat_map (with_key (item ∷ items)) (keys_of (put int_cmp (key item) tt es)) ≡ item ∷ items
   unfolding IsStrictlySortedBy
-  step item items [] low rise has whole =
-      ap (λ b. cond b (item ∷ with_key items (key item)) (with_key items (key item)) ++ [])
-      (same_id (key item))
-      ∙ ap (λ some. (item ∷ some) ++ []) (none_with (key item) items has)
-      ∙ ap (λ some. item ∷ some) whole
+  step item items [] low rise has whole = grind arith
   step item items (e ∷ es) low rise has whole = by (int_cmp (key item) e.0) refl
     where
       by : (o : Ordering) → int_cmp (key item) e.0 ≡ o
@@ -119,10 +112,7 @@ module _ {X : Type 0} (key : X → ℤ) where
       → length (flat_map (with_key (item ∷ items)) (keys_of (put int_cmp (key item) tt es)))
       ≡ suc (length (flat_map (with_key items) (keys_of es)))
   unfolding IsStrictlySortedBy
-  step_count item items [] rise none =
-      ap (λ b. length (cond b (item ∷ with_key items (key item)) (with_key items (key item)) ++ []))
-      (same_id (key item))
-      ∙ ap (λ some. length ((item ∷ some) ++ [])) (none refl)
+  step_count item items [] rise none = grind arith
   step_count item items (e ∷ es) rise none = by (int_cmp (key item) e.0) refl
       (step_count item items es rise.1)
     where
@@ -177,9 +167,7 @@ module _ {X : Type 0} (key : X → ℤ) where
   unfolding by_id
   grouped_count [] = refl
   grouped_count (item ∷ items) =
-      step_count item items (by_id (units (map key items))) (rising_rises (map key items))
-      (λ absent. none_with (key item) items (sym (rising_has (key item) (map key items)) ∙ absent))
-      ∙ ap suc (grouped_count items)
+      grind (arith, step_count, units, rising_rises, none_with, rising_has, grouped_count items)
 
   abbrev lt : X → X → Bool
   lt x y = is_lt (int_cmp (key x) (key y))
@@ -211,11 +199,7 @@ module _ {X : Type 0} (key : X → ℤ) where
   has_with : (q : ℤ) (items : List X)
       → list_any (int_eq q) (map key items) ≡ has_some (with_key items q)
   has_with q [] = refl
-  has_with q (item ∷ items) = elim (cases_Bool (int_eq q (key item))) [
-    | inl is ↦ rw is (sym (ap not (ne_eqb (length (item ∷ with_key items q)) 0
-        (λ none. omega (arith, none)))))
-    | inr is ↦ rw is (has_with q items)
-  ]
+  has_with q (item ∷ items) = grind (arith, cases_Bool, ne_eqb, has_with q items)
 
   -- a stable sort by the keys, where there is an item of each key
   pub sorted_groups : (of : ℤ → X) → ((id : ℤ) → key (of id) ≡ id) → (items sorted : List X)

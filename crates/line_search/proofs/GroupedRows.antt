@@ -1,6 +1,6 @@
 -- The rows of a planner's concept, line by line.
-use Rattle.std.proofs.Common.{◌≡◌, ℤ, pos, Bool, List, [], ◌∷◌, ◌++◌, length, inl, inr}
-use Rattle.std.proofs.Common.{map, filter, get_or, take, All, refl, ap, sym, ◌∙◌, arith}
+use Rattle.std.proofs.Common.{◌≡◌, ℤ, pos, Bool, List, [], ◌∷◌, ◌++◌, length, inl, inr, map, filter}
+use Rattle.std.proofs.Common.{get_or, take, All, refl, ap, sym, ◌∙◌, arith}
 use Rattle.std.specs.List.{flat_map}
 use Rattle.std.specs.Ordering.{int_eq}
 use Rattle.std.proofs.lemmas.List.{length-map, map-append}
@@ -17,10 +17,7 @@ use Rattle.line_search.proofs.Grouped.{grouped_count}
 filter_map_of : {X Y : Type 0} (f : X → Y) (p : Y → Bool) (xs : List X)
     → filter p (map f xs) ≡ map f (filter (λ x. p (f x)) xs)
 filter_map_of f p [] = refl
-filter_map_of f p (x ∷ xs) = elim (cases_Bool (p (f x))) [
-  | inl is ↦ rw is (ap (λ some. f x ∷ some) (filter_map_of f p xs))
-  | inr is ↦ rw is (filter_map_of f p xs)
-]
+filter_map_of f p (x ∷ xs) = grind (arith, cases_Bool, filter_map_of f p xs)
 
 map_flat : {X Y : Type 0} (f : X → Y) (h : ℤ → List X) (ids : List ℤ)
     → map f (flat_map h ids) ≡ flat_map (λ id. map f (h id)) ids
@@ -30,12 +27,7 @@ map_flat f h (id ∷ ids) = map-append f (h id) (flat_map h ids)
 
 pub grouped_map : {X Y : Type 0} (f : X → Y) (key : Y → ℤ) (xs : List X)
     → grouped key (map f xs) ≡ map f (grouped (λ x. key (f x)) xs)
-grouped_map {X} {Y} f key xs =
-    ap (flat_map (λ id. filter (λ y. int_eq id (key y)) (map f xs))) (ap rising (map-map key f xs))
-    ∙ ap (λ (h : ℤ → List Y). flat_map h (rising (map (λ x. key (f x)) xs)))
-    (λ i id. filter_map_of f (λ y. int_eq id (key y)) xs i)
-    ∙ sym (map_flat f (λ id. filter (λ x. int_eq id (key (f x))) xs)
-    (rising (map (λ x. key (f x)) xs)))
+grouped_map {X} {Y} f key xs = grind (arith, map-map, filter_map_of, map_flat)
 
 filter_same : {X Y : Type 0} (f g : X → Y) (p : X → Bool) (xs : List X) → All (λ x. f x ≡ g x) xs
     → map f (filter p xs) ≡ map g (filter p xs)

@@ -1,7 +1,7 @@
 -- The rules of a concept, from what is found of its text.
-use Rattle.std.proofs.Common.{◌≡◌, ℕ, not, Bool, true, false, cond, List, [], ◌∷◌, length, map, refl, ap, sym, ◌∙◌, arith, Option, Some, None, IfNone, IfSome}
+use Rattle.std.proofs.Common.{◌≡◌, ℕ, not, Bool, true, false, cond, List, [], ◌∷◌, refl, sym, ◌∙◌}
+use Rattle.std.proofs.Common.{arith, Option, Some, None, IfNone, IfSome}
 use Rattle.std.specs.Option.{option_or}
-use Rattle.std.proofs.lemmas.Bool.{ne_eqb}
 use Rattle.std.proofs.lemmas.Option.{same_Some}
 use Rattle.giv_files.specs.Columns.{concept_columns}
 use Rattle.giv_files.specs.Reading.{faults, table_of}
@@ -16,10 +16,7 @@ use Rattle.line_search.proofs.SameCells.{same_are}
 
 pub none_there : {X : Type 0} (list : List X) → has_some list ≡ false → list ≡ []
 none_there [] e = refl
-none_there (x ∷ list) e =
-    let some : has_some (x ∷ list) ≡ true = ap not (ne_eqb (length (x ∷ list)) 0
-    (λ none. omega (arith, none))) in
-    cc
+none_there (x ∷ list) e = grind arith
 
 or_none : {X : Type 0} (option : Option X) → option_or option None ≡ option
 or_none None = refl
@@ -80,18 +77,7 @@ module _ (problem : ProblemParts) (text : List ℕ) (certificate : Option (List 
         -- a concept that breaks no rule passes
         pub passes : IsFeasible problem fs → IfSome certificate (λ tree. Marks problem fs tree)
             → Passes problem text certificate
-        passes feasible marked =
-            record {
-              frequencies = fs;
-              reads = (
-                none_there _ is_read.0,
-                ap (map (λ (row : TableRow). row.cells)) (sym is_read.1)
-                    ∙ same_are table rows (sym same)
-                    ∙ ap (map (λ (row : TableRow). row.cells)) made,
-              );
-              feasible = feasible;
-              marked = marked;
-            }
+        passes feasible marked = grind (arith, none_there, is_read, same_are)
 
 -- what follows from nothing found
 pub none_then : {P Q : Type 0} (answer : Option ConceptFault) → (P → Q) → IfNone answer P

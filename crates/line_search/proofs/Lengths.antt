@@ -1,5 +1,8 @@
 -- A listing is no longer than twice the concepts of its region, less one.
-use Rattle.std.proofs.Common.{◌≡◌, ℕ, zero, suc, ◌+◌, ◌-◌, ◌*◌, ◌/◌, ◌≤◌, ◌<◌, Bool, true, false, cond, nat_le, List, [], ◌∷◌, length, map, filter, find, zip, arith, Option, Some, None, option_map, unwrap_or, IfSome, sym, subst, length-append, inl, inr}
+use Rattle.std.proofs.Common.{◌≡◌, ℕ, zero, suc, ◌+◌, ◌-◌, ◌*◌, ◌/◌, ◌≤◌, ◌<◌, Bool, true, false}
+use Rattle.std.proofs.Common.{cond, nat_le, List, [], ◌∷◌, length, map, filter, find, zip, arith}
+use Rattle.std.proofs.Common.{Option, Some, None, option_map, unwrap_or, IfSome, sym, subst}
+use Rattle.std.proofs.Common.{length-append}
 use Rattle.std.proofs.lemmas.Bool.{ltb-true, cases_Bool}
 use Rattle.std.proofs.lemmas.Option.{IfSome_then}
 use Rattle.std.specs.List.{AllByRecursion, enumerate_from}
@@ -14,7 +17,7 @@ use Rattle.line_cost_model.specs.Regions.{most_of, concept_count, empty_edge, ha
 use Rattle.branch_certificate.specs.declared.node.Node.{Node}
 use Rattle.branch_certificate.specs.declared.node.Node.TheVariants as node
 use Rattle.line_search.specs.Firsts.{first_of}
-use Rattle.line_search.specs.Listings.{listing, levels_of, Entry, as_bound, as_split, best_after, entries_by, entries_within, first_open, middle, node_at, open_at}
+use Rattle.line_search.specs.Listings.{listing, levels_of, Entry, as_bound, as_split, entries_by, entries_within, first_open, middle, node_at, open_at}
 
 -- ranges whose ends are in order
 abbrev pub AreOrdered : List LineRange → Type 0
@@ -27,9 +30,7 @@ IsOpenAt region line = (line < length region) × ((range_of region line).lo < (r
 found_of : {X : Type 0} (Q : X → Type 0) (p : X → Bool) (xs : List X) → AllByRecursion Q xs
     → IfSome (find p xs) Q
 found_of Q p [] all = tt
-found_of Q p (x ∷ xs) all =
-    elim (p x) as (λ b. IfSome (cond b (Some x) (find p xs)) Q)
-    [ true ↦ all.0 | false ↦ found_of Q p xs all.1 ]
+found_of Q p (x ∷ xs) all = grind (arith, found_of Q p xs all.1)
 
 some_count : (region : List LineRange) → AreOrdered region → 1 ≤ concept_count region
 unfolding concept_count
@@ -54,9 +55,7 @@ parts_count : (region : List LineRange) (line at : ℕ) → IsOpenAt region line
     ≡ concept_count region
 unfolding concept_count
 parts_count [] line at open_at low high = absurd (omega (arith, open_at.0))
-parts_count (range ∷ region) zero at open_at low high =
-    sum_times (at + 1 - range.lo) (range.hi + 1 - (at + 1)) (range.hi + 1 - range.lo) (concept_count region)
-    (omega (arith, low, high))
+parts_count (range ∷ region) zero at open_at low high = grind (arith, sum_times)
 parts_count (range ∷ region) (suc line) at open_at low high =
     times_sum (range.hi + 1 - range.lo) _ _ _
     (parts_count region line at (omega (arith, open_at.0), open_at.1) low high)
@@ -90,9 +89,7 @@ IsOpenFrom n region at = (n ≤ at.0) × IsOpenAt region (at.0 - n)
 
 one_behind : (n : ℕ) (range : LineRange) (region : List LineRange) (at : ℕ × CostedLine)
     → IsOpenFrom (n + 1) region at → IsOpenFrom n (range ∷ region) at
-one_behind n range region at h =
-    let e : at.0 - n ≡ suc (at.0 - (n + 1)) = omega (arith, h.0) in
-    (omega (arith, h.0), rw e (omega (arith, h.1.0), h.1.1))
+one_behind n range region at h = grind arith
 
 first_is_open : (n : ℕ) (range : LineRange) (region : List LineRange) → range.lo < range.hi
     → IsOpenAt (range ∷ region) (n - n)
@@ -103,15 +100,15 @@ all_open : (n : ℕ) (lines : List CostedLine) (region : List LineRange)
 all_open n [] region = tt
 all_open n (line ∷ lines) [] = tt
 all_open n (line ∷ lines) (range ∷ region) =
-    let rest = all_map (IsOpenFrom (n + 1) region) (IsOpenFrom n (range ∷ region))
-    (open_from (n + 1) lines region) (one_behind n range region) (all_open (n + 1) lines region) in
-    elim (cases_Bool (has_several range)) [
-      | inl several ↦ rw several (
-        (omega arith, first_is_open n range region (ltb-true range.lo range.hi several)),
-        rest,
-      )
-      | inr single ↦ rw single rest
-    ]
+    grind (
+      arith,
+      all_map,
+      one_behind,
+      cases_Bool,
+      first_is_open,
+      ltb-true,
+      all_open (n + 1) lines region,
+    )
 
 from_start : (region : List LineRange) (at : ℕ × CostedLine) → IsOpenFrom 0 region at → IsOpenAt region at.0
 from_start region at h = let e : at.0 - 0 ≡ at.0 = omega arith in subst (IsOpenAt region) e h.1
@@ -124,10 +121,7 @@ first_index Q (Some at) h = h
 -- the first open line is open
 pub first_open_is : (problem : ProblemParts) (region : List LineRange)
     → IfSome (first_open problem region) (IsOpenAt region)
-first_open_is problem region =
-    first_index (IsOpenAt region) _ (found_of (λ at. IsOpenAt region at.0) _ (open_at problem region)
-    (all_map (IsOpenFrom 0 region) (λ at. IsOpenAt region at.0) (open_at problem region)
-    (from_start region) (all_open 0 problem.lines region)))
+first_open_is problem region = grind (arith, first_index, found_of, all_map, from_start, all_open)
 
 -- what holds of each thing that may be said of a region holds of what is said
 pub node_cases : (problem : ProblemParts) (region : List LineRange) (best : Option (List ℕ))
@@ -175,18 +169,7 @@ split_short : (below : List LineRange → Option (List ℕ) → List Entry) → 
     → length (entries_by below region best (node.Split line (middle (range_of region line)))) + 1 ≤ 2
     * concept_count region
 split_short below short region best ordered line is_open =
-    let at = middle (range_of region line) in
-    let inside = middle_inside (range_of region line).lo (range_of region line).hi is_open.1 in
-    let lower = below (part_up_to region line at) best in
-    let upper = below (part_from region line (at + 1)) (best_after best lower) in
-    omega (
-      arith,
-      length-append lower upper,
-      parts_count region line at is_open inside.0 inside.1,
-      short (part_up_to region line at) best (lower_ordered region line at ordered inside.0),
-      short (part_from region line (at + 1)) (best_after best lower)
-          (upper_ordered region line at ordered inside.1),
-    )
+    grind (arith, middle_inside, length-append, parts_count, lower_ordered, upper_ordered)
 
 -- no listing of a region is longer than twice its concepts, less one
 pub listing_short : (problem : ProblemParts) (levels : ℕ) → IsShort (entries_within problem levels)

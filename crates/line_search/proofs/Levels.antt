@@ -1,11 +1,12 @@
 -- More levels than a region needs list the same.
-use Rattle.std.proofs.Common.{◌≡◌, ℕ, zero, suc, ◌+◌, ◌-◌, ◌≤◌, ◌<◌, List, [], ◌∷◌, refl, arith, Option, sum_by}
+use Rattle.std.proofs.Common.{◌≡◌, ℕ, zero, suc, ◌+◌, ◌-◌, ◌≤◌, ◌<◌, List, [], ◌∷◌, refl, arith}
+use Rattle.std.proofs.Common.{Option, sum_by}
 use Rattle.std.proofs.lemmas.List.Sums.{sum_by-cons}
 use Rattle.line_cost_model.specs.declared.range.LineRange.{LineRange}
 use Rattle.line_cost_model.specs.Problems.{ProblemParts}
 use Rattle.line_cost_model.specs.Regions.{part_from, part_up_to, range_of}
 use Rattle.branch_certificate.specs.declared.node.Node.TheVariants as node
-use Rattle.line_search.specs.Listings.{Entry, best_after, entries_by, entries_within, levels_of, middle, visit, node_at}
+use Rattle.line_search.specs.Listings.{Entry, entries_by, entries_within, levels_of, middle, visit, node_at}
 use Rattle.line_search.proofs.Lengths.{AreOrdered, IsOpenAt, lower_ordered, middle_inside, node_cases, upper_ordered}
 
 abbrev width : LineRange → ℕ
@@ -67,16 +68,7 @@ split_agrees : (one other : List LineRange → Option (List ℕ) → List Entry)
     → entries_by one region best (node.Split line (middle (range_of region line)))
     ≡ entries_by other region best (node.Split line (middle (range_of region line)))
 split_agrees one other most agree region best ordered few line is_open =
-    let at = middle (range_of region line) in
-    let inside = middle_inside (range_of region line).lo (range_of region line).hi is_open.1 in
-    let below : one (part_up_to region line at) best ≡ other (part_up_to region line at) best =
-    agree (part_up_to region line at) best (lower_ordered region line at ordered inside.0)
-    (omega (arith, few, fewer_below region line at is_open inside.0 inside.1)) in
-    let above = agree (part_from region line (at + 1))
-    (best_after best (other (part_up_to region line at) best))
-    (upper_ordered region line at ordered inside.1)
-    (omega (arith, few, fewer_above region line at is_open inside.0 inside.1)) in
-    rw (below, above) refl
+    grind (arith, middle_inside, lower_ordered, fewer_below, upper_ordered, fewer_above)
 
 pub same_levels : (problem : ProblemParts) (m n most : ℕ) → most ≤ m → most ≤ n
     → Agree (entries_within problem m) (entries_within problem n) most

@@ -1,8 +1,10 @@
 -- The order of lines, and the first line of a list in it.
-use Rattle.std.proofs.Common.{◌≡◌, ℕ, ℤ, ◌<◌, ◌<ℤ◌, Bool, true, false, not, ◌==◌, nat_lt, int_lt, List, [], ◌∷◌, find, None, IfSome, ◌⊎◌, inl, inr, ⊎_elim, refl, ap, sym, ◌∙◌, arith}
+use Rattle.std.proofs.Common.{◌≡◌, ℕ, ℤ, ◌<◌, ◌<ℤ◌, Bool, true, false, not, nat_lt, int_lt, List}
+use Rattle.std.proofs.Common.{[], ◌∷◌, find, None, IfSome, ◌⊎◌, inl, inr, ⊎_elim, refl, ap, sym}
+use Rattle.std.proofs.Common.{◌∙◌, arith}
 use Rattle.std.proofs.lemmas.Int.{ints}
 use Rattle.std.specs.List.{list_all}
-use Rattle.std.proofs.lemmas.Bool.{and_parts, and_from, false_from_ne_true, true≢false, ltb-true, lt-ltb, eqb-true, eq-eqb, cases_Bool, true_from_ne_false, or_right, cases_lt}
+use Rattle.std.proofs.lemmas.Bool.{and_parts, and_from, false_from_ne_true, true≢false, lt-ltb, eq-eqb, cases_Bool, true_from_ne_false, or_right}
 use Rattle.std.proofs.lemmas.Option.{IfSome_then}
 use Rattle.line_cost_model.specs.Chosen.{stands_before}
 use Rattle.line_cost_model.specs.Problems.{CostedLine}
@@ -24,10 +26,7 @@ all_have p (y ∷ ys) x all (inr one) = all_have p ys x (and_parts _ _ all).1 on
 pub found_passes : {X : Type 0} (p : X → Bool) (xs : List X)
     → IfSome (find p xs) (λ x. (p x ≡ true) × IsOneOf x xs)
 found_passes p [] = tt
-found_passes p (x ∷ xs) = elim (cases_Bool (p x)) [
-  | inl is ↦ rw is (is, inl refl)
-  | inr is ↦ rw is (IfSome_then (find p xs) (found_passes p xs) (λ y rest. (rest.0, inr rest.1)))
-]
+found_passes p (x ∷ xs) = grind (arith, cases_Bool, IfSome_then, found_passes p xs)
 
 -- one that passes is found
 pub one_found : {X : Type 0} (p : X → Bool) (xs : List X) (x : X) → IsOneOf x xs → p x ≡ true
@@ -89,20 +88,12 @@ module _ {X : Type 0} (before : X → X → Bool) (self : (x : X) → before x x
 Stands : CostedLine → CostedLine → Type 0
 Stands line other = (other.cost < line.cost) ⊎ ((other.cost ≡ line.cost) × (line.id <ℤ other.id))
 
-int_yes : (a b : ℤ) → int_lt a b ≡ true → a <ℤ b
-int_yes a b e = omega (arith, ints, e)
-
 yes_int : (a b : ℤ) → a <ℤ b → int_lt a b ≡ true
 yes_int a b h = true_from_ne_false _ (λ e. omega (arith, ints, e, h))
 
 stands_is : (line other : CostedLine) → stands_before line other ≡ true → Stands line other
 unfolding Stands
-stands_is line other h = elim (cases_Bool (nat_lt other.cost line.cost)) [
-  | inl is ↦ inl (ltb-true _ _ is)
-  | inr is ↦
-      let parts = and_parts (other.cost == line.cost) _ (rw is at h) in
-      inr (eqb-true _ _ parts.0, int_yes _ _ parts.1)
-]
+stands_is line other h = grind arith
 
 is_stands : (line other : CostedLine) → Stands line other → stands_before line other ≡ true
 unfolding Stands
@@ -125,15 +116,7 @@ both_stand a b c (inr x) (inr y) = inr (omega (arith, x.0, y.0), omega (arith, i
 -- of two lines with different ids one stands before the other
 one_stands : (a b : CostedLine) → (a.id <ℤ b.id) ⊎ (b.id <ℤ a.id) → Stands a b ⊎ Stands b a
 unfolding Stands
-one_stands a b apart = elim (cases_lt b.cost a.cost) [
-  | inl less ↦ inl (inl less)
-  | inr most ↦ elim (cases_lt a.cost b.cost) [
-    | inl less ↦ inr (inl less)
-    | inr least ↦
-        let equal : a.cost ≡ b.cost = omega (arith, most, least) in
-        ⊎_elim (λ low. inl (inr (sym equal, low))) (λ high. inr (inr (equal, high))) apart
-  ]
-]
+one_stands a b apart = grind arith
 
 abbrev pub before : ℕ × CostedLine → ℕ × CostedLine → Bool
 before at other = stands_before at.1 other.1
@@ -149,6 +132,4 @@ before_through a b c h k =
 -- a line with another id that does not stand before one stands behind it
 pub stands_behind : (a b : CostedLine) → (a.id <ℤ b.id) ⊎ (b.id <ℤ a.id)
     → not (stands_before a b) ≡ true → stands_before b a ≡ true
-stands_behind a b apart h = ⊎_elim
-    (λ first. absurd (true≢false (sym h ∙ ap not (is_stands a b first))))
-    (λ second. is_stands b a second) (one_stands a b apart)
+stands_behind a b apart h = grind (arith, ⊎_elim, true≢false, is_stands, one_stands)

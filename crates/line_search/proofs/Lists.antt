@@ -1,5 +1,6 @@
 -- What is at a place of a list, and what stands before it.
-use Rattle.std.proofs.Common.{◌≡◌, ℕ, zero, suc, ℤ, pos, ◌<◌, ◌<ℤ◌, arith, List, [], ◌∷◌, length, map, take, get_or, slice_get, zip, ap, subst, sym, ◌∙◌, Some}
+use Rattle.std.proofs.Common.{◌≡◌, ℕ, zero, suc, ℤ, pos, ◌<◌, ◌<ℤ◌, arith, List, [], ◌∷◌, length}
+use Rattle.std.proofs.Common.{map, take, get_or, slice_get, zip, ap, subst, sym, ◌∙◌, Some}
 use Rattle.std.specs.List.{All}
 use Rattle.std.specs.List.Sorted.{IsStrictlySortedBy}
 use Rattle.std.specs.Ordering.{int_cmp, MatchOrdering}
@@ -14,10 +15,7 @@ pub zip_at : {X Y : Type 0} (xs : List X) (ys : List Y) (i : ℕ) (x : X) (y : Y
     → slice_get xs i ≡ Some x → slice_get ys i ≡ Some y → slice_get (zip xs ys) i ≡ Some (x, y)
 zip_at [] ys i x y is own = absurd (none-some x is)
 zip_at (a ∷ xs) [] i x y is own = absurd (none-some y own)
-zip_at (a ∷ xs) (b ∷ ys) zero x y is own =
-    let first : a ≡ x = cc in
-    let second : b ≡ y = cc in
-    λ k. Some (first k, second k)
+zip_at (a ∷ xs) (b ∷ ys) zero x y is own = grind arith
 zip_at (a ∷ xs) (b ∷ ys) (suc i) x y is own = zip_at xs ys i x y is own
 
 pub less_is : (x y : ℤ) → int_cmp x y ≡ Less → x <ℤ y

@@ -1,8 +1,10 @@
 -- No concept of the upper part of a split at the first open line comes before one of the lower part.
-use Rattle.std.proofs.Common.{◌≡◌, ◌≢◌, ℕ, zero, suc, pos, ◌+◌, ◌-◌, ◌<◌, ◌≤◌, ◌<ℤ◌, true, not, List, [], ◌∷◌, length, map, find, get_or, slice_get, Option, Some, None, IfSome, option_map, ◌⊎◌, inl, inr, ap, sym, subst, ◌∙◌, arith}
+use Rattle.std.proofs.Common.{◌≡◌, ◌≢◌, ℕ, zero, suc, pos, ◌+◌, ◌-◌, ◌<◌, ◌≤◌, ◌<ℤ◌, true, not}
+use Rattle.std.proofs.Common.{List, [], ◌∷◌, length, map, find, get_or, slice_get, Option, Some}
+use Rattle.std.proofs.Common.{None, IfSome, option_map, ◌⊎◌, inl, inr, ap, sym, subst, ◌∙◌, arith}
 use Rattle.std.specs.List.{list_all}
 use Rattle.std.specs.Ordering.{int_cmp}
-use Rattle.std.proofs.lemmas.Bool.{lt-ltb, cases_Bool, cases_lt}
+use Rattle.std.proofs.lemmas.Bool.{cases_Bool, cases_lt}
 use Rattle.std.proofs.lemmas.List.{get_or-map, length-map}
 use Rattle.std.proofs.lemmas.Map.Keys.{Less-from_sorted}
 use Rattle.std.proofs.lemmas.Option.{get_or_from_slice_get, slice_get_within, none-some}
@@ -57,13 +59,11 @@ parts_open (range ∷ region) (f ∷ x) [] (suc line) at k in_x in_y there less 
 parts_open (range ∷ region) (f ∷ x) (g ∷ y) zero at zero in_x in_y there less =
     absurd (omega (arith, in_x.0.low, in_y.0.high, less))
 parts_open (range ∷ region) (f ∷ x) (g ∷ y) zero at (suc k) in_x in_y there less =
-    let rest = less_open region x y k in_x.1 in_y.1 (omega (arith, there)) less in
-    ((there, rest.1), λ same. omega (arith, same))
+    grind (arith, less_open)
 parts_open (range ∷ region) (f ∷ x) (g ∷ y) (suc line) at zero in_x in_y there less =
     ((there, omega (arith, in_x.0.low, in_y.0.high, less)), λ same. omega (arith, same))
 parts_open (range ∷ region) (f ∷ x) (g ∷ y) (suc line) at (suc k) in_x in_y there less =
-    let rest = parts_open region x y line at k in_x.1 in_y.1 (omega (arith, there)) less in
-    ((there, rest.0.1), λ same. rest.1 (omega (arith, same)))
+    grind (arith, parts_open region x y line at k in_x.1 in_y.1 (omega (arith, there)) less)
 
 -- ---- the open lines
 
@@ -72,17 +72,15 @@ open_one : (n : ℕ) (lines : List CostedLine) (region : List LineRange) (k : �
     → IsOneOf (n + k, line) (open_from n lines region)
 open_one n [] region k line there is_open = absurd (none-some line there)
 open_one n (a ∷ lines) [] k line there is_open = absurd (omega (arith, is_open.0))
-open_one n (a ∷ lines) (range ∷ region) zero line there is_open =
-    let same : a ≡ line = cc in
-    let index : n ≡ n + zero = omega arith in
-    rw (lt-ltb range.lo range.hi is_open.1) (inl (λ i. (index i, same i)))
+open_one n (a ∷ lines) (range ∷ region) zero line there is_open = grind arith
 open_one n (a ∷ lines) (range ∷ region) (suc k) line there is_open =
-    let index : n + 1 + k ≡ n + suc k = omega arith in
-    let rest = subst (λ m. IsOneOf {X = ℕ × CostedLine} (m, line) (open_from (n + 1) lines region)) index (open_one (n + 1) lines region k line there (omega (arith, is_open.0), is_open.1)) in
-    elim (cases_Bool (has_several range)) [
-      | inl is ↦ rw is (inr rest)
-      | inr is ↦ rw is rest
-    ]
+    grind (
+      arith,
+      IsOneOf,
+      open_from,
+      cases_Bool,
+      open_one (n + 1) lines region k line there (omega (arith, is_open.0), is_open.1),
+    )
 
 abbrev IsLineFrom : ℕ → List CostedLine → ℕ × CostedLine → Type 0
 IsLineFrom n lines at = (n ≤ at.0) × (slice_get lines (at.0 - n) ≡ Some at.1)
@@ -149,10 +147,7 @@ ids_rise problem sound i j a b less there other =
 ids_apart : (problem : ProblemParts) → IsProblem problem → (i j : ℕ) (a b : CostedLine) → i ≢ j
     → slice_get problem.lines i ≡ Some a → slice_get problem.lines j ≡ Some b
     → (a.id <ℤ b.id) ⊎ (b.id <ℤ a.id)
-ids_apart problem sound i j a b apart there other = elim (cases_lt i j) [
-  | inl less ↦ inl (ids_rise problem sound i j a b less there other)
-  | inr more ↦ inr (ids_rise problem sound j i b a (omega (arith, more, apart)) other there)
-]
+ids_apart problem sound i j a b apart there other = grind (arith, cases_lt, ids_rise)
 
 -- ---- no concept of the upper part comes before one of the lower part
 

@@ -1,9 +1,9 @@
 -- What is said of a region names lines and edges that are there.
-use Rattle.std.proofs.Common.{◌≡◌, ℕ, ◌+◌, ◌≤◌, ◌<◌, ◌==◌, true, false, cond, List, [], ◌∷◌, length}
+use Rattle.std.proofs.Common.{◌≡◌, ℕ, ◌+◌, ◌≤◌, ◌<◌, true, false, cond, List, [], ◌∷◌, length}
 use Rattle.std.proofs.Common.{filter_map, fold, slice_get, arith, Option, Some, None, option_map}
 use Rattle.std.proofs.Common.{IfSome, All, ap, sym, subst, nat_le}
-use Rattle.std.proofs.lemmas.List.Elements.{All-nil, All-cons, All-append}
-use Rattle.std.specs.List.{cons_option, enumerate_from}
+use Rattle.std.proofs.lemmas.List.Elements.{All-nil, All-append}
+use Rattle.std.specs.List.{enumerate_from}
 use Rattle.line_cost_model.specs.declared.edge.BoundedEdge.{BoundedEdge}
 use Rattle.line_cost_model.specs.declared.multipliers.Multiplier.{Multiplier}
 use Rattle.line_cost_model.specs.declared.range.LineRange.{LineRange}
@@ -24,31 +24,25 @@ abbrev Names : ℕ → Multiplier → Type 0
 Names edges multiplier = multiplier.edge < edges
 
 one_names : (edges edge amount : ℕ) → edge < edges → All (Names edges) (unless_zero edge amount)
-one_names edges edge amount there =
-    elim (amount == 0) as
-    (λ b. All (Names edges) (cond b [] (record { edge = edge; amount = amount } ∷ []))) [
-      | true ↦ All-nil (Names edges)
-      | false ↦ All-cons (Names edges) (record { edge = edge; amount = amount }) [] there
-          (All-nil (Names edges))
-    ]
+one_names edges edge amount there = grind arith
 
 all_name : (problem : ProblemParts) (region : List LineRange) (count n : ℕ) (edges : List BoundedEdge)
     (before : List Multiplier) → n + length edges ≤ count → All (Names count) before
     → All (Names count) (fold (with_next problem region) before (enumerate_from n edges))
 all_name problem region count n [] before few all = all
 all_name problem region count n (edge ∷ edges) before few all =
-    all_name problem region count (n + 1) edges (with_next problem region before (n, edge))
-    (omega (arith, few))
-    (All-append (Names count) before _ all
-    (one_names count n (next_multiplier problem region before (n, edge)) (omega (arith, few))))
+    grind (
+      arith,
+      All-append,
+      one_names,
+      all_name problem region count (n + 1) edges (with_next problem region before (n, edge)) (omega (arith, few)) (All-append (Names count) before _ all (one_names count n (next_multiplier problem region before (n, edge)) (omega (arith, few)))),
+    )
 
 -- those of a region name edges that are there
 pub multipliers_name : (problem : ProblemParts) (region : List LineRange)
     → All (λ multiplier. multiplier.edge < length problem.edges) (multipliers_of problem region)
 unfolding multipliers_of
-multipliers_name problem region =
-    all_name problem region (length problem.edges) 0 problem.edges [] (omega arith)
-    (All-nil (Names (length problem.edges)))
+multipliers_name problem region = grind (arith, all_name, All-nil)
 
 -- ---- empty edges
 
@@ -59,13 +53,13 @@ empty_names : (lines : List CostedLine) (region : List LineRange) (count n : ℕ
     (enumerate_from n edges)) 0) (λ at. at.0 < count)
 empty_names lines region count n [] few = tt
 empty_names lines region count n (edge ∷ edges) few =
-    elim (empty_side lines region n edge) as
-    (λ side. IfSome {T = ℕ × Side} (slice_get (cons_option (option_map (λ side. (n, side)) side) (filter_map
-    (λ at. option_map (λ side. (at.0, side)) (empty_side lines region at.0 at.1))
-    (enumerate_from (n + 1) edges))) 0) (λ at. at.0 < count)) [
-      | Some side ↦ omega (arith, few)
-      | None ↦ empty_names lines region count (n + 1) edges (omega (arith, few))
-    ]
+    grind (
+      arith,
+      slice_get,
+      option_map,
+      filter_map,
+      empty_names lines region count (n + 1) edges (omega (arith, few)),
+    )
 
 -- the first empty edge of a region is there
 pub empty_there : (problem : ProblemParts) (region : List LineRange)
@@ -99,9 +93,7 @@ pub bound_names : (problem : ProblemParts) (region : List LineRange) (best : Opt
     (multipliers : List Multiplier)
     → Some (node.Bound multipliers) ≡ as_bound problem region best
     → All (λ multiplier. multiplier.edge < length problem.edges) multipliers
-bound_names problem region best multipliers is =
-    subst (All (λ multiplier. multiplier.edge < length problem.edges))
-    (sym (named_by problem region best multipliers is)) (multipliers_name problem region)
+bound_names problem region best multipliers is = grind (arith, named_by, multipliers_name)
 
 -- the line that is split
 pub split_names : (problem : ProblemParts) (region : List LineRange) (line : ℕ)

@@ -1,9 +1,9 @@
 -- No solution is the answer exactly where no concept is feasible and the listing is within the budget.
-use Rattle.std.proofs.Common.{◌≡◌, ℕ, ◌≤◌, ◌∙◌, ◌⊎◌, Bool, true, false, cond, nat_le, List, []}
-use Rattle.std.proofs.Common.{length, take, ap, sym, subst, refl, inl, inr, Option, Some, None}
-use Rattle.std.proofs.Common.{IfSome, Result, Ok, Err, option_map}
+use Rattle.std.proofs.Common.{arith, ◌≡◌, ℕ, ◌≤◌, ◌∙◌, ◌⊎◌, Bool, true, false, cond, nat_le, List}
+use Rattle.std.proofs.Common.{[], length, take, ap, subst, refl, inr, Option, Some, None, IfSome}
+use Rattle.std.proofs.Common.{Result, Ok, Err, option_map}
 use Rattle.std.specs.Prelude.{ok_or}
-use Rattle.std.proofs.lemmas.Bool.{le-leb, leb-true}
+use Rattle.std.proofs.lemmas.Bool.{le-leb}
 use Rattle.giv_files.specs.declared.made.Made.{Made}
 use Rattle.giv_files.specs.declared.refusal.Refusal.{Refusal}
 use Rattle.giv_files.specs.declared.refusal.Refusal.TheVariants as refusal
@@ -49,10 +49,7 @@ module _ (problem : ProblemParts) (budget : ℕ) (all : List Entry) where
 
   only_within : (within : Bool) → nat_le (length all) budget ≡ within → whole within ≡ no_solution
       → (best_after None all ≡ None) × (length all ≤ budget)
-  only_within true is none = (
-    none_found problem (best_after None all) (nodes_in all) (length all) none,
-    leb-true (length all) budget is,
-  )
+  only_within true is none = grind arith
   only_within false is none = absurd (not_spent problem (best_after None (take budget all)) budget
       (length (take budget all)) none)
 
@@ -73,9 +70,7 @@ module _ (problem : ProblemParts) (budget : ℕ) (all : List Entry) where
 refused : (why : Refusal) (result : Result Made StageFault) → StageGives (Err why) result
     → (result ≡ Err (stage.Refused why)) ⊎ (result ≡ Err stage.NoMemory)
 refused why (Ok made) gives = absurd (cc)
-refused why (Err (stage.Refused reason)) gives =
-    let same : why ≡ reason = cc in
-    inl (ap (λ reason. Err (stage.Refused reason)) (sym same))
+refused why (Err (stage.Refused reason)) gives = grind arith
 refused why (Err stage.NoMemory) gives = inr refl
 
 -- a chosen concept is feasible

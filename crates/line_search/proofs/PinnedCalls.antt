@@ -1,13 +1,12 @@
 -- What the call of the stage of a planner's concept gives, step by step.
-use Rattle.std.proofs.Common.{◌≡◌, ℕ, ℤ, true, false, not, List, [], ◌∷◌, ◌++◌, map, slice_get}
-use Rattle.std.proofs.Common.{Some, Ok, Err, refl, ap, subst, sym, ◌∙◌, nat_eq, length, take}
+use Rattle.std.proofs.Common.{arith, ◌≡◌, ℕ, true, false, not, List, [], ◌∷◌, slice_get, Some, Ok}
+use Rattle.std.proofs.Common.{Err, refl, ap, subst, sym, ◌∙◌, nat_eq, length}
 use Rattle.std.proofs.lemmas.List.{length-map}
 use Rattle.std.proofs.lemmas.Simd.{map-map}
 use Rattle.std.specs.Ordering.{int_eq}
 use lib.Pointwise.{pointwise}
 use Rattle.giv_files.specs.declared.file_id.FileId.TheVariants as file
 use Rattle.giv_files.specs.declared.made.Made.{Made}
-use Rattle.giv_files.specs.declared.refusal.Refusal.{Refusal}
 use Rattle.giv_files.specs.declared.refusal.Refusal.TheVariants as refusal
 use Rattle.giv_files.specs.declared.refusal.StageFault.{StageFault}
 use Rattle.giv_files.specs.declared.refusal.StageFault.TheVariants as stage
@@ -19,14 +18,14 @@ use Rattle.giv_files.specs.StageCalls.{StageGives, input_text}
 use Rattle.giv_files.specs.Tables.{TableRow}
 use Rattle.giv_files.proofs.Inputs.{no_faults, refused_append, refused_whole, whole_rule_broken}
 use Rattle.giv_files.proofs.Inputs.{whole_rule_kept}
-use Rattle.giv_files.proofs.StageCalls.{stage_made, stage_refused}
+use Rattle.giv_files.proofs.StageCalls.{stage_refused}
 use Rattle.line_cost_model.specs.Concepts.{cost_of, is_feasible}
-use Rattle.line_cost_model.specs.Problems.{CostedLine, ProblemParts}
-use Rattle.line_search.specs.ConceptTables.{concept_rows, frequencies_in, frequency_in, row_count}
+use Rattle.line_cost_model.specs.Problems.{ProblemParts}
+use Rattle.line_search.specs.ConceptTables.{concept_rows, frequencies_in, row_count}
 use Rattle.line_search.specs.GivenProblems.{problem_faults, problem_of}
 use Rattle.line_search.specs.Judged.{frequencies_of}
 use Rattle.line_search.specs.PinnedConcepts.{breaks_bounds, by_lines, differs_from_pool}
-use Rattle.line_search.specs.PinnedConcepts.{made_of_texts, marking_tree, pinned_concept_faults}
+use Rattle.line_search.specs.PinnedConcepts.{marking_tree}
 use Rattle.line_search.specs.PinnedConcepts.{pinned_concept_stage, pinned_input, pinned_made}
 use Rattle.line_search.specs.PinnedConcepts.{places_of}
 use Rattle.line_search.specs.PoolPlaces.{plain_rows}
@@ -42,11 +41,7 @@ module _ (problem : ProblemParts) (table : List TableRow) where
 
   -- the rows that the rules see give the lines the same frequencies
   same_frequencies : frequencies_in problem (plain_rows table) ≡ frequencies_in problem table
-  same_frequencies = ap (λ (at : ℤ → ℕ). map (λ (line : CostedLine). at line.id) problem.lines)
-      (λ i line. (by_cells line (plain_rows table)
-      ∙ ap (frequency_by line) (map-map (λ (row : TableRow). row.cells)
-      (λ (row : TableRow). input.read row.cells) table)
-      ∙ sym (by_cells line table)) i)
+  same_frequencies = grind (arith, by_cells, frequency_by, map-map)
 
   module _ (kept : table_row_faults input table ≡ []) (frequencies : List ℕ)
       (are : frequencies ≡ frequencies_in problem table) where
@@ -71,23 +66,13 @@ module _ (problem : ProblemParts) (table : List TableRow) where
         → slice_get (table_faults input table) 0
         ≡ Some (refusal.BadRow file.PinnedConcept 0 why.PoolDiffers)
     other_count differ =
-        let each : length frequencies ≡ length problem.lines =
-        ap length are ∙ length-map problem.lines (λ line. frequency_in table line.id) in
-        let own : length (places_of (concept_rows problem frequencies)) ≡ row_count problem.lines =
-        length-map (concept_rows problem frequencies) (λ row. take 3 row.cells)
-        ∙ concept_long problem frequencies each in
-        other_rows (other_lists (places_of (by_lines (plain_rows table)))
-        (places_of (concept_rows problem frequencies))
-        ((λ i. nat_eq (places_count table i) (own i)) ∙ differ))
+        grind (arith, length-map, concept_long, other_rows, other_lists, nat_eq, places_count)
 
     module _ (same : true
         ≡ pointwise (pointwise int_eq) (places_of (by_lines (plain_rows table)))
         (places_of (concept_rows problem frequencies))) where
       of_pool : differs_from_pool problem (plain_rows table) ≡ false
-      of_pool =
-          ap (λ fs. not (pointwise (pointwise int_eq) (places_of (by_lines (plain_rows table)))
-          (places_of (concept_rows problem fs)))) given
-          ∙ ap not (sym same)
+      of_pool = grind (arith, given)
 
       pub other_bounds : false ≡ is_feasible problem frequencies
           → slice_get (table_faults input table) 0
@@ -115,29 +100,16 @@ module _ (bundle : BundleParts) where
   pub problem_refused : (fault : StageFault) → Refuses (problem_faults bundle) fault
       → StageGives (pinned_concept_stage bundle) (Err fault)
   unfolding pinned_concept_stage
-  problem_refused fault by =
-      stage_refused (pinned_concept_faults bundle)
-      (made_of_texts (problem_of bundle) (input_text bundle 5) (input_text bundle 6)) fault
-      (refused_append (problem_faults bundle)
-      (input_faults (pinned_input (problem_of bundle)) (input_text bundle 5)) fault by)
+  problem_refused fault by = grind (arith, stage_refused, refused_append)
 
   module _ (problem : ProblemParts) (none : problem_faults bundle ≡ [])
       (is : problem ≡ problem_of bundle)
       (concept : List ℕ) (told : concept ≡ input_text bundle 5) where
-    own_faults : input_faults (pinned_input problem) concept ≡ pinned_concept_faults bundle
-    own_faults =
-        (λ i. input_faults (pinned_input (is i)) (told i))
-        ∙ ap (λ (faults : List Refusal). faults
-        ++ input_faults (pinned_input (problem_of bundle)) (input_text bundle 5)) (sym none)
-
     pub concept_refused : (fault : StageFault)
         → Refuses (input_faults (pinned_input problem) concept) fault
         → StageGives (pinned_concept_stage bundle) (Err fault)
     unfolding pinned_concept_stage
-    concept_refused fault by =
-        stage_refused (pinned_concept_faults bundle)
-        (made_of_texts (problem_of bundle) (input_text bundle 5) (input_text bundle 6)) fault
-        (subst (λ faults. Refuses faults fault) own_faults by)
+    concept_refused fault by = grind arith
 
     pub concept_taken : (frequencies : List ℕ) → input_faults (pinned_input problem) concept ≡ []
         → frequencies ≡ frequencies_of problem concept → (tree : List ℕ)
@@ -147,11 +119,4 @@ module _ (bundle : BundleParts) where
         (cost_of problem frequencies) tree)
         → pinned_concept_stage bundle ≡ Ok made
     unfolding pinned_concept_stage
-    concept_taken frequencies kept are tree told_tree made made_is =
-        stage_made (pinned_concept_faults bundle)
-        (made_of_texts (problem_of bundle) (input_text bundle 5) (input_text bundle 6)) made
-        (sym own_faults ∙ kept)
-        (made_is
-        ∙ (λ i. pinned_made problem (are i) (marking_tree problem (cost_of problem (are i))
-        (told_tree i)))
-        ∙ (λ i. made_of_texts (is i) (told i) (input_text bundle 6)))
+    concept_taken frequencies kept are tree told_tree made made_is = grind arith

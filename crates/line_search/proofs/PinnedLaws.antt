@@ -1,7 +1,6 @@
 -- The laws of the stage of a planner's concept: which files it makes, that they are right, and
 -- which file a refusal names.
-use Rattle.std.proofs.Common.{◌≡◌, ℕ, Bool, true, List, Option, Some, None, Result, Ok, Err, ap}
-use Rattle.std.proofs.Common.{lit<}
+use Rattle.std.proofs.Common.{arith, ◌≡◌, Bool, true, Result, Ok, Err}
 use Rattle.std.specs.Prelude.{IfOk}
 use Rattle.giv_files.specs.declared.file_id.FileId.{FileId}
 use Rattle.giv_files.specs.declared.file_id.FileId.TheVariants as file
@@ -15,40 +14,21 @@ use Rattle.giv_files.specs.NamedFiles.{NamesInput}
 use Rattle.giv_files.specs.Settings.{BundleParts, Fits}
 use Rattle.giv_files.specs.StageCalls.{StageGives, input_text}
 use Rattle.giv_files.proofs.Named.{AllName, input_names, names_both, refused_names}
-use Rattle.giv_files.proofs.StageCalls.{made_unless}
 use Rattle.ptn_network.specs.Loads.{load_input}
 use Rattle.ptn_network.specs.Networks.{network_in}
 use Rattle.line_pool.specs.PoolCosts.{pool_cost_input}
-use Rattle.line_cost_model.specs.Concepts.{cost_of}
-use Rattle.line_cost_model.specs.Problems.{ProblemParts}
-use Rattle.branch_certificate.specs.declared.node.Node.{Node}
 use Rattle.line_search.specs.GivenProblems.{lines_in, problem_faults, problem_of}
-use Rattle.line_search.specs.Judged.{frequencies_of}
-use Rattle.line_search.specs.PinnedConcepts.{made_of_texts, marking_tree, pinned_concept_faults}
-use Rattle.line_search.specs.PinnedConcepts.{pinned_concept_stage, pinned_input, pinned_made}
+use Rattle.line_search.specs.PinnedConcepts.{made_of_texts, pinned_concept_faults}
+use Rattle.line_search.specs.PinnedConcepts.{pinned_concept_stage, pinned_input}
 use Rattle.line_search.specs.RightPinned.{ConceptIsRight}
 use Rattle.line_search.proofs.ConceptNames.{problem_names}
 use Rattle.line_search.proofs.PinnedReads.{pinned_right}
-
-pinned_makes : (problem : ProblemParts) (frequencies : List ℕ) (tree : Option (List Node))
-    (made : Made) → pinned_made problem frequencies tree ≡ made
-    → MakesAs stage.PinnedConcept (ids_of made.files)
-pinned_makes problem frequencies (Some nodes) made is =
-    (0, lit< tt, ap (λ (made : Made). ids_of made.files) is)
-pinned_makes problem frequencies None made is =
-    (1, lit< tt, ap (λ (made : Made). ids_of made.files) is)
 
 -- it makes the files that it may make: without a mark there is no Tree
 pub pinned_concept_makes : (bundle : BundleParts) (made : Made)
     → pinned_concept_stage bundle ≡ Ok made → MakesAs stage.PinnedConcept (ids_of made.files)
 unfolding pinned_concept_stage
-pinned_concept_makes bundle made is =
-    let problem = problem_of bundle in
-    let frequencies = frequencies_of problem (input_text bundle 5) in
-    pinned_makes problem frequencies
-    (marking_tree problem (cost_of problem frequencies) (input_text bundle 6)) made
-    (made_unless (pinned_concept_faults bundle)
-    (made_of_texts problem (input_text bundle 5) (input_text bundle 6)) made is)
+pinned_concept_makes bundle made is = grind arith
 
 -- what it makes is right
 pub pinned_concept_right : (bundle : BundleParts) (made : Made) → bundle.stage ≡ stage.PinnedConcept

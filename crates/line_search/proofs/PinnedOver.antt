@@ -1,19 +1,12 @@
 -- What is right about a line concept, whoever gave it: over the inputs of the search alone, and
 -- what a judge finds.
-use Rattle.std.proofs.Common.{◌≡◌, ℕ, List, [], Option, Some, None, IfSome, refl, subst, sym, ◌∙◌}
+use Rattle.std.proofs.Common.{arith, ◌≡◌, List, refl}
 use Rattle.giv_files.specs.declared.made.MadeFile.{MadeFile}
-use Rattle.giv_files.specs.Columns.{concept_columns}
 use Rattle.giv_files.specs.Settings.{BundleParts}
 use Rattle.giv_files.specs.StageCalls.{input_text}
-use Rattle.giv_files.specs.Writing.{ReadsBack}
-use Rattle.ptn_network.specs.Networks.{NetworkParts, network_in}
-use Rattle.line_pool.specs.Pools.{concept_faults}
-use Rattle.line_cost_model.specs.Concepts.{IsFeasible}
-use Rattle.line_cost_model.specs.Problems.{ProblemParts}
-use Rattle.line_search.specs.ConceptTables.{concept_rows}
+use Rattle.ptn_network.specs.Networks.{network_in}
 use Rattle.line_search.specs.GivenProblems.{problem_faults, problem_of}
-use Rattle.line_search.specs.Judged.{Marks, first_broken}
-use Rattle.line_search.specs.RightConcepts.{ConceptFilesAreRight, IsMarked}
+use Rattle.line_search.specs.RightConcepts.{ConceptFilesAreRight}
 use Rattle.line_search.specs.RightPinned.{ConceptIsRight}
 
 -- two bundles have the same texts of stops, of edges, of the pool, of loads and of costs
@@ -39,44 +32,9 @@ module _ (bundle other : BundleParts) (same : HaveSameTexts bundle other) where
   -- a concept that is right over the one is right over the other
   pub right_over : (files : List MadeFile) → ConceptIsRight bundle files
       → ConceptIsRight other files
-  right_over files right = record {
-    inputs = sym same_faults ∙ right.inputs;
-    text = right.text;
-    tree = right.tree;
-    each = right.each;
-    frequencies = right.frequencies;
-    reads = subst (λ (problem : ProblemParts).
-        ReadsBack concept_columns (concept_rows problem right.frequencies) right.text)
-        same_problem right.reads;
-    feasible = subst (λ (problem : ProblemParts). IsFeasible problem right.frequencies)
-        same_problem right.feasible;
-    marked = subst (λ (problem : ProblemParts).
-        IfSome right.tree (λ tree. Marks problem right.frequencies tree))
-        same_problem right.marked;
-    passes = subst (λ (problem : ProblemParts). first_broken problem right.text right.tree ≡ None)
-        same_problem right.passes;
-    accepted = subst (λ (network : NetworkParts). concept_faults network right.text ≡ [])
-        same_network right.accepted;
-  }
-
-only_marks : (problem : ProblemParts) (frequencies : List ℕ) (tree : Option (List ℕ))
-    → IfSome tree (IsMarked problem frequencies)
-    → IfSome tree (λ text. Marks problem frequencies text)
-only_marks problem frequencies None marked = tt
-only_marks problem frequencies (Some text) marked = marked.marks
+  right_over files right = grind (arith, same_faults, same_problem, same_network)
 
 -- a concept that a search found is right as one from any hand is
 pub found_right : (bundle : BundleParts) (files : List MadeFile) → ConceptFilesAreRight bundle files
     → ConceptIsRight bundle files
-found_right bundle files right = record {
-  inputs = right.inputs;
-  text = right.text;
-  tree = right.tree;
-  each = right.each;
-  frequencies = right.frequencies;
-  reads = right.reads;
-  feasible = right.feasible;
-  marked = only_marks (problem_of bundle) right.frequencies right.tree right.marked;
-  passes = right.passes;
-  accepted = right.accepted;
-}
+found_right bundle files right = grind arith

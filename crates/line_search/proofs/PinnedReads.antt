@@ -1,7 +1,7 @@
 -- What is made of a planner's concept is right.
-use Rattle.std.proofs.Common.{◌≡◌, ℕ, ℤ, pos, Bool, true, false, cond, not, List, [], ◌∷◌}
-use Rattle.std.proofs.Common.{map, slice_get, option_map, is_some, Option, Some, None, Ok, refl, ap}
-use Rattle.std.proofs.Common.{sym, ◌∙◌, subst}
+use Rattle.std.proofs.Common.{◌≡◌, ℕ, pos, Bool, true, false, cond, not, List, [], ◌∷◌, arith}
+use Rattle.std.proofs.Common.{slice_get, option_map, is_some, Option, Some, None, Ok, refl, ap, sym}
+use Rattle.std.proofs.Common.{◌∙◌, subst}
 use Rattle.std.proofs.lemmas.Simd.{map-map}
 use Rattle.giv_files.specs.declared.made.Made.{Made}
 use Rattle.giv_files.specs.declared.row_why.RowWhy.TheVariants as why
@@ -15,7 +15,7 @@ use Rattle.giv_files.proofs.Inputs.{parts_sound, table_sound, whole_rule_sound}
 use Rattle.giv_files.proofs.Ranges.{back_none, front_none}
 use Rattle.giv_files.proofs.StageCalls.{made_unless, none_unless}
 use Rattle.line_cost_model.specs.Concepts.{IsFeasible, cost_of, is_feasible}
-use Rattle.line_cost_model.specs.Problems.{CostedLine, IsProblem, ProblemParts}
+use Rattle.line_cost_model.specs.Problems.{IsProblem, ProblemParts}
 use Rattle.line_cost_model.proofs.Feasible.{test_means}
 use Rattle.branch_certificate.specs.declared.fault.TreeFault.{TreeFault}
 use Rattle.branch_certificate.specs.declared.node.Node.{Node}
@@ -93,11 +93,7 @@ module _ (bundle : BundleParts) (none : pinned_concept_faults bundle ≡ []) whe
 
   -- the rows that the rules see give the lines the same frequencies
   same : frequencies_in problem (records input table) ≡ frequencies
-  same = ap (λ (at : ℤ → ℕ). map (λ (line : CostedLine). at line.id) problem.lines)
-      (λ i line. (by_cells line (records input table)
-      ∙ ap (frequency_by line) (map-map (λ (row : TableRow). row.cells)
-      (λ (row : TableRow). input.read row.cells) table)
-      ∙ sym (by_cells line table)) i)
+  same = grind (arith, by_cells, frequency_by, map-map)
 
   keeps_bounds : breaks_bounds problem (records input table) ≡ false
   keeps_bounds =

@@ -1,5 +1,7 @@
 -- Edges with their bounds, one after the other.
-use Rattle.std.proofs.Common.{◌≡◌, ℕ, ℤ, pos, negsuc, ◌+◌, ◌≤◌, ◌≤ℤ◌, ◌<ℤ◌, arith, List, [], ◌∷◌, ◌++◌, length, map, take, slice_get, zip, unsigned_abs, FitsSigned, to_z, of_z, w64, refl, ap, subst, sym, ◌∙◌, Some, option_map}
+use Rattle.std.proofs.Common.{◌≡◌, ℕ, ℤ, pos, negsuc, ◌+◌, ◌≤◌, ◌≤ℤ◌, ◌<ℤ◌, arith, List, [], ◌∷◌}
+use Rattle.std.proofs.Common.{◌++◌, length, map, take, slice_get, zip, unsigned_abs, FitsSigned}
+use Rattle.std.proofs.Common.{to_z, of_z, w64, refl, ap, subst, sym, ◌∙◌, Some, option_map}
 use Rattle.std.specs.List.{All}
 use Rattle.std.specs.List.Sorted.{IsStrictlySortedBy}
 use Rattle.std.specs.Ordering.{int_cmp}
@@ -38,27 +40,12 @@ bounded_length edges loads each =
 -- all of them
 pub edges_whole : (edges : List Edge) (loads : List EdgeLoad) (i : ℕ) → length loads ≡ length edges
     → length edges ≤ i → take i (bounded edges loads) ≡ bounded edges loads
-edges_whole edges loads i each past =
-    map_whole (λ at. bounded_by at.0 at.1) (zip edges loads) (length edges) i
-    (sym (zip_length edges loads each)) past
-
--- numbers that are not negative, as such
-pub abs_rises : (x y : ℤ) → pos 0 ≤ℤ x → x ≤ℤ y → unsigned_abs x ≤ unsigned_abs y
-abs_rises (pos a) (pos b) low h = omega (arith, ints, h)
-abs_rises (pos a) (negsuc b) low h = absurd (omega (arith, ints, h))
-abs_rises (negsuc a) y low h = absurd (omega (arith, ints, low))
+edges_whole edges loads i each past = grind (arith, map_whole, zip_length)
 
 -- a load bounds its edge
 pub is_bounded : (edge : Edge) (load : EdgeLoad) → IsId edge.id → IsLoad load
     → IsBoundedEdge (bounded_by edge load)
-is_bounded edge load id sound =
-    let least = sound.bounded.least_low in
-    let order = sound.bounded.in_order in
-    record {
-      id = id;
-      in_order = abs_rises load.least load.most least order;
-      few = abs_rises load.most (pos 1000) (omega (arith, ints, least, order)) sound.rare;
-    }
+is_bounded edge load id sound = grind arith
 
 -- numbers that are not negative and not too great fit into a word
 pub fits : (x : ℤ) → pos 0 ≤ℤ x → x ≤ℤ pos 1000000000000000000 → FitsSigned w64 x
@@ -75,14 +62,7 @@ pub told_edge : (edge : Edge) (load : EdgeLoad) (least most : ℕ) → IsId edge
     → least ≡ unsigned_abs (to_z w64 (of_z w64 load.least))
     → most ≡ unsigned_abs (to_z w64 (of_z w64 load.most))
     → record { id = to_z w64 (of_z w64 edge.id); least = least; most = most } ≡ bounded_by edge load
-told_edge edge load least most id sound p q =
-    let low = sound.bounded.least_low in
-    let order = sound.bounded.in_order in
-    let own_least : least ≡ unsigned_abs load.least = p ∙ ap unsigned_abs (to_z-of_z w64 load.least
-    (record { sfits = omega (arith, ints, low, order, sound.rare) })) in
-    let own_most : most ≡ unsigned_abs load.most = q ∙ ap unsigned_abs (to_z-of_z w64 load.most
-    (record { sfits = omega (arith, ints, low, order, sound.rare) })) in
-    λ k. record { id = told_id edge.id id k; least = own_least k; most = own_most k }
+told_edge edge load least most id sound p q = grind (arith, unsigned_abs, to_z-of_z, ints, told_id)
 
 module _ (edges : List Edge) (loads : List EdgeLoad) (i : ℕ) (edge : Edge) (load : EdgeLoad)
     (at : slice_get edges i ≡ Some edge) (loaded : slice_get loads i ≡ Some load) where

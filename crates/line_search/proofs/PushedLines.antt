@@ -1,9 +1,10 @@
 -- Lines with their costs, one after the other.
-use Rattle.std.proofs.Common.{◌≡◌, ℕ, ℤ, pos, ◌+◌, ◌<◌, ◌≤◌, ◌<ℤ◌, arith, List, [], ◌∷◌, ◌++◌, length, map, take, slice_get, zip, unsigned_abs, to_z, of_z, w64, refl, ap, subst, sym, ◌∙◌, Option, Some, None, option_map}
+use Rattle.std.proofs.Common.{◌≡◌, ℕ, ℤ, ◌+◌, ◌<◌, ◌≤◌, ◌<ℤ◌, arith, List, [], ◌∷◌, ◌++◌, length}
+use Rattle.std.proofs.Common.{map, take, slice_get, zip, unsigned_abs, to_z, of_z, w64, refl, ap}
+use Rattle.std.proofs.Common.{subst, sym, ◌∙◌, Option, Some, None, option_map}
 use Rattle.std.specs.List.{All}
 use Rattle.std.specs.List.Sorted.{IsStrictlySortedBy}
 use Rattle.std.specs.Ordering.{int_cmp}
-use Rattle.std.proofs.lemmas.Int.{to_z-of_z}
 use Rattle.std.proofs.lemmas.Option.{same_Some, slice_get-map}
 use Rattle.ptn_network.specs.declared.edge.Edge.{Edge}
 use Rattle.line_pool.specs.GivenCosts.{IsCost}
@@ -13,7 +14,6 @@ use Rattle.line_cost_model.proofs.Mapped.{map_more, map_whole}
 use Rattle.line_search.specs.GivenProblems.{costed_by}
 use Rattle.line_search.proofs.ConceptRows.{zip_length}
 use Rattle.line_search.proofs.Lists.{below, zip_at}
-use Rattle.line_search.proofs.PushedEdges.{abs_rises, fits, told_id}
 
 -- the lines with their costs
 abbrev pub costed : List LineParts → List ℤ → List CostedLine
@@ -31,9 +31,7 @@ costed_ids (line ∷ lines) (cost ∷ costs) each =
 -- all of them
 pub lines_whole : (lines : List LineParts) (costs : List ℤ) (i : ℕ) → length costs ≡ length lines
     → length lines ≤ i → take i (costed lines costs) ≡ costed lines costs
-lines_whole lines costs i each past =
-    map_whole (λ at. costed_by at.0 at.1) (zip lines costs) (length lines) i
-    (sym (zip_length lines costs each)) past
+lines_whole lines costs i each past = grind (arith, map_whole, zip_length)
 
 -- the line at a place, by what is told of it
 pub record IsAt (lines : List LineParts) (i : ℕ) (id : ℤ) (over : List ℕ) : Type 0 where
@@ -62,14 +60,7 @@ line_at lines i id over is own = one (slice_get lines i) refl is own
 -- a line of a pool with its cost, over as many edges
 pub is_costed : (edges : List Edge) (line : LineParts) (cost : ℤ) (count : ℕ) → count ≡ length edges
     → IsLine edges line → IsCost cost → IsCostedLine count (costed_by line cost)
-is_costed edges line cost count same sound cheap =
-    record {
-      id = record { low = sound.id_least; high = sound.id_greatest };
-      cheap = abs_rises cost (pos 1000000000000000000) cheap.low cheap.high;
-      some = omega (arith, sound.some);
-      distinct = sound.apart;
-      there = subst (λ count. All (λ edge. edge < count) line.edges) (sym same) sound.there;
-    }
+is_costed edges line cost count same sound cheap = grind arith
 
 -- the line of what is told of it
 pub told_line : (line : LineParts) (id cost : ℤ) (over : List ℕ) → IsId line.id → IsCost cost
@@ -79,11 +70,7 @@ pub told_line : (line : LineParts) (id cost : ℤ) (over : List ℕ) → IsId li
       cost = unsigned_abs (to_z w64 (of_z w64 cost));
       edges = over;
     } ≡ costed_by line cost
-told_line line id cost over own cheap p q =
-    let same : to_z w64 (of_z w64 id) ≡ line.id = ap (λ id. to_z w64 (of_z w64 id)) p
-    ∙ told_id line.id own in
-    let cost_is = to_z-of_z w64 cost (fits cost cheap.low cheap.high) in
-    λ k. record { id = same k; cost = unsigned_abs (cost_is k); edges = q k }
+told_line line id cost over own cheap p q = grind arith
 
 module _ (lines : List LineParts) (costs : List ℤ) (i : ℕ) (line : LineParts) (cost : ℤ)
     (at : slice_get lines i ≡ Some line) (costs_it : slice_get costs i ≡ Some cost) where

@@ -1,5 +1,5 @@
 -- What each input of the search gives: the first fault, or a part of the line problem.
-use Rattle.std.proofs.Common.{◌≡◌, ℕ, ℤ, List, [], ◌++◌, ap, subst, sym, ◌∙◌}
+use Rattle.std.proofs.Common.{◌≡◌, ℕ, ℤ, List, [], ◌++◌, ap, subst, sym, ◌∙◌, arith}
 use Rattle.giv_files.specs.declared.file_id.FileId.TheVariants as file
 use Rattle.giv_files.specs.declared.refusal.Refusal.{Refusal}
 use Rattle.giv_files.specs.declared.refusal.StageFault.{StageFault}
@@ -45,12 +45,7 @@ module _ (bundle : BundleParts) where
     behind_network : chain [] (pool_faults network (text 2)) (loads_faults network)
         (cost_faults (pool_of network (text 2))) ≡ problem_faults bundle
     unfolding problem_faults
-    behind_network =
-        ap (λ some. chain [] (pool_faults some (text 2)) (loads_faults some)
-        (cost_faults (pool_of some (text 2)))) is
-        ∙ ap (λ first. chain first (pool_faults (network_of (text 0) (text 1)) (text 2))
-        (loads_faults (network_of (text 0) (text 1)))
-        (cost_faults (pool_of (network_of (text 0) (text 1)) (text 2)))) (sym none)
+    behind_network = grind arith
 
     -- a text that gives no pool
     pub pool_refused : (fault : StageFault)
@@ -62,11 +57,7 @@ module _ (bundle : BundleParts) where
     module _ (pool : List LineParts) (fine : pool_faults network (input_text bundle 2) ≡ [])
         (lines : pool ≡ pool_of network (input_text bundle 2)) where
       behind_pool : chain [] [] (loads_faults network) (cost_faults pool) ≡ problem_faults bundle
-      behind_pool =
-          ap (λ some. chain [] [] (loads_faults network) (cost_faults some)) lines
-          ∙ ap (λ first. chain [] first (loads_faults network)
-          (cost_faults (pool_of network (text 2)))) (sym fine)
-          ∙ behind_network
+      behind_pool = grind (arith, behind_network)
 
       -- a text that gives no loads
       pub loads_refused : (fault : StageFault)
@@ -94,14 +85,4 @@ module _ (bundle : BundleParts) where
             → problem ≡ problem_over network.edges loads pool costs
             → (problem_faults bundle ≡ []) × (problem ≡ problem_of bundle)
         unfolding problem_of
-        given costs problem costed costs_are made = (
-          sym behind_loads ∙ costed,
-          made
-              ∙ ap (problem_over network.edges loads pool) costs_are
-              ∙ ap (λ some. problem_over network.edges some pool (costs_of pool (text 4))) loads_are
-              ∙ ap (λ some. problem_over network.edges (loads_of file.Load network.edges (text 3)) some
-              (costs_of some (text 4))) lines
-              ∙ ap (λ (some : NetworkParts). problem_over some.edges
-              (loads_of file.Load some.edges (text 3)) (pool_of some (text 2))
-              (costs_of (pool_of some (text 2)) (text 4))) is,
-        )
+        given costs problem costed costs_are made = grind (arith, behind_loads)

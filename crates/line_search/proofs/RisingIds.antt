@@ -1,28 +1,20 @@
 -- Ids that rise, and the ids that they are.
-use Rattle.std.proofs.Common.{◌≡◌, ℤ, true, false, ◌&&◌, not, List, [], ◌∷◌, map, inl, inr}
-use Rattle.std.proofs.Common.{is_some, Option, Some, None, refl, ap, subst, sym, ◌∙◌}
+use Rattle.std.proofs.Common.{◌≡◌, ℤ, false, ◌&&◌, not, List, [], ◌∷◌, map, inl, inr, arith}
+use Rattle.std.proofs.Common.{is_some, Option, Some, None, refl, ap, sym, ◌∙◌}
 use Rattle.std.specs.List.{list_any}
 use Rattle.std.specs.Map.{keys_of}
-use Rattle.std.specs.Ordering.{int_cmp, int_eq, is_eq, is_lt, eq_by_cmp, ordering_reverse}
+use Rattle.std.specs.Ordering.{int_cmp, int_eq, is_eq, is_lt, ordering_reverse}
 use Rattle.std.specs.declared.cmp.Ordering.{Ordering}
 use Rattle.std.specs.declared.cmp.Ordering.TheVariants.{Less, Equal, Greater}
 use Rattle.std.specs.FinMap.{find, int_cmp-IsAntisymmetric}
 use Rattle.std.specs.FinMap.Entries.{find-put, same_entries}
-use Rattle.std.specs.Cmp.{eq_by_cmp_equiv}
-use Rattle.std.proofs.lemmas.Bool.Decides.{Decides-int_eq, same_from_decides}
 use Rattle.std.proofs.lemmas.Cmp.{int_cmp_total}
-use Rattle.std.proofs.lemmas.Map.Lookups.{exact_signed}
-use Rattle.std.proofs.lemmas.Map.Views.{tells_apart}
 use Rattle.std.proofs.lemmas.Bool.{cases_Bool}
 use Rattle.ptn_network.specs.Networks.{by_id, rising}
 use Rattle.ptn_network.proofs.ById.{by_id_sorted}
 
 same_test : (x y : ℤ) → is_eq (int_cmp x y) ≡ int_eq x y
-same_test x y = same_from_decides _ _ (
-  tells_apart exact_signed x y,
-  λ same. subst (λ z. eq_by_cmp int_cmp x z ≡ true) same ((eq_by_cmp_equiv int_cmp_total).refl x),
-)
-    (Decides-int_eq x y)
+same_test x y = grind arith
 
 -- neither of two ids is below the other where they are one
 pub tied : (x y : ℤ) → (not (is_lt (int_cmp x y)) && not (is_lt (int_cmp y x))) ≡ int_eq x y
@@ -42,10 +34,7 @@ units ids = map (λ id. (id, tt {0})) ids
 among : (q : ℤ) (es : List (ℤ × Unit {0}))
     → list_any (int_eq q) (keys_of es) ≡ is_some (find int_cmp q es)
 among q [] = refl
-among q (e ∷ es) = rw (← same_test q e.0) (elim (cases_Bool (is_eq (int_cmp q e.0))) [
-  | inl is ↦ rw is refl
-  | inr is ↦ rw is (among q es)
-])
+among q (e ∷ es) = grind (arith, same_test, cases_Bool, among q es)
 
 found_there : (q : ℤ) (ids : List ℤ)
     → is_some (find int_cmp q (by_id (units ids))) ≡ list_any (int_eq q) ids
@@ -80,8 +69,4 @@ same_rising ids others same =
 
 -- an id below another one is not that one
 pub apart : (x y : ℤ) → int_cmp x y ≡ Less → (int_eq x y ≡ false) × (int_eq y x ≡ false)
-apart x y below = (
-  sym (same_test x y) ∙ ap is_eq below,
-  sym (same_test y x) ∙ ap is_eq (int_cmp_total.antisymm y x)
-      ∙ ap (λ o. is_eq (ordering_reverse o)) below,
-)
+apart x y below = grind arith

@@ -1,8 +1,8 @@
 -- How many rows a concept has.
 use Rattle.std.proofs.Common.{◌≡◌, ℕ, ◌+◌, ◌-◌, ◌<◌, ◌≤◌, Bool, true, false, nat_eq, ℤ, List, []}
-use Rattle.std.proofs.Common.{◌∷◌, length, map, drop, get_or, slice_get, zip, refl, ap, sym, ◌∙◌}
-use Rattle.std.proofs.Common.{arith, Some, option_map, pos}
-use Rattle.std.specs.List.{enumerate_from, flat_map}
+use Rattle.std.proofs.Common.{◌∷◌, length, drop, get_or, slice_get, zip, refl, ap, sym, ◌∙◌, arith}
+use Rattle.std.proofs.Common.{Some, option_map, pos}
+use Rattle.std.specs.List.{flat_map}
 use Rattle.std.specs.Ordering.{int_eq}
 use Rattle.std.proofs.lemmas.Bool.{eq-eqb, eqb-true, false≢true, ne_eqb, false_from_ne_true}
 use Rattle.std.proofs.lemmas.List.{at_drop_more, length-append, length-map}
@@ -12,7 +12,7 @@ use Rattle.std.specs.Cmp.Rules.{signed_items}
 use lib.Pointwise.{pointwise, pointwise_decides}
 use Rattle.giv_files.specs.Tables.{TableRow}
 use Rattle.line_cost_model.specs.Problems.{CostedLine, ProblemParts}
-use Rattle.line_search.specs.ConceptTables.{concept_rows, line_rows, row_at, row_count}
+use Rattle.line_search.specs.ConceptTables.{concept_rows, line_rows, row_count}
 use Rattle.line_search.specs.Judged.{same_cells}
 
 no_line : CostedLine
@@ -42,17 +42,11 @@ same_test a b c d there back = by (nat_eq a b) (nat_eq c d) refl refl
 module _ (lines : List CostedLine) (i left : ℕ) (edges : List ℕ) (there : i < length lines)
     (is : option_map (λ at. at.edges) (slice_get lines i) ≡ Some edges) where
   pub too_few : left < length edges → nat_eq left (row_count (drop i lines)) ≡ false
-  too_few less =
-      let rows = rows_behind lines i edges there is in
-      ne_eqb left (row_count (drop i lines)) (λ same. omega (arith, same, rows, less))
+  too_few less = grind (arith, rows_behind, ne_eqb)
 
   pub line_passed : length edges ≤ left → nat_eq left (row_count (drop i lines))
       ≡ nat_eq (left - length edges) (row_count (drop (i + 1) lines))
-  line_passed enough =
-      let rows = rows_behind lines i edges there is in
-      same_test left (row_count (drop i lines)) (left - length edges)
-      (row_count (drop (i + 1) lines))
-      (λ same. omega (arith, same, rows, enough)) (λ same. omega (arith, same, rows, enough))
+  line_passed enough = grind (arith, rows_behind, same_test)
 
 -- ---- the rows of a concept
 
@@ -63,13 +57,13 @@ rows_of_all : (problem : ProblemParts) (lines : List CostedLine) (frequencies : 
 rows_of_all problem [] frequencies each = refl
 rows_of_all problem (line ∷ lines) [] each = absurd (omega (arith, each))
 rows_of_all problem (line ∷ lines) (frequency ∷ frequencies) each =
-    let rest = flat_map (λ at. line_rows problem at.0 at.1) (zip lines frequencies) in
-    length-append (line_rows problem line frequency) rest
-    ∙ ap (λ own. own + length rest)
-    (length-map (enumerate_from 1 line.edges) (row_at problem line.id frequency)
-    ∙ length-enumerate_from 1 line.edges)
-    ∙ ap (λ count. length line.edges + count)
-    (rows_of_all problem lines frequencies (omega (arith, each)))
+    grind (
+      arith,
+      length-append,
+      length-map,
+      length-enumerate_from,
+      rows_of_all problem lines frequencies (omega (arith, each)),
+    )
 
 pub concept_long : (problem : ProblemParts) (frequencies : List ℕ)
     → length frequencies ≡ length problem.lines
@@ -86,7 +80,4 @@ other_lists xs ys differ = sym (false_from_ne_true _ (λ e.
 -- and so are rows of another number
 pub other_cells : (rows other : List TableRow) → nat_eq (length rows) (length other) ≡ false
     → false ≡ same_cells rows other
-other_cells rows other differ =
-    other_lists (map (λ row. row.cells) rows) (map (λ row. row.cells) other)
-    ((λ i. nat_eq (length-map rows (λ row. row.cells) i) (length-map other (λ row. row.cells) i))
-    ∙ differ)
+other_cells rows other differ = grind (arith, other_lists, nat_eq, length-map)

@@ -1,9 +1,12 @@
 -- What is known of a region by what is said of it.
-use Rattle.std.proofs.Common.{◌≡◌, ℕ, zero, suc, ◌+◌, ◌-◌, ◌<◌, ◌≤◌, Bool, true, false, cond, nat_le, nat_lt, List, [], ◌∷◌, length, filter_map, slice_get, Option, Some, None, IfSome, option_map, unwrap_or, refl, ap, sym, subst, ◌∙◌, arith, inl, inr}
+use Rattle.std.proofs.Common.{◌≡◌, ℕ, zero, suc, ◌+◌, ◌-◌, ◌<◌, ◌≤◌, Bool, true, false, cond}
+use Rattle.std.proofs.Common.{nat_le, List, [], ◌∷◌, length, filter_map, slice_get, Option, Some}
+use Rattle.std.proofs.Common.{None, IfSome, option_map, unwrap_or, refl, ap, sym, subst, ◌∙◌, arith}
+use Rattle.std.proofs.Common.{inl, inr}
 use Rattle.std.specs.List.{AllByRecursion, cons_option, enumerate_from}
 use Rattle.std.proofs.lemmas.List.{length-map}
 use Rattle.std.proofs.lemmas.Option.{none-some}
-use Rattle.std.proofs.lemmas.Bool.{ltb-true, ltb-false, leb-true, leb-false, cases_Bool}
+use Rattle.std.proofs.lemmas.Bool.{ltb-false, leb-true, leb-false, cases_Bool}
 use Rattle.line_cost_model.specs.declared.edge.BoundedEdge.{BoundedEdge}
 use Rattle.line_cost_model.specs.declared.range.LineRange.{LineRange}
 use Rattle.line_cost_model.specs.declared.side.Side.{Side}
@@ -30,19 +33,7 @@ some_then P Q (Some x) h f = f x h
 side_shows : (lines : List CostedLine) (region : List LineRange) (edge : ℕ) (bounds : BoundedEdge)
     (found : Side) → empty_side lines region edge bounds ≡ Some found
     → IsEmptyAt lines region edge bounds found
-side_shows lines region edge bounds found is =
-    elim (cases_Bool (nat_lt bounds.most (frequency_on lines (least_in region) edge))) [
-      | inl over ↦
-          let same : side.Over ≡ found = let e = rw over at is in cc in
-          subst (IsEmptyAt lines region edge bounds) same (ltb-true _ _ over)
-      | inr over ↦
-          elim (cases_Bool (nat_lt (frequency_on lines (greatest_in region) edge) bounds.least)) [
-            | inl under ↦
-                let same : side.Under ≡ found = let e = rw (over, under) at is in cc in
-                subst (IsEmptyAt lines region edge bounds) same (ltb-true _ _ under)
-            | inr under ↦ absurd (let e = rw (over, under) at is in cc)
-          ]
-    ]
+side_shows lines region edge bounds found is = grind arith
 
 -- the sides of edges from one on
 abbrev sides_on : ProblemParts → List LineRange → ℕ → List BoundedEdge → List (ℕ × Side)
@@ -123,15 +114,7 @@ side_none : (lines : List CostedLine) (region : List LineRange) (edge : ℕ) (bo
     → empty_side lines region edge bounds ≡ None
     → (frequency_on lines (least_in region) edge ≤ bounds.most)
     × (bounds.least ≤ frequency_on lines (greatest_in region) edge)
-side_none lines region edge bounds none =
-    elim (cases_Bool (nat_lt bounds.most (frequency_on lines (least_in region) edge))) [
-      | inl over ↦ absurd (let e = rw over at none in cc)
-      | inr over ↦
-          elim (cases_Bool (nat_lt (frequency_on lines (greatest_in region) edge) bounds.least)) [
-            | inl under ↦ absurd (let e = rw (over, under) at none in cc)
-            | inr under ↦ (ltb-false _ _ over, ltb-false _ _ under)
-          ]
-    ]
+side_none lines region edge bounds none = grind arith
 
 -- ---- regions of one concept
 

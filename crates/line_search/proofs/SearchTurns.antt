@@ -1,7 +1,7 @@
 -- A search entry by entry, and what it found at its end.
 use Rattle.std.proofs.Common.{◌≡◌, ℕ, ◌+◌, ◌≤◌, ◌<◌, ◌∙◌, Bool, if◌then◌else◌, List, [], ◌∷◌, ◌++◌}
-use Rattle.std.proofs.Common.{length, take, refl, arith, ap, sym, subst, Option, Some, None, All}
-use Rattle.std.proofs.Common.{Result, Ok, Err, OnErr, true, false}
+use Rattle.std.proofs.Common.{length, take, arith, ap, sym, subst, Option, Some, None, All, Result}
+use Rattle.std.proofs.Common.{Ok, Err, OnErr, true, false}
 use Rattle.std.proofs.lemmas.Bool.{le-leb, lt-leb}
 use Rattle.std.proofs.lemmas.List.{append_assoc, append-nil, length-append, map-append, take_all}
 use Rattle.std.proofs.lemmas.List.Elements.{All-nil, All-push}
@@ -29,22 +29,7 @@ pub search_begun : (problem : ProblemParts) (walk : WalkedRegions) (nodes : List
     → walk ≡ record { problem = problem; region = root_of problem; waiting = [] } → nodes ≡ []
     → IsSearchedBy problem (walk.region ∷ walk.waiting) nodes None 0
 unfolding visits
-search_begun problem walk nodes walk_is none =
-    let regions : walk.region ∷ walk.waiting ≡ root_of problem ∷ [] =
-    λ i. (walk_is i).region ∷ (walk_is i).waiting in
-    record {
-      done = [];
-      whole = ap (λ regions. visits problem regions None) regions ∙ root_visits problem;
-      nodes_are = none;
-      best_is = refl;
-      count_is = refl;
-      visited = subst (AllByRecursion (IsVisited problem)) (sym regions) (root_visited problem, tt);
-      written = record {
-        names = subst (All (NamesWhatIs problem)) (sym none) (All-nil (NamesWhatIs problem));
-        written = subst (All CanBeWritten) (sym none) (All-nil CanBeWritten);
-      };
-      priced = tt;
-    }
+search_begun problem walk nodes walk_is none = grind (arith, root_visits, root_visited, All-nil)
 
 -- ---- one entry more
 
@@ -87,34 +72,14 @@ pub search_done : (problem : ProblemParts) (nodes : List Node) (best : Option Be
     → IsResult problem budget (record { best = best; tree = Some nodes; entries = count })
 unfolding visits
 search_done problem nodes best count budget so few =
-    let all : so.done ≡ listing problem = sym (append-nil so.done) ∙ so.whole in
-    let long : length (listing problem) ≡ count = ap length (sym all) ∙ so.count_is in
-    let within : length (listing problem) ≤ budget = omega (arith, long, few) in
-    record {
-      best_is = so.best_is
-          ∙ ap (best_after None) (all ∙ sym (take_all budget (listing problem) within));
-      tree_is = ap Some (so.nodes_are ∙ ap nodes_in all)
-          ∙ ap (λ b. if b then Some (nodes_in (listing problem)) else None)
-          (sym (le-leb (length (listing problem)) budget within));
-      entries_are = sym long ∙ sym (min-eq_right within);
-      written = so.written;
-      priced = so.priced;
-    }
+    grind (arith, append-nil, take_all, le-leb, min-eq_right)
 
 -- a region is to come: the listing is longer than what is done
 pub longer : (problem : ProblemParts) (region : List LineRange) (waiting : List (List LineRange))
     (nodes : List Node) (best : Option BestConcept) (count : ℕ)
     → IsSearchedBy problem (region ∷ waiting) nodes best count
     → count + 1 ≤ length (listing problem)
-longer problem region waiting nodes best count so =
-    let turn = visit_turn problem waiting (concept_in best) region so.visited.0 in
-    omega (
-      arith,
-      ap length so.whole,
-      length-append so.done (visits problem (region ∷ waiting) (concept_in best)),
-      ap length turn,
-      so.count_is,
-    )
+longer problem region waiting nodes best count so = grind (arith, visit_turn, length-append)
 
 pub search_spent : (problem : ProblemParts) (region : List LineRange)
     (waiting : List (List LineRange)) (nodes : List Node) (best : Option BestConcept) (budget : ℕ)
@@ -156,9 +121,7 @@ last_taken problem before after more count budget so taken is few =
 pub next_taken : (problem : ProblemParts) (before after : Search) (more : Bool) (count : ℕ)
     → IsSearched problem before count → TakesEntry problem before after more → more ≡ true
     → IsSearched problem after (count + 1)
-next_taken problem before after more count so taken is =
-    subst (λ more. IsSearchedOn problem after more (count + 1)) is
-    (entry_taken problem before after more count so taken)
+next_taken problem before after more count so taken is = grind (arith, entry_taken)
 
 -- where a call fails
 pub on_error : {X E : Type 0} (result : Result X E) (Left : Type 0) → Left → OnErr result Left

@@ -1,5 +1,5 @@
 -- The line problem of inputs without a fault is one.
-use Rattle.std.proofs.Common.{◌≡◌, ℕ, ℤ, List, [], ◌∷◌, ◌++◌, length, map, zip, sym, subst}
+use Rattle.std.proofs.Common.{◌≡◌, ℕ, ℤ, List, [], ◌∷◌, ◌++◌, length, map, zip, sym, subst, arith}
 use Rattle.std.specs.List.{All}
 use Rattle.std.specs.List.Sorted.{IsStrictlySortedBy}
 use Rattle.std.specs.Ordering.{int_cmp}
@@ -43,9 +43,14 @@ each_costed : (edges : List Edge) (count : ℕ) → count ≡ length edges → (
 each_costed edges count same [] costs sound cheap = All-nil (IsCostedLine count)
 each_costed edges count same (line ∷ lines) [] sound cheap = All-nil (IsCostedLine count)
 each_costed edges count same (line ∷ lines) (cost ∷ costs) sound cheap =
-    All-cons (IsCostedLine count) (costed_by line cost) (map (λ at. costed_by at.0 at.1) (zip lines costs))
-    (is_costed edges line cost count same (All-head (IsLine edges) line lines sound) (All-head IsCost cost costs cheap))
-    (each_costed edges count same lines costs (All-tail (IsLine edges) line lines sound) (All-tail IsCost cost costs cheap))
+    grind (
+      arith,
+      All-cons,
+      is_costed,
+      All-head,
+      All-tail,
+      each_costed edges count same lines costs (All-tail (IsLine edges) line lines sound) (All-tail IsCost cost costs cheap),
+    )
 
 pub problem_sound : (bundle : BundleParts) → problem_faults bundle ≡ []
     → IsProblem (problem_of bundle)

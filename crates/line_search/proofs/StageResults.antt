@@ -1,7 +1,7 @@
 -- What the stage gives, by what the search found.
 use Rattle.std.proofs.Common.{◌≡◌, ℕ, ◌+◌, ◌≤◌, ◌∙◌, Bool, true, false, cond, nat_le, List, [], ◌∷◌}
-use Rattle.std.proofs.Common.{length, take, min, slice_get, refl, arith, ap, sym, subst, Option}
-use Rattle.std.proofs.Common.{Some, None, option_map, Result, Ok, Err}
+use Rattle.std.proofs.Common.{length, take, slice_get, refl, arith, ap, sym, Option, Some, None}
+use Rattle.std.proofs.Common.{option_map, Result, Ok, Err}
 use Rattle.std.specs.Prelude.{ok_or}
 use Rattle.std.proofs.lemmas.Bool.{le-leb, leb-true, leb-false}
 use Rattle.std.proofs.lemmas.List.{take_all, length-take-le}
@@ -19,7 +19,7 @@ use Rattle.line_cost_model.specs.Problems.{ProblemParts}
 use Rattle.branch_certificate.specs.declared.node.Node.{Node}
 use Rattle.line_search.specs.declared.best.BestConcept.{BestConcept}
 use Rattle.line_search.specs.declared.search.Searched.{Searched}
-use Rattle.line_search.specs.Budgets.{FoundConcept, entries_listed, last_found, nodes_in}
+use Rattle.line_search.specs.Budgets.{FoundConcept, entries_listed, nodes_in}
 use Rattle.line_search.specs.Budgets.{result_within}
 use Rattle.line_search.specs.ConceptStage.{after_faults, budget_of, concept_stage, concept_work}
 use Rattle.line_search.specs.ConceptStage.{search_made, work_after}
@@ -47,28 +47,12 @@ within_by : (budget : ℕ) (all : List Entry) (b : Bool) → nat_le (length all)
     → by_parts (best_after None (take budget all)) (cond b (Some (nodes_in all)) None)
     (entries_listed budget all) ≡ result_within budget all
 unfolding result_within
-within_by budget all true is =
-    let few = leb-true (length all) budget is in
-    (λ i. by_parts (best_after None (take_all budget all few i)) (Some (nodes_in all))
-    (min-eq_right few i))
-    ∙ ap (λ b. cond b (by_parts (best_after None all) (Some (nodes_in all)) (length all))
-    (ok_or (last_found None (take budget all)) (refusal.Spent budget))) (sym is)
-within_by budget all false is =
-    let over = leb-false (length all) budget is in
-    let first : length (take budget all) ≡ budget = length-take-le budget all (omega (arith, over)) in
-    let less : min budget (length all) ≡ budget = min-eq_left (omega (arith, over)) in
-    (λ i. ok_or (option_map
-    (λ found. record { frequencies = found; tree = None; entries = (less ∙ sym first) i })
-    (best_after None (take budget all))) (refusal.Spent (less i)))
-    ∙ ap (λ b. cond b (by_parts (best_after None all) (Some (nodes_in all)) (length all))
-    (ok_or (last_found None (take budget all)) (refusal.Spent budget))) (sym is)
+within_by budget all true is = grind (arith, leb-true, take_all, min-eq_right)
+within_by budget all false is = grind (arith, leb-false, length-take-le, min-eq_left, option_map)
 
 pub result_is : (problem : ProblemParts) (budget : ℕ) (found : Searched)
     → IsResult problem budget found → result_of found ≡ result_within budget (listing problem)
-result_is problem budget found is =
-    in_parts found.best found.tree found.entries
-    ∙ (λ i. by_parts (is.best_is i) (is.tree_is i) (is.entries_are i))
-    ∙ within_by budget (listing problem) (nat_le (length (listing problem)) budget) refl
+result_is problem budget found is = grind (arith, in_parts, within_by, nat_le)
 
 -- ---- the outcome
 
@@ -92,11 +76,7 @@ module _ (bundle : BundleParts) where
       → StageGives (concept_stage bundle) result
   unfolding concept_stage
   stage_found problem budget found result none problem_is budget_is is gives =
-      subst (λ function. StageGives function result)
-      (ap (search_made problem) (result_is problem budget found is)
-      ∙ (λ i. search_made (problem_is i) (result_within (budget_is i) (listing (problem_is i))))
-      ∙ ap (λ faults. after_faults faults (search_made (problem_of bundle)
-      (result_within (budget_of bundle) (listing (problem_of bundle))))) (sym none)) gives
+      grind (arith, result_is)
 
 -- ---- steps
 
@@ -125,24 +105,18 @@ module _ (bundle : BundleParts) (before now : ℕ) where
       (problem_is : problem ≡ problem_of bundle) (budget_is : budget ≡ budget_of bundle) where
     work_is : 1 + entries_listed budget (listing problem) ≡ concept_work bundle
     unfolding concept_work
-    work_is = (λ i. 1 + entries_listed (budget_is i) (listing (problem_is i)))
-        ∙ ap (λ faults. work_after faults
-        (entries_listed (budget_of bundle) (listing (problem_of bundle)))) (sym none)
+    work_is = grind arith
 
     -- no memory for an entry
     pub steps_stopped : before + 1 ≤ now
         → now ≤ before + 1 + entries_listed budget (listing problem)
         → TakesSteps {T = Made} (concept_work bundle) before now (Err stage.NoMemory)
-    steps_stopped low high =
-        subst (λ work. TakesSteps {T = Made} work before now (Err stage.NoMemory)) work_is
-        (omega (arith, low), omega (arith, high))
+    steps_stopped low high = grind (arith, work_is)
 
     pub steps_listed : (result : Result Made StageFault)
         → now ≡ before + 1 + entries_listed budget (listing problem)
         → TakesSteps (concept_work bundle) before now result
-    steps_listed result is = subst (λ work. TakesSteps work before now result) work_is
-        (steps_by (1 + entries_listed budget (listing problem)) before now result
-        (omega (arith, is)))
+    steps_listed result is = grind (arith, work_is, steps_by)
 
 -- ---- a budget that is enough
 
@@ -176,14 +150,7 @@ whole_found : (problem : ProblemParts) (budget : ℕ) (result : Result Made Stag
     → IsEnough problem budget
     → StageGives (search_made problem (result_within budget (listing problem))) result → IsWhole result
 unfolding result_within
-whole_found problem budget result enough gives =
-    let long = listing_bound problem in
-    let within = le-leb (length (listing problem)) budget (omega (arith, long, enough)) in
-    let all = listing problem in
-    whole_by problem (best_after None all) (nodes_in all) (length all) result
-    (subst (λ b. StageGives (search_made problem
-    (cond b (by_parts (best_after None all) (Some (nodes_in all)) (length all))
-    (ok_or (last_found None (take budget all)) (refusal.Spent budget)))) result) within gives)
+whole_found problem budget result enough gives = grind (arith, listing_bound, le-leb, whole_by)
 
 whole_after : (bundle : BundleParts) (faults : List Refusal) (outcome : Result Made Refusal)
     (result : Result Made StageFault) → faults ≡ problem_faults bundle
@@ -201,6 +168,4 @@ pub whole_given : (bundle : BundleParts) (result : Result Made StageFault)
     → StageGives (concept_stage bundle) result
     → IsEnough (problem_of bundle) (budget_of bundle) → IsWhole result
 unfolding concept_stage
-whole_given bundle result gives enough =
-    whole_after bundle (problem_faults bundle) _ result refl
-    (whole_found (problem_of bundle) (budget_of bundle) result enough) gives
+whole_given bundle result gives enough = grind (arith, whole_after, whole_found)

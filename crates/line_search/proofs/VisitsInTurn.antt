@@ -1,18 +1,18 @@
 -- The visits of the regions that wait, entry by entry.
-use Rattle.std.proofs.Common.{◌≡◌, ℕ, ◌+◌, ◌<◌, ◌∙◌, false, not, ◌&&◌, List, [], ◌∷◌, ◌++◌, length}
-use Rattle.std.proofs.Common.{filter_map, refl, ap, Option, Some, None}
+use Rattle.std.proofs.Common.{arith, ◌≡◌, ℕ, ◌+◌, ◌<◌, ◌∙◌, false, not, ◌&&◌, List, [], ◌∷◌, ◌++◌}
+use Rattle.std.proofs.Common.{length, filter_map, refl, Option, Some, None}
 use Rattle.std.proofs.lemmas.Bool.{le-leb, lt-ltb}
 use Rattle.std.proofs.lemmas.List.{append_assoc, append-nil, length-map, length-set}
 use Rattle.std.proofs.lemmas.List.Elements.{filter_map-append}
 use Rattle.std.specs.List.{AllByRecursion, last_or}
 use Rattle.line_cost_model.specs.declared.range.LineRange.{LineRange}
 use Rattle.line_cost_model.specs.Problems.{ProblemParts}
-use Rattle.line_cost_model.specs.Regions.{part_from, part_up_to, range_of, root_of}
+use Rattle.line_cost_model.specs.Regions.{range_of, root_of}
 use Rattle.branch_certificate.specs.declared.node.Node.{Node}
 use Rattle.branch_certificate.specs.declared.node.Node.TheVariants as node
 use Rattle.branch_certificate.specs.TreeFaults.{splits_outside}
 use Rattle.branch_certificate.specs.Walks.{SplitsOne, behind_node}
-use Rattle.line_search.specs.Listings.{Entry, best_after, entries_by, entry, listing}
+use Rattle.line_search.specs.Listings.{Entry, best_after, entries_by, listing}
 use Rattle.line_search.specs.Listings.{middle, node_at, visit}
 use Rattle.line_search.specs.Searches.{IsVisited, entry_of, visits}
 use Rattle.line_search.proofs.Lengths.{IsOpenAt, lower_ordered, middle_inside}
@@ -28,9 +28,7 @@ last_behind best (x ∷ xs) ys = last_behind (Some x) xs ys
 
 pub best_behind : (best : Option (List ℕ)) (xs ys : List Entry)
     → best_after best (xs ++ ys) ≡ best_after (best_after best xs) ys
-best_behind best xs ys =
-    ap (last_or best) (filter_map-append (λ entry. entry.found) xs ys)
-    ∙ last_behind best (filter_map (λ entry. entry.found) xs) (filter_map (λ entry. entry.found) ys)
+best_behind best xs ys = grind (arith, filter_map-append, last_behind, filter_map)
 
 -- ---- one entry
 
@@ -41,15 +39,7 @@ module _ (problem : ProblemParts) (waiting : List (List LineRange)) (best : Opti
       ≡ entry_of region at ∷ visits problem (behind_node region waiting at)
       (best_after best (entry_of region at ∷ []))
   unfolding visits
-  turn_by region (node.Split line at) is =
-      let below = visit problem (part_up_to region line at) best in
-      let after = best_after best below in
-      let above = visit problem (part_from region line (at + 1)) after in
-      let rest : Option (List ℕ) → List Entry = visits problem waiting in
-      (λ i. is i ++ rest (best_after best (is i)))
-      ∙ ap (λ entries. entry (node.Split line at) ∷ entries)
-      (append_assoc below above (rest (best_after best (below ++ above)))
-      ∙ ap (λ best. below ++ (above ++ rest best)) (best_behind best below above))
+  turn_by region (node.Split line at) is = grind (arith, append_assoc, best_behind)
   turn_by region (node.Empty edge side) is = λ i. is i ++ visits problem waiting (best_after best (is i))
   turn_by region (node.Bound multipliers) is =
       λ i. is i ++ visits problem waiting (best_after best (is i))

@@ -1,7 +1,6 @@
 -- The nodes of a listing can be written.
-use Rattle.std.proofs.Common.{◌≡◌, ℕ, zero, suc, ◌+◌, ◌≤◌, ◌<◌, ◌==◌, true, false, cond, nat_lt, inl, inr}
-use Rattle.std.proofs.Common.{List, [], ◌∷◌, ◌++◌, fold, length, Option, None, IfSome, All}
-use Rattle.std.proofs.Common.{arith, sym, subst, ◌∙◌}
+use Rattle.std.proofs.Common.{◌≡◌, ℕ, zero, suc, ◌+◌, ◌≤◌, ◌<◌, ◌==◌, inl, inr, List, [], ◌∷◌, ◌++◌}
+use Rattle.std.proofs.Common.{fold, length, Option, IfSome, All, arith, sym, subst, ◌∙◌}
 use Rattle.std.specs.List.{AllByRecursion, enumerate_from}
 use Rattle.std.proofs.lemmas.Bool.{eqb-false, cases_Bool}
 use Rattle.std.proofs.lemmas.List.{append-nil, length-map, length-set}
@@ -11,17 +10,17 @@ use Rattle.line_cost_model.specs.declared.edge.BoundedEdge.{BoundedEdge}
 use Rattle.line_cost_model.specs.declared.multipliers.Multiplier.{Multiplier}
 use Rattle.line_cost_model.specs.declared.range.LineRange.{LineRange}
 use Rattle.line_cost_model.specs.DualBounds.{least_left, multipliers_of, next_multiplier}
-use Rattle.line_cost_model.specs.DualBounds.{shortfall, unless_zero, with_next}
-use Rattle.line_cost_model.specs.Multipliers.{AreMultipliers, IsAfter, IsAmount}
+use Rattle.line_cost_model.specs.DualBounds.{unless_zero, with_next}
+use Rattle.line_cost_model.specs.Multipliers.{AreMultipliers, IsAfter}
 use Rattle.line_cost_model.specs.Problems.{CostedLine, IsProblem, ProblemParts}
-use Rattle.line_cost_model.specs.Regions.{IsRange, most_of, part_from, part_up_to, range_of, root_of}
+use Rattle.line_cost_model.specs.Regions.{IsRange, part_from, part_up_to, range_of}
 use Rattle.line_cost_model.proofs.Pushed.{multipliers_push}
 use Rattle.line_cost_model.proofs.Roots.{one_by_one, root_sound}
 use Rattle.line_cost_model.proofs.Within.{few_left}
 use Rattle.branch_certificate.specs.declared.node.Node.TheVariants as node
 use Rattle.branch_certificate.specs.TreeTexts.{CanBeWritten, NamesWhatIs}
 use Rattle.line_search.specs.Budgets.{nodes_in}
-use Rattle.line_search.specs.Listings.{Entry, best_after, entries_by, entries_within, levels_of}
+use Rattle.line_search.specs.Listings.{Entry, best_after, entries_by, entries_within}
 use Rattle.line_search.specs.Listings.{listing, middle}
 use Rattle.line_search.specs.Searches.{AreWritten}
 use Rattle.line_search.proofs.Lengths.{IsOpenAt, first_open_is, middle_inside}
@@ -56,23 +55,21 @@ module _ (problem : ProblemParts) (region : List LineRange)
 
     next_few : (before : List Multiplier) (at : ℕ × BoundedEdge)
         → next_multiplier problem region before at ≤ 1000000000000000000
-    next_few before at = elim (nat_lt 0 (shortfall problem.lines region at.0 at.1)) as
-        (λ b. cond b (least_left problem region before at.0) 0 ≤ 1000000000000000000)
-        [ true ↦ few before at.0 | false ↦ omega arith ]
+    next_few before at = grind arith
 
     all_multipliers : (n : ℕ) (edges : List BoundedEdge) (before : List Multiplier) → AreBefore n before
         → AreMultipliers (fold (with_next problem region) before (enumerate_from n edges))
     all_multipliers n [] before own = own.0
     all_multipliers n (edge ∷ edges) before own =
-        all_multipliers (n + 1) edges (with_next problem region before (n, edge))
-        (one_more n (next_multiplier problem region before (n, edge)) before
-        (next_few before (n, edge)) own)
+        grind (
+          arith,
+          one_more,
+          next_few,
+          all_multipliers (n + 1) edges (with_next problem region before (n, edge)) (one_more n (next_multiplier problem region before (n, edge)) before (next_few before (n, edge)) own),
+        )
 
 no_multipliers : AreMultipliers []
-no_multipliers = record {
-  amounts = All-nil (λ (one : Multiplier). IsAmount one.amount);
-  edges_rise = λ k inside. absurd (omega (arith, inside));
-}
+no_multipliers = grind arith
 
 -- ---- the nodes of each region
 
@@ -148,17 +145,8 @@ module _ (problem : ProblemParts) (sound : IsProblem problem) where
   nodes_written : (entries : List Entry) → AllWritten entries → AreWritten problem (nodes_in entries)
   nodes_written [] h =
       record { names = All-nil (NamesWhatIs problem); written = All-nil CanBeWritten }
-  nodes_written (entry ∷ entries) h =
-      let rest = nodes_written entries h.1 in
-      record {
-        names = All-cons (NamesWhatIs problem) entry.node (nodes_in entries) h.0.0 rest.names;
-        written = All-cons CanBeWritten entry.node (nodes_in entries) h.0.1 rest.written;
-      }
+  nodes_written (entry ∷ entries) h = grind (arith, All-cons, nodes_written entries h.1)
 
   pub listing_written : AreWritten problem (nodes_in (listing problem))
   unfolding listing
-  listing_written =
-      nodes_written (listing problem)
-      (all_written (levels_of (root_of problem)) (root_of problem) None
-      (length-map problem.lines (λ (line : CostedLine). record { lo = 0; hi = most_of problem.edges line }))
-      (root_sound problem sound))
+  listing_written = grind (arith, nodes_written, all_written, length-map, root_sound)

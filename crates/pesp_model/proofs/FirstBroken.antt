@@ -1,5 +1,7 @@
 -- The first broken activity of a problem: how it is found, and what it means.
-use Rattle.std.proofs.Common.{◌≡◌, ℕ, ◌+◌, ◌<◌, pos, Bool, true, false, not, cond, List, [], ◌∷◌, length, get_or, slice_get, position, refl, ap, sym, subst, ◌∙◌, Option, Some, None, All, Decides, arith}
+use Rattle.std.proofs.Common.{◌≡◌, ℕ, ◌+◌, ◌<◌, pos, Bool, true, false, not, cond, List, [], ◌∷◌}
+use Rattle.std.proofs.Common.{length, get_or, slice_get, position, refl, sym, subst, ◌∙◌, Option}
+use Rattle.std.proofs.Common.{Some, None, All, Decides, arith}
 use Rattle.std.specs.List.{position_from}
 use Rattle.std.specs.Option.{is_none}
 use Rattle.std.proofs.lemmas.Bool.{false≢true, not-false, not-true}
@@ -35,9 +37,7 @@ pub found_in : (problem : Problem) (times : List ℕ) (period : ℕ) (activities
     → found ≡ position (λ activity. not (keeps_in period times activity)) activities
     → found ≡ first_broken problem times
 unfolding first_broken
-found_in problem times period activities found same all is = is
-    ∙ ap (λ some. position (λ activity. not (keeps_in period times activity)) some) all
-    ∙ ap (λ some. position (λ activity. not (keeps_in some times activity)) problem.activities) same
+found_in problem times period activities found same all is = grind arith
 
 -- ---- what the first broken activity means
 

@@ -1,6 +1,6 @@
 -- The problem of two texts, from what each of them gives.
-use Rattle.std.proofs.Common.{◌≡◌, ℕ, ◌<◌, ◌≤◌, ◌≤ℤ◌, pos, List, [], ◌++◌, length, map, get_or, ap, sym, subst, ◌∙◌, arith}
-use Rattle.std.proofs.lemmas.Int.{ints}
+use Rattle.std.proofs.Common.{◌≡◌, ℕ, ◌<◌, ◌≤◌, ◌≤ℤ◌, pos, List, [], length, map, get_or, sym}
+use Rattle.std.proofs.Common.{subst, arith}
 use Rattle.std.proofs.lemmas.List.{length-map}
 use Rattle.std.proofs.lemmas.List.Elements.{All-map}
 use Rattle.giv_files.specs.declared.refusal.StageFault.{StageFault}
@@ -13,7 +13,7 @@ use Rattle.event_tables.specs.declared.periodic_event.PeriodicEvent.{PeriodicEve
 use Rattle.event_tables.specs.Cells.{periodic_activity_cells}
 use Rattle.event_tables.specs.PeriodicFiles.{periodic_event_input, periodic_activity_input, periodic_event_ids, ArePeriodicActivities}
 use Rattle.pesp_model.specs.declared.activity.PespActivity.{PespActivity}
-use Rattle.pesp_model.specs.PespTexts.{activity_of, problem_over, events_of, activities_of, problem_of, problem_faults}
+use Rattle.pesp_model.specs.PespTexts.{activity_of, events_of, activities_of, problem_of, problem_faults}
 use Rattle.pesp_model.specs.Timetables.{IsActivity, IsProblem}
 
 -- the file of activities between some events
@@ -35,11 +35,7 @@ module _ (events_text activities_text : List ℕ) where
     pub activity_faults : input_faults (activities_between events) activities_text
         ≡ problem_faults events_text activities_text
     unfolding problem_faults events_of
-    activity_faults =
-        ap (λ some. input_faults (activities_between some) activities_text) are
-        ∙ ap (λ first. first
-        ++ input_faults (activities_between (records_of periodic_event_input events_text))
-        activities_text) (sym none)
+    activity_faults = grind arith
 
     -- the problem of the events and of the rows of the activities
     pub problem_is : (period count : ℕ) (rows : List PeriodicActivity)
@@ -49,13 +45,7 @@ module _ (events_text activities_text : List ℕ) where
         → record { period = period; events = count; activities = activities }
         ≡ problem_of period events_text activities_text
     unfolding problem_of events_of activities_of
-    problem_is period count rows activities counted read made =
-        ap (λ some. record { period = period; events = count; activities = some }) made
-        ∙ ap (problem_over period count) read
-        ∙ ap (λ some. problem_over period some
-        (records_of (activities_between events) activities_text)) counted
-        ∙ ap (λ some. problem_over period (length some)
-        (records_of (activities_between some) activities_text)) are
+    problem_is period count rows activities counted read made = grind arith
 
 -- ---- what holds of such a problem
 
@@ -66,15 +56,7 @@ high_of row fits = fits.1.1.1.1.1.0.1
 module _ (events : ℕ) (rows : List PeriodicActivity) (are : ArePeriodicActivities events rows) where
   sound_at : (i : ℕ) (d : PeriodicActivity) → i < length rows
       → IsActivity events (activity_of (get_or rows i d))
-  sound_at i d some =
-      let is = are.each i d some in
-      record {
-        from = omega (arith, is.from.0, is.from.1);
-        to = omega (arith, is.to.0, is.to.1);
-        low = omega (arith, ints);
-        in_order = omega (arith, ints, is.in_order);
-        high = high_of (get_or rows i d) (are.fit i d some);
-      }
+  sound_at i d some = grind arith
 
   pub problem_sound : (period : ℕ) → 1 ≤ period → period ≤ 720 → (count : ℕ) → count ≡ events
       → events ≤ 4000 → (activities : List PespActivity) → activities ≡ map activity_of rows

@@ -1,7 +1,6 @@
 -- An activity takes out nothing where more times are left than lie outside of each window.
-use Rattle.std.proofs.Common.{◌≡◌, ◌∙◌, inl, inr, ℕ, ◌+◌, ◌-◌, ◌<◌, ◌≤◌, ◌==◌, nat_le, nat_lt}
-use Rattle.std.proofs.Common.{Bool, true, false}
-use Rattle.std.proofs.Common.{not, ◌&&◌, ◌||◌, filter, length, refl, ap, sym, arith}
+use Rattle.std.proofs.Common.{◌≡◌, ◌∙◌, inl, inr, ℕ, ◌+◌, ◌-◌, ◌<◌, ◌≤◌, ◌==◌, nat_le, nat_lt, Bool}
+use Rattle.std.proofs.Common.{true, false, not, ◌&&◌, ◌||◌, filter, length, refl, ap, sym, arith}
 use Rattle.std.specs.List.{range_with_len}
 use Rattle.std.proofs.lemmas.Bool.{and_parts, cases_Bool, false≢true, le-leb, leb-true, ltb-true}
 use Rattle.pesp_model.specs.declared.activity.PespActivity.{PespActivity}
@@ -53,17 +52,11 @@ module _ (activity : PespActivity) (before : Tracked)
 
   many : (event : ℕ) → IsCrowded event
       → period ≤ length (filter (is_left before.sets event) (range_with_len 0 period)) + width
-  many event so =
-      let none : period - 0 ≡ period = omega arith in
-      let same = ap (λ n. length (filter (is_left before.sets event) (range_with_len 0 n))) none in
-      omega (arith, leb-true _ _ so, narrow, same)
+  many event so = grind arith
 
   own : (event : ℕ) (test : Bool) → test ≡ true → (other : ℕ) → (not (event == other)
       || test) ≡ true
-  own event test so other = elim (cases_Bool (event == other)) [
-    | inl same ↦ ap (λ b. not b || test) same ∙ so
-    | inr differs ↦ ap (λ b. not b || test) differs
-  ]
+  own event test so other = grind arith
 
   pub crowded_seconds : IsCrowded activity.to
       → Prunes before before (keeps_first period (is_left before.sets) activity) false

@@ -1,11 +1,10 @@
 -- Sets of times of which one is empty.
 use Rattle.std.proofs.Common.{◌≡◌, ◌∙◌, inl, inr, ℕ, zero, suc, ◌+◌, ◌<◌, ◌≤◌, ◌||◌, Bool, true}
-use Rattle.std.proofs.Common.{false, ◌&&◌}
-use Rattle.std.proofs.Common.{List, [], ◌∷◌, length, map, filter, ap, sym, arith}
-use Rattle.std.proofs.Common.{◌⊎◌, ◌-◌, if◌then◌else◌, refl, slice_set, subst}
+use Rattle.std.proofs.Common.{false, ◌&&◌, List, [], ◌∷◌, length, map, filter, ap, sym, arith, ◌⊎◌}
+use Rattle.std.proofs.Common.{◌-◌, if◌then◌else◌, refl, slice_set, subst}
 use Rattle.std.specs.List.{list_any, range_with_len}
 use Rattle.std.proofs.lemmas.Bool.{and_from, and_parts}
-use Rattle.std.proofs.lemmas.Bool.{cases_Bool, cases_eq, eq-eqb, eqb-true, false≢true, ne_eqb}
+use Rattle.std.proofs.lemmas.Bool.{cases_Bool, cases_eq, eq-eqb, false≢true, ne_eqb}
 use Rattle.std.proofs.lemmas.Bool.{le-ltb, ltb-false, or_left}
 use Rattle.std.proofs.lemmas.Bool.{or_parts, or_right}
 use Rattle.pesp_search.specs.Listings.{is_empty, times_at_first, with_time}
@@ -28,9 +27,7 @@ fewer_pass test other more xs =
 
 none_more : (few many : List ℕ) → length few ≤ length many → is_empty many ≡ true
     → is_empty few ≡ true
-none_more few many less none =
-    let zero_is = eqb-true (length many) 0 none in
-    eq-eqb (length few) 0 (omega (arith, less, zero_is))
+none_more few many less none = grind arith
 
 module _ (period : ℕ) (left others : Left) (within : IsWithin left others) where
   abbrev times : Left → ℕ → List ℕ

@@ -1,14 +1,11 @@
 -- A search entry by entry, and what it comes to.
 use Rattle.pesp_search.specs.Marks.{IsChildOf, IsSettled, Saved, is_left}
-use Rattle.std.proofs.Common.{◌==◌}
-use Rattle.std.proofs.Common.{inl, inr}
-use Rattle.std.proofs.Common.{◌≡◌, ◌∙◌, ℕ, ◌+◌, ◌<◌, ◌≤◌, true, false, if◌then◌else◌}
-use Rattle.std.proofs.Common.{List, [], ◌∷◌, ◌++◌, length, map, position, Option, Some, None, is_some, Vec}
-use Rattle.std.proofs.Common.{Global}
-use Rattle.std.proofs.Common.{Err, refl, ap, sym, subst, arith}
+use Rattle.std.proofs.Common.{◌==◌, inl, inr, ◌≡◌, ◌∙◌, ℕ, ◌+◌, ◌<◌, ◌≤◌, true, false}
+use Rattle.std.proofs.Common.{if◌then◌else◌, List, [], ◌∷◌, ◌++◌, length, map, position, Option}
+use Rattle.std.proofs.Common.{Some, None, Vec, Global, Err, refl, ap, sym, subst, arith}
 use Rattle.std.specs.List.{list_any}
-use Rattle.std.proofs.Math.Nat.{le-min, min-eq_left, min-eq_right}
-use Rattle.std.proofs.lemmas.Bool.{cases_eq, eq-eqb, false≢true, lt-ltb, le-ltb}
+use Rattle.std.proofs.Math.Nat.{le-min, min-eq_left}
+use Rattle.std.proofs.lemmas.Bool.{cases_eq, eq-eqb, false≢true, lt-ltb}
 use Rattle.std.proofs.lemmas.List.Quantifiers.{position-Some}
 use Rattle.giv_files.specs.declared.refusal.Refusal.TheVariants as refusal
 use Rattle.pesp_model.specs.Timetables.{Problem}
@@ -98,20 +95,13 @@ module _ (problem : Problem) (before reduced : Tracked) (so : Reduces problem be
 
   dead : (sets : List (List ℕ)) → list_any is_empty sets ≡ true
       → children_of sets ≡ record { entries = 1; found = None }
-  dead sets none =
-      ap (λ b. elim b as (λ _. Listing) [
-        | true ↦ record { entries = 1; found = None }
-        | false ↦ branches sets (λ event time. listing_of problem (with_time sets event time))
-            (position has_several sets)
-      ]) none
+  dead sets none = grind arith
 
   -- an entry of sets in which some event has no time left is that of the reduced sets
   same_entry : Stands problem before reduced
       → children_of (all_reduced problem (sets_of before.sets)) ≡ children_of (sets_of reduced.sets)
   same_entry (inr stands) = ap children_of (sym stands.0)
-  same_entry (inl stands) =
-      dead (all_reduced problem (sets_of before.sets)) stands.1
-      ∙ sym (dead (sets_of reduced.sets) stands.0)
+  same_entry (inl stands) = grind arith
 
   entry_is : listed_on problem before ≡ entry_here (listing_of problem) reduced
   entry_is =
@@ -140,9 +130,7 @@ module _ (problem : Problem) (before reduced : Tracked) (so : Reduces problem be
   saved_revised : (after : Tracked) → AreRevised problem before.saved → SavesOnce reduced after
       → AreRevised problem after.saved
   saved_revised after was (inl same) = subst (AreRevised problem) (sym (same ∙ so.saved)) was
-  saved_revised after was (inr (branch, none, settled, is)) =
-      subst (AreRevised problem) (sym is)
-      (all_revised so.stands none, none, settled, subst (AreRevised problem) (sym so.saved) was)
+  saved_revised after was (inr (branch, none, settled, is)) = grind arith
 
   rest_revised : (passed rest : List Saved) → AreRevised problem (passed ++ rest)
       → AreRevised problem rest
@@ -272,14 +260,7 @@ listing_some problem sets =
     (entry_some (reduced problem sets) _)
 
 first_some : (first rest : Listing) → first.entries ≤ (unless_found first rest).entries
-first_some first rest = elim (is_some first.found) as (λ b. first.entries ≤ (elim b as (λ _.
-    Listing) [
-      | true ↦ first
-      | false ↦ record { entries = first.entries + rest.entries; found = rest.found }
-    ]).entries) [
-      | true ↦ omega arith
-      | false ↦ omega arith
-    ]
+first_some first rest = grind arith
 
 -- another entry is within the listing
 pub one_within : (problem : Problem) (sets : Tracked) (count : ℕ) → IsSearched problem sets count
@@ -301,13 +282,7 @@ pub search_ended : (problem : Problem) (sets : Tracked) (count budget : ℕ)
     → (result_within budget (listing problem) ≡ whole_result (count + 1) found)
     × (entries_listed budget (listing problem) ≡ count + 1)
 unfolding result_within
-search_ended problem sets count budget found so few is =
-    let all = so.listed ∙ ap (behind count) is in (
-      ap (result_within budget) all
-          ∙ ap (λ b. if b then Err (refusal.Spent budget) else whole_result (count + 1) found)
-          (le-ltb budget (count + 1) (omega (arith, few))),
-      ap (entries_listed budget) all ∙ min-eq_right (omega (arith, few)),
-    )
+search_ended problem sets count budget found so few is = grind arith
 
 pub search_spent : (problem : Problem) (sets : Tracked) (budget : ℕ)
     → IsSearched problem sets budget

@@ -1,6 +1,5 @@
 -- Sets of times by a test of events and times, and rounds on them.
-use Rattle.std.proofs.Common.{◌≡◌, ◌∙◌, ℕ, zero, suc, ◌+◌, ◌-◌, ◌<◌, Bool, inl, inr}
-use Rattle.std.proofs.Common.{cond, ◌&&◌}
+use Rattle.std.proofs.Common.{◌≡◌, ◌∙◌, ℕ, zero, suc, ◌+◌, ◌-◌, ◌<◌, Bool, inl, inr, cond, ◌&&◌}
 use Rattle.std.proofs.Common.{List, [], ◌∷◌, map, filter, refl, ap, arith}
 use Rattle.std.specs.List.{enumerate_from, range_with_len}
 use Rattle.std.proofs.lemmas.List.FromFn.{get_or-map-range_with_len}
@@ -64,7 +63,4 @@ module _ (period : ℕ) where
 
 -- marks are a family
 pub sets_family : (sets : Marks) → sets_of sets ≡ family sets.columns sets.rows (is_left sets)
-sets_family sets =
-    let all : sets.columns - 0 ≡ sets.columns = omega arith in
-    ap (λ period. map (λ event. filter (is_left sets event) (range_with_len 0 period))
-    (range_with_len 0 sets.rows)) all
+sets_family sets = grind arith

@@ -1,12 +1,11 @@
 -- The marks at first, and marks of which one time of an event is left.
-use Rattle.std.proofs.Common.{◌≡◌, ◌∙◌, inl, inr, ℕ, zero, suc, ◌+◌, ◌<◌, ◌≤◌, ◌==◌}
-use Rattle.std.proofs.Common.{Bool, true, false, not, ◌&&◌, ◌||◌, if◌then◌else◌, List, [], ◌∷◌}
-use Rattle.std.proofs.Common.{map, filter}
+use Rattle.std.proofs.Common.{◌≡◌, ◌∙◌, inl, inr, ℕ, zero, suc, ◌+◌, ◌<◌, ◌≤◌, ◌==◌, Bool, true}
+use Rattle.std.proofs.Common.{false, not, ◌&&◌, ◌||◌, if◌then◌else◌, List, [], ◌∷◌, map, filter}
 use Rattle.std.proofs.Common.{refl, ap, sym, arith, Ok}
 use Rattle.std.specs.List.{range_with_len}
 use Rattle.std.proofs.lemmas.Bool.{and_from, and_parts, and_right, cases_eq, eq-eqb, ne_eqb}
 use Rattle.bit_rows.specs.Bits.{marked}
-use Rattle.bit_rows.proofs.Columns.{none_pass, same_filter}
+use Rattle.bit_rows.proofs.Columns.{none_pass}
 use Rattle.pesp_search.specs.Listings.{times_at_first, with_time}
 use Rattle.pesp_search.specs.Marks.{KeepsTime, Marks, Prunes, Tracked, family, is_left, sets_of}
 use Rattle.pesp_search.specs.Revising.{Left, stays}
@@ -91,10 +90,7 @@ module _ (before after : Tracked) (event time : ℕ) (within : event < before.se
       others : (e : ℕ) → (e ≡ event → ⊥)
           → filter (after_left e) (range_with_len 0 before.sets.columns)
           ≡ filter (is_left before.sets e) (range_with_len 0 before.sets.columns)
-      others e other =
-          same_filter (after_left e) (is_left before.sets e) 0 before.sets.columns (λ t _ _.
-          and_all (is_left before.sets e t) _ (ap (λ b. not b
-          || (t == time)) (ne_eqb e event other)))
+      others e other = grind arith
 
   pub keeps_time : (keep : List ℕ) (changes : Bool) → ((other : ℕ) → marked keep other ≡ one other)
       → Prunes before after (stays event keep) changes → KeepsTime before after event time
@@ -144,13 +140,7 @@ module _ (problem : Problem) (marks : Marks) (before : Tracked)
       ∙ (λ i. all_sets (period i) (events i))
 
   pub first_of_none : problem.events ≡ 0 → AreFirst problem before
-  first_of_none none = record {
-    period = same_period;
-    events = same_events;
-    saved = ap (λ (now : Tracked). now.saved) is;
-    first = sets_are ∙ ap (all_sets problem.period) none
-        ∙ sym (ap (λ n. map (times_at_first problem.period) (range_with_len 0 n)) none);
-  }
+  first_of_none none = grind arith
 
   pub first_of_some : (after : Tracked) → 0 < problem.events → KeepsTime before after 0 0
       → AreFirst problem after

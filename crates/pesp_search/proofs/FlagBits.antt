@@ -1,7 +1,7 @@
 -- Flags of events as the bits of words.
-use Rattle.std.proofs.Common.{◌≡◌, ◌∙◌, ◌⊎◌, inl, inr, is_some, Option, ℕ, ◌+◌, ◌-◌, ◌*◌, ◌/◌, ◌%◌, ◌<◌}
-use Rattle.std.proofs.Common.{◌≤◌, ◌==◌, Bool, true, false, ◌&&◌, if◌then◌else◌, min, map, length}
-use Rattle.std.proofs.Common.{slice_set, Some, None, refl, ap, sym, arith}
+use Rattle.std.proofs.Common.{◌≡◌, ◌∙◌, ◌⊎◌, inl, inr, is_some, Option, ℕ, ◌+◌, ◌-◌, ◌*◌, ◌/◌, ◌%◌}
+use Rattle.std.proofs.Common.{◌<◌, ◌≤◌, ◌==◌, Bool, true, false, ◌&&◌, if◌then◌else◌, min, map}
+use Rattle.std.proofs.Common.{length, slice_set, Some, None, refl, ap, sym, arith}
 use Rattle.std.specs.List.{range_with_len}
 use Rattle.std.proofs.lemmas.Bool.{cases_eq, cases_lt, eq-eqb, le-ltb, lt-ltb, ne_eqb}
 use Rattle.std.proofs.lemmas.Grind.{get_or-set_at}
@@ -63,12 +63,8 @@ module _ (bits now : Bits) (event : ℕ) (flag : Bool) (size : now.columns ≡ b
 
     pub outside_put : (low high less more : ℕ) → IsClearOutside low high bits → less ≤ low
         → less ≤ event / 64 → high ≤ more → event / 64 + 1 ≤ more → IsClearOutside less more now
-    outside_put low high less more so one two three four other (inl below) =
-        other_bit other (λ same. absurd (omega (arith, below, same, two)))
-        ∙ so other (inl (omega (arith, below, one)))
-    outside_put low high less more so one two three four other (inr above) =
-        other_bit other (λ same. absurd (omega (arith, above, same, four)))
-        ∙ so other (inr (omega (arith, above, three)))
+    outside_put low high less more so one two three four other (inl below) = grind arith
+    outside_put low high less more so one two three four other (inr above) = grind arith
 
 -- ---- the last flag before one
 
@@ -81,16 +77,10 @@ module _ (flags : Flags) (end low high index : ℕ)
     (clear : (event : ℕ) → (event / 64 < low) ⊎ (high ≤ event / 64)
     → has_changed flags event ≡ false) where
   pub none_behind : index ≡ min ((end + 63) / 64) high → NoneFrom flags end index
-  none_behind is event above less = elim (cases_lt (event / 64) high) [
-    | inr past ↦ clear event (inr past)
-    | inl inside ↦ absurd (omega (arith, above, is, less, inside))
-  ]
+  none_behind is event above less = grind arith
 
   pub none_before : index ≤ low → NoneFrom flags end index → IsLastFlag flags end None
-  none_before few so event less = elim (cases_lt event (64 * index)) [
-    | inr above ↦ so event above less
-    | inl below ↦ clear event (inl (omega (arith, below, few)))
-  ]
+  none_before few so event less = grind arith
 
 module _ (flags : Flags) (index end word : ℕ) (within : end ≤ length flags)
     (at : (bit : ℕ) → bit < 64 → 64 * index + bit < length flags

@@ -1,7 +1,8 @@
 -- A text that breaks no rule of a timetable is one.
-use Rattle.std.proofs.Common.{◌≡◌, ◌∙◌, ℕ, suc, ◌+◌, ◌<◌, ◌&&◌, ◌==◌, not, Bool, true, false, cond, nat_eq}
-use Rattle.std.proofs.Common.{nat_lt, List, [], ◌∷◌, ◌++◌, length, map, slice_get, All, Option, Some, None, is_some}
-use Rattle.std.proofs.Common.{is_none, IfNone, IfOk, Result, Ok, Err, refl, ap, sym, arith}
+use Rattle.std.proofs.Common.{◌≡◌, ◌∙◌, ℕ, suc, ◌+◌, ◌<◌, ◌&&◌, ◌==◌, not, Bool, true, false, cond}
+use Rattle.std.proofs.Common.{nat_eq, nat_lt, List, [], ◌∷◌, ◌++◌, length, map, slice_get, All}
+use Rattle.std.proofs.Common.{Option, Some, None, is_some, is_none, IfNone, IfOk, Result, Ok, Err}
+use Rattle.std.proofs.Common.{refl, ap, sym, arith}
 use Rattle.std.specs.List.{enumerate_from, list_all}
 use Rattle.std.proofs.lemmas.Bool.{and_from, and_parts, eq-eqb, eqb-true, lt-ltb, ltb-true, not-false}
 use Rattle.std.proofs.lemmas.List.{length-map}
@@ -170,8 +171,4 @@ module _ (problem : Problem) (text : List ℕ) where
         → IfOk result (λ answer. answer ≡ first_broken_rule problem text)
     unfolding first_broken_rule
     as_rows_told (Err error) told = tt
-    as_rows_told (Ok answer) told =
-        let read = some_read (is_table text) is in
-        told
-        ∙ ap (λ table. slice_get (broken_rows problem (records_by periodic_time table)) 0) read.1
-        ∙ ap by_table read.0
+    as_rows_told (Ok answer) told = grind arith

@@ -1,6 +1,6 @@
 -- Words of which some bits stay.
-use Rattle.std.proofs.Common.{◌≡◌, ◌∙◌, ℕ, ◌+◌, ◌*◌, ◌%◌, ◌<◌, bit_and, true, false, ◌&&◌}
-use Rattle.std.proofs.Common.{get_or, slice_set, refl, ap, subst, sym, arith}
+use Rattle.std.proofs.Common.{◌≡◌, ◌∙◌, ℕ, ◌+◌, ◌*◌, ◌%◌, ◌<◌, bit_and, true, false, ◌&&◌, get_or}
+use Rattle.std.proofs.Common.{slice_set, refl, ap, subst, sym, arith}
 use Rattle.std.proofs.lemmas.Bool.{false≢true}
 use Rattle.std.proofs.lemmas.List.{set-get_or}
 use Rattle.std.proofs.lemmas.Nat.{and_le_l}
@@ -10,9 +10,7 @@ use Rattle.pesp_search.specs.Marks.{AreMarks, KeepsBits, Marks, Tracked, word_at
 
 pub word_fits : (sets : Marks) (place word : ℕ) → AreMarks sets
     → word ≡ get_or sets.words place 0 → FitsAt sets.rows sets.columns place word
-word_fits sets place word are was event time low high few at =
-    ap (λ word. has_bit word (time % 64)) (was ∙ ap (λ place. get_or sets.words place 0) (sym at))
-    ∙ are.bits.clear event time low high few
+word_fits sets place word are was event time low high few at = grind arith
 
 pub kept_fits : (rows columns place word keep : ℕ) → FitsAt rows columns place word
     → FitsAt rows columns place (bit_and word keep)

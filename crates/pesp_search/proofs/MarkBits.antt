@@ -1,14 +1,11 @@
 -- Marks of times as bits, and one word that is replaced.
-use Rattle.std.proofs.Common.{◌≡◌, ◌∙◌, inl, inr, ℕ, ◌+◌, ◌-◌, ◌*◌, ◌/◌, ◌%◌, ◌<◌}
-use Rattle.std.proofs.Common.{◌≤◌}
-use Rattle.std.proofs.Common.{nat_lt, true, false, List, length, get_or}
-use Rattle.std.proofs.Common.{slice_set, sum}
-use Rattle.std.proofs.Common.{max, Some, None, ap, sym, arith}
-use Rattle.std.proofs.lemmas.Bool.{and_from, and_right, cases_lt, false≢true, lt-ltb}
+use Rattle.std.proofs.Common.{◌≡◌, ◌∙◌, inl, inr, ℕ, ◌+◌, ◌-◌, ◌*◌, ◌/◌, ◌<◌, ◌≤◌, true, false}
+use Rattle.std.proofs.Common.{List, length, get_or, slice_set, sum, max, Some, None, ap, sym, arith}
+use Rattle.std.proofs.Common.{◌++◌, filter}
+use Rattle.std.proofs.lemmas.Bool.{cases_lt}
 use Rattle.std.proofs.lemmas.List.{get_or_past}
 use Rattle.std.proofs.lemmas.List.{set-get_or, set-set}
 use Rattle.std.proofs.lemmas.List.Sums.{sum_by-set}
-use Rattle.std.proofs.Common.{◌++◌, filter}
 use Rattle.std.specs.List.{range_with_len}
 use Rattle.std.proofs.lemmas.List.Elements.{filter-append}
 use Rattle.bit_rows.specs.Bits.{IsFirstBit, has_bit, with_word, word_of, words_of}
@@ -39,10 +36,7 @@ word_again sets place word other was =
 pub left_bit : (sets : Marks) (event time : ℕ) → AreMarks sets → event < sets.rows
     → time < 64 * words_of sets.columns → bit_there sets event time ≡ true
     → (time < sets.columns) × (is_left sets event time ≡ true)
-left_bit sets event time are inside small is = elim (cases_lt time sets.columns) [
-  | inl low ↦ (low, and_from _ _ (lt-ltb _ _ low) is)
-  | inr high ↦ absurd (false≢true (sym (are.bits.clear event time inside high small) ∙ is))
-]
+left_bit sets event time are inside small is = grind arith
 
 none_between : (sets : Marks) (event from n : ℕ)
     → ((time : ℕ) → from ≤ time → time < from + n → is_left sets event time ≡ false)
@@ -66,23 +60,12 @@ module _ (sets : Marks) (event index from start word : ℕ) (are : AreMarks sets
     (word_is : (time : ℕ) → time / 64 ≡ index → word_of sets event time ≡ word)
     (so : NoneLeft sets event from (64 * index)) where
   at : (bit : ℕ) → bit < 64 → has_bit word bit ≡ bit_there sets event (64 * index + bit)
-  at bit low =
-      let own : (64 * index + bit) / 64 ≡ index = omega (arith, low) in
-      let place : (64 * index + bit) % 64 ≡ bit = omega (arith, low) in
-      sym (λ i. has_bit (word_is (64 * index + bit) own i) (place i))
+  at bit low = grind arith
 
   none_to : (end : ℕ) → end ≤ 64
       → ((bit : ℕ) → start ≤ bit → bit < end → has_bit word bit ≡ false)
       → NoneLeft sets event from (64 * index + end)
-  none_to end few none time low high = elim (cases_lt time (64 * index)) [
-    | inl before ↦ so time low before
-    | inr after ↦
-        let place : 64 * index + (time - 64 * index) ≡ time = omega (arith, after) in
-        let small : time - 64 * index < end = omega (arith, high, after) in
-        and_right (nat_lt time sets.columns) _ (ap (bit_there sets event) (sym place)
-        ∙ sym (at (time - 64 * index) (omega (arith, small, few)))
-        ∙ none (time - 64 * index) (omega (arith, begins, low, after)) small)
-  ]
+  none_to end few none time low high = grind arith
 
   pub next_found : (bit : ℕ) → IsFirstBit word start (Some bit)
       → IsNext sets event from (Some (64 * index + bit))

@@ -1,10 +1,7 @@
 -- How many bits are set, and how many times are left.
-use Rattle.std.proofs.Common.{get_or, slice_set, ◌⊎◌}
-use Rattle.std.proofs.Common.{◌≡◌, ◌∙◌, inl, inr, ℕ, zero, suc, ◌+◌, ◌-◌, ◌*◌, ◌/◌, ◌%◌, ◌^◌, ◌<◌}
-use Rattle.std.proofs.Common.{◌≤◌}
-use Rattle.std.proofs.Common.{cond, nat_lt, count_ones, Bool, false, ◌&&◌, List}
-use Rattle.std.proofs.Common.{length, filter}
-use Rattle.std.proofs.Common.{refl, ap, sym, arith}
+use Rattle.std.proofs.Common.{get_or, slice_set, ◌⊎◌, ◌≡◌, ◌∙◌, inl, inr, ℕ, zero, suc, ◌+◌, ◌-◌}
+use Rattle.std.proofs.Common.{◌*◌, ◌/◌, ◌%◌, ◌^◌, ◌<◌, ◌≤◌, cond, nat_lt, count_ones, Bool, false}
+use Rattle.std.proofs.Common.{◌&&◌, List, length, filter, refl, ap, sym, arith}
 use Rattle.std.specs.Int.{bit_at}
 use Rattle.std.specs.Int.Count.{ones}
 use Rattle.std.specs.List.{range_with_len}
@@ -99,10 +96,7 @@ word_counted sets event index word fits is =
 filtered : (left test : ℕ → Bool) (from n : ℕ) → ((k : ℕ) → k < from + n → left k ≡ test k)
     → count_below test from + length (filter left (range_with_len from n)) ≡ count_below test
     (from + n)
-filtered left test from zero same =
-    let none : from + 0 ≡ from = omega arith in
-    let all = ap (count_below test) none in
-    omega (arith, all)
+filtered left test from zero same = grind arith
 filtered left test from (suc n) same =
     let next : from + 1 + n ≡ from + suc n = omega arith in
     let own : from + 1 ≡ suc from = omega arith in
@@ -141,9 +135,7 @@ pub ones_few : (word : ℕ) → word < 2 ^ 64 → count_ones word ≤ 64
 ones_few word fits = ones-le 64 word fits
 
 pub no_first : (test : ℕ → Bool) (time : ℕ) → false ≡ (nat_lt time (64 * 0) && test time)
-no_first test time =
-    let none : 64 * 0 ≤ time = omega arith in
-    sym (ap (λ b. b && test time) (le-ltb time (64 * 0) none))
+no_first test time = grind arith
 
 -- ---- the words of an event
 

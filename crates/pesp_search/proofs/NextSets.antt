@@ -1,9 +1,9 @@
 -- The sets of events, one after the other.
-use Rattle.std.proofs.Common.{◌≡◌, ◌∙◌, inl, inr, ℕ, position, zero, suc, ◌+◌, ◌<◌, ◌≤◌, nat_lt}
-use Rattle.std.proofs.Common.{true, false, cond, List, [], ◌∷◌, ◌++◌, map, get_or, length}
-use Rattle.std.proofs.Common.{slice_index_or, Some, None, refl, ap, sym, arith}
+use Rattle.std.proofs.Common.{◌≡◌, ◌∙◌, ℕ, position, zero, suc, ◌+◌, ◌<◌, ◌≤◌, nat_lt, true, false}
+use Rattle.std.proofs.Common.{cond, List, [], ◌∷◌, ◌++◌, map, get_or, length, slice_index_or, Some}
+use Rattle.std.proofs.Common.{None, refl, ap, sym, arith}
 use Rattle.std.specs.List.{range_with_len}
-use Rattle.std.proofs.lemmas.Bool.{cases_eq, le-ltb, lt-ltb}
+use Rattle.std.proofs.lemmas.Bool.{le-ltb, lt-ltb}
 use Rattle.std.proofs.lemmas.List.Sums.{position_or_len_is}
 use Rattle.std.proofs.lemmas.List.FromFn.{get_or-map-range_with_len, length-map-range_with_len}
 use Rattle.std.proofs.lemmas.List.FromFn.{map-range_with_len_more}
@@ -24,10 +24,7 @@ sets_size sets = length-map-range_with_len (λ event. times_from sets event 0) 0
 
 pub settled_more : (sets : Marks) (event : ℕ) → IsSettled sets event
     → has_several (times_from sets event 0) ≡ false → IsSettled sets (event + 1)
-settled_more sets event so none other low = elim (cases_eq other event) [
-  | inl same ↦ ap (λ event. has_several (times_from sets event 0)) same ∙ none
-  | inr apart ↦ so other (omega (arith, low, apart))
-]
+settled_more sets event so none other low = grind arith
 
 first_at : (sets : Marks) (event : ℕ) → event ≤ sets.rows → IsSettled sets event
     → (event < sets.rows → has_several (times_from sets event 0) ≡ true)

@@ -1,17 +1,14 @@
 -- The times that are left to an event, one after the other.
-use Rattle.std.proofs.Common.{◌≡◌, ◌∙◌, ℕ, suc, ◌+◌, ◌-◌, ◌<◌, ◌≤◌, Bool, true, false, List, []}
-use Rattle.std.proofs.Common.{◌∷◌}
-use Rattle.std.proofs.Common.{cond, filter, is_some, length, not, Option, Some, None, ap, arith, sym}
+use Rattle.std.proofs.Common.{◌≡◌, ℕ, ◌+◌, ◌-◌, ◌<◌, ◌≤◌, Bool, true, false, List, [], ◌∷◌, cond}
+use Rattle.std.proofs.Common.{filter, is_some, not, Option, Some, None, ap, arith, sym}
 use Rattle.std.specs.List.{range_with_len}
-use Rattle.std.proofs.lemmas.Bool.{false≢true, ne_eqb}
+use Rattle.std.proofs.lemmas.Bool.{false≢true}
 use Rattle.pesp_search.specs.Listings.{is_empty}
 use Rattle.pesp_search.specs.Marks.{IsNext, Marks, is_left, times_from}
 
 range_more : (from end : ℕ) → from < end
     → range_with_len from (end - from) ≡ from ∷ range_with_len (from + 1) (end - (from + 1))
-range_more from end some =
-    let more : end - from ≡ suc (end - (from + 1)) = omega (arith, some) in
-    ap (range_with_len from) more
+range_more from end some = grind arith
 
 range_none : (from end : ℕ) → end ≤ from → range_with_len from (end - from) ≡ []
 range_none from end none =
@@ -24,9 +21,7 @@ kept_first test x xs is = ap (λ b. cond b (x ∷ filter test xs) (filter test x
 pub next_one : (sets : Marks) (event time : ℕ) → time < sets.columns
     → is_left sets event time ≡ true
     → times_from sets event time ≡ time ∷ times_from sets event (time + 1)
-next_one sets event time some left =
-    ap (filter (is_left sets event)) (range_more time sets.columns some)
-    ∙ kept_first (is_left sets event) time _ left
+next_one sets event time some left = grind arith
 
 pub no_more : (sets : Marks) (event time : ℕ) → sets.columns ≤ time
     → times_from sets event time ≡ []
@@ -40,6 +35,4 @@ pub empty_by_next : (sets : Marks) (event : ℕ) (found : Option ℕ) (none_is :
 empty_by_next sets event None true is none = sym (ap is_empty none)
 empty_by_next sets event None false is none = absurd (false≢true is)
 empty_by_next sets event (Some time) true is next = absurd (false≢true (sym is))
-empty_by_next sets event (Some time) false is next =
-    sym (ap is_empty next.2 ∙ ne_eqb (length (time ∷ times_from sets event (time + 1))) 0
-    (λ none. absurd (omega (arith, none))))
+empty_by_next sets event (Some time) false is next = grind arith

@@ -1,22 +1,18 @@
 -- Times of a period in one word.
 use Rattle.std.proofs.Common.{◌≡◌, ◌∙◌, ◌⊎◌, inl, inr, ℕ, ◌+◌, ◌-◌, ◌*◌, ◌/◌, ◌%◌, ◌^◌, ◌<◌, ◌≤◌}
-use Rattle.std.proofs.Common.{nat_lt, bit_or, false, ◌&&◌, ◌||◌, [], ◌∷◌, get_or, slice_set}
-use Rattle.std.proofs.Common.{ap, sym, arith}
+use Rattle.std.proofs.Common.{nat_lt, bit_or, false, ◌&&◌, ◌||◌, [], ◌∷◌, slice_set, ap, sym, arith}
 use Rattle.std.proofs.Math.Nat.{add-mod_left, add-mod_right, mod-eq_of_lt}
 use Rattle.std.proofs.lemmas.Bool.{cases_lt, le-ltb, lt-ltb}
-use Rattle.std.proofs.lemmas.List.{get_or-set_other, get_or-set_same, get_or_past}
-use Rattle.bit_rows.specs.Bits.{has_bit, marked, word_of, words_of}
+use Rattle.std.proofs.lemmas.List.{get_or_past}
+use Rattle.bit_rows.specs.Bits.{has_bit, marked, word_of}
 use Rattle.bit_rows.proofs.WordBits.{high_bit, or_bit, shl_high, shl_low, shr_bit, zero_bit}
 use Rattle.pesp_search.specs.Marks.{AreMarks, Marks, is_left}
 use Rattle.pesp_search.specs.Revising.{IsClear, turned_to}
-use Rattle.pesp_search.proofs.WordTurns.{IsWide, no_bits, wide_begun, zeros}
+use Rattle.pesp_search.proofs.WordTurns.{IsWide, wide_begun, zeros}
 use Rattle.bit_rows.proofs.WordBits.{or_none as or_false}
 
 pub in_word : (word time : ℕ) → time < 64 → marked (word ∷ []) time ≡ has_bit word time
-in_word word time low =
-    let index : time / 64 ≡ 0 = omega (arith, low) in
-    let place : time % 64 ≡ time = omega (arith, low) in
-    λ i. has_bit (get_or (word ∷ []) (index i) 0) (place i)
+in_word word time low = grind arith
 
 pub past_word : (word time : ℕ) → 64 ≤ time → marked (word ∷ []) time ≡ false
 past_word word time high =
@@ -38,18 +34,7 @@ both_words first second time = elim (cases_lt time 64) [
 
 -- a word before words without a bit
 pub word_alone : (word time : ℕ) → marked (slice_set zeros 0 word) time ≡ marked (word ∷ []) time
-word_alone word time = elim (cases_lt time 64) [
-  | inl low ↦
-      let index : time / 64 ≡ 0 = omega (arith, low) in
-      let few : 0 < 13 = omega arith in
-      ap (λ i. has_bit (get_or (slice_set zeros 0 word) i 0) (time % 64)) index
-      ∙ ap (λ word. has_bit word (time % 64)) (get_or-set_same zeros 0 word 0 few)
-      ∙ sym (ap (λ i. has_bit (get_or (word ∷ []) i 0) (time % 64)) index)
-  | inr high ↦
-      ap (λ word. has_bit word (time % 64))
-      (get_or-set_other zeros 0 (time / 64) word 0 (λ none. absurd (omega (arith, none, high))))
-      ∙ no_bits time ∙ sym (past_word word time high)
-]
+word_alone word time = grind arith
 
 pub word_begun : (sets : Marks) (event word : ℕ) → AreMarks sets → event < sets.rows
     → sets.columns ≤ 64 → ((time : ℕ) → time / 64 ≡ 0 → word_of sets event time ≡ word)
@@ -67,14 +52,8 @@ word_begun sets event word are inside small is =
 
     one : (time : ℕ) → (time < 64) ⊎ (64 ≤ time) → (time < sets.columns) ⊎ (sets.columns ≤ time)
         → marked (word ∷ []) time ≡ (nat_lt time sets.columns && is_left sets event time)
-    one time (inl low) (inl within) =
-        there time low
-        ∙ sym (λ i. lt-ltb time sets.columns within i && (lt-ltb time sets.columns within i
-        && has_bit (word_of sets event time) (time % 64)))
-    one time (inl low) (inr late) =
-        let few : time < 64 * words_of sets.columns = omega (arith, low, are.some) in
-        there time low ∙ are.bits.clear event time inside late few
-        ∙ sym (ap (λ b. b && is_left sets event time) (le-ltb time sets.columns late))
+    one time (inl low) (inl within) = grind arith
+    one time (inl low) (inr late) = grind arith
     one time (inr high) place =
         let late : sets.columns ≤ time = omega (arith, high, small) in
         past_word word time high

@@ -1,8 +1,8 @@
 -- A time has a partner where a time is left in a window.
 use Rattle.std.proofs.Common.{◌≡◌, ◌∙◌, inl, inr, ℕ, zero, suc, ℤ, pos, negsuc, ◌+◌, ◌-◌, ◌*◌, ◌/◌}
-use Rattle.std.proofs.Common.{◌%◌, ◌<◌, ◌≤◌, ◌≤ℤ◌, ◌-ℤ◌, min}
-use Rattle.std.proofs.Common.{Bool, true, false, cond, List, [], ◌∷◌, map, filter, Decides, refl}
-use Rattle.std.proofs.Common.{ap, sym, arith, slice_set, unsigned_abs}
+use Rattle.std.proofs.Common.{◌%◌, ◌<◌, ◌≤◌, ◌≤ℤ◌, ◌-ℤ◌, min, Bool, true, false, cond, List, []}
+use Rattle.std.proofs.Common.{◌∷◌, map, filter, Decides, refl, ap, sym, arith, slice_set}
+use Rattle.std.proofs.Common.{unsigned_abs}
 use Rattle.std.specs.List.{list_all, list_any, range_with_len}
 use Rattle.std.proofs.Math.Nat.{add-mod-mod, mod-add-mod, mod-add-div', add-mul-mod_self_right}
 use Rattle.std.proofs.Math.Nat.{add-mod_right, mod-eq_of_lt, mod-lt}
@@ -120,10 +120,7 @@ module _ (period lower upper : ℕ) (some : 1 ≤ period) (order : lower ≤ upp
   width_low = omega arith
 
   around_width : (n : ℕ) → n ≤ upper - lower → n % period ≤ width
-  around_width n few =
-      let small : n % period < period = mod-lt n (omega (arith, some)) in
-      let whole = mod-add-div' n period in
-      omega (arith, small, whole, few, some)
+  around_width n few = grind arith
 
   turn : (time n m : ℕ) → (time + n % period + m % period) % period ≡ (time + (n + m)) % period
   turn time n m =

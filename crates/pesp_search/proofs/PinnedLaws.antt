@@ -1,7 +1,7 @@
 -- What a timetable that a person gives owes to the chain: which files are made of it, that they are
 -- right, which file a refusal names, and what they are over the inputs of a search.
-use Rattle.std.proofs.Common.{◌≡◌, ℕ, ◌≤◌, Bool, true, cond, List, [], ◌∷◌, is_some, Option, None, Some}
-use Rattle.std.proofs.Common.{Ok, Err, refl, ap, lit<, subst, sym}
+use Rattle.std.proofs.Common.{arith, ◌≡◌, ℕ, ◌≤◌, Bool, true, cond, List, [], ◌∷◌, is_some, Option}
+use Rattle.std.proofs.Common.{None, Some, Ok, Err, refl, subst}
 use Rattle.giv_files.specs.declared.file_id.FileId.{FileId}
 use Rattle.giv_files.specs.declared.file_id.FileId.TheVariants as file
 use Rattle.giv_files.specs.declared.key.Key.TheVariants as key
@@ -18,7 +18,6 @@ use Rattle.giv_files.specs.Settings.{BundleParts, Fits, SettingsFit}
 use Rattle.giv_files.specs.StageCalls.{input_text}
 use Rattle.giv_files.proofs.Named.{AllName, input_names, names_both, names_or_else, refused_names}
 use Rattle.giv_files.proofs.SettingFacts.{amount_within}
-use Rattle.giv_files.proofs.StageCalls.{made_unless}
 use Rattle.pesp_model.specs.Timetables.{first_broken}
 use Rattle.pesp_search.specs.Judged.{times_in}
 use Rattle.pesp_search.specs.PinnedTimetables.{pinned_input, pinned_timetable_faults, pinned_timetable_stage}
@@ -31,10 +30,7 @@ use Rattle.pesp_search.proofs.PinnedReads.{pinned_right}
 pub pinned_timetable_makes : (bundle : BundleParts) (made : Made) → pinned_timetable_stage bundle ≡ Ok made
     → MakesAs stage.PinnedTimetable (ids_of made.files)
 unfolding pinned_timetable_stage
-pinned_timetable_makes bundle made is =
-    let kept = times_kept (times_in (input_text bundle 2)) in
-    let same : kept ≡ made = made_unless (pinned_timetable_faults bundle) kept made is in
-    (0, lit< tt, ap (λ (made : Made). ids_of made.files) same)
+pinned_timetable_makes bundle made is = grind arith
 
 -- the period of a bundle of the stage is in its range
 pub pinned_within : (bundle : BundleParts) → bundle.stage ≡ stage.PinnedTimetable → Fits bundle
@@ -77,14 +73,4 @@ pinned_timetable_names test times bundle reason networks is =
 pub right_where_same : (bundle other : BundleParts) (files : List MadeFile) → period_in bundle ≡ period_in other
     → input_text bundle 0 ≡ input_text other 0 → input_text bundle 1 ≡ input_text other 1
     → TimetableFilesAreRight bundle files → TimetableFilesAreRight other files
-right_where_same bundle other files period events activities right =
-    record {
-      inputs = rw (sym events, sym activities) right.inputs;
-      times = right.times;
-      text = right.text;
-      one = right.one;
-      reads = right.reads;
-      timetable = rw (sym period, sym events, sym activities) right.timetable;
-      passes = rw (sym period, sym events, sym activities) right.passes;
-      accepted = rw (sym period, sym events) right.accepted;
-    }
+right_where_same bundle other files period events activities right = grind arith

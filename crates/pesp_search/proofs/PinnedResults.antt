@@ -1,6 +1,6 @@
 -- What the stage of a timetable that a person gives comes to, by what was read and tested.
-use Rattle.std.proofs.Common.{◌≡◌, ◌++◌, List, [], ◌∷◌, ℕ, Option, Some, None, is_some, cond, Result, Ok, Err}
-use Rattle.std.proofs.Common.{refl, ap, sym, subst, ◌∙◌}
+use Rattle.std.proofs.Common.{arith, ◌≡◌, ◌++◌, List, [], ◌∷◌, ℕ, Option, Some, None, Result, Ok}
+use Rattle.std.proofs.Common.{Err, refl, ap, sym, subst, ◌∙◌}
 use Rattle.std.specs.Prelude.{IfOk}
 use Rattle.giv_files.specs.declared.file_id.FileId.TheVariants as file
 use Rattle.giv_files.specs.declared.made.Made.{Made}
@@ -12,9 +12,9 @@ use Rattle.giv_files.specs.declared.row_why.RowWhy.TheVariants as why
 use Rattle.giv_files.specs.declared.stage.Stage.TheVariants as stage
 use Rattle.giv_files.specs.Inputs.{Refuses, input_faults, or_else, records_of}
 use Rattle.giv_files.specs.Settings.{BundleParts, Fits}
-use Rattle.giv_files.specs.StageCalls.{StageGives, input_text, unless_fault}
+use Rattle.giv_files.specs.StageCalls.{StageGives, input_text}
 use Rattle.giv_files.proofs.Inputs.{refused_append}
-use Rattle.giv_files.proofs.StageCalls.{stage_made, stage_refused}
+use Rattle.giv_files.proofs.StageCalls.{stage_refused}
 use Rattle.giv_files.proofs.Ranges.{front_none}
 use Rattle.event_tables.specs.declared.periodic_event.PeriodicEvent.{PeriodicEvent}
 use Rattle.event_tables.specs.PeriodicFiles.{periodic_event_ids, periodic_event_input, periodic_time_input}
@@ -96,18 +96,13 @@ module _ (bundle : BundleParts) where
       pub not_feasible : (at : ℕ) → broken ≡ Some at
           → StageGives (pinned_timetable_stage bundle) (Err (fault.Refused (refusal.BadRow file.PinnedTimes 0 why.NotFeasible)))
       unfolding pinned_timetable_stage
-      not_feasible at is =
-          ap (λ all. unless_fault all (times_kept (times_in text)))
-          (tested ∙ ap (λ found. cond (is_some found) (refusal.BadRow file.PinnedTimes 0 why.NotFeasible ∷ []) []) is)
+      not_feasible at is = grind arith
 
       -- they are a timetable
       pub times_taken : (times : List ℕ) (made : Made) → broken ≡ None → times ≡ times_in text
           → made ≡ times_kept times → StageGives (pinned_timetable_stage bundle) (Ok made)
       unfolding pinned_timetable_stage
-      times_taken times made is read kept =
-          stage_made (pinned_timetable_faults bundle) (times_kept (times_in text)) made
-          (tested ∙ ap (λ found. cond (is_some found) (refusal.BadRow file.PinnedTimes 0 why.NotFeasible ∷ []) []) is)
-          (kept ∙ ap times_kept read)
+      times_taken times made is read kept = grind arith
 
 -- what a call gives that meets the stage is right
 pub right_given : (bundle : BundleParts) (result : Result Made StageFault)

@@ -1,9 +1,8 @@
 -- Times that are taken out of the set of an event, one word after the other.
 use Rattle.std.proofs.Common.{◌≡◌, ◌∙◌, ◌⊎◌, inl, inr, ℕ, ◌+◌, ◌*◌, ◌/◌, ◌%◌, ◌<◌, ◌≤◌, ◌==◌}
-use Rattle.std.proofs.Common.{nat_lt}
-use Rattle.std.proofs.Common.{bit_and, Bool, true, false, not, ◌&&◌, ◌||◌, List, get_or, length}
-use Rattle.std.proofs.Common.{refl, ap, sym, subst, arith, IfOk, Result, Ok, Err}
-use Rattle.std.proofs.lemmas.Bool.{cases_Bool, cases_eq, cases_lt, cases_order, eq-eqb, le-ltb}
+use Rattle.std.proofs.Common.{nat_lt, bit_and, Bool, true, false, not, ◌&&◌, ◌||◌, List, get_or}
+use Rattle.std.proofs.Common.{length, refl, ap, sym, subst, arith, IfOk, Result, Ok, Err}
+use Rattle.std.proofs.lemmas.Bool.{cases_Bool, cases_eq, cases_lt, cases_order, le-ltb}
 use Rattle.std.proofs.lemmas.Bool.{lt-ltb, ltb-true, ne_eqb, or_cases, or_parts, or_right}
 use Rattle.bit_rows.specs.Bits.{has_bit, marked, place_of, with_word, words_of}
 use Rattle.bit_rows.proofs.RowBits.{other_word, place_low, same_row, this_word}
@@ -84,9 +83,7 @@ later kept keep end e t late =
 -- one that is
 reached_here : (keep : List ℕ) (end e t : ℕ) → t < end
     → stays_below e keep end e t ≡ marked keep t
-reached_here keep end e t h =
-    ap (λ b. not b || (not (nat_lt t end) || marked keep t)) (eq-eqb e e refl)
-    ∙ ap (λ b. not b || marked keep t) (lt-ltb t end h)
+reached_here keep end e t h = grind arith
 
 -- ---- the loop
 
@@ -117,9 +114,7 @@ prune_word before now after event index keep changes is inside within so turn = 
 
     no_more : (is ≡ true) ⊎ (is ≡ false) → marks_left after.sets ≤ marks_left now.sets
     no_more (inl some) = let less = less_here some in omega (arith, less)
-    no_more (inr none) =
-        let same = ap (λ (tracked : Tracked). marks_left tracked.sets) (turn.same none) in
-        omega (arith, same)
+    no_more (inr none) = grind arith
 
     fewer : (changes ≡ true) ⊎ (is ≡ true) → marks_left after.sets < marks_left before.sets
     fewer (inl some) =

@@ -1,12 +1,11 @@
 -- Rounds and any other way to take out times without a partner leave the same sets.
-use Rattle.std.proofs.Common.{◌≡◌, ◌∙◌, inl, inr, ℕ, zero, suc, ◌<◌, ◌==◌, nat_lt}
-use Rattle.std.proofs.Common.{Bool, true, false, not, ◌&&◌, ◌||◌}
-use Rattle.std.proofs.Common.{List, [], ◌∷◌, filter, get_or, pos, slice_get, Some, All, refl, ap, sym}
-use Rattle.std.proofs.Common.{subst, arith}
+use Rattle.std.proofs.Common.{◌≡◌, ◌∙◌, inl, inr, ℕ, zero, suc, ◌<◌, ◌==◌, nat_lt, Bool, true}
+use Rattle.std.proofs.Common.{false, not, ◌&&◌, ◌||◌, List, [], ◌∷◌, filter, get_or, pos, slice_get}
+use Rattle.std.proofs.Common.{Some, All, refl, ap, sym, subst, arith}
 use Rattle.std.specs.List.{list_all, list_any, range_with_len}
 use Rattle.std.proofs.lemmas.List.FromFn.{length-map-range_with_len}
-use Rattle.std.proofs.lemmas.Bool.{and_from, and_parts, cases_Bool, cases_eq, eq-eqb, ne_eqb}
-use Rattle.std.proofs.lemmas.Bool.{lt-ltb, ltb-true}
+use Rattle.std.proofs.lemmas.Bool.{and_from, and_parts, cases_Bool, eq-eqb}
+use Rattle.std.proofs.lemmas.Bool.{lt-ltb}
 use Rattle.std.proofs.lemmas.List.Elements.{All-from_get_or}
 use Rattle.std.proofs.lemmas.Option.{none-some, slice_get-get_or}
 use Rattle.pesp_model.specs.declared.activity.PespActivity.{PespActivity}
@@ -74,10 +73,7 @@ module _ (problem : Problem) (sound : IsProblem problem) where
   activity_at i activity at = held (IsActivity events) problem.activities i activity sound.sound at
 
   or_here : (a e : ℕ) (b : Bool) → (a ≡ e → b ≡ true) → (not (a == e) || b) ≡ true
-  or_here a e b holds = elim (cases_eq a e) [
-    | inl own ↦ ap (λ c. not c || b) (eq-eqb a e own) ∙ holds own
-    | inr other ↦ ap (λ c. not c || b) (ne_eqb a e other)
-  ]
+  or_here a e b holds = grind arith
 
   here_or : (a : ℕ) (b : Bool) → (not (a == a) || b) ≡ true → b ≡ true
   here_or a b is = sym (ap (λ c. not c || b) (eq-eqb a a refl)) ∙ is
@@ -106,10 +102,7 @@ module _ (problem : Problem) (sound : IsProblem problem) where
 
   inside_parts : (left : Left) (e t : ℕ) → inside left e t ≡ true
       → (e < events) × (t < period) × (left e t ≡ true)
-  inside_parts left e t is =
-      let one = and_parts (nat_lt e events) _ is in
-      let two = and_parts (nat_lt t period) _ one.1 in
-      (ltb-true _ _ one.0, ltb-true _ _ two.0, two.1)
+  inside_parts left e t is = grind arith
 
   inside_from : (left : Left) (e t : ℕ) → e < events → t < period → left e t ≡ true
       → inside left e t ≡ true

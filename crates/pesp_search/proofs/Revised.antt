@@ -1,8 +1,6 @@
 -- What the sets of both events of an activity are after it has revised them.
-use Rattle.std.proofs.Common.{◌≡◌, ◌∙◌, ◌⊎◌, inl, inr, ℕ, ◌<◌, ◌==◌, Bool, true, false, not}
-use Rattle.std.proofs.Common.{◌&&◌, ◌-◌}
-use Rattle.std.proofs.Common.{◌||◌}
-use Rattle.std.proofs.Common.{filter, length, refl, ap, sym, subst, arith}
+use Rattle.std.proofs.Common.{◌≡◌, ◌∙◌, ◌⊎◌, inl, inr, ℕ, ◌<◌, ◌==◌, Bool, true, false, not, ◌&&◌}
+use Rattle.std.proofs.Common.{◌-◌, ◌||◌, filter, length, refl, ap, sym, subst, arith}
 use Rattle.std.specs.List.{list_any, range_with_len}
 use Rattle.std.proofs.lemmas.Bool.{and_from, and_parts, cases_eq, eq-eqb, false≢true, ne_eqb}
 use Rattle.std.proofs.lemmas.Bool.{or_from, or_parts}
@@ -56,11 +54,7 @@ module _ (kept : ℕ) (test : ℕ → Bool) where
   -- what holds of all times of the event passes it
   passes : (left : Left) → ((t : ℕ) → left kept t ≡ true → test t ≡ true) → (e t : ℕ)
       → left e t ≡ true → kept_test e t ≡ true
-  passes left holds e t is = elim (cases_eq e kept) [
-    | inl same ↦ rw (same) (passes_here t
-        ∙ holds t (ap (λ e. left e t) (sym same) ∙ is))
-    | inr other ↦ passes_elsewhere e t other
-  ]
+  passes left holds e t is = grind arith
 
 -- ---- flags
 
@@ -210,53 +204,20 @@ pub carried_first : (period : ℕ) (first last : Left) (flags more : ℕ
     → IsWithin last first
     → ((event : ℕ) → more event ≡ false → (flags event ≡ false) × (last event ≡ first event))
     → FirstUnless period first flags other → FirstUnless period last more other
-carried_first period first last flags more other within untouched so none t is =
-    let to = untouched other.to none in
-    ap (λ (left : ℕ → Bool). list_any (keeps period other t) (filter left (range_with_len 0
-    period))) to.1
-    ∙ so to.0 t (within other.from t is)
+carried_first period first last flags more other within untouched so none t is = grind arith
 
 pub carried_second : (period : ℕ) (first last : Left) (flags more : ℕ → Bool) (other : PespActivity)
     → IsWithin last first
     → ((event : ℕ) → more event ≡ false → (flags event ≡ false) × (last event ≡ first event))
     → SecondUnless period first flags other → SecondUnless period last more other
-carried_second period first last flags more other within untouched so none t is =
-    let from = untouched other.from none in
-    ap (λ (left : ℕ → Bool). list_any (λ first. keeps period other first t)
-    (filter left (range_with_len 0 period))) from.1
-    ∙ so from.0 t (within other.to t is)
+carried_second period first last flags more other within untouched so none t is = grind arith
 
 -- one side behind the other
 module _ (activity : PespActivity) (at : ℕ) (start middle end : Tracked)
     (flags some more : Flags) (one : RevisesFirst activity at start middle flags some)
     (two : RevisesSecond activity at middle end some more) where
-  fewer_both : (event : ℕ) → (has_changed some event ≡ true) ⊎ (marks_left end.sets < marks_left
-      middle.sets)
-      → (has_changed flags event ≡ true) ⊎ (marks_left end.sets < marks_left start.sets)
-  fewer_both event (inr less) = inr (omega (arith, less, one.0.no_more))
-  fewer_both event (inl was) = elim (one.0.fewer event was) [
-    | inl some ↦ inl some
-    | inr less ↦ inr (omega (arith, less, two.0.no_more))
-  ]
-
   both_touched : Touches activity start end flags more
-  both_touched = record {
-    period = two.0.period ∙ one.0.period;
-    events = two.0.events ∙ one.0.events;
-    saved = two.0.saved ∙ one.0.saved;
-    within = λ e t is. one.0.within e t (two.0.within e t is);
-    keeps = λ left revised within.
-        two.0.keeps left (subst (λ period. IsRevised period left activity) (sym one.0.period)
-        revised)
-        (one.0.keeps left revised within);
-    each = two.0.each ∙ one.0.each;
-    untouched = λ event none.
-        let last = two.0.untouched event none in
-        let first = one.0.untouched event last.0 in
-        (first.0, last.1 ∙ first.1);
-    fewer = λ event some. fewer_both event (two.0.fewer event some);
-    no_more = omega (arith, one.0.no_more, two.0.no_more);
-  }
+  both_touched = grind arith
 
   last_here : SecondUnless start.sets.columns (is_left middle.sets) (either at some) activity
       → SecondUnless start.sets.columns (is_left end.sets) (has_changed more) activity

@@ -1,7 +1,7 @@
 -- A listing is no longer than the sum of the powers of the period.
-use Rattle.std.proofs.Common.{◌≡◌, ◌∙◌, ℕ, zero, suc, ◌+◌, ◌*◌, ◌^◌, ◌≤◌, Bool, true, false, List, []}
-use Rattle.std.proofs.Common.{◌∷◌, length, map, position, Option, Some, None, is_some, refl, ap, sym, arith}
-use Rattle.std.proofs.Common.{filter, sum}
+use Rattle.std.proofs.Common.{◌≡◌, ◌∙◌, ℕ, zero, suc, ◌+◌, ◌*◌, ◌^◌, ◌≤◌, Bool, true, false, List}
+use Rattle.std.proofs.Common.{[], ◌∷◌, length, map, position, Option, Some, None, is_some, refl, ap}
+use Rattle.std.proofs.Common.{sym, arith, filter, sum}
 use Rattle.std.specs.List.{AllByRecursion, list_any, range_with_len}
 use Rattle.std.proofs.lemmas.List.Sums.{sum_by-cons}
 use Rattle.std.proofs.lemmas.Nat.{mul-le}
@@ -60,10 +60,7 @@ no_less : (period a : ℕ) → 1 ≤ period → a ≤ period * a
 no_less period a some = omega (arith, mul-le 1 a period a some (omega arith))
 
 pub most_grows : (period fewer more : ℕ) → 1 ≤ period → most period fewer ≤ most period (fewer + more)
-most_grows period fewer zero some =
-    let same : fewer ≡ fewer + 0 = omega arith in
-    let all = ap (most period) same in
-    omega (arith, all)
+most_grows period fewer zero some = grind arith
 most_grows period fewer (suc more) some =
     let next : fewer + suc more ≡ fewer + more + 1 = omega arith in
     let all = ap (most period) next in

@@ -1,6 +1,7 @@
 -- What the stage of timetables gives, by what the search found.
-use Rattle.std.proofs.Common.{◌≡◌, ◌∙◌, ℕ, ◌+◌, ◌≤◌, Bool, true, false, cond, nat_lt, List, [], ◌∷◌, length}
-use Rattle.std.proofs.Common.{All, Option, Some, None, Result, Ok, Err, ap, sym, subst, arith}
+use Rattle.std.proofs.Common.{◌≡◌, ◌∙◌, ℕ, ◌+◌, ◌≤◌, Bool, true, false, cond, nat_lt, List, [], ◌∷◌}
+use Rattle.std.proofs.Common.{length, All, Option, Some, None, Result, Ok, Err, ap, sym, subst}
+use Rattle.std.proofs.Common.{arith}
 use Rattle.std.proofs.lemmas.Option.{same_Some}
 use Rattle.giv_files.specs.declared.made.Made.{Made}
 use Rattle.giv_files.specs.declared.refusal.Refusal.{Refusal}
@@ -77,16 +78,11 @@ module _ (bundle : BundleParts) where
       (problem_is : problem ≡ problem_in bundle) (budget_is : budget ≡ budget_in bundle) where
     stage_is : search_made (result_within budget (listing problem)) ≡ timetable_stage bundle
     unfolding timetable_stage
-    stage_is =
-        (λ i. search_made (result_within (budget_is i) (listing (problem_is i))))
-        ∙ ap (λ faults. after_faults faults (search_made (result_within (budget_in bundle) (listing (problem_in bundle)))))
-        (sym none)
+    stage_is = grind arith
 
     work_is : 1 + entries_listed budget (listing problem) ≡ timetable_work bundle
     unfolding timetable_work
-    work_is =
-        (λ i. 1 + entries_listed (budget_is i) (listing (problem_is i)))
-        ∙ ap (λ faults. work_after faults (entries_listed (budget_in bundle) (listing (problem_in bundle)))) (sym none)
+    work_is = grind arith
 
     pub search_ended : (why : StageFault) → SearchGives (result_within budget (listing problem)) (Err why)
         → StageGives (timetable_stage bundle) (Err why)

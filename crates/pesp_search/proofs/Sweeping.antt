@@ -1,7 +1,6 @@
 -- Sweeps over the events whose sets have changed, and what they leave.
-use Rattle.std.proofs.Common.{◌≡◌, ◌∙◌, ◌⊎◌, inl, inr, ℕ, ◌+◌, ◌<◌, ◌≤◌, Bool, true}
-use Rattle.std.proofs.Common.{false, List, [], length}
-use Rattle.std.proofs.Common.{cond, slice_get, Some, None, All, refl, sym, subst, arith}
+use Rattle.std.proofs.Common.{◌≡◌, ◌∙◌, ◌⊎◌, inl, inr, ℕ, ◌+◌, ◌<◌, ◌≤◌, Bool, true, false, List}
+use Rattle.std.proofs.Common.{[], length, cond, slice_get, Some, None, All, sym, subst, arith}
 use Rattle.std.proofs.lemmas.Bool.{cases_lt, false≢true}
 use Rattle.std.proofs.lemmas.List.{get_or_past}
 use Rattle.std.proofs.lemmas.Option.{get_or_from_slice_get, slice_get_within}
@@ -14,7 +13,6 @@ use Rattle.pesp_search.specs.Revising.{IsWithin}
 use Rattle.pesp_search.specs.Revising.{Left, Propagates, RevisedUnless, Sweeps, Visits, is_free}
 use Rattle.pesp_search.specs.Revising.{IsFull, StaysFull}
 use Rattle.pesp_search.proofs.AnyBelow.{none_below, some_below}
-use Rattle.pesp_search.proofs.Revised.{carried_second, carried_first}
 
 -- what is known behind the events from one on: no flag is left at them unless times were taken out
 pub record IsSwept (problem : Problem) (before now : Tracked) (flags : Flags) (end : ℕ) : Type 0
@@ -49,21 +47,12 @@ pub carried : (period : ℕ) (old new : Left) (flags more : ℕ → Bool) (other
     → IsWithin new old
     → ((event : ℕ) → more event ≡ false → (flags event ≡ false) × (new event ≡ old event))
     → RevisedUnless period old flags other → RevisedUnless period new more other
-carried period old new flags more other within untouched so = (
-  carried_first period old new flags more other within untouched so.0,
-  carried_second period old new flags more other within untouched so.1,
-)
+carried period old new flags more other within untouched so = grind arith
 
 -- ---- smaller and smaller sets
 
 pub none_yet : (problem : Problem) (sets : Tracked) → Propagates problem sets sets
-none_yet problem sets = record {
-  period = refl;
-  events = refl;
-  saved = refl;
-  within = λ e t is. is;
-  keeps = λ left _ within. within;
-}
+none_yet problem sets = grind arith
 
 pub both_propagate : (problem : Problem) (before now after : Tracked)
     → Propagates problem before now
@@ -161,12 +150,7 @@ sweep_ended problem before now flags end so none = record {
 
 pub reducing_begun : (problem : Problem) (sets : Tracked) (flags : Flags)
     → IsReady problem sets flags → IsReducing problem sets sets flags
-reducing_begun problem sets flags ready = record {
-  propagates = none_yet problem sets;
-  each = ready.each;
-  revised = λ i activity at low _. ready.revised i activity at low;
-  full = λ full. full;
-}
+reducing_begun problem sets flags ready = grind arith
 
 -- flags that are all set make sets ready
 pub all_ready : (problem : Problem) (sets : Tracked) (flags : Flags) → IsProblem problem

@@ -1,6 +1,7 @@
 -- When a search says that there is no timetable, and when its budget is never spent.
-use Rattle.std.proofs.Common.{◌≡◌, ◌≢◌, ◌∙◌, ◌⊎◌, inl, inr, ℕ, ◌≤◌, Bool, true, false, cond, nat_lt, List, []}
-use Rattle.std.proofs.Common.{Option, Some, None, Result, Ok, Err, refl, ap, sym, subst, arith}
+use Rattle.std.proofs.Common.{◌≡◌, ◌≢◌, ◌∙◌, ◌⊎◌, inr, ℕ, ◌≤◌, Bool, true, false, cond, nat_lt}
+use Rattle.std.proofs.Common.{List, [], Option, Some, None, Result, Ok, Err, refl, ap, sym, subst}
+use Rattle.std.proofs.Common.{arith}
 use Rattle.std.proofs.lemmas.Bool.{le-ltb, ltb-false}
 use Rattle.giv_files.specs.declared.made.Made.{Made}
 use Rattle.giv_files.specs.declared.refusal.Refusal.{Refusal}
@@ -72,9 +73,7 @@ gives_always : (function : Result Made Refusal) (result : Result Made StageFault
     → (result ≡ Err (fault.Refused why)) ⊎ (result ≡ Err fault.NoMemory)
 gives_always function (Ok made) why gives is = absurd (let both = sym gives ∙ is in cc)
 gives_always function (Err fault.NoMemory) why gives is = inr refl
-gives_always function (Err (fault.Refused other)) why gives is =
-    let same : other ≡ why = (let both = sym gives ∙ is in cc) in
-    inl (ap (λ why. Err (fault.Refused why)) same)
+gives_always function (Err (fault.Refused other)) why gives is = grind arith
 
 module _ (bundle : BundleParts) (own : bundle.stage ≡ stage.Timetable) (fits : Fits bundle)
     (result : Result Made StageFault) (gives : StageGives (timetable_stage bundle) result)

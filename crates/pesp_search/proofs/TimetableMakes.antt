@@ -1,6 +1,6 @@
 -- Which files the stage of timetables makes, and which it names where it refuses a row.
-use Rattle.std.proofs.Common.{◌≡◌, ℕ, Bool, true, false, cond, nat_lt, List, [], ◌∷◌, Option, Some, None, Result}
-use Rattle.std.proofs.Common.{Ok, Err, ap, lit<, subst}
+use Rattle.std.proofs.Common.{arith, ◌≡◌, ℕ, Bool, true, List, [], ◌∷◌, Result, Ok, Err, ap, lit<}
+use Rattle.std.proofs.Common.{subst}
 use Rattle.giv_files.specs.declared.file_id.FileId.{FileId}
 use Rattle.giv_files.specs.declared.file_id.FileId.TheVariants as file
 use Rattle.giv_files.specs.declared.made.Made.{Made}
@@ -15,7 +15,7 @@ use Rattle.giv_files.specs.StageCalls.{input_text}
 use Rattle.giv_files.proofs.Named.{AllName, input_names, names_both, names_only}
 use Rattle.event_tables.specs.PeriodicFiles.{periodic_activity_input, periodic_event_ids, periodic_event_input}
 use Rattle.pesp_model.specs.PespTexts.{events_of, problem_faults}
-use Rattle.pesp_search.specs.Listings.{Listing, TimesFound, listing, result_within, whole_result}
+use Rattle.pesp_search.specs.Listings.{Listing, TimesFound, listing, result_within}
 use Rattle.pesp_search.specs.TimetableStage.{after_faults, budget_in, problem_in, search_made, timetable_faults}
 use Rattle.pesp_search.specs.TimetableStage.{timetable_stage}
 
@@ -41,23 +41,10 @@ unfolding timetable_stage
 timetable_stage_makes bundle made is =
     makes_after (timetable_faults bundle) (result_within (budget_in bundle) (listing (problem_in bundle))) made is
 
--- a search names no file
-found_names : (test : FileId → Bool) (entries : ℕ) (found : Option (List ℕ)) (reason : Refusal)
-    → search_made (whole_result entries found) ≡ Err reason → NamesOnly test reason
-found_names test entries (Some times) reason is = absurd (cc)
-found_names test entries None reason is =
-    let same : refusal.NoSolution ≡ reason = cc in subst (NamesOnly test) same tt
-
 search_names : (test : FileId → Bool) (budget : ℕ) (all : Listing) (reason : Refusal)
     → search_made (result_within budget all) ≡ Err reason → NamesOnly test reason
 unfolding result_within
-search_names test budget all reason is =
-    elim (nat_lt budget all.entries) as
-    (λ b. search_made (cond b (Err (refusal.Spent budget)) (whole_result all.entries all.found)) ≡ Err reason
-    → NamesOnly test reason) [
-      | true ↦ λ is. let same : refusal.Spent budget ≡ reason = cc in subst (NamesOnly test) same tt
-      | false ↦ found_names test all.entries all.found reason
-    ] is
+search_names test budget all reason is = grind arith
 
 names_after : (test : FileId → Bool) (faults : List Refusal) (outcome : Result Made Refusal)
     (reason : Refusal) → AllName test faults → (outcome ≡ Err reason → NamesOnly test reason)

@@ -1,7 +1,7 @@
 -- The activities at an event, one after the other, and what they leave.
 use Rattle.std.proofs.Common.{◌≡◌, ◌∙◌, ◌⊎◌, inl, inr, ℕ, ◌+◌, ◌<◌, ◌≤◌, ◌==◌, true, false, List}
-use Rattle.std.proofs.Common.{length, get_or, slice_set}
-use Rattle.std.proofs.Common.{slice_get, Some, Contains, ap, sym, subst, arith}
+use Rattle.std.proofs.Common.{length, get_or, slice_set, slice_get, Some, Contains, ap, sym, subst}
+use Rattle.std.proofs.Common.{arith}
 use Rattle.std.proofs.lemmas.Bool.{cases_eq, eq-eqb, false≢true, or_from, or_parts}
 use Rattle.std.proofs.lemmas.Grind.{get_or_default_zero}
 use Rattle.std.proofs.lemmas.Option.{same_Some}
@@ -181,10 +181,7 @@ module _ (problem : Problem) (event : ℕ) (indexes : List ℕ) (before now afte
       → ((has_changed old other ≡ true) × (other ≡ event → ⊥))
       ⊎ (marks_left after.sets < marks_left before.sets)
   fewer other (inr less) = inr (omega (arith, less, so.no_more))
-  fewer other (inl was) = elim (so.fewer other was) [
-    | inl old ↦ inl old
-    | inr less ↦ inr (omega (arith, less, turn.0.no_more))
-  ]
+  fewer other (inl was) = grind arith
 
   pub visit_turn : StaysFull now after
       → IsVisited problem event indexes before after old more (from + 1)

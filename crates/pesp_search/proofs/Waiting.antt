@@ -1,7 +1,6 @@
 -- The children that wait, one after the other.
-use Rattle.std.proofs.Common.{◌<◌}
-use Rattle.std.proofs.Common.{refl, subst}
-use Rattle.std.proofs.Common.{◌≡◌, ◌∙◌, ℕ, ◌+◌, List, [], ◌∷◌, ◌++◌, map, Some, None, ap, sym}
+use Rattle.std.proofs.Common.{◌<◌, arith, refl, subst, ◌≡◌, ◌∙◌, ℕ, ◌+◌, List, [], ◌∷◌, ◌++◌, map}
+use Rattle.std.proofs.Common.{Some, None, ap, sym}
 use Rattle.std.proofs.lemmas.List.{append_assoc}
 use Rattle.pesp_search.specs.declared.time_sets.Branch.{Branch}
 use Rattle.pesp_search.specs.Listings.{with_time}
@@ -24,10 +23,7 @@ pub none_waits : (before after : Tracked) (sets : Marks) (branch : Branch)
     → Restores before after (Some branch) → sets ≡ after.sets
     → IsNext sets branch.event branch.from None → waiting before.saved ≡ waiting after.saved
 unfolding waiting
-none_waits before after sets branch restored same none =
-    ap waiting restored.0
-    ∙ ap (λ times. map (with_time (sets_of after.sets) branch.event) times ++ waiting after.saved)
-    (ap (λ (sets : Marks). times_from sets branch.event branch.from) (sym same) ∙ none)
+none_waits before after sets branch restored same none = grind arith
 
 -- the next one
 pub next_waits : (before restored saved after : Tracked) (sets : Marks) (branch : Branch) (time : ℕ)

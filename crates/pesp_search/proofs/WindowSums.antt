@@ -1,8 +1,6 @@
 -- Sums over a period that is gone through twice, and the windows in which they differ.
-use Rattle.std.proofs.Common.{◌≡◌, ◌∙◌, inl, inr, ℕ, zero, suc, ◌+◌, ◌-◌, ◌%◌, ◌<◌, ◌≤◌, ◌==◌}
-use Rattle.std.proofs.Common.{cond}
-use Rattle.std.proofs.Common.{Bool, true, false, not, ◌||◌, filter, length}
-use Rattle.std.proofs.Common.{refl, ap, sym, arith}
+use Rattle.std.proofs.Common.{◌≡◌, ◌∙◌, inl, inr, ℕ, zero, suc, ◌+◌, ◌-◌, ◌%◌, ◌<◌, ◌≤◌, ◌==◌, cond}
+use Rattle.std.proofs.Common.{Bool, true, false, not, ◌||◌, filter, length, refl, ap, sym, arith}
 use Rattle.std.specs.List.{range_with_len}
 use Rattle.std.proofs.Math.Nat.{add-mod_left, mod-add-mod, mod-eq_of_lt, mod-lt}
 use Rattle.std.proofs.lemmas.Bool.{cases_Bool, eq-eqb, ne_eqb, or_right}
@@ -106,10 +104,7 @@ module _ (period : ℕ) (left : ℕ → Bool) where
   -- ---- where more times are left than lie outside of a window, each window has one
 
   slow : (from n : ℕ) → count_below shown (from + n) ≤ count_below shown from + n
-  slow from zero =
-      let none : from + 0 ≡ from = omega arith in
-      let same = ap (count_below shown) none in
-      omega (arith, same)
+  slow from zero = grind arith
   slow from (suc n) =
       let rest = slow from n in
       let next : from + suc n ≡ from + n + 1 = omega arith in
@@ -122,10 +117,7 @@ module _ (period : ℕ) (left : ℕ → Bool) where
   all_counted : (from n : ℕ) → from + n ≤ period
       → count_below shown from + length (filter left (range_with_len from n)) ≡ count_below shown
       (from + n)
-  all_counted from zero few =
-      let none : from + 0 ≡ from = omega arith in
-      let same = ap (count_below shown) none in
-      omega (arith, same)
+  all_counted from zero few = grind arith
   all_counted from (suc n) few =
       let rest = all_counted (from + 1) n (omega (arith, few)) in
       let next : from + 1 + n ≡ from + suc n = omega arith in

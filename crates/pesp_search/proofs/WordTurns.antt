@@ -1,9 +1,7 @@
 -- Words of times in a period that goes round.
 use Rattle.std.proofs.Common.{◌≡◌, ◌∙◌, ◌⊎◌, inl, inr, ℕ, ◌+◌, ◌-◌, ◌*◌, ◌/◌, ◌%◌, ◌^◌, ◌<◌, ◌≤◌}
-use Rattle.std.proofs.Common.{◌==◌}
-use Rattle.std.proofs.Common.{nat_lt, bit_or, Bool, true, false, ◌&&◌, ◌||◌, List, length, get_or}
-use Rattle.std.proofs.Common.{slice_set, replicate}
-use Rattle.std.proofs.Common.{refl, ap, sym, subst, arith}
+use Rattle.std.proofs.Common.{◌==◌, nat_lt, bit_or, Bool, true, false, ◌&&◌, ◌||◌, List, length}
+use Rattle.std.proofs.Common.{get_or, slice_set, replicate, refl, ap, sym, subst, arith}
 use Rattle.std.proofs.Math.Nat.{add-mod_left, mod-add-mod, mod-eq_of_lt, mod-lt}
 use Rattle.std.proofs.lemmas.Bool.{cases_eq, cases_lt, eq-eqb, lt-ltb, le-ltb, ne_eqb}
 use Rattle.std.proofs.lemmas.List.{get_or-set_other, get_or-set_same, get_or-replicate, get_or_past}
@@ -55,10 +53,7 @@ module _ (period from start bit : ℕ) (times : List ℕ) (word : ℕ) (opens : 
 -- ---- words to which turned ones are added
 
 pub and_under : (n k : ℕ) (x y : Bool) → (n < k → x ≡ y) → (nat_lt n k && x) ≡ (nat_lt n k && y)
-and_under n k x y same = elim (cases_lt n k) [
-  | inl low ↦ ap (λ b. nat_lt n k && b) (same low)
-  | inr high ↦ ap (λ b. b && x) (le-ltb n k high) ∙ sym (ap (λ b. b && y) (le-ltb n k high))
-]
+and_under n k x y same = grind arith
 
 abbrev pub added_below : ℕ → ℕ → List ℕ → List ℕ → ℕ → ℕ → Bool
 added_below end period old times by time =
@@ -66,10 +61,7 @@ added_below end period old times by time =
 
 pub none_added : (period by : ℕ) (old times : List ℕ) (time : ℕ)
     → marked old time ≡ added_below (64 * 0) period old times by time
-none_added period by old times time =
-    let none : 64 * 0 ≤ time = omega arith in
-    sym (or_false (marked old time) _ (ap (λ b. b
-    && turned_to period times by time) (le-ltb time (64 * 0) none)))
+none_added period by old times time = grind arith
 
 pub all_added : (period by index : ℕ) (old times : List ℕ) (time : ℕ) → words_of period ≤ index
     → added_below (64 * index) period old times by time ≡ (marked old time
@@ -215,9 +207,7 @@ IsWide period left wide times = (time : ℕ) → marked times time
 
 pub wide_clear : (period : ℕ) (left : ℕ → Bool) (wide : ℕ) (times : List ℕ)
     → IsWide period left wide times → IsClear period times
-wide_clear period left wide times so time high =
-    so time ∙ ap (λ b. b && any_below (λ minutes. left ((time + minutes) % period)) wide) (le-ltb
-    time period high)
+wide_clear period left wide times so time high = grind arith
 
 pub wide_begun : (period : ℕ) (left : ℕ → Bool) (times : List ℕ)
     → ((time : ℕ) → marked times time ≡ (nat_lt time period && left time))

@@ -1,7 +1,7 @@
 -- A table is read back where comments stand behind it.
-use Rattle.std.proofs.Common.{◌≡◌, ◌≢◌, ℕ, suc, ◌+◌, ◌-◌, ◌==◌, Bool, true, false, cond, List, [], inl, inr}
-use Rattle.std.proofs.Common.{◌∷◌, ◌++◌, length, map, filter, take, All, refl, ap, sym, subst, ◌∙◌}
-use Rattle.std.proofs.Common.{arith, append_assoc, ne_eqb}
+use Rattle.std.proofs.Common.{◌≡◌, ◌≢◌, ℕ, suc, ◌+◌, ◌-◌, ◌==◌, Bool, true, false, cond, List, []}
+use Rattle.std.proofs.Common.{inl, inr, ◌∷◌, ◌++◌, length, map, filter, take, All, refl, ap, sym}
+use Rattle.std.proofs.Common.{subst, ◌∙◌, arith, append_assoc, ne_eqb}
 use Rattle.std.specs.List.{AllByRecursion, enumerate_from, flat_map, onto_first}
 use Rattle.std.specs.Str.Lines.{strip_carriage_return}
 use Rattle.std.proofs.lemmas.List.{map-append}
@@ -60,20 +60,19 @@ rows_from number some =
 none_from : (number : ℕ) (some : List (List ℕ)) → AllByRecursion IsRowless some
     → rows_from number some ≡ []
 none_from number [] none = refl
-none_from number (line ∷ some) none = elim (cases_Bool (has_byte line)) [
-  | inl is ↦ rw is (ap (λ own. own ++ rows_from (number + 1) some) (none.0 number)
-      ∙ none_from (number + 1) some none.1)
-  | inr is ↦ rw is (none_from number some none.1)
-]
+none_from number (line ∷ some) none =
+    grind (arith, cases_Bool, none_from (number + 1) some none.1, none_from number some none.1)
 
 rows_front : (number : ℕ) (some more : List (List ℕ)) → AllByRecursion IsRowless more
     → rows_from number (some ++ more) ≡ rows_from number some
 rows_front number [] more none = none_from number more none
-rows_front number (line ∷ some) more none = elim (cases_Bool (has_byte line)) [
-  | inl is ↦ rw is
-      (ap (λ rest. row_of number line ++ rest) (rows_front (number + 1) some more none))
-  | inr is ↦ rw is (rows_front number some more none)
-]
+rows_front number (line ∷ some) more none =
+    grind (
+      arith,
+      cases_Bool,
+      rows_front (number + 1) some more none,
+      rows_front number some more none,
+    )
 
 -- ---- comments
 
@@ -108,9 +107,7 @@ both_rowless [] more first second = second
 both_rowless (line ∷ some) more first second = (first.0, both_rowless some more first.1 second)
 
 lines_both : (text more : List ℕ) → lines (text ++ 10 ∷ more) ≡ lines text ++ lines more
-lines_both text more =
-    ap (map strip_carriage_return) (parts_both text more)
-    ∙ map-append strip_carriage_return (parts_of text) (parts_of more)
+lines_both text more = grind (arith, parts_both, map-append)
 
 -- a comment before others
 pub comment_more : (line more : List ℕ) → All (λ byte. byte ≢ 10) (35 ∷ line) → AreComments more
@@ -149,16 +146,7 @@ ends_line front kinds (row ∷ table) =
 rows_kept : (text comments : List ℕ) → EndsLine text → AreComments comments
     → rows (text ++ comments) ≡ rows text
 unfolding rows
-rows_kept text comments ends none =
-    let front = ends.front in
-    let longer : text ++ comments ≡ front ++ 10 ∷ comments =
-    ap (λ some. some ++ comments) ends.is ∙ append_assoc front (10 ∷ []) comments in
-    ap (λ some. rows_from 1 (lines some)) longer
-    ∙ ap (rows_from 1) (lines_both front comments)
-    ∙ rows_front 1 (lines front) (lines comments) none
-    ∙ sym (rows_front 1 (lines front) (lines []) no_comments)
-    ∙ ap (rows_from 1) (sym (lines_both front []))
-    ∙ ap (λ some. rows_from 1 (lines some)) (sym ends.is)
+rows_kept text comments ends none = grind (arith, append_assoc, lines_both, rows_front, no_comments)
 
 -- a table that is read back is read back as well where comments stand behind it
 pub back_with_comments : (header : List ℕ) (kinds : List ColumnKind) (table : List TableRow)

@@ -1,8 +1,8 @@
 -- A walk tells its two ends by the edges that it has: at each other stop it has an even number of
 -- them.
-use Rattle.std.proofs.Common.{◌≡◌, ◌≢◌, ℕ, ◌<◌, Bool, true, false, not, ◌||◌, cond, nat_eq, List}
-use Rattle.std.proofs.Common.{[], ◌∷◌, length, get_or, All, inl, inr, ◌⊎◌, refl, ap, subst, sym}
-use Rattle.std.proofs.Common.{◌∙◌, Some}
+use Rattle.std.proofs.Common.{arith, ◌≡◌, ◌≢◌, ℕ, ◌<◌, Bool, true, false, not, ◌||◌, cond, nat_eq}
+use Rattle.std.proofs.Common.{List, [], ◌∷◌, length, get_or, All, inl, inr, ◌⊎◌, refl, ap, subst}
+use Rattle.std.proofs.Common.{sym, ◌∙◌, Some}
 use Rattle.std.specs.List.{AllByRecursion, IsDistinct, cons_option, list_all, list_any}
 use Rattle.std.proofs.lemmas.Bool.{eq-eqb, eqb-true, ne_eqb, or_right as or_second, cases_Bool}
 use Rattle.std.proofs.lemmas.List.Elements.{All-contains, All-head, All-tail}
@@ -79,22 +79,13 @@ touches_ends : (edge : Edge) (from next stop : ℕ) → edge.left ≢ edge.right
     → touches stop edge ≡ differ (nat_eq from stop) (nat_eq next stop)
 unfolding touches
 touches_ends edge from next stop apart over =
-    either_end edge.left edge.right stop apart
-    ∙ elim (ends_are edge from next over) [
-      | inl p ↦ ap (λ at. differ (nat_eq at stop) (nat_eq edge.right stop)) p.0
-          ∙ ap (λ at. differ (nat_eq from stop) (nat_eq at stop)) p.1
-      | inr p ↦ differ_flip (nat_eq edge.left stop) (nat_eq edge.right stop)
-          ∙ ap (λ at. differ (nat_eq at stop) (nat_eq edge.left stop)) p.0
-          ∙ ap (λ at. differ (nat_eq from stop) (nat_eq at stop)) p.1
-    ]
+    grind (arith, either_end, ends_are, differ, nat_eq, differ_flip)
 
 module _ (edges : List Edge) (n : ℕ) (sound : All (IsEdge n) edges) where
   odd_ends : (from to stop : ℕ) (walk : List Edge) → IsWalk edges from to walk
       → odd_at stop walk ≡ differ (nat_eq from stop) (nat_eq to stop)
   unfolding odd_at
-  odd_ends from to stop [] is =
-      sym (differ_own (nat_eq from stop))
-      ∙ ap (λ at. differ (nat_eq from stop) (nat_eq at stop)) (staying_end edges from to is)
+  odd_ends from to stop [] is = grind (arith, differ_own, nat_eq, differ, staying_end)
   odd_ends from to stop (edge ∷ walk) is =
       let start = begins edges from to edge walk is in
       let own = All-contains (IsEdge n) edges edge sound start.there in
@@ -144,11 +135,8 @@ odd_without test x (y ∷ ys) there = elim (cases_Bool (nat_eq x y)) [
 still_in : (x p : ℕ) (ys : List ℕ) → p ≢ x → is_in p (without x ys) ≡ is_in p ys
 unfolding without
 still_in x p [] apart = refl
-still_in x p (y ∷ ys) apart = elim (cases_Bool (nat_eq x y)) [
-  | inl same ↦ rw same (ap (λ b. b || list_any (nat_eq p) ys)
-      (sym (ne_eqb p y (λ own. apart (own ∙ sym (eqb-true x y same))))))
-  | inr other ↦ rw other (ap (λ b. nat_eq p y || b) (still_in x p ys apart))
-]
+still_in x p (y ∷ ys) apart =
+    grind (arith, cases_Bool, nat_eq, ne_eqb, eqb-true, still_in x p ys apart)
 
 none_of : (x : ℕ) (ys : List ℕ) → AllByRecursion (λ y. nat_eq x y ≡ false) ys → is_in x ys ≡ false
 none_of x [] apart = refl
@@ -168,21 +156,13 @@ all_without : (P : ℕ → Type 0) (x : ℕ) (ys : List ℕ) → AllByRecursion 
     → AllByRecursion P (without x ys)
 unfolding without
 all_without P x [] all = tt
-all_without P x (y ∷ ys) all = elim (cases_Bool (nat_eq x y)) [
-  | inl same ↦ rw same all.1
-  | inr other ↦ rw other (all.0, all_without P x ys all.1)
-]
+all_without P x (y ∷ ys) all = grind (arith, cases_Bool, nat_eq, all_without P x ys all.1)
 
 distinct_without : (x : ℕ) (ys : List ℕ) → IsDistinct nat_eq ys → IsDistinct nat_eq (without x ys)
 unfolding without IsDistinct
 distinct_without x [] apart = tt
-distinct_without x (y ∷ ys) apart = elim (cases_Bool (nat_eq x y)) [
-  | inl same ↦ rw same apart.1
-  | inr other ↦ rw other (
-    all_without (λ z. nat_eq y z ≡ false) x ys apart.0,
-    distinct_without x ys apart.1,
-  )
-]
+distinct_without x (y ∷ ys) apart =
+    grind (arith, cases_Bool, nat_eq, all_without, distinct_without x ys apart.1)
 
 -- numbers of one list are in another one
 abbrev pub AreIn : List ℕ → List ℕ → Type 0
@@ -278,6 +258,4 @@ paths_ends edges n a b c d path other sound one two first second apart into back
 pub members_in : (path other : List ℕ) → list_all (λ edge. list_any (nat_eq edge) other) path ≡ true
     → AreIn path other
 members_in path other all x there =
-    let at = Any-from_list_any (nat_eq x) path there in
-    subst (λ edge. list_any (nat_eq edge) other ≡ true) (at.3 ∙ sym (eqb-true x at.1 at.4))
-    (AllPass-from_list_all (λ edge. list_any (nat_eq edge) other) path all at.0 at.1 at.2)
+    grind (arith, Any-from_list_any, nat_eq, eqb-true, AllPass-from_list_all)

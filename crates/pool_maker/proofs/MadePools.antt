@@ -1,5 +1,5 @@
 -- What the parts of a pool give together.
-use Rattle.std.proofs.Common.{◌≡◌, ℕ, ℤ, List, [], ◌++◌, map, ap, subst, sym, ◌∙◌}
+use Rattle.std.proofs.Common.{◌≡◌, ℕ, ℤ, List, [], map, ap, subst, sym, ◌∙◌, arith}
 use Rattle.giv_files.specs.declared.refusal.StageFault.{StageFault}
 use Rattle.giv_files.specs.declared.refusal.StageFault.TheVariants as stage
 use Rattle.giv_files.specs.Inputs.{Refuses}
@@ -19,19 +19,14 @@ module _ (stops edges : List ℕ) (terminals : List ℤ) where
   pub text_faults : (fault : StageFault) → Refuses (network_faults stops edges) fault
       → Refuses (terminal_faults stops edges terminals) fault
   unfolding terminal_faults
-  text_faults (stage.Refused first) refuses =
-      first_stays (network_faults stops edges)
-      (unknown_terminals (network_of stops edges).stops terminals) first refuses
+  text_faults (stage.Refused first) refuses = grind (arith, first_stays)
   text_faults stage.NoMemory refuses = tt
 
   module _ (network : NetworkParts) (none : network_faults stops edges ≡ [])
       (is : network ≡ network_of stops edges) where
     faults_are : unknown_terminals network.stops terminals ≡ terminal_faults stops edges terminals
     unfolding terminal_faults
-    faults_are =
-        ap (λ (network : NetworkParts). unknown_terminals network.stops terminals) is
-        ∙ ap (λ faults. faults ++ unknown_terminals (network_of stops edges).stops terminals)
-        (sym none)
+    faults_are = grind arith
 
     -- without one, a terminal that is no stop is
     pub unknown_faults : (fault : StageFault)
@@ -64,6 +59,4 @@ module _ (stops edges : List ℕ) (terminals : List ℤ) where
         pub pool_of_text : (text : List ℕ) → text ≡ text_of network lines
             → text ≡ pool_text (network_of stops edges) terminals
         unfolding pool_text lines_between
-        pool_of_text text told =
-            told ∙ ap (text_of network) lines_are
-            ∙ ap (λ (at : NetworkParts). text_of at (uncontained (paths_of at terminals))) is
+        pool_of_text text told = grind (arith, lines_are)

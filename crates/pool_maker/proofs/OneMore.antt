@@ -27,7 +27,4 @@ module _ {X Y : Type 0} (make : List X → List Y)
   pub made_more : (start : List Y) (before after : List X) (x : X) (old new : List Y)
       → after ≡ before ++ x ∷ [] → old ≡ start ++ make before → new ≡ old ++ make (x ∷ [])
       → new ≡ start ++ make after
-  made_more start before after x old new more so_far put =
-      put ∙ ap (λ some. some ++ make (x ∷ [])) so_far
-      ∙ append_assoc start (make before) (make (x ∷ []))
-      ∙ ap (λ some. start ++ some) (sym (adds before (x ∷ [])) ∙ ap make (sym more))
+  made_more start before after x old new more so_far put = grind (arith, append_assoc)

@@ -1,13 +1,12 @@
 -- No two paths between terminals lie in one another, so each path lies in a line.
-use Rattle.std.proofs.Common.{◌≡◌, ◌≢◌, ℕ, ℤ, pos, zero, suc, ◌<◌, Bool, true, false, ◌||◌}
-use Rattle.std.proofs.Common.{nat_eq, List, [], ◌∷◌, ◌++◌, length, map, filter_map, get_or, All}
-use Rattle.std.proofs.Common.{Option, Some, None, inl, inr, refl, ap, subst, sym, ◌∙◌, arith}
+use Rattle.std.proofs.Common.{◌≡◌, ◌≢◌, ℕ, ℤ, zero, suc, ◌<◌, Bool, true, false, ◌||◌, nat_eq, List}
+use Rattle.std.proofs.Common.{[], ◌∷◌, ◌++◌, length, map, filter_map, get_or, All, Option, Some}
+use Rattle.std.proofs.Common.{None, inl, inr, refl, ap, subst, sym, arith}
 use Rattle.std.specs.List.{AllByRecursion, IsDistinct, cons_option, list_all, list_any}
 use Rattle.std.specs.List.Sorted.{IsStrictlySortedBy}
-use Rattle.std.specs.Ordering.{int_cmp, int_eq}
+use Rattle.std.specs.Ordering.{int_cmp}
 use Rattle.std.specs.declared.cmp.Ordering.TheVariants.{Less}
 use Rattle.std.proofs.lemmas.Bool.{cases_lt, eq-eqb, eqb-true, or_right, cases_Bool}
-use Rattle.std.proofs.lemmas.Bool.Decides.{Decides-int_eq}
 use Rattle.std.proofs.lemmas.Cmp.{nat_eq_equiv}
 use Rattle.std.proofs.lemmas.Int.{ints}
 use Rattle.std.proofs.lemmas.List.Elements.{All-head, All-tail}
@@ -16,7 +15,6 @@ use Rattle.ptn_network.specs.Networks.{IsNetwork, NetworkParts, index_in, rising
 use Rattle.ptn_network.specs.Paths.{edges_at, way}
 use Rattle.ptn_network.specs.Walks.{IsWalk}
 use Rattle.ptn_network.proofs.Sound.{rising_rises}
-use Rattle.line_pool.proofs.WalkRows.{below_differs}
 use Rattle.pool_maker.specs.Laws.{PathsAreApart}
 use Rattle.pool_maker.specs.PoolTexts.{unknown_terminals}
 use Rattle.pool_maker.specs.TerminalPaths.{lies_in, pairs_of, paths_of}
@@ -29,11 +27,7 @@ use Rattle.pool_maker.proofs.LeastWalks.{none_alike}
 -- ---- the pairs differ
 
 less_differs : (x y : ℤ) → int_cmp x y ≡ Less → x ≢ y
-less_differs x y less same =
-    let none : int_eq x y ≡ false = below_differs x y less in
-    let own : int_eq x y ≡ true = (Decides-int_eq x y).1 same in
-    let both : true ≡ false = sym own ∙ none in
-    cc
+less_differs x y less same = grind arith
 
 -- pairs, no two of which are one
 ArePairsApart : List (ℤ × ℤ) → Type 0
@@ -49,10 +43,8 @@ all_append P (x ∷ xs) ys one two = (one.0, all_append P xs ys one.1 two)
 other_first : (id first : ℤ) (to : ℤ) (ids : List ℤ) → int_cmp id first ≡ Less
     → AllByRecursion {X = ℤ × ℤ} (λ other. (id, to) ≢ other) (map (λ to. (first, to)) ids)
 other_first id first to [] less = tt
-other_first id first to (next ∷ ids) less = (
-  λ same. less_differs id first less (ap (λ (pair : ℤ × ℤ). pair.0) same),
-  other_first id first to ids less,
-)
+other_first id first to (next ∷ ids) less =
+    grind (arith, less_differs, other_first id first to ids less)
 
 none_after : (id to : ℤ) (ids : List ℤ) → AllByRecursion (λ other. int_cmp id other ≡ Less) ids
     → AllByRecursion {X = ℤ × ℤ} (λ other. (id, to) ≢ other) (pairs_after ids)
@@ -66,10 +58,7 @@ none_after id to (first ∷ ids) above =
 other_second : (id to : ℤ) (ids : List ℤ) → AllByRecursion (λ other. int_cmp to other ≡ Less) ids
     → AllByRecursion {X = ℤ × ℤ} (λ other. (id, to) ≢ other) (map (λ to. (id, to)) ids)
 other_second id to [] above = tt
-other_second id to (next ∷ ids) above = (
-  λ same. less_differs to next above.0 (ap (λ (pair : ℤ × ℤ). pair.1) same),
-  other_second id to ids above.1,
-)
+other_second id to (next ∷ ids) above = grind (arith, less_differs, other_second id to ids above.1)
 
 -- the pairs of one id are apart from one another and from those behind them
 own_apart : (id : ℤ) (ids behind : List ℤ) → IsStrictlySortedBy int_cmp ids
@@ -108,10 +97,7 @@ module _ (network : NetworkParts) (sound : IsNetwork network) (terminals : List 
   same_index : (one other : ℤ) → IsKnown network sound terminals one
       → IsKnown network sound terminals other
       → index_in network.stops one ≡ index_in network.stops other → one ≡ other
-  same_index one other first second same =
-      (is_index network.stops one first.known).is
-      ∙ ap (λ index. get_or network.stops index (pos 0)) same
-      ∙ sym (is_index network.stops other second.known).is
+  same_index one other first second same = grind (arith, is_index, get_or)
 
   -- the path of a pair is a walk between its stops
   ends_of : (pair : ℤ × ℤ) → Known pair → (path : List ℕ) → way_at pair ≡ Some path
@@ -208,19 +194,10 @@ apart_by_places (path ∷ paths) apart (suc place) (suc other) lt h =
 pub same_place : (paths : List (List ℕ)) → AllApart paths → (place other : ℕ) → place < length paths
     → other < length paths → lies_in (get_or paths place []) (get_or paths other []) ≡ true
     → lies_in (get_or paths other []) (get_or paths place []) ≡ true → place ≡ other
-same_place paths apart place other h k into back =
-    elim (cases_lt place other) [
-      | inl lt ↦ absurd (apart_by_places paths apart place other lt k into back)
-      | inr ge ↦ elim (cases_lt other place) [
-        | inl lt ↦ absurd (apart_by_places paths apart other place lt h back into)
-        | inr le ↦ omega (arith, ge, le)
-      ]
-    ]
+same_place paths apart place other h k into back = grind (arith, cases_lt, apart_by_places)
 
 pub paths_are_apart : PathsAreApart
-paths_are_apart network terminals place other sound none =
-    same_place (paths_of network terminals) (paths_of_apart network sound terminals none) place
-    other
+paths_are_apart network terminals place other sound none = grind (arith, same_place, paths_of_apart)
 
 -- ---- a path that lies in another one is shorter
 

@@ -1,7 +1,7 @@
 -- The paths over terminals with their stops are the paths between their ids.
-use Rattle.std.proofs.Common.{◌≡◌, ℕ, ℤ, ◌<◌, true, int_lt, List, [], ◌∷◌, ◌++◌, inl, inr}
-use Rattle.std.proofs.Common.{length, map, filter, filter_map, Option, refl, ap, sym, ◌∙◌}
-use Rattle.std.specs.List.{cons_option, flat_map}
+use Rattle.std.proofs.Common.{◌≡◌, ℕ, ℤ, ◌<◌, true, int_lt, List, [], ◌∷◌, arith, length, map}
+use Rattle.std.proofs.Common.{filter, filter_map, Option, refl}
+use Rattle.std.specs.List.{flat_map}
 use Rattle.std.proofs.lemmas.List.Elements.{All-map, All-weaker, filter_map-append}
 use Rattle.ptn_network.specs.Networks.{NetworkParts, index_in, rising}
 use Rattle.ptn_network.specs.Paths.{way}
@@ -24,10 +24,7 @@ module _ (network : NetworkParts) where
       (map (terminal_of network.stops) ids)
       ≡ filter_map way_of (map (λ to. (from, to)) (filter (int_lt from) ids))
   ways_from from [] = refl
-  ways_from from (to ∷ ids) = elim (cases_Bool (int_lt from to)) [
-    | inl is ↦ rw is (ap (cons_option (way_of (from, to))) (ways_from from ids))
-    | inr is ↦ rw is (ways_from from ids)
-  ]
+  ways_from from (to ∷ ids) = grind (arith, cases_Bool, int_lt, ways_from from ids)
 
   ways_over : (all ids : List ℤ)
       → flat_map (λ from. filter_map (way_between network from)
@@ -36,13 +33,7 @@ module _ (network : NetworkParts) where
       ≡ filter_map way_of (flat_map (λ from. map (λ to. (from, to)) (filter (int_lt from) all)) ids)
   ways_over all [] = refl
   ways_over all (from ∷ ids) =
-      let rest = flat_map (λ from. map (λ to. (from, to)) (filter (int_lt from) all)) ids in
-      ap (λ some. some ++ flat_map (λ from. filter_map (way_between network from)
-      (map (terminal_of network.stops) all)) (map (terminal_of network.stops) ids))
-      (ways_from from all)
-      ∙ ap (λ more. filter_map way_of (map (λ to. (from, to)) (filter (int_lt from) all)) ++ more)
-      (ways_over all ids)
-      ∙ sym (filter_map-append way_of (map (λ to. (from, to)) (filter (int_lt from) all)) rest)
+      grind (arith, int_lt, filter_map, ways_from, filter_map-append, ways_over all ids)
 
   pub paths_are : (terminals : List ℤ)
       → paths_over network (map (terminal_of network.stops) (rising terminals))

@@ -154,11 +154,7 @@ module _ (stops edges : List ℕ) (terminals : List ℤ) (none : terminal_faults
       (paths_right network sound terminals (all_stops network.stops terminals none_unknown))
 
   few : length lines ≤ 190
-  few = omega (
-    arith,
-    few_lines (paths_of network terminals),
-    few_paths network terminals are.few,
-  )
+  few = grind (arith, few_lines, few_paths)
 
   pub tellable : AreTellable network lines
   tellable = lines_tellable network sound terminals lines row_ids few right

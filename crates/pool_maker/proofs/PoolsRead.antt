@@ -1,11 +1,11 @@
 -- The text of a pool is read back as its lines.
-use Rattle.std.proofs.Common.{◌≡◌, ℕ, ℤ, pos, suc, ◌+◌, ◌<◌, ◌≤◌, true, cond, nat_lt, List, [], ◌∷◌}
-use Rattle.std.proofs.Common.{◌++◌, length, map, All, Option, Some, None, is_some, option_map}
+use Rattle.std.proofs.Common.{◌≡◌, ℕ, ℤ, pos, suc, ◌+◌, ◌<◌, ◌≤◌, true, nat_lt, List, [], ◌∷◌}
+use Rattle.std.proofs.Common.{length, map, All, Option, Some, None, is_some, option_map}
 use Rattle.std.proofs.Common.{option_and_then, inl, inr, refl, ap, ◌∙◌, arith}
 use Rattle.std.specs.List.{AllByRecursion, enumerate_from, flat_map, range_with_len}
 use Rattle.std.specs.List.Sorted.{IsStrictlySortedBy}
 use Rattle.std.specs.Ordering.{int_cmp}
-use Rattle.std.specs.declared.cmp.Ordering.TheVariants.{Equal, Greater, Less}
+use Rattle.std.specs.declared.cmp.Ordering.TheVariants.{Less}
 use Rattle.std.proofs.lemmas.Bool.{lt-ltb}
 use Rattle.std.proofs.lemmas.List.{map-append}
 use Rattle.std.proofs.lemmas.List.Elements.{All-head, All-tail}
@@ -17,7 +17,7 @@ use Rattle.ptn_network.specs.Paths.{edges_at}
 use Rattle.ptn_network.specs.Walks.{IsWalk}
 use Rattle.ptn_network.proofs.PathEdges.{ends_are}
 use Rattle.ptn_network.proofs.Walks.{begins}
-use Rattle.line_pool.specs.Pools.{LineParts, lines_over, or_walk, pool_faults, pool_of, walk_from}
+use Rattle.line_pool.specs.Pools.{lines_over, or_walk, pool_faults, pool_of, walk_from}
 use Rattle.line_pool.specs.Pools.{walk_of}
 use Rattle.line_pool.proofs.LinesBack.{HasEdge, edges_back, ids_back, pool_back}
 use Rattle.line_pool.proofs.WalkLines.{IsWalked, RowsLine, ids_for, pool_accepted, rows_at}
@@ -80,28 +80,20 @@ read_line : (network : NetworkParts) (number n : ℕ) (edges : List ℕ)
     ≡ rows_from network.edges (pos number) 0 n edges
 read_line network number n [] = refl
 read_line network number n (edge ∷ edges) =
-    ap (λ rows. row_to network.edges (pos number) 0 (n, edge) ∷ rows)
-    (read_line network number (n + 1) edges)
+    grind (arith, row_to, read_line network number (n + 1) edges)
 
 rows_told : (network : NetworkParts) (n : ℕ) (lines : List (List ℕ))
     → map told_row (flat_map (line_rows network) (enumerate_from n lines))
     ≡ rows_for network.edges (numbered_lines n lines)
 rows_told network n [] = refl
 rows_told network n (line ∷ lines) =
-    map-append told_row (line_rows network (n, line))
-    (flat_map (line_rows network) (enumerate_from (n + 1) lines))
-    ∙ ap (λ own. own ++ map told_row (flat_map (line_rows network) (enumerate_from (n + 1) lines)))
-    (read_line network n 1 line)
-    ∙ ap (λ rows. rows_at network.edges (numbered_line (n, line)) ++ rows)
-    (rows_told network (n + 1) lines)
+    grind (arith, map-append, told_row, read_line, rows_at, rows_told network (n + 1) lines)
 
 above_number : (n m : ℕ) (lines : List (List ℕ)) → n < m
     → AllByRecursion (λ other. int_cmp (pos n) other ≡ Less) (ids_for (numbered_lines m lines))
 above_number n m [] below = tt
-above_number n m (line ∷ lines) below = (
-  ap (λ b. cond b Less (cond (nat_lt m n) Greater Equal)) (lt-ltb n m below),
-  above_number n (m + 1) lines (omega (arith, below)),
-)
+above_number n m (line ∷ lines) below =
+    grind (arith, nat_lt, lt-ltb, above_number n (m + 1) lines (omega (arith, below)))
 
 numbers_rise : (n : ℕ) (lines : List (List ℕ))
     → IsStrictlySortedBy int_cmp (ids_for (numbered_lines n lines))
@@ -144,10 +136,14 @@ module _ (network : NetworkParts) (terminals : List ℤ) where
   all_have_edges : (n : ℕ) (lines : List (List ℕ)) → All (IsTerminalPath network terminals) lines
       → AllByRecursion HasEdge (numbered_lines n lines)
   all_have_edges n [] all = tt
-  all_have_edges n (line ∷ lines) all = (
-    (All-head (IsTerminalPath network terminals) line lines all).some,
-    all_have_edges (n + 1) lines (All-tail (IsTerminalPath network terminals) line lines all),
-  )
+  all_have_edges n (line ∷ lines) all =
+      grind (
+        arith,
+        All-head,
+        IsTerminalPath,
+        All-tail,
+        all_have_edges (n + 1) lines (All-tail (IsTerminalPath network terminals) line lines all),
+      )
 
   module _ (lines : List (List ℕ)) (right : All (IsTerminalPath network terminals) lines)
       (few : length lines ≤ 190)
@@ -168,16 +164,9 @@ module _ (network : NetworkParts) (terminals : List ℤ) where
     -- its lines are the lines
     pub lines_are : map (λ line. line.edges) (pool_of network text) ≡ lines
     lines_are =
-        ap (map (λ (line : LineParts). line.edges)) pool_is
-        ∙ edges_back network.edges rise (numbered_lines 1 lines) (numbers_rise 1 lines)
-        (all_have_edges 1 lines right) (all_walked 1 lines right)
-        ∙ edges_are 1 lines
+        grind (arith, pool_is, edges_back, numbers_rise, all_have_edges, all_walked, edges_are)
 
     -- numbered from 1
     pub numbers_back : map (λ line. line.id) (pool_of network text)
         ≡ map pos (range_with_len 1 (length lines))
-    numbers_back =
-        ap (map (λ (line : LineParts). line.id)) pool_is
-        ∙ ids_back network.edges rise (numbered_lines 1 lines) (numbers_rise 1 lines)
-        (all_have_edges 1 lines right)
-        ∙ numbers_are 1 lines
+    numbers_back = grind (arith, pool_is, ids_back, numbers_rise, all_have_edges, numbers_are)

@@ -1,6 +1,6 @@
 -- The rows of a pool are within their columns.
-use Rattle.std.proofs.Common.{ℕ, pos, suc, ◌+◌, ◌<◌, ◌≤◌, List, [], ◌∷◌, length, map, All}
-use Rattle.std.proofs.Common.{Option, option_map, unwrap_or, refl, subst, sym, arith}
+use Rattle.std.proofs.Common.{ℕ, pos, suc, ◌+◌, ◌<◌, ◌≤◌, List, [], ◌∷◌, length, map, All, Option}
+use Rattle.std.proofs.Common.{option_map, unwrap_or, refl, subst, sym, arith}
 use Rattle.std.specs.List.{enumerate_from, flat_map}
 use Rattle.std.proofs.lemmas.Int.{ints}
 use Rattle.std.proofs.lemmas.List.Elements.{All-append, All-cons, All-get_or, All-nil}
@@ -60,6 +60,4 @@ module _ (network : NetworkParts) (ids : All (λ edge. IsRowId edge.id) network.
 
 pub rows_inside : (network : NetworkParts) (lines : List (List ℕ)) → AreTellable network lines
     → All (λ row. InColumns pool_columns row.cells) (pool_rows network lines)
-rows_inside network lines tellable =
-    lines_inside network tellable.ids 1 lines (omega arith) (omega (arith, tellable.few))
-    tellable.short
+rows_inside network lines tellable = grind (arith, lines_inside)

@@ -1,7 +1,7 @@
 -- Each path between terminals lies in a line.
-use Rattle.std.proofs.Common.{◌≡◌, ◌≢◌, ℕ, zero, suc, ◌+◌, ◌<◌, ◌≤◌, ◌==◌, Bool, true, false, not, inl, inr}
-use Rattle.std.proofs.Common.{◌&&◌, ◌||◌, cond, nat_eq, List, [], ◌∷◌, length, map, filter, get_or}
-use Rattle.std.proofs.Common.{All, Any, refl, ap, subst, sym, ◌∙◌, arith}
+use Rattle.std.proofs.Common.{◌≡◌, ◌≢◌, ℕ, zero, suc, ◌+◌, ◌<◌, ◌≤◌, Bool, true, false, inl, inr}
+use Rattle.std.proofs.Common.{◌&&◌, ◌||◌, nat_eq, List, [], ◌∷◌, length, get_or, All, Any, refl, ap}
+use Rattle.std.proofs.Common.{subst, ◌∙◌, arith}
 use Rattle.std.specs.List.{IsDistinct, enumerate_from, list_any}
 use Rattle.std.proofs.lemmas.Bool.{and_parts, eq-eqb, eqb-false, not-true, or_right as or_second, cases_Bool}
 use Rattle.std.proofs.lemmas.List.{get_or_default}
@@ -30,15 +30,11 @@ lies_in_itself path = all_in path path (λ x there. there)
 
 lies_on : (path other more : List ℕ) → lies_in path other ≡ true → lies_in other more ≡ true
     → lies_in path more ≡ true
-lies_on path other more first second =
-    all_in path more (λ x there. members_in other more second x
-    (members_in path other first x there))
+lies_on path other more first second = grind (arith, all_in, members_in)
 
 any_too : {X : Type 0} (p q : X → Bool) (xs : List X) → ((x : X) → p x ≡ true → q x ≡ true)
     → list_any p xs ≡ true → list_any q xs ≡ true
-any_too p q xs too there =
-    let at = Any-from_list_any p xs there in
-    list_any_at q xs at.0 at.1 at.2 (ap q at.3 ∙ too at.1 at.4)
+any_too p q xs too there = grind (arith, Any-from_list_any, list_any_at)
 
 -- ---- a path that lies in no other one is a line
 
@@ -47,19 +43,9 @@ module _ (paths : List (List ℕ)) (q : List ℕ → Bool) where
       → get_or some i at ≡ at → is_contained paths at ≡ false → q at.1 ≡ true
       → list_any q (lines_among paths some) ≡ true
   kept [] i at h is none passes = absurd (omega (arith, h))
-  kept (first ∷ some) zero at h is none passes =
-      ap (λ b. list_any q (map (λ (at : ℕ × List ℕ). at.1)
-      (cond (not b) (first ∷ filter (λ at. not (is_contained paths at)) some)
-      (filter (λ at. not (is_contained paths at)) some))))
-      (ap (is_contained paths) is ∙ none)
-      ∙ ap (λ b. b || list_any q (lines_among paths some))
-      (ap (λ (at : ℕ × List ℕ). q at.1) is ∙ passes)
+  kept (first ∷ some) zero at h is none passes = grind arith
   kept (first ∷ some) (suc i) at h is none passes =
-      let rest = kept some i at (omega (arith, h)) is none passes in
-      elim (cases_Bool (is_contained paths first)) [
-        | inl is ↦ rw is rest
-        | inr is ↦ rw is (or_second (q first.1) (list_any q (lines_among paths some)) rest)
-      ]
+      grind (arith, cases_Bool, or_second, kept some i at (omega (arith, h)) is none passes)
 
 -- ---- each path lies in a line
 
@@ -76,33 +62,22 @@ module _ (paths : List (List ℕ)) where
 
   holder : (place : ℕ) → is_contained paths (place, path_at place) ≡ true → Holder paths place
   holder place is =
-      let found = Any-from_list_any
-      (λ (other : ℕ × List ℕ). not (other.0 == place) && lies_in (path_at place) other.1)
-      (enumerate_from 0 paths) is in
-      let k = found.0 in
-      let within : k < length paths = omega (arith, found.2, length-enumerate_from 0 paths) in
-      let at : found.1 ≡ (0 + k, get_or paths k found.1.1) =
-      sym found.3 ∙ get_or-enumerate_from 0 paths k found.1 within in
-      let tests = and_parts (not (found.1.0 == place)) (lies_in (path_at place) found.1.1) found.4
-      in
-      let number : found.1.0 ≡ 0 + k = ap (λ (one : ℕ × List ℕ). one.0) at in
-      let path : found.1.1 ≡ get_or paths k [] =
-      ap (λ (one : ℕ × List ℕ). one.1) at ∙ get_or_default paths k found.1.1 [] within in
-      let differs = eqb-false found.1.0 place (not-true (found.1.0 == place) tests.0) in
-      record {
-        other = k;
-        within = within;
-        apart = λ same. differs (omega (arith, number, same));
-        holds = ap (lies_in (path_at place)) (sym path) ∙ tests.1;
-      }
+      grind (
+        arith,
+        Any-from_list_any,
+        length-enumerate_from,
+        get_or,
+        get_or-enumerate_from,
+        and_parts,
+        get_or_default,
+        eqb-false,
+        not-true,
+      )
 
   -- the item at a place
   here : (place : ℕ) → place < length paths
       → get_or (enumerate_from 0 paths) place (place, path_at place) ≡ (place, path_at place)
-  here place h =
-      let number : 0 + place ≡ place = omega arith in
-      get_or-enumerate_from 0 paths place (place, path_at place) h
-      ∙ (λ i. (number i, get_or_default paths place (path_at place) [] h i))
+  here place h = grind (arith, get_or-enumerate_from, get_or_default)
 
   module _ (apart : AllApart paths) (distinct : All (IsDistinct nat_eq) paths) where
     -- a path that lies in another one lies in a line where that one does
@@ -111,27 +86,12 @@ module _ (paths : List (List ℕ)) where
         → list_any (lies_in (path_at hold.other)) (uncontained paths) ≡ true)
         → list_any (lies_in (path_at place)) (uncontained paths) ≡ true
     through place h hold rest =
-        elim (cases_Bool (lies_in (path_at hold.other) (path_at place))) [
-          | inl back ↦
-              absurd (hold.apart (sym (same_place paths apart place hold.other h hold.within
-              hold.holds back)))
-          | inr back ↦
-              any_too (lies_in (path_at hold.other)) (lies_in (path_at place)) (uncontained paths)
-              (λ line is. lies_on (path_at place) (path_at hold.other) line hold.holds is)
-              (rest (longer (path_at place) (path_at hold.other)
-              (All-get_or (IsDistinct nat_eq) paths place [] h distinct) hold.holds back))
-        ]
+        grind (arith, cases_Bool, same_place, any_too, lies_on, longer, All-get_or, nat_eq)
 
     module _ (most : ℕ) (few : All (λ path. length path ≤ most) paths) where
       serves : (left place : ℕ) → place < length paths → most < length (path_at place) + left
           → list_any (lies_in (path_at place)) (uncontained paths) ≡ true
-      serves zero place h bound =
-          absurd (omega (
-            arith,
-            bound,
-            All-get_or (λ path. length path ≤ most) paths place [] h
-                few,
-          ))
+      serves zero place h bound = grind arith
       serves (suc left) place h bound =
           elim (cases_Bool (is_contained paths (place, path_at place))) [
             | inr none ↦

@@ -1,8 +1,8 @@
 -- Ids that are sorted, and whether all of some ids are different or are known.
-use Rattle.std.proofs.Common.{◌≡◌, ℕ, ℤ, pos, ◌+◌, ◌-◌, ◌<◌, ◌≤◌, Bool, true, false, not, ◌||◌, inl, inr}
-use Rattle.std.proofs.Common.{◌&&◌, List, [], ◌∷◌, ◌++◌, cond, length, map, take, drop, get_or}
-use Rattle.std.proofs.Common.{slice_get, position, is_some, unwrap_or, Option, Some, None}
-use Rattle.std.proofs.Common.{option_map, refl, ap, subst, sym, ◌∙◌}
+use Rattle.std.proofs.Common.{arith, ◌≡◌, ℕ, ℤ, pos, ◌+◌, ◌-◌, ◌<◌, ◌≤◌, Bool, true, false, not}
+use Rattle.std.proofs.Common.{◌||◌, inl, inr, ◌&&◌, List, [], ◌∷◌, ◌++◌, cond, length, map, take}
+use Rattle.std.proofs.Common.{drop, get_or, slice_get, position, is_some, unwrap_or, Option, Some}
+use Rattle.std.proofs.Common.{None, option_map, refl, ap, subst, sym, ◌∙◌}
 use Rattle.std.specs.List.{AllByRecursion, IsDistinct, list_all, list_any}
 use Rattle.std.specs.List.Sorted.{IsPermutation, IsSorted}
 use Rattle.std.specs.Ordering.{int_cmp, int_eq}
@@ -102,10 +102,7 @@ all_done ids place past decided =
 all_by_any : {X : Type 0} (p : X → Bool) (xs : List X)
     → list_all p xs ≡ not (list_any (λ x. not (p x)) xs)
 all_by_any p [] = refl
-all_by_any p (x ∷ xs) = elim (cases_Bool (p x)) [
-  | inl is ↦ rw is (all_by_any p xs)
-  | inr is ↦ rw is refl
-]
+all_by_any p (x ∷ xs) = grind (arith, cases_Bool, all_by_any p xs)
 
 pub same_all : (p : ℤ → Bool) (some others : List ℤ)
     → ((q : ℤ → Bool) → list_any q some ≡ list_any q others) → list_all p some ≡ list_all p others
@@ -186,8 +183,4 @@ module _ (stops : List ℤ) where
   pub all_known : (ids others : List ℤ) (i : ℕ) → length ids ≤ i
       → list_all known (take i ids) ≡ true → ((q : ℤ → Bool) → list_any q ids ≡ list_any q others)
       → unknown_terminals stops others ≡ []
-  all_known ids others i past so_far same =
-      let all : list_all known others ≡ true =
-      sym (same_all known ids others same) ∙ ap (list_all known) (sym (take_all i ids past))
-      ∙ so_far in
-      ap (λ b. cond b [] (refusal.BadRow file.Stop 0 why.UnknownStop ∷ [])) all
+  all_known ids others i past so_far same = grind (arith, same_all, take_all)

@@ -1,8 +1,8 @@
 -- The paths between terminals are shortest lines, and there are not more than 190 of them.
-use Rattle.std.proofs.Common.{◌≡◌, ℕ, ℤ, pos, ◌+◌, ◌<◌, ◌≤◌, Bool, true, false, cond, not, inl, inr}
-use Rattle.std.proofs.Common.{nat_eq, List, [], ◌∷◌, length, filter, filter_map, get_or}
-use Rattle.std.proofs.Common.{position, All, Contains, Option, Some, None, option_map, is_some}
-use Rattle.std.proofs.Common.{unwrap_or, unsigned_abs, refl, ap, subst, sym, ◌∙◌, arith}
+use Rattle.std.proofs.Common.{◌≡◌, ℕ, ℤ, pos, ◌+◌, ◌<◌, ◌≤◌, Bool, true, false, cond, inl, inr}
+use Rattle.std.proofs.Common.{nat_eq, List, [], ◌∷◌, length, filter_map, get_or, position, All}
+use Rattle.std.proofs.Common.{Contains, Option, Some, None, option_map, is_some, unwrap_or}
+use Rattle.std.proofs.Common.{unsigned_abs, refl, ap, subst, sym, ◌∙◌, arith}
 use Rattle.std.specs.List.{cons_option, enumerate_from, list_all, list_any}
 use Rattle.std.specs.Ordering.{int_eq}
 use Rattle.std.proofs.lemmas.Bool.{eqb-true, cases_Bool}
@@ -165,10 +165,7 @@ module _ (network : NetworkParts) (sound : IsNetwork network) where
 
     module _ (known : list_all (λ id. list_any (int_eq id) network.stops) terminals ≡ true) where
       all_known : All (IsKnown terminals) terminals
-      all_known =
-          let stops = AllPass-from_list_all (λ id. list_any (int_eq id) network.stops) terminals
-          known in
-          λ k d h. record { there = All-contains_itself terminals k d h; known = stops k d h }
+      all_known = grind (arith, AllPass-from_list_all, All-contains_itself)
 
       pub in_order : All (AreInOrder (IsKnown terminals)) (pairs_of terminals)
       in_order = subst (All (AreInOrder (IsKnown terminals))) (sym (pairs_are terminals))
@@ -192,15 +189,7 @@ length_found f (x ∷ xs) = by (f x) (length_found f xs)
 
 pub few_paths : (network : NetworkParts) (terminals : List ℤ) → length terminals ≤ 20
     → length (paths_of network terminals) ≤ 190
-few_paths network terminals few =
-    omega (
-      arith,
-      length_found (λ pair. way network (index_in network.stops pair.0)
-          (index_in network.stops pair.1))
-          (pairs_of terminals),
-      ap length (pairs_are terminals),
-      few_pairs (rising terminals) (omega (arith, few, rising_length terminals)),
-    )
+few_paths network terminals few = grind (arith, length_found, pairs_are, few_pairs, rising_length)
 
 -- ---- the lines among them
 
@@ -229,14 +218,7 @@ module _ (P : List ℕ → Type 0) where
 
 few_among : (paths : List (List ℕ)) (some : List (ℕ × List ℕ))
     → length (lines_among paths some) ≤ length some
-few_among paths some =
-    let test = λ (at : ℕ × List ℕ). not (is_contained paths at) in
-    omega (
-      arith,
-      length-map (filter test some) (λ at. at.1),
-      length-filter test some,
-      count_by-le-length test some,
-    )
+few_among paths some = grind (arith, length-map, length-filter, count_by-le-length)
 
 pub few_lines : (paths : List (List ℕ)) → length (uncontained paths) ≤ length paths
 few_lines paths =
@@ -246,9 +228,7 @@ few_lines paths =
 
 below_member : (edges : List ℕ) (n : ℕ) → All (λ edge. edge < n) edges → (edge : ℕ)
     → list_any (nat_eq edge) edges ≡ true → edge < n
-below_member edges n all edge is =
-    let at = Any-from_list_any (nat_eq edge) edges is in
-    omega (arith, all at.0 at.1 at.2, at.3, eqb-true edge at.1 at.4)
+below_member edges n all edge is = grind (arith, Any-from_list_any, nat_eq, eqb-true)
 
 module _ (network : NetworkParts) (sound : IsNetwork network) (terminals : List ℤ) where
   pub path_short : (path : List ℕ) → IsTerminalPath network terminals path → IsShort network path

@@ -1,6 +1,6 @@
 -- The comments of edges that no line has.
-use Rattle.std.proofs.Common.{◌≡◌, ℕ, ℤ, ◌+◌, false, List, [], ◌∷◌, ◌++◌, cond, not, codes}
-use Rattle.std.proofs.Common.{append_assoc, append-nil, ap, sym, ◌∙◌, arith, map-id}
+use Rattle.std.proofs.Common.{◌≡◌, ℕ, ℤ, ◌+◌, false, List, [], ◌∷◌, ◌++◌, codes, append_assoc}
+use Rattle.std.proofs.Common.{append-nil, ap, sym, ◌∙◌, arith, map-id}
 use Rattle.std.specs.Fmt.{signed_decimal}
 use Rattle.std.specs.List.{flat_map, range_with_len}
 use Rattle.std.proofs.lemmas.Grind.{flat_map-append}
@@ -14,9 +14,7 @@ use Rattle.pool_maker.specs.TerminalPaths.{is_covered, uncovered_among}
 pub comments_both : (comment : ℕ → List ℕ) (lines : List (List ℕ)) (some more : List ℕ)
     → flat_map comment (uncovered_among lines (some ++ more))
     ≡ flat_map comment (uncovered_among lines some) ++ flat_map comment (uncovered_among lines more)
-comments_both comment lines some more =
-    ap (flat_map comment) (filter-append (λ edge. not (is_covered lines edge)) some more)
-    ∙ flat_map-append comment (uncovered_among lines some) (uncovered_among lines more)
+comments_both comment lines some more = grind (arith, filter-append, flat_map-append)
 
 -- one index more
 pub one_edge_more : (edge : ℕ) → range_with_len 0 (edge + 1) ≡ range_with_len 0 edge ++ edge ∷ []
@@ -31,8 +29,4 @@ pub comment_put : (network : NetworkParts) (lines : List (List ℕ)) (edge : ℕ
     → comment ≡ codes "# uncovered; " ++ (signed_decimal id ++ codes "\n") → new ≡ old ++ comment
     → new ≡ old ++ flat_map (uncovered_line network) (uncovered_among lines (edge ∷ []))
 comment_put network lines edge old new comment id none is told put =
-    put ∙ ap (λ some. old ++ some) (told
-    ∙ sym (append_assoc (codes "# uncovered; ") (signed_decimal id) (codes "\n"))
-    ∙ ap (λ id. codes "# uncovered; " ++ signed_decimal id ++ codes "\n") is
-    ∙ sym (append-nil (uncovered_line network edge))
-    ∙ ap (λ b. flat_map (uncovered_line network) (cond (not b) (edge ∷ []) [])) (sym none))
+    grind (arith, append_assoc, append-nil)

@@ -1,29 +1,22 @@
 -- Entries and ids in the order of their ids.
-use Rattle.std.proofs.Common.{◌≡◌, ℤ, pos, ◌+◌, Bool, true, false, ◌&&◌, ◌||◌, cond, T, List, [], ◌∷◌, map, get_or, refl, ap, subst, sym, ◌∙◌, arith, Some, None}
+use Rattle.std.proofs.Common.{◌≡◌, ℤ, pos, ◌+◌, Bool, true, false, ◌&&◌, cond, T, List, [], ◌∷◌}
+use Rattle.std.proofs.Common.{map, get_or, refl, ap, subst, sym, ◌∙◌, arith, Some, None}
 use Rattle.std.specs.List.{list_any, AllByRecursion, IsDistinct}
 use Rattle.std.specs.List.Sorted.{IsSorted, IsStrictlySortedBy}
 use Rattle.std.specs.Map.{keys_of, lookup}
-use Rattle.std.specs.Ordering.{int_eq, int_cmp, is_lt, is_eq, eq_by_cmp, ordering_reverse}
+use Rattle.std.specs.Ordering.{int_eq, int_cmp, is_lt, eq_by_cmp}
 use Rattle.std.specs.declared.cmp.Ordering.TheVariants.{Less, Equal, Greater}
 use Rattle.std.specs.FinMap.{find, put, is_sorted, int_cmp-IsAntisymmetric}
 use Rattle.std.specs.FinMap.Entries.{by_order, below_all, is_sorted-put, find-put, same_entries}
-use Rattle.std.proofs.lemmas.Bool.Decides.{Decides-int_eq, same_from_decides}
 use Rattle.std.proofs.lemmas.Cmp.{int_cmp_total}
-use Rattle.std.specs.Cmp.{eq_by_cmp_equiv}
 use Rattle.std.proofs.lemmas.Map.Keys.{sorted_from_all_adjacent, apart_from_distinct}
 use Rattle.std.proofs.lemmas.Map.Lookups.{exact_signed}
-use Rattle.std.proofs.lemmas.Map.Views.{tells_apart}
 use Rattle.ptn_network.specs.declared.edge.Edge.{Edge}
 use Rattle.ptn_network.specs.Networks.{by_id, rising, AreKeyed}
 
 -- two ids are one by their order as by their equality
 same_test : (x y : ℤ) → eq_by_cmp int_cmp x y ≡ int_eq x y
-same_test x y = same_from_decides _ _ (
-  tells_apart exact_signed x y,
-  λ same. subst
-      (λ z. eq_by_cmp int_cmp x z ≡ true) same ((eq_by_cmp_equiv int_cmp_total).refl x),
-)
-    (Decides-int_eq x y)
+same_test x y = grind arith
 
 -- a look-up by equality is one by order
 found : {X : Type 0} (q : ℤ) (es : List (ℤ × X)) → find int_cmp q es ≡ lookup (int_eq q) es
@@ -63,13 +56,7 @@ rises (e ∷ es) h = both _ _ (below e.0 es h.0) (rises es h.1)
 
 -- of two ids that differ, the first is below the second where the second is not below the first
 less : (x y : ℤ) → is_lt (int_cmp y x) ≡ false → int_eq x y ≡ false → int_cmp x y ≡ Less
-less x y up apart =
-    elim (int_cmp x y) as (λ o. int_cmp x y ≡ o → o ≡ Less) [
-      | Less ↦ λ e. refl
-      | Equal ↦ λ e. let same : int_eq x y ≡ true = sym (same_test x y) ∙ ap is_eq e in cc
-      | Greater ↦ λ e. let down : is_lt (int_cmp y x) ≡ true =
-          ap is_lt (int_cmp_total.antisymm y x ∙ ap ordering_reverse e) in cc
-    ] refl
+less x y up apart = grind arith
 
 -- different ids that were sorted rise
 pub ids_rise : (ids : List ℤ) → IsSorted int_cmp ids → IsDistinct int_eq ids
@@ -102,12 +89,7 @@ lookup_unit : (q : ℤ) (ids : List ℤ)
     → lookup (int_eq q) (units ids) ≡ cond (list_any (int_eq q) ids) (Some tt) None
 unfolding units
 lookup_unit q [] = refl
-lookup_unit q (id ∷ ids) = elim (int_eq q id) as (λ b. cond b (Some tt)
-    (lookup (int_eq q) (units ids)) ≡ cond (b || list_any (int_eq q) ids) (Some tt) None) [
-      | true ↦
-          refl
-      | false ↦ lookup_unit q ids
-    ]
+lookup_unit q (id ∷ ids) = grind (arith, units, lookup_unit q ids)
 
 -- sorted ids that differ are rising ids, where they are those of another list
 pub sorted_ids : (ids others : List ℤ) → IsSorted int_cmp ids → IsDistinct int_eq ids

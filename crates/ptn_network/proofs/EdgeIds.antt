@@ -1,5 +1,6 @@
 -- Edges by their ids.
-use Rattle.std.proofs.Common.{◌≡◌, ℕ, ℤ, ◌<◌, Bool, true, false, cond, List, length, map, get_or, slice_get, position, refl, ap, sym, ◌∙◌, Some, None, is_some}
+use Rattle.std.proofs.Common.{arith, ◌≡◌, ℕ, ℤ, ◌<◌, Bool, true, false, cond, List, length, map}
+use Rattle.std.proofs.Common.{get_or, slice_get, position, refl, ap, sym, ◌∙◌, Some, None, is_some}
 use Rattle.std.specs.List.{find, position_or_len}
 use Rattle.std.specs.Ordering.{int_eq}
 use Rattle.std.proofs.lemmas.Bool.{ltb-false}
@@ -25,9 +26,7 @@ found_at p xs place e = find_at p xs ∙ ap (slice_get xs)
 -- where there is no first place nothing is found
 pub found_nowhere : {X : Type 0} (p : X → Bool) (xs : List X) → position p xs ≡ None
     → find p xs ≡ None
-found_nowhere p xs e =
-    find_at p xs ∙ slice_get_past xs (position_or_len p xs)
-    (ltb-false _ _ (nothing_chosen _ (position_or_len p xs) e))
+found_nowhere p xs e = grind (arith, find_at, slice_get_past, ltb-false, nothing_chosen)
 
 module _ (edges : List Edge) (id : ℤ) where
   -- the edge at the index of its id

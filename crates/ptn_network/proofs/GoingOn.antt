@@ -1,9 +1,10 @@
 -- The walks that go on beside the labels of stops: what reaching a stop and settling one keep.
-use Rattle.std.proofs.Common.{◌≡◌, ◌≢◌, ℕ, ◌<◌, ◌≤◌, true, false, List, [], ◌∷◌, length, replicate, set, refl, ap, sym, subst, ◌∙◌, All, Contains, inl, inr, arith}
+use Rattle.std.proofs.Common.{◌≡◌, ◌≢◌, ℕ, ◌<◌, ◌≤◌, true, false, List, [], ◌∷◌, length, replicate}
+use Rattle.std.proofs.Common.{set, refl, ap, sym, subst, ◌∙◌, All, Contains, arith}
 use Rattle.std.specs.List.Sorted.{IsPermutation}
-use Rattle.std.proofs.lemmas.Bool.{cases_lt, eq-eqb, eqb-true}
+use Rattle.std.proofs.lemmas.Bool.{cases_lt, eq-eqb}
 use Rattle.std.proofs.lemmas.List.{length-set, length-replicate, get_or-replicate, get_or_past}
-use Rattle.std.proofs.lemmas.List.Elements.{All-cons, All-head, All-tail, All-nil, All-weaker, All-contains}
+use Rattle.std.proofs.lemmas.List.Elements.{All-cons, All-head, All-tail, All-nil, All-weaker}
 use Rattle.std.proofs.lemmas.List.Sorted.{All-permutation, Contains-permutation}
 use Rattle.ptn_network.specs.declared.label.Label.{Label}
 use Rattle.ptn_network.specs.declared.label.Label.TheVariants.{Unseen, Reached, Settled}
@@ -12,11 +13,6 @@ use Rattle.ptn_network.proofs.Settling.{at_set, reached_same}
 use Rattle.giv_files.proofs.Members.{Contains-head, Contains-cons, Contains-rec}
 
 -- ---- one label
-
-reached_with : (sum : ℕ) (label : Label) → is_reached_with sum label ≡ true → label ≡ Reached sum
-reached_with sum Unseen test = cc
-reached_with sum (Settled other) test = cc
-reached_with sum (Reached other) test = ap Reached (eqb-true other sum test)
 
 not_reached_with : (sum : ℕ) (label : Label) → label ≡ Reached sum
     → is_reached_with sum label ≡ true
@@ -52,14 +48,8 @@ module _ (labels : List Label) (walks more : List (ℕ × ℕ)) (stop sum : ℕ)
 
 -- before the first walk
 none_goes_on : (stops : ℕ) → GoesOn (replicate stops Unseen) []
-none_goes_on stops = record {
-  within = All-nil (λ (walk : ℕ × ℕ). walk.1 < length (replicate stops Unseen));
-  reached = λ stop sum is. elim (cases_lt stop stops) [
-    | inl h ↦ let unseen = get_or-replicate stops stop Unseen Unseen h in cc
-    | inr h ↦ let unseen = get_or_past (replicate stops Unseen) stop Unseen
-        (omega (arith, length-replicate stops Unseen)) in cc
-  ];
-}
+none_goes_on stops =
+    grind (arith, All-nil, cases_lt, get_or-replicate, get_or_past, length-replicate)
 
 pub first_goes_on : (stops from : ℕ) (labels : List Label) (walks more : List (ℕ × ℕ))
     → labels ≡ replicate stops Unseen → walks ≡ [] → from < stops
@@ -118,17 +108,9 @@ module _ (labels : List Label) (walks rest : List (ℕ × ℕ)) (stop sum : ℕ)
   -- it is the nearest
   pub nearest_is : is_reached_with sum (label_at labels stop) ≡ true
       → All (λ (walk : ℕ × ℕ). sum ≤ walk.0) walks → IsNearest labels (length labels) stop sum
-  nearest_is test least = record {
-    early = stop_within;
-    there = reached_with sum (label_at labels stop) test;
-    least = λ other far within is. All-contains (λ (walk : ℕ × ℕ). sum ≤ walk.0) walks
-        (far, other) least (so_far.reached other far is);
-  }
+  nearest_is test least = grind arith
 
 -- where no walk goes on, each stop that is reached is settled
 pub none_left : (labels : List Label) (walks : List (ℕ × ℕ)) → GoesOn labels walks → walks ≡ []
     → (other far : ℕ) → other < length labels → label_at labels other ≢ Reached far
-none_left labels walks so_far none other far within is =
-    let there = so_far.reached other far is in
-    let size : length walks ≡ 0 = ap length none in
-    absurd (omega (arith, there.1))
+none_left labels walks so_far none other far within is = grind arith

@@ -1,8 +1,10 @@
 -- The last edges of paths, edge by edge.
-use Rattle.std.proofs.Common.{◌≡◌, ◌≢◌, ℕ, ◌+◌, ◌<◌, ◌≤◌, Bool, true, false, cond, eqb, ltb, List, [], ◌∷◌, ◌++◌, length, get_or, set, slice_get, take, refl, ap, sym, ◌∙◌, arith, position, Option, Some, None, inl, inr, ◌⊎◌, not, subst, add-zero, get_or-set_other, get_or-set_same}
-use Rattle.std.specs.List.{position_or_len}
+use Rattle.std.proofs.Common.{◌≡◌, ◌≢◌, ℕ, ◌+◌, ◌<◌, ◌≤◌, Bool, true, false, cond, eqb, ltb, List}
+use Rattle.std.proofs.Common.{[], ◌∷◌, ◌++◌, length, get_or, set, slice_get, take, refl, ap, sym}
+use Rattle.std.proofs.Common.{◌∙◌, arith, position, Option, Some, None, inl, inr, ◌⊎◌, subst}
+use Rattle.std.proofs.Common.{add-zero, get_or-set_other, get_or-set_same}
 use Rattle.std.specs.Option.{option_or}
-use Rattle.std.proofs.lemmas.Bool.{lt-ltb, le-ltb, ne_eqb, eq-eqb, cases_order}
+use Rattle.std.proofs.lemmas.Bool.{lt-ltb, le-ltb, ne_eqb}
 use Rattle.std.proofs.lemmas.List.{take_more, length-append, length-take-le, length-set}
 use Rattle.std.proofs.lemmas.List.Folds.{position_or_len_push}
 use Rattle.std.proofs.lemmas.List.Sums.{prefix_len-le-length}
@@ -23,28 +25,13 @@ by_place : (place size : ℕ) (passes : Bool) → place ≤ size
     → cond (ltb (cond (eqb place size) (size + cond passes 0 1) place) (size + 1))
     (Some (cond (eqb place size) (size + cond passes 0 1) place)) None
     ≡ option_or (cond (ltb place size) (Some place) None) (cond passes (Some size) None)
-by_place place size passes short =
-    elim (cases_order place size) [
-      | inl e ↦ rw (e, eq-eqb size size refl) (at_end size passes)
-      | inr (inl lt) ↦ rw (
-        ne_eqb place size (λ e. absurd (omega arith)),
-        lt-ltb place (size + 1) (omega arith),
-        lt-ltb place size lt,
-      ) refl
-      | inr (inr gt) ↦ absurd (omega arith)
-    ]
+by_place place size passes short = grind arith
 
 -- the first place that passes, after one item more
 position_more : {X : Type 0} (p : X → Bool) (xs : List X) (x : X)
     → position p (xs ++ x ∷ []) ≡ option_or (position p xs) (cond (p x) (Some (length xs)) None)
 position_more p xs x =
-    let place = position_or_len p xs in
-    let size = length xs in
-    ap (λ at. cond (ltb at (length (xs ++ x ∷ []))) (Some at) None) (position_or_len_push p xs x)
-    ∙ ap (λ n. cond (ltb (cond (eqb place size) (size + cond (p x) 0 1) place) n)
-    (Some (cond (eqb place size) (size + cond (p x) 0 1) place)) None)
-    (length-append xs (x ∷ []))
-    ∙ by_place place size (p x) (prefix_len-le-length (λ y. not (p y)) xs)
+    grind (arith, position_or_len_push, length-append, by_place, prefix_len-le-length)
 
 -- an edge ends no walk to a stop that is none of its ends
 no_end : (lengths : ℕ → Option ℕ) (to : ℕ) (edge : Edge) → edge.left ≢ to → edge.right ≢ to
@@ -57,12 +44,7 @@ no_end lengths to edge left right =
     none (Some x) = refl
 
 one_or : (a b : ℕ) → (a ≡ b) ⊎ (a ≢ b)
-one_or a b = elim (cases_order a b) [
-  | inl e ↦ inl e
-  | inr (inl lt) ↦
-      inr (λ e. absurd (omega arith))
-  | inr (inr gt) ↦ inr (λ e. absurd (omega arith))
-]
+one_or a b = grind arith
 
 no_other : (last : Option ℕ) → option_or last None ≡ last
 no_other None = refl

@@ -1,6 +1,8 @@
 -- The last edges of least walks, by walks and by what the code tests.
-use Rattle.std.proofs.Common.{◌≡◌, ◌≢◌, ℕ, zero, suc, ◌+◌, ◌<◌, ◌≤◌, true, List, [], ◌∷◌, ◌++◌, length, get_or, refl, ap, subst, sym, ◌∙◌, arith, Option, Some, None, option_map, option_and_then, inl, inr, All, Contains}
-use Rattle.std.proofs.lemmas.Bool.{ne_eqb, eq-eqb, cases_eq, false≢true}
+use Rattle.std.proofs.Common.{◌≡◌, ◌≢◌, ℕ, zero, suc, ◌+◌, ◌<◌, ◌≤◌, true, List, [], ◌∷◌, ◌++◌}
+use Rattle.std.proofs.Common.{length, get_or, refl, ap, subst, sym, ◌∙◌, arith, Option, Some, None}
+use Rattle.std.proofs.Common.{option_map, option_and_then, inl, inr, All, Contains}
+use Rattle.std.proofs.lemmas.Bool.{eq-eqb, cases_eq, false≢true}
 use Rattle.std.proofs.lemmas.List.{length_push, get_or_default, same_from_push}
 use Rattle.std.proofs.lemmas.List.Elements.{All-contains, All-get_or}
 use Rattle.std.proofs.lemmas.List.Quantifiers.{position-Some}
@@ -9,7 +11,7 @@ use Rattle.ptn_network.specs.declared.edge.Edge.{Edge}
 use Rattle.ptn_network.specs.Networks.{NetworkParts, IsEdge, IsNetwork}
 use Rattle.ptn_network.specs.Walks.{across, edge_length, walk_sum, least_sums, IsWalk, IsLeastSum, AreLeastSums}
 use Rattle.ptn_network.specs.Paths.{are_equal, ends_least, last_edge, stop_before, path_within, path, length_to, EndsLeastWalk, EndsFirst}
-use Rattle.ptn_network.proofs.PathEdges.{is_step, ends_are}
+use Rattle.ptn_network.proofs.PathEdges.{is_step}
 use Rattle.ptn_network.proofs.PathSteps.{no_edge, none_there, none_before, last_step}
 use Rattle.ptn_network.proofs.Walks as walks
 
@@ -45,20 +47,11 @@ splits edges from to (first ∷ front) last walk =
 -- an edge leads back
 pub across_back : (edge : Edge) (stop next : ℕ) → edge.left ≢ edge.right
     → across edge stop ≡ Some next → across edge next ≡ Some stop
-across_back edge stop next apart over =
-    elim (ends_are edge stop next over) [
-      | inl p ↦ rw (ne_eqb edge.left next (λ e. apart (e ∙ sym p.1)), eq-eqb edge.right next p.1)
-          (ap Some p.0)
-      | inr p ↦ rw (eq-eqb edge.left next p.1) (ap Some p.0)
-    ]
+across_back edge stop next apart over = grind arith
 
 pub starts_within : (n : ℕ) (edge : Edge) (stop next : ℕ) → IsEdge n edge
     → across edge stop ≡ Some next → stop < n
-starts_within n edge stop next sound over =
-    elim (ends_are edge stop next over) [
-      | inl p ↦ subst (λ q. q < n) p.0 sound.left
-      | inr p ↦ subst (λ q. q < n) p.0 sound.right
-    ]
+starts_within n edge stop next sound over = grind arith
 
 -- ---- an edge ends a least walk
 

@@ -1,17 +1,16 @@
 -- Rows of given loads, one after the other.
-use Rattle.std.proofs.Common.{◌≡◌, ◌≢◌, ℕ, ℤ, pos, ◌<◌, int_lt, Bool, true, false, T, lit<, not, cond, List, [], ◌∷◌, ◌++◌, length, map, get_or, set, slice_get, refl, ap, subst, sym, ◌∙◌, arith, Option, Some, None, option_map, is_some, unwrap_or, inl, inr, get_or-set_other, get_or-set_same}
+use Rattle.std.proofs.Common.{◌≡◌, ◌≢◌, ℕ, ℤ, pos, ◌<◌, int_lt, Bool, true, false, not, cond, List}
+use Rattle.std.proofs.Common.{[], ◌∷◌, ◌++◌, length, map, get_or, set, slice_get, refl, ap, subst}
+use Rattle.std.proofs.Common.{sym, ◌∙◌, arith, Option, Some, None, option_map, is_some, unwrap_or}
+use Rattle.std.proofs.Common.{inl, inr, get_or-set_other, get_or-set_same}
 use Rattle.std.specs.List.{All, list_any, find}
-use Rattle.std.specs.Int.Signed.{lt_z_no}
-use Rattle.std.proofs.lemmas.Int.{ints}
 use Rattle.std.proofs.lemmas.List.Elements.{All-head, All-tail, All-map}
 use Rattle.std.specs.List.Sorted.{IsStrictlySortedBy}
 use Rattle.std.specs.Option.{option_or}
-use Rattle.std.specs.Cmp.{eq_by_cmp_equiv}
-use Rattle.std.specs.Ordering.{int_eq, int_cmp, is_eq}
+use Rattle.std.specs.Ordering.{int_eq, int_cmp}
 use Rattle.std.specs.declared.cmp.Ordering.TheVariants.{Less}
 use Rattle.std.proofs.lemmas.Bool.{cases_eq, cases_Bool, cases_order}
 use Rattle.std.proofs.lemmas.Bool.Decides.{Decides-int_eq}
-use Rattle.std.proofs.lemmas.Cmp.{int_cmp_total}
 use Rattle.std.proofs.lemmas.List.{length-map, get_or-map, length-set, same_lists}
 use Rattle.std.proofs.lemmas.List.Folds.{find-append}
 use Rattle.std.proofs.lemmas.Map.Keys.{Less-from_sorted}
@@ -20,12 +19,10 @@ use Rattle.std.proofs.lemmas.Simd.{map-map}
 use Rattle.giv_files.specs.declared.row_why.RowWhy.TheVariants as why
 use Rattle.giv_files.specs.declared.file_id.FileId.{FileId}
 use Rattle.giv_files.specs.declared.refusal.Refusal.TheVariants as refusal
-use Rattle.giv_files.specs.declared.column.ColumnKind.TheVariants as kind
 use Rattle.giv_files.specs.Columns.{load_columns}
 use Rattle.giv_files.specs.Inputs.{Input, records_of, broken_whys, input_faults}
 use Rattle.giv_files.specs.Reading.{table_of}
 use Rattle.giv_files.specs.Writing.{InColumns}
-use Rattle.giv_files.proofs.WriteFacts.{in_column}
 use Rattle.giv_files.proofs.Inputs.{sound_rows}
 use Rattle.giv_files.proofs.WholeRules.{without_whole, refused_as_whole, sound_as_whole}
 use Rattle.giv_files.specs.Tables.{TableRow}
@@ -84,12 +81,7 @@ module _ (edges : List Edge) (before : List LoadRow) (row : LoadRow) where
   module _ (given : List (Option EdgeLoad)) (index : ℕ) (are : given ≡ map (given_for before) edges)
       (at : StandsAt edges row.edge index) where
     pub place_within : index < length given
-    place_within = omega (
-      arith,
-      ap length are,
-      length-map edges (given_for before),
-      stands_within edges row.edge index at,
-    )
+    place_within = grind (arith, length-map, stands_within)
 
     -- a load is given where a row before has the same edge
     pub is_given : is_some (get_or given index None)
@@ -136,24 +128,10 @@ module _ (before : List LoadRow) (row : LoadRow) (edge : Edge) where
 
   -- and of no other
   given_before : edge.id ≢ row.edge → given_for (before ++ row ∷ []) edge ≡ given_for before edge
-  given_before other =
-      let apart : int_eq edge.id row.edge ≡ false = elim (cases_Bool
-      (int_eq edge.id row.edge)) [
-        | inl same ↦ absurd (other (same_ids _ _ same))
-        | inr differs ↦
-            differs
-      ] in
-      found_more ∙ ap (λ b. option_map (λ row. row.load)
-      (option_or (find (λ other. int_eq edge.id other.edge) before) (cond b (Some row) None)))
-      apart
-      ∙ ap (option_map (λ row. row.load))
-      (no_more (find (λ other. int_eq edge.id other.edge) before))
+  given_before other = grind (arith, cases_Bool, same_ids, found_more, option_map, no_more)
 
 not_less : (x : ℤ) → int_cmp x x ≡ Less → ⊥
-not_less x e =
-    let same : is_eq (int_cmp x x) ≡ true = (eq_by_cmp_equiv int_cmp_total).refl x in
-    let other : is_eq (int_cmp x x) ≡ false = ap is_eq e in
-    cc
+not_less x e = grind arith
 
 -- of two places of rising ids each has its own
 ids_apart : (edges : List Edge) (i j : ℕ) → IsStrictlySortedBy int_cmp (map (λ edge. edge.id) edges)
@@ -260,44 +238,18 @@ module _ (file : FileId) (edges : List Edge) (text : List ℕ) (given : List (Op
   pub loads_given : (loads : List EdgeLoad) → Some loads ≡ cond missing None (Some all)
       → (input_faults (load_input file edges) text ≡ []) × (loads ≡ loads_of file edges text)
   unfolding loads_of
-  loads_given loads e =
-      let made = all_are missing all loads e in (
-        sound_as_whole input text lacks why.MissingEdge refl none (is_missing ∙ made.0),
-        made.1 ∙ ap (map (λ load. unwrap_or load no_load)) are
-            ∙ map-map (λ load. unwrap_or load no_load) (given_for (records_of input text)) edges,
-      )
+  loads_given loads e = grind (arith, all_are, sound_as_whole, is_missing, unwrap_or, map-map)
 
 -- ---- what holds of the loads of a text without a fault
 
 row_is_load : (edges : List Edge) (before : List LoadRow) (cells : List ℤ)
     → broken_whys (load_rules edges) before (load_row_of cells) ≡ [] → InColumns load_columns cells
     → IsLoad (load_row_of cells).load
-row_is_load edges before cells none within =
-    let load = in_column load_columns cells 1 kind.Skip (pos 0) within (lit< tt) in
-    let least = in_column load_columns cells 2 kind.Skip (pos 0) within (lit< tt) in
-    let most = in_column load_columns cells 3 kind.Skip (pos 0) within (lit< tt) in
-    let order = (own_row edges before (load_row_of cells) none).1 in
-    record {
-      bounded = record {
-        load_low = load.0;
-        load_high = load.1;
-        least_low = least.0;
-        in_order = lt_z_no (subst (λ b. T (not b)) (sym order) tt);
-      };
-      rare = most.1;
-    }
+row_is_load edges before cells none within = grind arith
 
 found_is_load : (p : LoadRow → Bool) (rows : List LoadRow) → All (λ row. IsLoad row.load) rows
     → IsLoad (unwrap_or (option_map (λ row. row.load) (find p rows)) no_load)
-found_is_load p [] all = record {
-  bounded = record {
-    load_low = omega (arith, ints);
-    load_high = omega (arith, ints);
-    least_low = omega (arith, ints);
-    in_order = omega (arith, ints);
-  };
-  rare = omega (arith, ints);
-}
+found_is_load p [] all = grind arith
 found_is_load p (row ∷ rows) all =
     elim (p row) as (λ b. IsLoad
     (unwrap_or (option_map (λ row. row.load) (cond b (Some row) (find p rows))) no_load)) [

@@ -1,5 +1,7 @@
 -- The edges at each stop, noted edge by edge.
-use Rattle.std.proofs.Common.{◌≡◌, ◌≢◌, ℕ, ◌+◌, ◌<◌, ◌≤◌, List, [], ◌∷◌, ◌++◌, length, get_or, slice_get, refl, ap, sym, subst, ◌∙◌, Some, Contains, ◌⊎◌, inl, inr, arith}
+use Rattle.std.proofs.Common.{◌≡◌, ◌≢◌, ℕ, ◌+◌, ◌<◌, ◌≤◌, List, [], ◌∷◌, ◌++◌, length, get_or}
+use Rattle.std.proofs.Common.{slice_get, refl, ap, sym, subst, ◌∙◌, Some, Contains, ◌⊎◌, inl, inr}
+use Rattle.std.proofs.Common.{arith}
 use Rattle.std.proofs.lemmas.Bool.{cases_eq, cases_lt, eq-eqb, ne_eqb}
 use Rattle.std.proofs.lemmas.List.{length-set, get_or-set_same, get_or-set_other}
 use Rattle.std.proofs.lemmas.List.Elements.{Contains-push, Contains-append_left, Contains-push_cases}
@@ -19,9 +21,7 @@ module _ (rows new : List (List ℕ)) (stop index : ℕ) (is : NotesAt stop inde
       ∙ get_or-set_same rows stop (get_or rows stop [] ++ index ∷ []) [] here
 
   other_row : (other : ℕ) → other ≢ stop → get_or new other [] ≡ get_or rows other []
-  other_row other apart =
-      ap (λ (some : List (List ℕ)). get_or some other []) is
-      ∙ get_or-set_other rows stop other (get_or rows stop [] ++ index ∷ []) [] apart
+  other_row other apart = grind (arith, get_or, get_or-set_other)
 
   pub noted_size : length new ≡ length rows
   noted_size = ap length is ∙ length-set rows stop (get_or rows stop [] ++ index ∷ [])
@@ -73,12 +73,7 @@ module _ (edges : List Edge) (stops i : ℕ) (edge : Edge) (rows first both : Li
   left_in = omega (arith, sound.left, so_far.size)
 
   right_in : edge.right < length first
-  right_in = omega (
-    arith,
-    sound.right,
-    so_far.size,
-    noted_size rows first edge.left i at_left left_in,
-  )
+  right_in = grind (arith, noted_size, left_in)
 
   leaves_left : CanLeave edges edge.left i
   leaves_left = record {
@@ -142,11 +137,4 @@ module _ (edges : List Edge) (stops i : ℕ) (edge : Edge) (rows first both : Li
 -- all edges
 pub noted_all : (edges : List Edge) (stops i : ℕ) (rows : List (List ℕ)) → length edges ≤ i
     → NotedTo edges stops i rows → AreStopEdges stops edges rows
-noted_all edges stops i rows done so_far = record {
-  size = so_far.size;
-  at = λ stop within. record {
-    own = so_far.own stop;
-    all = λ index leave. so_far.all stop index
-        (let early = slice_get_within edges index leave.edge leave.is in omega arith) leave;
-  };
-}
+noted_all edges stops i rows done so_far = grind (arith, slice_get_within)

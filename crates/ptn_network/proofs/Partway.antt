@@ -1,5 +1,7 @@
 -- What holds of the labels of a network while the nearest stop is settled again and again.
-use Rattle.std.proofs.Common.{◌≡◌, ℕ, ◌+◌, ◌-◌, ◌*◌, ◌<◌, ◌≤◌, Bool, true, false, cond, eqb, List, [], ◌∷◌, ◌++◌, length, map, sum, fold, set, refl, ap, sym, subst, ◌∙◌, Option, Some, None, IfSome, All, Contains, inl, inr, arith}
+use Rattle.std.proofs.Common.{◌≡◌, ℕ, ◌+◌, ◌-◌, ◌*◌, ◌<◌, ◌≤◌, Bool, true, false, cond, eqb, List}
+use Rattle.std.proofs.Common.{[], ◌∷◌, ◌++◌, length, map, sum, fold, set, refl, ap, sym, subst, ◌∙◌}
+use Rattle.std.proofs.Common.{Option, Some, None, IfSome, All, Contains, inl, inr, arith}
 use Rattle.std.proofs.lemmas.Bool.{cases_lt}
 use Rattle.std.proofs.lemmas.Int.{ints}
 use Rattle.std.proofs.lemmas.List.{length-set, length_push, get_or_past}
@@ -14,7 +16,7 @@ use Rattle.ptn_network.specs.Networks.{NetworkParts, IsEdge, IsNetwork}
 use Rattle.ptn_network.specs.Walks.{across, IsWalk, walk_sum, IsLeastSum, walks_within, least_sum}
 use Rattle.ptn_network.specs.Labels.{weight_of, most_of, most_sum, sum_of, label_at, reach_over, IsNearest, AreDone, WentOn}
 use Rattle.giv_files.proofs.Members.{Contains-map}
-use Rattle.ptn_network.proofs.Walks.{IsUpTo, begins, edge_last, staying_end, walk_sum-cons, walk_sum-push, walk_sum-small, within_all, within_there, least_of_is}
+use Rattle.ptn_network.proofs.Walks.{IsUpTo, begins, edge_last, walk_sum-cons, walk_sum-push, walk_sum-small, within_all, within_there, least_of_is}
 use Rattle.ptn_network.proofs.Settling.{some_same, settled_same, sum_cases, reached_cases, settled_before, lowers, SettledUpTo, settled_up_to, at_set, is_settled, settled_count, over, over_size, over_count, keeps, meets}
 
 -- a walk of at most so many edges that has a sum
@@ -71,20 +73,11 @@ module _ (edges : List Edge) (weight : Edge → ℕ) (from stops : ℕ) (labels 
       ∙ so_far.size
 
   pub count_after : settled_count after ≡ settled_count labels + 1
-  count_after =
-      let one : Label → ℕ = λ label. cond (is_settled label) 1 0 in
-      let counted = sum_by-set one labels stop (Settled sum) Unseen nearest.early in
-      let open_before : one (label_at labels stop) ≡ 0 = ap one nearest.there in
-      omega (arith, over_count weight stop sum own order, counted, open_before)
+  count_after = grind (arith, is_settled, sum_by-set, over_count)
 
   weaker : (to most other : ℕ) → Comes edges weight from to most other → most ≤ settled_count after
       → Comes edges weight from to (settled_count after) other
-  weaker to most other comes le = record {
-    walk = comes.walk;
-    is = comes.is;
-    sums = comes.sums;
-    short = omega (arith, comes.short);
-  }
+  weaker to most other comes le = grind arith
 
   to_stop : Comes edges weight from stop (settled_count labels) sum
   to_stop = so_far.comes stop sum (ap sum_of nearest.there)
@@ -150,10 +143,7 @@ module _ (edges : List Edge) (weight : Edge → ℕ) (from stops : ℕ) (labels 
       least (settled_after other least is)
 
   within : (other far : ℕ) → label_at labels other ≡ Reached far → other < length labels
-  within other far is = elim (cases_lt other (length labels)) as (λ h. other < length labels) [
-    | inl h ↦ h
-    | inr h ↦ let unseen = get_or_past labels other Unseen h in cc
-  ]
+  within other far is = grind (arith, cases_lt, get_or_past)
 
   far_after : (other far : ℕ) → label_at after other ≡ Reached far → sum ≤ far
   far_after other far is =
@@ -200,17 +190,8 @@ module _ (edges : List Edge) (weight : Edge → ℕ) (from stops : ℕ) (labels 
           (λ least is. so_far.ordered next stop least sum is nearest.there))
 
   pub partway_after : ArePartway edges weight from stops after
-  partway_after = record {
-    size = size_after;
-    comes = comes_after;
-    begun = up_to_after from 0 so_far.begun;
-    ordered = λ near far least sum is other. omega (
-      arith,
-      near_after near least is,
-      far_after far sum other,
-    );
-    closed = closed_after;
-  }
+  partway_after =
+      grind (arith, size_after, comes_after, up_to_after, near_after, far_after, closed_after)
 
 -- how many stops are left
 abbrev pub left_count : List Label → ℕ
@@ -312,10 +293,7 @@ module _ (network : NetworkParts) (weight : Weight) (from : ℕ) (labels : List 
     below_walks : (walk : List Edge) (stop to number : ℕ)
         → IsUpTo number (sum_of (label_at labels stop)) → IsWalk network.edges stop to walk
         → IsUpTo (number + walk_sum (weight_of weight) walk) (sum_of (label_at labels to))
-    below_walks [] stop to number up_to is = weaker_up number (number + walk_sum
-        (weight_of weight) []) (sum_of (label_at labels to)) (omega arith)
-        (subst (λ some. IsUpTo number (sum_of (label_at labels some)))
-        (staying_end network.edges stop to is) up_to)
+    below_walks [] stop to number up_to is = grind arith
     below_walks (edge ∷ walk) stop to number up_to is =
         let start = begins network.edges stop to edge walk is in
         let settled = settled_now stop number up_to in
@@ -367,9 +345,4 @@ module _ (network : NetworkParts) (weight : Weight) (from : ℕ) (labels : List 
 
     -- where no stop is reached that is not settled
     pub partway_all : AreDone network weight from labels
-    partway_all = record {
-      size = so_far.size;
-      least = least_now;
-      same = same_now;
-      small = sums_small;
-    }
+    partway_all = grind (arith, least_now, same_now, sums_small)

@@ -1,5 +1,8 @@
 -- A path has each edge once: the further from its end, the nearer to its start.
-use Rattle.std.proofs.Common.{◌≡◌, ℕ, pos, zero, suc, ◌+◌, ◌<◌, ◌≤◌, ◌≤ℤ◌, Bool, true, false, ◌||◌, cond, eqb, nat_eq, List, [], ◌∷◌, length, get_or, refl, ap, subst, sym, ◌∙◌, arith, Option, Some, None, option_map, option_and_then, unwrap_or, inl, inr, ◌⊎◌}
+use Rattle.std.proofs.Common.{◌≡◌, ℕ, pos, zero, suc, ◌+◌, ◌<◌, ◌≤◌, ◌≤ℤ◌, Bool, true, false, ◌||◌}
+use Rattle.std.proofs.Common.{nat_eq, List, [], ◌∷◌, length, get_or, refl, ap, subst, sym, ◌∙◌}
+use Rattle.std.proofs.Common.{arith, Option, Some, None, option_map, option_and_then, unwrap_or}
+use Rattle.std.proofs.Common.{inl, inr, ◌⊎◌}
 use Rattle.std.specs.List.{All, IsDistinct, list_any}
 use Rattle.std.proofs.lemmas.Bool.{eqb-true, cases_Bool, cases_eq}
 use Rattle.std.proofs.lemmas.Cmp.{nat_eq_equiv}
@@ -63,19 +66,7 @@ is_step lengths to edge e =
 -- the two ends of an edge that is crossed
 pub ends_are : (edge : Edge) (to before : ℕ) → across edge to ≡ Some before
     → ((edge.left ≡ to) × (edge.right ≡ before)) ⊎ ((edge.right ≡ to) × (edge.left ≡ before))
-ends_are edge to before e =
-    elim (eqb edge.left to) as (λ b. eqb edge.left to ≡ b → cond b (Some edge.right)
-    (cond (eqb edge.right to) (Some edge.left) None) ≡ Some before
-    → ((edge.left ≡ to) × (edge.right ≡ before)) ⊎ ((edge.right ≡ to) × (edge.left ≡ before))) [
-      | true ↦ λ at h. inl (eqb-true edge.left to at, same_Some _ _ h)
-      | false ↦ λ off h. elim (eqb edge.right to) as (λ b. eqb edge.right to ≡ b → cond b
-          (Some edge.left) None ≡ Some before
-          → ((edge.left ≡ to) × (edge.right ≡ before)) ⊎ ((edge.right ≡ to)
-          × (edge.left ≡ before))) [
-            | true ↦ λ at k. inr (eqb-true edge.right to at, same_Some _ _ k)
-            | false ↦ λ away k. cc
-          ] refl h
-    ] refl e
+ends_are edge to before e = grind arith
 
 pub some_length : (n : ℕ) (edge : Edge) → IsEdge n edge → 0 < edge_length edge
 some_length n edge sound = let long : pos 1 ≤ℤ edge.length =
@@ -86,11 +77,7 @@ not_back : (lengths : ℕ → Option ℕ) (n left right : ℕ) (edge : Edge) (fa
     → IsEdge n edge → lengths left ≡ Some far → lengths right ≡ Some near
     → far ≡ near + edge_length edge → lengths right ≡ Some back → lengths left ≡ Some away
     → back ≡ away + edge_length edge → ⊥
-not_back lengths n left right edge far near back away sound a b over c d under =
-    let long = some_length n edge sound in
-    let first : far ≡ away = same_Some _ _ (sym a ∙ d) in
-    let second : near ≡ back = same_Some _ _ (sym b ∙ c) in
-    absurd (omega arith)
+not_back lengths n left right edge far near back away sound a b over c d under = grind arith
 
 -- an edge ends least walks to one stop alone
 one_end : (lengths : ℕ → Option ℕ) (n : ℕ) (edge : Edge) (to other : ℕ) → IsEdge n edge
@@ -125,17 +112,13 @@ module _ (edges : List Edge) (lengths : ℕ → Option ℕ) (n from : ℕ)
 
   pub last_is_step : (at index : ℕ) → last_edge edges lengths at ≡ Some index
       → (index < length edges) × IsStep lengths at (get_or edges index no_edge)
-  last_is_step at index is =
-      let p = position-Some (ends_least lengths at) edges index no_edge is in
-      (p.0, is_step lengths at (get_or edges index no_edge) p.1)
+  last_is_step at index is = grind (arith, position-Some, no_edge, is_step, get_or)
 
   pub comes_from : (at index : ℕ) (here : index < length edges)
       (step : IsStep lengths at (get_or edges index no_edge))
       → stop_before edges index at ≡ step.before
   comes_from at index here step =
-      ap (λ (some : Option Edge). unwrap_or (option_and_then (λ edge. across edge at) some) at)
-      (slice_get-get_or edges index no_edge here)
-      ∙ ap (λ (over : Option ℕ). unwrap_or over at) step.goes
+      grind (arith, unwrap_or, option_and_then, slice_get-get_or, no_edge)
 
   one_of : (a b : Bool) → (a || b) ≡ true → (a ≡ true) ⊎ (b ≡ true)
   one_of true b e = inl refl

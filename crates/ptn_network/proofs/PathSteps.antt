@@ -1,7 +1,10 @@
 -- A path, step by step from its end.
-use Rattle.std.proofs.Common.{◌≡◌, ◌≢◌, ℕ, pos, zero, suc, ◌+◌, ◌-◌, ◌<◌, ◌≤◌, Bool, true, false, cond, eqb, List, [], ◌∷◌, ◌++◌, length, get_or, reverse, refl, ap, subst, sym, ◌∙◌, arith, append_assoc, Option, Some, None, option_map, option_and_then, unwrap_or}
+use Rattle.std.proofs.Common.{◌≡◌, ◌≢◌, ℕ, pos, zero, suc, ◌+◌, ◌-◌, ◌<◌, ◌≤◌, Bool, true, false}
+use Rattle.std.proofs.Common.{cond, eqb, List, [], ◌∷◌, ◌++◌, length, get_or, reverse, refl, ap}
+use Rattle.std.proofs.Common.{subst, sym, ◌∙◌, arith, append_assoc, Option, Some, None, option_map}
+use Rattle.std.proofs.Common.{option_and_then, unwrap_or}
 use Rattle.std.specs.List.{All}
-use Rattle.std.proofs.lemmas.Bool.{ne_eqb, eq-eqb}
+use Rattle.std.proofs.lemmas.Bool.{eq-eqb}
 use Rattle.std.proofs.lemmas.List.{reverse-append}
 use Rattle.std.proofs.lemmas.List.Elements.{All-get_or}
 use Rattle.std.proofs.lemmas.List.FromFn.{get_or-map-range_with_len, length-map-range_with_len}
@@ -43,12 +46,7 @@ module _ (edges : List Edge) (lengths : ℕ → Option ℕ) (from : ℕ) where
       → path_within edges lengths (suc more) from at
       ≡ path_within edges lengths more from (stop_before edges index at) ++ index ∷ []
   unfolding path_within
-  last_step more at index apart is =
-      ap (λ (last : Option ℕ). cond (eqb from at) [] (unwrap_or
-      (option_map (λ index. path_within edges lengths more from (stop_before edges index at)
-      ++ index ∷ []) last) [])) is
-      ∙ ap (λ b. cond b [] (path_within edges lengths more from (stop_before edges index at)
-      ++ index ∷ [])) (ne_eqb from at (λ same. apart (sym same)))
+  last_step more at index apart is = grind arith
 
   -- one step back
   pub goes_back : (size step at index : ℕ) (back whole : List ℕ) → step < size → at ≢ from
@@ -76,19 +74,12 @@ pub last_known : (network : NetworkParts) (from : ℕ) (paths : PathParts) (at :
     → paths ≡ paths_from network from → at < length network.stops
     → get_or paths.last at None ≡ last_edge network.edges
     (length_to (least_sums network edge_length from)) at
-last_known network from paths at is within =
-    ap (λ (some : PathParts). get_or some.last at None) is
-    ∙ get_or-map-range_with_len (last_edge network.edges
-    (length_to (least_sums network edge_length from))) 0
-    (length network.stops) at at None within (omega arith)
+last_known network from paths at is within = grind (arith, get_or, get_or-map-range_with_len)
 
 -- a last edge is known of each stop
 pub as_many_known : (network : NetworkParts) (from : ℕ) (paths : PathParts)
     → paths ≡ paths_from network from → length paths.last ≡ length network.stops
-as_many_known network from paths is =
-    ap (λ (some : PathParts). length some.last) is
-    ∙ length-map-range_with_len (last_edge network.edges
-    (length_to (least_sums network edge_length from))) 0 (length network.stops)
+as_many_known network from paths is = grind (arith, length-map-range_with_len)
 
 -- the last edge is one of the network
 pub last_there : (edges : List Edge) (lengths : ℕ → Option ℕ) (at index : ℕ)

@@ -1,5 +1,6 @@
 -- The edges of rows, one row after the other.
-use Rattle.std.proofs.Common.{◌≡◌, ℤ, Bool, true, false, ◌||◌, cond, List, [], ◌∷◌, ◌++◌, map, refl, ap, sym, ◌∙◌, Option, Some, None, is_some}
+use Rattle.std.proofs.Common.{arith, ◌≡◌, ℤ, Bool, true, false, cond, List, [], ◌∷◌, ◌++◌, map}
+use Rattle.std.proofs.Common.{refl, ap, ◌∙◌, Option, Some, None, is_some}
 use Rattle.std.specs.List.{list_any}
 use Rattle.std.specs.Map.{lookup}
 use Rattle.std.specs.Ordering.{int_eq}
@@ -17,13 +18,7 @@ entry_there : (stops : List ℤ) (rows : List EdgeRow) (id : ℤ)
     → is_some (lookup (int_eq id) (map (edge_entry stops) rows))
     ≡ list_any (λ other. int_eq id other.id) rows
 entry_there stops [] id = refl
-entry_there stops (row ∷ rows) id = elim (int_eq id row.id) as
-    (λ b. is_some (cond b (Some (edge_of stops row)) (lookup (int_eq id)
-    (map (edge_entry stops) rows))) ≡ (b || list_any (λ other. int_eq id other.id) rows)) [
-      | true ↦
-          refl
-      | false ↦ entry_there stops rows id
-    ]
+entry_there stops (row ∷ rows) id = grind (arith, is_some, entry_there stops rows id)
 
 nothing : {A : Type 0} (o : Option A) → is_some o ≡ false → o ≡ None
 nothing None e = refl
@@ -54,11 +49,7 @@ pub edges_more : (stops : List ℤ) (before : List EdgeRow) (row is : EdgeRow) (
     (entries after : List (ℤ × Edge)) → row ≡ is → edge ≡ edge_of stops row
     → entries ≡ map (edge_entry stops) before → after ≡ entries ++ (row.id, edge) ∷ []
     → after ≡ map (edge_entry stops) (before ++ is ∷ [])
-edges_more stops before row is edge entries after read made so_far put =
-    put ∙ ap (λ some. some ++ (row.id, edge) ∷ []) so_far
-    ∙ ap (λ other. map (edge_entry stops) before ++ (row.id, other) ∷ []) made
-    ∙ ap (λ other. map (edge_entry stops) before ++ edge_entry stops other ∷ []) read
-    ∙ sym (map_push (edge_entry stops) before is)
+edges_more stops before row is edge entries after read made so_far put = grind (arith, map_push)
 
 -- the entries of rows have the ids of their edges
 pub entries_keyed : (stops : List ℤ) (rows : List EdgeRow) → AreKeyed (map (edge_entry stops) rows)

@@ -1,5 +1,7 @@
 -- Labels of stops: what settling the nearest stop keeps.
-use Rattle.std.proofs.Common.{◌≡◌, ◌≢◌, ℕ, ◌+◌, ◌<◌, ◌≤◌, min, Bool, true, false, cond, eqb, List, [], ◌∷◌, ◌++◌, length, map, take, fold, set, get_or, slice_get, refl, ap, sym, subst, ◌∙◌, Option, Some, None, Contains, ◌⊎◌, inl, inr, arith}
+use Rattle.std.proofs.Common.{◌≡◌, ◌≢◌, ℕ, ◌+◌, ◌<◌, ◌≤◌, min, Bool, true, false, eqb, List, []}
+use Rattle.std.proofs.Common.{◌∷◌, ◌++◌, length, map, take, fold, set, get_or, slice_get, refl, ap}
+use Rattle.std.proofs.Common.{sym, subst, ◌∙◌, Option, Some, None, Contains, ◌⊎◌, inl, inr, arith}
 use Rattle.std.specs.List.{count_by}
 use Rattle.std.proofs.lemmas.Bool.{cases_lt}
 use Rattle.std.proofs.lemmas.Bool.Decides.{nat_tests}
@@ -88,22 +90,14 @@ pub sum_cases : (sum least : ℕ) (label : Label) → sum_of (reached sum label)
     → (sum ≡ least) ⊎ (sum_of label ≡ Some least)
 sum_cases sum least Unseen is = inl (some_same sum least is)
 sum_cases sum least (Settled other) is = inr is
-sum_cases sum least (Reached other) is =
-    elim (min_is sum other) as (λ h. (sum ≡ least) ⊎ (Some other ≡ Some least)) [
-      | inl h ↦ inr (ap Some h ∙ is)
-      | inr h ↦ inl (h ∙ some_same (min sum other) least is)
-    ]
+sum_cases sum least (Reached other) is = grind arith
 
 -- so it is where it is not settled
 pub reached_cases : (sum least : ℕ) (label : Label) → reached sum label ≡ Reached least
     → (sum ≡ least) ⊎ (label ≡ Reached least)
 reached_cases sum least Unseen is = inl (reached_same sum least is)
 reached_cases sum least (Settled other) is = cc
-reached_cases sum least (Reached other) is =
-    elim (min_is sum other) as (λ h. (sum ≡ least) ⊎ (Reached other ≡ Reached least)) [
-      | inl h ↦ inr (ap Reached h ∙ is)
-      | inr h ↦ inl (h ∙ reached_same (min sum other) least is)
-    ]
+reached_cases sum least (Reached other) is = grind arith
 
 pub settled_before : (sum least : ℕ) (label : Label) → reached sum label ≡ Settled least
     → label ≡ Settled least
@@ -193,17 +187,8 @@ module _ (weight : Edge → ℕ) (stop sum : ℕ) where
   reach_count : (number : ℕ) (labels : List Label) (next : Option ℕ)
       → settled_count (reach number labels next) ≡ settled_count labels
   reach_count number labels None = refl
-  reach_count number labels (Some next) = elim (cases_lt next (length labels)) as
-      (λ h. settled_count (reach number labels (Some next)) ≡ settled_count labels) [
-        | inl h ↦
-            let one : Label → ℕ = λ label. cond (is_settled label) 1 0 in
-            let now = reached number (label_at labels next) in
-            let counted = sum_by-set one labels next now Unseen h in
-            let kept : one now ≡ one (label_at labels next) =
-            ap (λ b. cond b 1 0) (settled_kept number (label_at labels next)) in
-            omega (arith, counted, kept)
-        | inr h ↦ ap settled_count (set_past labels next (reached number (label_at labels next)) h)
-      ]
+  reach_count number labels (Some next) =
+      grind (arith, cases_lt, sum_by-set, settled_kept, set_past)
 
   pub over_count : (labels : List Label) (edges : List Edge)
       → settled_count (fold over labels edges) ≡ settled_count labels

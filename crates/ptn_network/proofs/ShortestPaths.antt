@@ -1,7 +1,10 @@
 -- A path goes to its end, and no walk there is shorter.
-use Rattle.std.proofs.Common.{◌≡◌, ◌≢◌, ℕ, ℤ, unsigned_abs, zero, suc, ◌+◌, ◌<◌, ◌≤◌, Bool, true, false, ◌||◌, nat_eq, List, [], ◌∷◌, ◌++◌, length, get_or, slice_get, refl, ap, subst, sym, ◌∙◌, arith, Option, Some, None, option_map, is_some, inl, inr, ◌⊎◌, All, Contains}
+use Rattle.std.proofs.Common.{◌≡◌, ◌≢◌, ℕ, ℤ, unsigned_abs, zero, suc, ◌+◌, ◌<◌, ◌≤◌, Bool, true}
+use Rattle.std.proofs.Common.{false, ◌||◌, nat_eq, List, [], ◌∷◌, ◌++◌, length, get_or, slice_get}
+use Rattle.std.proofs.Common.{refl, ap, subst, sym, ◌∙◌, arith, Option, Some, None, option_map}
+use Rattle.std.proofs.Common.{is_some, inl, inr, ◌⊎◌, All, Contains}
 use Rattle.std.specs.List.{IsDistinct, list_any, cons_option}
-use Rattle.std.proofs.lemmas.Bool.{eqb-true, cases_Bool, cases_eq}
+use Rattle.std.proofs.lemmas.Bool.{eqb-true, cases_eq}
 use Rattle.std.proofs.lemmas.Cmp.{nat_eq_equiv}
 use Rattle.std.proofs.lemmas.List.{length_push, get_or_default}
 use Rattle.std.proofs.lemmas.List.Elements.{All-get_or, filter_map-append}
@@ -52,10 +55,7 @@ module _ (edges : List Edge) (lengths : ℕ → Option ℕ) (n from : ℕ) (soun
   -- a stop that is reached from another has a last edge
   has_last : (at far : ℕ) → at < n → at ≢ from → lengths at ≡ Some far
       → is_some (last_edge edges lengths at) ≡ true
-  has_last at far within apart reached =
-      let told = subst (IsLeastSum edges edge_length from at) reached (least at within) in
-      sym (any_is (ends_least lengths at) edges)
-      ∙ by_walk at far told.0.0 reached told.1 apart told.0.2 told.0.1
+  has_last at far within apart reached = grind (arith, any_is, by_walk)
 
   -- ---- the whole path
 
@@ -73,15 +73,7 @@ module _ (edges : List Edge) (lengths : ℕ → Option ℕ) (n from : ℕ) (soun
   not_seen : (at far : ℕ) (seen : List ℕ) → lengths at ≡ Some far
       → ((q : ℕ) → list_any (nat_eq q) seen ≡ true → IsFurther far q)
       → list_any (nat_eq at) seen ≡ false
-  not_seen at far seen reached further =
-      elim (cases_Bool (list_any (nat_eq at) seen)) [
-        | inl old ↦
-            let p = further at old in
-            let same : p.own ≡ far = same_Some _ _ (sym p.reached ∙ reached) in
-            let more = p.further in
-            absurd (omega arith)
-        | inr new ↦ new
-      ]
+  not_seen at far seen reached further = grind arith
 
   among : (q at : ℕ) (seen : List ℕ) → list_any (nat_eq q) (seen ++ at ∷ []) ≡ true
       → (list_any (nat_eq q) seen ≡ true) ⊎ (q ≡ at)

@@ -1,5 +1,7 @@
 -- What holds of each network that texts give.
-use Rattle.std.proofs.Common.{◌≡◌, ◌≢◌, ℕ, ℤ, pos, ◌+◌, ◌<◌, ◌≤◌, ◌≤ℤ◌, int_lt, Bool, true, false, not, ◌&&◌, ◌||◌, cond, T, List, [], ◌∷◌, ◌++◌, length, map, get_or, refl, ap, subst, sym, ◌∙◌, arith, Some, None, lit<}
+use Rattle.std.proofs.Common.{◌≡◌, ◌≢◌, ℕ, ℤ, pos, ◌+◌, ◌<◌, ◌≤◌, ◌≤ℤ◌, int_lt, Bool, true, false}
+use Rattle.std.proofs.Common.{not, ◌&&◌, ◌||◌, cond, T, List, [], ◌∷◌, ◌++◌, length, map, get_or}
+use Rattle.std.proofs.Common.{refl, ap, subst, sym, ◌∙◌, arith, Some, None, lit<}
 use Rattle.std.specs.List.{All, AllByRecursion, list_any, position, position_or_len}
 use Rattle.std.specs.List.Sorted.{IsStrictlySortedBy}
 use Rattle.std.specs.Map.{keys_of, values_of}
@@ -67,12 +69,7 @@ sorted_rise (e ∷ es) h = (above e.0 es (first_of _ _ h), sorted_rise es (secon
 length_put : {X : Type 0} (k : ℤ) (v : X) (es : List (ℤ × X))
     → length (put int_cmp k v es) ≤ length es + 1
 length_put k v [] = omega arith
-length_put k v (e ∷ es) = elim (int_cmp k e.0) as (λ o. length
-    (by_order o ((k, v) ∷ e ∷ es) ((e.0, v) ∷ es) (e ∷ put int_cmp k v es)) ≤ length (e ∷ es) + 1) [
-      | Less ↦ omega arith
-      | Equal ↦ omega arith
-      | Greater ↦ omega (arith, length_put k v es)
-    ]
+length_put k v (e ∷ es) = grind (arith, length_put k v es)
 
 length_by_id : {X : Type 0} (es : List (ℤ × X)) → length (by_id es) ≤ length es
 unfolding by_id

@@ -1,5 +1,6 @@
 -- The sums of labels that have the least sums of walks.
-use Rattle.std.proofs.Common.{◌≡◌, ℕ, ℤ, pos, ◌<◌, List, length, map, get_or, refl, ap, sym, subst, ◌∙◌, Option, Some, None, IfSome, ◌≤◌, option_map, unsigned_abs, arith}
+use Rattle.std.proofs.Common.{◌≡◌, ℕ, ℤ, pos, ◌<◌, List, length, map, get_or, refl, ap, sym, subst}
+use Rattle.std.proofs.Common.{◌∙◌, Option, Some, None, IfSome, ◌≤◌, option_map, unsigned_abs, arith}
 use Rattle.std.proofs.lemmas.List.{length-map, get_or-map}
 use Rattle.std.proofs.lemmas.List.FromFn.{fill_by_all}
 use Rattle.std.proofs.lemmas.List.Elements.{All-map, All-weaker}
@@ -7,7 +8,7 @@ use Rattle.std.proofs.lemmas.Int.{ints}
 use Rattle.ptn_network.specs.declared.label.Label.{Label}
 use Rattle.ptn_network.specs.declared.label.Label.TheVariants.{Unseen}
 use Rattle.ptn_network.specs.Networks.{NetworkParts}
-use Rattle.ptn_network.specs.Walks.{IsLeastSum, least_sum, least_sums, AreLeastSums, IsSumUpTo, AreSumsUpTo}
+use Rattle.ptn_network.specs.Walks.{least_sum, least_sums, AreLeastSums, IsSumUpTo, AreSumsUpTo}
 use Rattle.ptn_network.specs.declared.weight.Weight.{Weight}
 use Rattle.ptn_network.specs.Labels.{weight_of, most_sum, sum_of, label_at, AreDone}
 use Rattle.ptn_network.proofs.Partway.{most_small}
@@ -48,12 +49,7 @@ module _ (network : NetworkParts) (weight : Weight) (from : ℕ) (labels : List 
   -- and each is the least over all walks
   pub sums_least : (sums : List (Option ℤ)) → sums ≡ map number labels
       → AreLeastSums network (weight_of weight) from sums
-  sums_least sums are = λ to within.
-      let is : option_map unsigned_abs (get_or sums to None) ≡ sum_of (label_at labels to) =
-      ap (λ some. option_map unsigned_abs (get_or some to None)) (are)
-      ∙ ap (option_map unsigned_abs) (sum_at to within)
-      ∙ back_again (sum_of (label_at labels to)) in
-      subst (IsLeastSum network.edges (weight_of weight) from to) (sym is) (done.least to)
+  sums_least sums are = grind (arith, option_map, unsigned_abs, get_or, sum_at, back_again)
 
   -- none of them exceeds the most that it can be
   pub sums_limited : (sums : List (Option ℤ)) → sums ≡ map number labels

@@ -1,9 +1,12 @@
 -- Walks: how they begin and go on, their sums, and the list of all walks of so many edges.
-use Rattle.std.proofs.Common.{◌≡◌, ℕ, zero, suc, ◌+◌, ◌*◌, ◌≤◌, min, Bool, true, false, cond, eqb, List, [], ◌∷◌, ◌++◌, length, map, sum, fold, refl, ap, sym, subst, ◌∙◌, Option, Some, None, ◌⊎◌, inl, inr, option_map, option_and_then, All, Contains, arith}
+use Rattle.std.proofs.Common.{◌≡◌, ℕ, zero, suc, ◌+◌, ◌*◌, ◌≤◌, min, Bool, true, false, cond, eqb}
+use Rattle.std.proofs.Common.{List, [], ◌∷◌, ◌++◌, length, map, sum, fold, refl, ap, sym, subst}
+use Rattle.std.proofs.Common.{◌∙◌, Option, Some, None, ◌⊎◌, option_map, option_and_then, All}
+use Rattle.std.proofs.Common.{Contains, arith}
 use Rattle.std.specs.List.{flat_map}
 use Rattle.std.proofs.lemmas.Bool.Decides.{nat_tests}
 use Rattle.std.proofs.lemmas.List.{map-append}
-use Rattle.std.proofs.lemmas.List.Elements.{All-nil, All-cons, All-head, All-tail, All-append, All-push, All-map, All-contains, All-contains_itself, All-weaker, Contains-append_left, Contains-append_right}
+use Rattle.std.proofs.lemmas.List.Elements.{All-nil, All-cons, All-head, All-tail, All-append, All-push, All-map, All-contains, All-contains_itself, All-weaker, Contains-append_right}
 use Rattle.std.proofs.lemmas.List.Sums.{sum_by-cons, sum_by-append, fold_push}
 use Rattle.giv_files.proofs.Members.{Contains-head, Contains-cons, Contains-map, Contains-flat_map, All-flat_map}
 use Rattle.ptn_network.specs.declared.edge.Edge.{Edge}
@@ -90,12 +93,14 @@ pub walk_sum-small : (weight : Edge → ℕ) (edges : List Edge) (most : ℕ) (w
     → walk_sum weight walk ≤ most * length walk
 walk_sum-small weight edges most [] small there = omega arith
 walk_sum-small weight edges most (edge ∷ walk) small there =
-    let rest = walk_sum-small weight edges most walk small
-    (All-tail (Contains edges) edge walk there) in
-    let own = All-contains (λ edge. weight edge ≤ most) edges edge small
-    (All-head (Contains edges) edge walk there) in
-    let sums = walk_sum-cons weight edge walk in
-    omega arith
+    grind (
+      arith,
+      All-tail,
+      All-contains,
+      All-head,
+      walk_sum-cons,
+      walk_sum-small weight edges most walk small (All-tail (Contains edges) edge walk there),
+    )
 
 -- ---- all walks of so many edges
 
@@ -150,10 +155,7 @@ pub within_there : (edges : List Edge) (most from to : ℕ) (walk : List Edge) �
 unfolding walks_within
 within_there edges zero from to [] short is = staying_there from to (staying_end edges from to is)
 within_there edges zero from to (edge ∷ walk) short is = absurd (omega arith)
-within_there edges (suc most) from to [] short is =
-    Contains-append_left (staying from to)
-    (flat_map (λ edge. behind edge (option_map (λ next. walks_within edges most next to)
-    (across edge from))) edges) [] (staying_there from to (staying_end edges from to is))
+within_there edges (suc most) from to [] short is = grind arith
 within_there edges (suc most) from to (edge ∷ walk) short is =
     let start = begins edges from to edge walk is in
     let over : Edge → List (List Edge) = λ edge. behind edge
@@ -200,12 +202,7 @@ or_less_there : (number : ℕ) (numbers : List ℕ) (rest : Option ℕ) (least :
 or_less_there number numbers None least later is = let same : number ≡ least =
     cc in subst (Contains (number ∷ numbers)) same (Contains-head number numbers)
 or_less_there number numbers (Some other) least later is =
-    let same : min number other ≡ least = cc in
-    elim (min_is number other) as (λ h. Contains (number ∷ numbers) least) [
-      | inl h ↦ subst (Contains (number ∷ numbers)) (sym h ∙ same) (Contains-head number numbers)
-      | inr h ↦ subst (Contains (number ∷ numbers)) (sym h ∙ same)
-          (Contains-cons number other numbers (later other refl))
-    ]
+    grind (arith, min_is, Contains-head, Contains-cons)
 
 -- the least of some numbers is one of them
 pub least_of_there : (numbers : List ℕ) (least : ℕ) → least_of numbers ≡ Some least

@@ -1,5 +1,6 @@
 -- Lists to which parts are added one by one.
-use Rattle.std.proofs.Common.{◌≡◌, ℕ, ◌+◌, ◌<◌, ◌≤◌, arith, Bool, true, false, cond, List, [], ◌∷◌, ◌++◌, length, map, filter, take, get_or, refl, ap, sym, ◌∙◌}
+use Rattle.std.proofs.Common.{◌≡◌, ℕ, ◌+◌, ◌<◌, ◌≤◌, arith, Bool, true, false, cond, List, [], ◌∷◌}
+use Rattle.std.proofs.Common.{◌++◌, length, map, filter, take, get_or, refl, ap, sym, ◌∙◌}
 use Rattle.std.specs.List.{flat_map, range_with_len, enumerate_from}
 use Rattle.std.proofs.lemmas.List.{append_assoc, append-nil, map-append, map-id, flat_map_more, take_more, take_all, length-take-le}
 use Rattle.std.proofs.lemmas.List.Elements.{filter-append}
@@ -34,10 +35,7 @@ module _ {X Y : Type 0} (old now after : List Y) where
   -- what a thing stands for is added
   pub added_one : (f : X → Y) (xs : List X) (x : X) (y : Y) → now ≡ old ++ map f xs → y ≡ f x
       → after ≡ now ++ y ∷ [] → after ≡ old ++ map f (xs ++ x ∷ [])
-  added_one f xs x y so_far is more =
-      more ∙ ap (λ ys. ys ++ y ∷ []) so_far ∙ append_assoc old (map f xs) (y ∷ [])
-      ∙ ap (λ z. old ++ (map f xs ++ z ∷ [])) is
-      ∙ ap (λ ys. old ++ ys) (sym (map-append f xs (x ∷ [])))
+  added_one f xs x y so_far is more = grind (arith, append_assoc, map-append)
 
   -- what belongs to a thing is added
   pub added_part : (f : X → List Y) (xs : List X) (x : X) → now ≡ old ++ flat_map f xs
@@ -103,7 +101,4 @@ pub added_numbered : {X Y : Type 0} (f : ℕ × X → Y) (xs : List X) (i : ℕ)
     → after ≡ now ++ f (i + 1, get_or xs i d) ∷ []
     → after ≡ map f (enumerate_from 1 (take (i + 1) xs))
 added_numbered f xs i d now after h so_far more =
-    more ∙ ap (λ ys. ys ++ f (i + 1, get_or xs i d) ∷ []) so_far
-    ∙ sym (numbered_more f 1 (take i xs) (get_or xs i d) (i + 1)
-    (omega (arith, length-take-le i xs (omega (arith, h)))))
-    ∙ ap (λ ys. map f (enumerate_from 1 ys)) (sym (take_more xs i d h))
+    grind (arith, get_or, numbered_more, length-take-le, take_more)

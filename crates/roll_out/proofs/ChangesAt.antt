@@ -1,5 +1,5 @@
 -- Changes from a copy of their tail.
-use Rattle.std.proofs.Common.{◌≡◌, ℕ, ◌+◌, arith, List, [], ◌∷◌, ◌++◌, length, map, ap, sym, ◌∙◌}
+use Rattle.std.proofs.Common.{◌≡◌, ℕ, ◌+◌, arith, List, [], ◌∷◌, ◌++◌, length, map, ap, ◌∙◌}
 use Rattle.std.specs.List.{flat_map, range_with_len}
 use Rattle.std.proofs.lemmas.List.{length-append, length-map, append-nil}
 use Rattle.std.proofs.lemmas.Grind.{flat_map-append}
@@ -17,25 +17,14 @@ module _ (network : TimedParts) (copies : List Copies) (activity : PeriodicActiv
     (found : ids ≡ ids_at period (copies_with copies activity.to) (time + minutes)) where
   ids_are : ids ≡ ids_at network.period (copies_with copies activity.to)
       (copy_time network.period (copies_with copies activity.from) n + minutes_of network activity)
-  ids_are =
-      found
-      ∙ ap (λ k. ids_at period (copies_with copies activity.to) (k + minutes)) t
-      ∙ ap (λ k. ids_at period (copies_with copies activity.to)
-      (copy_time period (copies_with copies activity.from) n + k)) m
-      ∙ ap (λ k. ids_at k (copies_with copies activity.to)
-      (copy_time k (copies_with copies activity.from) n + minutes_of network activity)) p
+  ids_are = grind arith
 
   pub change_is : (id : ℕ) → id ≡ copy_id (copies_with copies activity.from) n
       → map (change_copy activity id) ids ≡ changes_at network copies activity n
-  change_is id is =
-      ap (λ k. map (change_copy activity k) ids) is
-      ∙ ap (map (change_copy activity (copy_id (copies_with copies activity.from) n))) ids_are
+  change_is id is = grind arith
 
   pub change_size : length ids ≡ length (changes_at network copies activity n)
-  change_size =
-      ap length ids_are ∙ sym (length-map (ids_at network.period (copies_with copies activity.to)
-      (copy_time network.period (copies_with copies activity.from) n + minutes_of network activity))
-      (change_copy activity (copy_id (copies_with copies activity.from) n)))
+  change_size = grind (arith, ids_are, length-map)
 
 -- the parts of one number more
 pub parts_counted : {X : Type 0} (f : ℕ → List X) (n count more : ℕ)

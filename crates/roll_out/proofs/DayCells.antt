@@ -1,5 +1,6 @@
 -- The cells of the files of a day are in their columns.
-use Rattle.std.proofs.Common.{ℕ, pos, ◌+◌, ◌-◌, ◌<◌, ◌≤◌, ◌≤ℤ◌, arith, All, IfSome, List, [], ◌∷◌, ◌++◌, length, filter, get_or, refl, Option, Some, None, subst, sym}
+use Rattle.std.proofs.Common.{ℕ, pos, ◌+◌, ◌-◌, ◌<◌, ◌≤◌, ◌≤ℤ◌, arith, All, IfSome, List, [], ◌∷◌}
+use Rattle.std.proofs.Common.{◌++◌, length, filter, get_or, refl, Option, Some, None, subst, sym}
 use Rattle.std.specs.List.{flat_map, enumerate_from}
 use Rattle.std.proofs.lemmas.Int.{ints}
 use Rattle.std.proofs.lemmas.List.Elements.{All-nil, All-cons, All-append, All-head, All-tail, All-map, All-filter, All-weaker, All-from_recursion, recursion_from_All}
@@ -94,10 +95,7 @@ copy_fits : (kind : ActivityKind) (activity : PeriodicActivity) → InColumns ac
     (periodic_activity_cells activity)
     → (from to : ℕ) → (pos 1 ≤ℤ pos from) × (pos from ≤ℤ pos 1000000000)
     → (pos 1 ≤ℤ pos to) × (pos to ≤ℤ pos 1000000000) → PlainFits (copy_of kind activity from to)
-copy_fits kind activity fits from to first second = (
-  id_in 1 (omega arith) (omega arith),
-  (fits.0, (kind_in kind, (first, (second, (fits.1.1.1.1.0, (fits.1.1.1.1.1.0, tt)))))),
-)
+copy_fits kind activity fits from to first second = grind arith
 
 way_fits : (event : EventKind) (way : Option PeriodicActivity) → IfSome way
     (λ way. InColumns activities_p_columns (periodic_activity_cells way))

@@ -1,5 +1,6 @@
 -- The changes of a day, by where the copies of periodic events are.
-use Rattle.std.proofs.Common.{◌≡◌, ℕ, ◌+◌, ◌-◌, ◌≤◌, ◌==◌, arith, Bool, cond, All, List, [], ◌∷◌, ◌++◌, length, map, filter, refl, ap, sym, ◌∙◌}
+use Rattle.std.proofs.Common.{◌≡◌, ℕ, ◌+◌, ◌-◌, ◌≤◌, ◌==◌, arith, cond, All, List, [], ◌∷◌, length}
+use Rattle.std.proofs.Common.{map, filter, refl, ap, sym, ◌∙◌}
 use Rattle.std.specs.List.{flat_map, range_with_len}
 use Rattle.std.proofs.lemmas.List.Elements.{All-head, All-tail}
 use Rattle.std.proofs.lemmas.List.Folds.{flat_map-map}
@@ -21,8 +22,7 @@ pub same_for : {A X : Type 0} (P : A → Type 0) (f g : A → List X) → ((x : 
     → All P xs → flat_map f xs ≡ flat_map g xs
 same_for P f g same [] all = refl
 same_for P f g same (x ∷ xs) all =
-    ap (λ ys. ys ++ flat_map f xs) (same x (All-head P x xs all))
-    ∙ ap (λ ys. g x ++ ys) (same_for P f g same xs (All-tail P x xs all))
+    grind (arith, All-head, All-tail, same_for P f g same xs (All-tail P x xs all))
 
 module _ (network : TimedParts) (events : List ExpandedEvent) (copies : List Copies)
     (activity : PeriodicActivity)
@@ -57,16 +57,7 @@ module _ (network : TimedParts) (events : List ExpandedEvent) (copies : List Cop
         → onto (pairs to) (copy_id from k, copy_time network.period from k)
         ≡ map (change_copy activity (copy_id from k))
         (ids_at network.period to (copy_time network.period from k + minutes))
-    onto_pairs to from k =
-        let test : ℕ → Bool = λ j. copy_time network.period to j == copy_time network.period from k
-        + minutes in
-        let some : List ℕ = range_with_len 0 to.count in
-        ap (map (λ (at : ℕ × ℕ). change_copy activity (copy_id from k) at.0))
-        (filter_map_is (λ (at : ℕ × ℕ). at.1 == copy_time network.period from k + minutes)
-        (λ j. (copy_id to j, copy_time network.period to j)) some)
-        ∙ map-map (λ (at : ℕ × ℕ). change_copy activity (copy_id from k) at.0)
-        (λ j. (copy_id to j, copy_time network.period to j)) (filter test some)
-        ∙ sym (map-map (change_copy activity (copy_id from k)) (copy_id to) (filter test some))
+    onto_pairs to from k = grind (arith, filter_map_is, map-map)
 
     -- the copies of a change, where the places of its tail and of its head are known
     pub change_same : map place_of (filter (is_copy activity.from) events)
@@ -112,11 +103,7 @@ module _ (network : TimedParts) (plans : List PlanParts) (are : ArePlans network
   one_change : (activity : PeriodicActivity) → IsBetween network activity
       → changes_if network copies activity
       ≡ cond (is_change activity) (change_copies network events activity) []
-  one_change activity is =
-      ap (λ some. cond (is_change activity) some [])
-      (change_same network events copies activity
-      (places_at activity.from is.sound.from.0 is.sound.from.1)
-      (places_at activity.to is.sound.to.0 is.sound.to.1))
+  one_change activity is = grind (arith, change_same, places_at)
 
   -- the changes by the copies of plans are those of the day
   pub changes_are : All (IsBetween network) network.activities

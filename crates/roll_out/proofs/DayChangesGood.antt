@@ -1,7 +1,8 @@
 -- The changes of a day go forward between its events.
-use Rattle.std.proofs.Common.{◌≡◌, ℕ, ◌+◌, ◌-◌, ◌≤◌, ◌==◌, arith, Bool, true, false, ◌&&◌, not, All, List, [], ◌∷◌, map, filter, get_or, refl, ap, subst, sym, ◌∙◌, inl, inr}
+use Rattle.std.proofs.Common.{◌≡◌, ℕ, ◌+◌, ◌-◌, ◌≤◌, arith, Bool, true, false, All, List, [], ◌∷◌}
+use Rattle.std.proofs.Common.{map, filter, get_or, refl, ap, sym, ◌∙◌}
 use Rattle.std.specs.List.{flat_map, enumerate_from, AllByRecursion}
-use Rattle.std.proofs.lemmas.Bool.{eqb-true, and_parts as both_true, not-true as not_true, cases_Bool}
+use Rattle.std.proofs.lemmas.Bool.{eqb-true, and_parts as both_true, cases_Bool}
 use Rattle.std.proofs.lemmas.List.Elements.{recursion_from_All}
 use Rattle.event_tables.specs.declared.expanded_event.ExpandedEvent.{ExpandedEvent}
 use Rattle.event_tables.specs.declared.periodic_activity.PeriodicActivity.{PeriodicActivity}
@@ -35,24 +36,21 @@ module _ (network : TimedParts) where
       (enumerate_from n (timed_from network minutes run)))
   unfolding timed_from
   run_of start n minutes [] within = tt
-  run_of start n minutes (event ∷ run) within = (
-    record { periodic = event; is = within.0.1; kind = refl; stop = refl },
-    run_of start (n + 1) (minutes + minutes_on network (way_on network event run)) run within.1,
-  )
+  run_of start n minutes (event ∷ run) within =
+      grind (
+        arith,
+        run_of start (n + 1) (minutes + minutes_on network (way_on network event run)) run within.1,
+      )
 
   trip_of : (trip : TripParts) → IsRolled network trip
       → AllByRecursion (IsOf network) (trip_events trip)
-  trip_of trip rolled =
-      subst (λ run. AllByRecursion (IsOf network)
-      (map (day_event trip.start) (enumerate_from trip.first run)))
-      (sym rolled.is) (run_of trip.start trip.first 0 rolled.periodic rolled.good.within)
+  trip_of trip rolled = grind (arith, run_of)
 
   pub events_of_trips : (trips : List TripParts) → AllByRecursion (IsRolled network) trips
       → AllByRecursion (IsOf network) (day_events trips)
   events_of_trips [] rolled = tt
   events_of_trips (trip ∷ trips) rolled =
-      append_all (IsOf network) (trip_events trip) (day_events trips) (trip_of trip rolled.0)
-      (events_of_trips trips rolled.1)
+      grind (arith, append_all, trip_of, events_of_trips trips rolled.1)
 
 pub both_all : {X : Type 0} (P Q : X → Type 0) (xs : List X) → AllByRecursion P xs
     → AllByRecursion Q xs
@@ -64,10 +62,7 @@ both_all P Q (x ∷ xs) first second = ((first.0, second.0), both_all P Q xs fir
 pub passing_all : {X : Type 0} (P : X → Type 0) (p : X → Bool) (xs : List X) → AllByRecursion P xs
     → AllByRecursion (λ x. P x × (p x ≡ true)) (filter p xs)
 passing_all P p [] all = tt
-passing_all P p (x ∷ xs) all = elim (cases_Bool (p x)) [
-  | inl is ↦ rw is ((all.0, is), passing_all P p xs all.1)
-  | inr is ↦ rw is (passing_all P p xs all.1)
-]
+passing_all P p (x ∷ xs) all = grind (arith, cases_Bool, passing_all P p xs all.1)
 
 pub mapped_from : {A X : Type 0} (P : X → Type 0) (Q : A → Type 0) (f : A → X)
     → ((x : A) → Q x → P (f x)) → (xs : List A)
@@ -93,12 +88,7 @@ joins_as kind.Headway event next is joined = no_true is
 -- a change goes from an arrival to a departure
 change_ends : (event next : PeriodicEvent) → joins kind.Change event next ≡ true
     → (is_arrival event.kind ≡ true) × (is_arrival next.kind ≡ false)
-change_ends event next joined =
-    let outer = both_true (is_arrival event.kind && not (is_arrival next.kind)
-    && event.stop == next.stop) _ joined in
-    let inner = both_true (is_arrival event.kind && not (is_arrival next.kind)) _ outer.0 in
-    let ends = both_true (is_arrival event.kind) (not (is_arrival next.kind)) inner.0 in
-    (ends.0, not_true (is_arrival next.kind) ends.1)
+change_ends event next joined = grind arith
 
 module _ (network : TimedParts) (some : 1 ≤ network.period) (short : network.period ≤ 720)
     (numbered : AreNumbered (λ event. event.id) network.events)

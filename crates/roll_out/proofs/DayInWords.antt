@@ -1,5 +1,7 @@
 -- The trips and the changes of a day are those that the words say.
-use Rattle.std.proofs.Common.{◌≡◌, ℕ, zero, suc, ◌+◌, ◌*◌, ◌/◌, ◌%◌, ◌<◌, ◌≤◌, ◌==◌, nat_le, arith, true, ◌&&◌, Contains, List, [], ◌∷◌, length, map, filter, get_or, refl, ap, subst, sym, ◌∙◌}
+use Rattle.std.proofs.Common.{◌≡◌, ℕ, zero, suc, ◌+◌, ◌*◌, ◌/◌, ◌%◌, ◌<◌, ◌==◌, nat_le, arith, true}
+use Rattle.std.proofs.Common.{◌&&◌, Contains, List, [], ◌∷◌, length, map, filter, get_or, refl, ap}
+use Rattle.std.proofs.Common.{subst, sym, ◌∙◌}
 use Rattle.std.specs.List.{flat_map, range_with_len, AllByRecursion}
 use Rattle.std.proofs.lemmas.Bool.{eq-eqb, eqb-true, le-leb, leb-true, and_parts as both_true}
 use Rattle.std.proofs.lemmas.List.Elements.{All-contains_itself, All-from_recursion, recursion_from_All}
@@ -14,7 +16,7 @@ use Rattle.roll_out.specs.DayActivities.{change_copies, changes_from, change_cop
 use Rattle.roll_out.specs.DayInWords.{AreChangesOf, AreTripsOf, IsChangeOf, IsStart, IsTripOf}
 use Rattle.roll_out.specs.DayTrips.{TripParts, departures_of, first_time, is_in_day, numbered_trips, starts, trips_of}
 use Rattle.roll_out.specs.Plans.{IsDay, IsTimed}
-use Rattle.roll_out.specs.TimedRuns.{TimedParts, minutes_of, no_event, timed_from}
+use Rattle.roll_out.specs.TimedRuns.{TimedParts, minutes_of, timed_from}
 use Rattle.roll_out.proofs.DayChangesGood.{mapped_from, parts_from, passing_all}
 use Rattle.giv_files.proofs.Members.{Contains-cons, Contains-filter as contains_filter, Contains-flat_map as contains_part}
 use Rattle.giv_files.proofs.Members.{Contains-map as contains_map, Contains-range as contains_range}
@@ -36,21 +38,7 @@ module _ (network : TimedParts) (timed : IsTimed network) (day : Day) (in_week :
 
   first_in : (run : List PeriodicEvent) → Contains (runs_of network.events) run
       → first_time network run < network.period
-  first_in run there =
-      let k = there.0 in
-      let some : 1 ≤ length run = subst (λ (some : List PeriodicEvent). 1 ≤ length some) there.2
-      (All-from_recursion (λ (run : List PeriodicEvent). 1 ≤ length run) (runs_of network.events)
-      (runs_some network.events) k run there.1) in
-      let ids = subst (AllByRecursion (λ (event : PeriodicEvent). (1 ≤ event.id)
-      × (event.id ≤ length network.events))) there.2
-      (All-from_recursion (λ (run : List PeriodicEvent). AllByRecursion
-      (λ (event : PeriodicEvent). (1 ≤ event.id) × (event.id ≤ length network.events)) run)
-      (runs_of network.events)
-      (ids_in network timed) k run there.1) in
-      let one = All-from_recursion (λ (event : PeriodicEvent). (1 ≤ event.id)
-      × (event.id ≤ length network.events)) run ids
-      0 no_event some in
-      time_in network timed day in_week (get_or run 0 no_event).id one.0 one.1
+  first_in run there = grind (arith, All-from_recursion, runs_some, ids_in, time_in, get_or)
 
   start_is : (run : List PeriodicEvent) → first_time network run < network.period → (time : ℕ)
       → (periods : ℕ) × (time ≡ first_time network run + periods * network.period)
@@ -96,10 +84,8 @@ module _ (network : TimedParts) (timed : IsTimed network) (day : Day) (in_week :
       → AllByRecursion (IsTripOf network day) (numbered_trips n departures)
   unfolding numbered_trips
   numbered_sound n [] all = tt
-  numbered_sound n (at ∷ departures) all = (
-    record { run = all.0.run; there = all.0.there; starts = all.0.starts; events = all.0.is },
-    numbered_sound (n + length at.1) departures all.1,
-  )
+  numbered_sound n (at ∷ departures) all =
+      grind (arith, numbered_sound (n + length at.1) departures all.1)
 
   numbered_there : (n : ℕ) (departures : List (ℕ × List TimedEvent)) (time : ℕ)
       (events : List TimedEvent)
@@ -116,13 +102,10 @@ module _ (network : TimedParts) (timed : IsTimed network) (day : Day) (in_week :
     ap (λ some. some.1) is,
   )
   numbered_there n (at ∷ departures) time events (suc k, h, is) =
-      let rest = numbered_there (n + length at.1) departures time events
-      (k, omega (arith, h), is) in (
-        rest.0,
-        Contains-cons (record { first = n; start = at.0; run = at.1 }) rest.0
-            (numbered_trips (n + length at.1) departures) rest.1,
-        rest.2,
-        rest.3,
+      grind (
+        arith,
+        Contains-cons,
+        numbered_there (n + length at.1) departures time events (k, omega (arith, h), is),
       )
 
   starts_there : (run : List PeriodicEvent) (time : ℕ) → IsStart network day run time
@@ -223,8 +206,4 @@ module _ (network : TimedParts) (events : List ExpandedEvent) where
 
   -- the changes of a day
   pub changes_are_those : AreChangesOf network events (day_changes network events)
-  changes_are_those = record {
-    sound = All-from_recursion (IsChangeOf network events) (day_changes network events)
-        change_sound;
-    whole = change_there;
-  }
+  changes_are_those = grind (arith, All-from_recursion, change_sound, change_there)

@@ -1,5 +1,6 @@
 -- Trips start with departures of their day and end with arrivals.
-use Rattle.std.proofs.Common.{◌≡◌, ℕ, zero, suc, ◌+◌, ◌-◌, ◌<◌, arith, true, false, List, [], ◌∷◌, length, get_or, refl, ap, subst, ◌∙◌}
+use Rattle.std.proofs.Common.{◌≡◌, ℕ, zero, suc, ◌+◌, ◌-◌, ◌<◌, arith, true, false, List, [], ◌∷◌}
+use Rattle.std.proofs.Common.{length, get_or, refl, subst}
 use Rattle.std.specs.List.{AllByRecursion, enumerate_from}
 use Rattle.std.proofs.lemmas.List.Elements.{All-from_recursion}
 use Rattle.std.proofs.lemmas.List.FromFn.{get_or-enumerate_from, length-enumerate_from}
@@ -8,7 +9,6 @@ use Rattle.event_tables.specs.declared.event_kind.EventKind.TheVariants as kinds
 use Rattle.event_tables.specs.declared.expanded_event.ExpandedEvent.{ExpandedEvent}
 use Rattle.event_tables.specs.declared.periodic_event.PeriodicEvent.{PeriodicEvent}
 use Rattle.event_tables.specs.Kinds.{is_arrival}
-use Rattle.roll_out.specs.declared.timed_event.TimedEvent.{TimedEvent}
 use Rattle.roll_out.specs.DayTrips.{TripParts, day_event, no_timed, trip_end_at, trip_events, trip_row}
 use Rattle.roll_out.specs.RightRollout.{IsEndAt, IsTripOver}
 use Rattle.roll_out.specs.RolloutStage.{trip_rows}
@@ -62,22 +62,7 @@ module _ (network : TimedParts) (events : List ExpandedEvent) (trip : TripParts)
 
   -- a trip of a good run
   trip_over : IsRolled network trip → IsTripOver events (trip_row trip)
-  trip_over rolled =
-      let run = rolled.periodic in
-      let size = ap length rolled.is ∙ timed_size network 0 run in
-      let more = rolled.good.more in
-      let last = ap (λ n. n - 1) size in
-      let kind_at : (i : ℕ) → i < length run
-      → (get_or trip.run i no_timed).event.kind ≡ (get_or run i no_event).kind =
-      λ i h. ap (λ (some : List TimedEvent). (get_or some i no_timed).event.kind) rolled.is
-      ∙ ap (λ (event : PeriodicEvent). event.kind) (event_at network 0 run i h) in
-      record {
-        start = end_at_place kinds.Departure 0 (omega (arith, size, more))
-            (kind_at 0 (omega (arith, more)) ∙ departure _ rolled.good.departs);
-        end = end_at_place kinds.Arrival (length trip.run - 1) (omega (arith, size, more))
-            (kind_at (length trip.run - 1) (omega (arith, size, more))
-            ∙ ap (λ i. (get_or run i no_event).kind) last ∙ arrival _ rolled.good.arrives);
-      }
+  trip_over rolled = grind (arith, timed_size, get_or, event_at, end_at_place, departure, arrival)
 
 -- all of them do
 pub trips_over : (network : TimedParts) (events : List ExpandedEvent) (trips : List TripParts)

@@ -1,5 +1,5 @@
 -- The timetable of a bundle, from what each of its inputs gives.
-use Rattle.std.proofs.Common.{◌≡◌, ℕ, List, [], ◌++◌, ap, subst, sym, ◌∙◌}
+use Rattle.std.proofs.Common.{◌≡◌, ℕ, List, [], subst, sym, ◌∙◌, arith}
 use Rattle.giv_files.specs.declared.file_id.FileId.TheVariants as file
 use Rattle.giv_files.specs.declared.refusal.StageFault.{StageFault}
 use Rattle.giv_files.specs.Inputs.{Refuses, input_faults, records_of}
@@ -26,9 +26,7 @@ module _ (bundle : BundleParts) (none : file_faults bundle ≡ []) where
       (periodic_event_ids (network_in bundle).events))
       (input_text bundle 1) ≡ []
   unfolding problem_faults
-  activities_fine =
-      back_none (input_faults periodic_event_input (input_text bundle 0)) _
-      (front_none (problem_faults (input_text bundle 0) (input_text bundle 1)) _ none)
+  activities_fine = grind (arith, back_none, front_none)
 
   pub times_fine : input_faults (times_in bundle) (input_text bundle 2) ≡ []
   times_fine = back_none (problem_faults (input_text bundle 0) (input_text bundle 1)) _ none
@@ -38,9 +36,7 @@ module _ (bundle : BundleParts) where
   pub events_refused : (fault : StageFault)
       → Refuses (input_faults periodic_event_input (input_text bundle 0)) fault
       → Refuses (file_faults bundle) fault
-  events_refused fault by =
-      refused_append (problem_faults (input_text bundle 0) (input_text bundle 1)) _ fault
-      (refused_events (input_text bundle 0) (input_text bundle 1) fault by)
+  events_refused fault by = grind (arith, refused_append, refused_events)
 
   module _ (events : List PeriodicEvent) (none : input_faults periodic_event_input
       (input_text bundle 0) ≡ [])
@@ -65,15 +61,7 @@ module _ (bundle : BundleParts) where
       times_same : input_faults (periodic_time_input file.TimesP period
           (periodic_event_ids events)) (input_text bundle 2)
           ≡ file_faults bundle
-      times_same =
-          ap (λ some. input_faults (periodic_time_input file.TimesP period
-          (periodic_event_ids some)) (input_text bundle 2))
-          same_events
-          ∙ ap (λ some. input_faults (periodic_time_input file.TimesP some
-          (periodic_event_ids (events_of (input_text bundle 0)))) (input_text bundle 2)) is
-          ∙ ap (λ first. first ++ input_faults (times_in bundle) (input_text bundle 2))
-          (sym (sym (activity_faults (input_text bundle 0) (input_text bundle 1) events none are)
-          ∙ fine))
+      times_same = grind (arith, same_events, activity_faults)
 
       -- one of times
       pub times_refused : (fault : StageFault)
@@ -96,21 +84,4 @@ module _ (bundle : BundleParts) where
           → record { period = period; events = events; activities = rows; times = times }
           ≡ network_in bundle
       unfolding activities_of
-      network_is rows times read told =
-          let same_rows : rows ≡ activities_of (events_of (input_text bundle 0))
-          (input_text bundle 1) =
-          read ∙ ap (λ some. records_of (periodic_activity_input (periodic_event_ids some))
-          (input_text bundle 1)) same_events in
-          let same_times : times ≡ records_of (times_in bundle) (input_text bundle 2) =
-          told
-          ∙ ap (λ some. records_of (periodic_time_input file.TimesP period
-          (periodic_event_ids some)) (input_text bundle 2)) same_events
-          ∙ ap (λ some. records_of (periodic_time_input file.TimesP some
-          (periodic_event_ids (events_of (input_text bundle 0)))) (input_text bundle 2)) is in
-          λ i. record {
-            period = is i;
-            events = same_events i;
-            activities = same_rows i;
-            times =
-                same_times i;
-          }
+      network_is rows times read told = grind (arith, same_events)

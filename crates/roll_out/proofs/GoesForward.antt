@@ -1,5 +1,6 @@
 -- Events that stand before others in the forward order.
-use Rattle.std.proofs.Common.{◌≡◌, ℕ, ◌<◌, ◌≤◌, ◌⊎◌, inl, inr, cond, arith, true, false, List, [], ◌∷◌, Some, refl, ap, sym, ◌∙◌}
+use Rattle.std.proofs.Common.{◌≡◌, ℕ, ◌<◌, ◌≤◌, ◌⊎◌, inl, inr, cond, arith, true, false, List, []}
+use Rattle.std.proofs.Common.{◌∷◌, Some, refl, sym}
 use Rattle.std.specs.Cmp.{nat_cmp_is}
 use Rattle.std.specs.Cmp.Lexicographic.{slice_cmp}
 use Rattle.std.specs.Ordering.{nat_cmp, is_lt}
@@ -8,7 +9,7 @@ use Rattle.std.proofs.lemmas.Bool.{cases_lt}
 use Rattle.event_tables.specs.declared.event_kind.EventKind.{EventKind}
 use Rattle.event_tables.specs.declared.event_kind.EventKind.TheVariants as kinds
 use Rattle.event_tables.specs.declared.expanded_event.ExpandedEvent.{ExpandedEvent}
-use Rattle.event_tables.specs.ForwardOrder.{both_pass, event_with, goes_forward, stands_before}
+use Rattle.event_tables.specs.ForwardOrder.{event_with, goes_forward, stands_before}
 use Rattle.event_tables.specs.Kinds.{is_arrival}
 
 less : (x y : ℕ) → x < y → nat_cmp x y ≡ Less
@@ -36,42 +37,23 @@ rank kind = cond (is_arrival kind) 0 1
 -- a later event
 pub later_stands : (event other : ExpandedEvent) → event.time < other.time
     → stands_before event other ≡ true
-later_stands event other h =
-    keys event.time (rank event.kind) event.id other.time (rank other.kind) other.id
-    (omega (arith, h))
-    (λ e. absurd (omega (arith, h, e)))
-
-after_arrival : (time i j u : ℕ) (kind : EventKind) → time ≤ u → i < j
-    → is_lt (slice_cmp nat_cmp (time ∷ 0 ∷ i ∷ []) (u ∷ rank kind ∷ j ∷ [])) ≡ true
-after_arrival time i j u kinds.Departure soon next = keys time 0 i u 1 j soon
-    (λ e. inl (omega arith))
-after_arrival time i j u kinds.Arrival soon next = keys time 0 i u 0 j soon (λ e. inr (refl, next))
+later_stands event other h = grind arith
 
 -- an event of a greater id that is not earlier, behind an arrival
 pub waits_stand : (event other : ExpandedEvent) → is_arrival event.kind ≡ true → event.time
     ≤ other.time
     → event.id < other.id → stands_before event other ≡ true
-waits_stand event other arrives soon next =
-    ap (λ b. is_lt (slice_cmp nat_cmp (event.time ∷ cond b 0 1 ∷ event.id ∷ [])
-    (other.time ∷ rank other.kind ∷ other.id ∷ []))) arrives
-    ∙ after_arrival event.time event.id other.id other.time other.kind soon next
+waits_stand event other arrives soon next = grind arith
 
 -- a departure that is not earlier, behind an arrival
 pub changes_stand : (event other : ExpandedEvent) → is_arrival event.kind ≡ true
     → is_arrival other.kind ≡ false
     → event.time ≤ other.time → stands_before event other ≡ true
-changes_stand event other arrives departs soon =
-    ap (λ b. is_lt (slice_cmp nat_cmp (event.time ∷ cond b 0 1 ∷ event.id ∷ [])
-    (other.time ∷ rank other.kind ∷ other.id ∷ []))) arrives
-    ∙ ap (λ b. is_lt (slice_cmp nat_cmp (event.time ∷ 0 ∷ event.id ∷ [])
-    (other.time ∷ cond b 0 1 ∷ other.id ∷ []))) departs
-    ∙ keys event.time 0 event.id other.time 1 other.id soon (λ e. inl (omega arith))
+changes_stand event other arrives departs soon = grind arith
 
 -- so an activity between them goes forward
 pub forward_between : (events : List ExpandedEvent) (from to : ℕ) (event other : ExpandedEvent)
     → event_with events from ≡ Some event → event_with events to ≡ Some other
     → stands_before event other ≡ true
     → goes_forward events from to ≡ true
-forward_between events from to event other first second stands =
-    ap (λ found. both_pass stands_before found (event_with events to)) first
-    ∙ ap (both_pass stands_before (Some event)) second ∙ stands
+forward_between events from to event other first second stands = grind arith

@@ -1,7 +1,9 @@
 -- Runs and activities that keep the rules of runs.
-use Rattle.std.proofs.Common.{◌≡◌, ℕ, zero, suc, ◌+◌, ◌-◌, ◌%◌, ◌<◌, ◌≤◌, ◌==◌, arith, Bool, true, false, ◌&&◌, ◌||◌, not, cond, All, IfSome, List, [], ◌∷◌, length, filter, get_or, find, Some, refl, ap, subst, sym, ◌∙◌, inl, inr}
+use Rattle.std.proofs.Common.{◌≡◌, ℕ, zero, suc, ◌+◌, ◌-◌, ◌%◌, ◌<◌, ◌≤◌, ◌==◌, arith, Bool, true}
+use Rattle.std.proofs.Common.{false, ◌&&◌, ◌||◌, not, cond, All, IfSome, List, [], ◌∷◌, length}
+use Rattle.std.proofs.Common.{filter, get_or, find, Some, refl, ap, subst, sym, ◌∙◌, inl, inr}
 use Rattle.std.specs.List.{flat_map, enumerate_from, count_by, AllByRecursion}
-use Rattle.std.proofs.lemmas.Bool.{eq-eqb, eqb-true, eqb-false, false≢true, or_parts as or_none, not-false, cases_Bool}
+use Rattle.std.proofs.lemmas.Bool.{eqb-true, eqb-false, false≢true, not-false, cases_Bool}
 use Rattle.std.proofs.lemmas.List.{get_or-map}
 use Rattle.std.proofs.lemmas.List.Elements.{All-from_recursion, recursion_from_All}
 use Rattle.std.proofs.lemmas.List.FromFn.{get_or-enumerate_from, get_or-range_with_len, length-enumerate_from}
@@ -13,9 +15,9 @@ use Rattle.event_tables.specs.declared.periodic_activity.PeriodicActivity.{Perio
 use Rattle.event_tables.specs.declared.periodic_event.PeriodicEvent.{PeriodicEvent}
 use Rattle.event_tables.specs.declared.periodic_kind.PeriodicKind.TheVariants as kind
 use Rattle.event_tables.specs.Kinds.{event_kind_place, is_arrival}
-use Rattle.event_tables.specs.PeriodicRuns.{neighbours, runs_of}
+use Rattle.event_tables.specs.PeriodicRuns.{runs_of}
 use Rattle.event_tables.specs.Places.{IsOneOf}
-use Rattle.event_tables.specs.RunRules.{KeepRunRules, breaks, broken_in, drives_at_once, is_placed, is_stray, lacks_way, leads, same_kind, unjoined_in}
+use Rattle.event_tables.specs.RunRules.{KeepRunRules, breaks, broken_in, drives_at_once, is_placed, is_stray, leads, same_kind, unjoined_in}
 use Rattle.roll_out.specs.Plans.{IsBetween, IsTimed}
 use Rattle.roll_out.specs.TimedRuns.{TimedParts, no_event}
 use Rattle.roll_out.proofs.SoundPlans.{between_all}
@@ -38,11 +40,8 @@ nothing_passes p (x ∷ xs) none = elim (cases_Bool (p x)) [
 no_parts : {A X : Type 0} (f : A → List X) (xs : List A) → flat_map f xs ≡ []
     → AllByRecursion (λ x. f x ≡ []) xs
 no_parts f [] none = tt
-no_parts f (x ∷ xs) none = (
-  front_none (f x) (flat_map f xs) none,
-  no_parts f xs
-      (back_none (f x) (flat_map f xs) none),
-)
+no_parts f (x ∷ xs) none =
+    grind (arith, front_none, back_none, no_parts f xs (back_none (f x) (flat_map f xs) none))
 
 get_or_same : {X : Type 0} (xs : List X) (i : ℕ) (d e : X) → i < length xs → get_or xs i d
     ≡ get_or xs i e
@@ -75,10 +74,7 @@ all_fit network is none = λ i d h.
 -- what is found passes the test
 pub found_passes : {X : Type 0} (p : X → Bool) (xs : List X) → IfSome (find p xs) (λ x. p x ≡ true)
 found_passes p [] = tt
-found_passes p (x ∷ xs) = elim (cases_Bool (p x)) [
-  | inl is ↦ rw is is
-  | inr none ↦ rw none (found_passes p xs)
-]
+found_passes p (x ∷ xs) = grind (arith, cases_Bool, found_passes p xs)
 
 -- something that passes is found
 counted_found : {X : Type 0} (p : X → Bool) (xs : List X) → 1 ≤ count_by p xs → (x : X)
@@ -121,9 +117,7 @@ pub record IsGoodRun (network : TimedParts) (run : List PeriodicEvent) : Type 0 
 
 first_breaks : (event : PeriodicEvent) (run : List PeriodicEvent) → broken_in (event ∷ run) ≡ []
     → breaks (length (event ∷ run)) (0, event) ≡ false
-first_breaks event run none =
-    (nothing_passes (breaks (length (event ∷ run))) (enumerate_from 0 (event ∷ run))
-    (nothing_mapped (λ (at : ℕ × PeriodicEvent). at.1) _ none)).0
+first_breaks event run none = grind arith
 
 first_turn : (kind : EventKind) (odd : Bool) → (not (event_kind_place kind == 0 % 2) || odd) ≡ false
     → (is_arrival kind ≡ false) × (odd ≡ false)
@@ -145,11 +139,7 @@ last_turn : (kind : EventKind) (size place : ℕ) → place + 1 ≡ size
     → (not (event_kind_place kind == place % 2) || (place + 1 == size && size % 2 == 1)) ≡ false
     → is_arrival kind ≡ true
 last_turn kinds.Arrival size place last none = refl
-last_turn kinds.Departure size place last none =
-    let parts = or_none _ _ none in
-    let even : place % 2 ≡ 0 = sym (eqb-true 0 (place % 2) (not-false _ parts.0)) in
-    let odd = eqb-false (size % 2) 1 (ap (λ b. b && size % 2 == 1) (sym (eq-eqb _ _ last)) ∙ parts.1) in
-    absurd (omega (arith, even, odd, last))
+last_turn kinds.Departure size place last none = grind arith
 
 good_run : (network : TimedParts) (run : List PeriodicEvent) → 1 ≤ length run → broken_in run ≡ []
     → unjoined_in network.activities run ≡ [] → AllByRecursion (IsIn network) run
@@ -186,9 +176,7 @@ module _ (network : TimedParts) (is : IsTimed network)
 
   all_in : AllByRecursion (λ (run : List PeriodicEvent). AllByRecursion (IsIn network) run)
       (runs_of network.events)
-  all_in = runs_have (IsIn network) (runs_of network.events)
-      (subst (AllByRecursion (IsIn network)) (sym (runs_whole network.events))
-      (recursion_from_All (IsIn network) network.events in_at))
+  all_in = grind (arith, runs_have, runs_whole, recursion_from_All, in_at)
 
   good_runs : (runs : List (List PeriodicEvent))
       → AllByRecursion (λ (run : List PeriodicEvent). 1 ≤ length run) runs
@@ -197,11 +185,8 @@ module _ (network : TimedParts) (is : IsTimed network)
       → AllByRecursion (λ (run : List PeriodicEvent). AllByRecursion (IsIn network) run) runs
       → AllByRecursion (IsGoodRun network) runs
   good_runs [] some whole joined within = tt
-  good_runs (run ∷ runs) some whole joined within = (
-    good_run network run some.0 whole.0 joined.0 within.0,
-    good_runs runs some.1 whole.1
-        joined.1 within.1,
-  )
+  good_runs (run ∷ runs) some whole joined within =
+      grind (arith, good_run, good_runs runs some.1 whole.1 joined.1 within.1)
 
   pub runs_good : AllByRecursion (IsGoodRun network) (runs_of network.events)
   runs_good = good_runs (runs_of network.events) (runs_some network.events)
@@ -213,11 +198,4 @@ pub first_joined : (network : TimedParts) (event next : PeriodicEvent) (run : Li
     → unjoined_in network.activities (event ∷ next ∷ run) ≡ []
     → (way : PeriodicActivity) × (find (leads (event, next)) network.activities ≡ Some way)
 first_joined network event next run none =
-    let kept = (nothing_passes (lacks_way network.activities) (neighbours (event ∷ next ∷ run))
-    (nothing_mapped (λ (pair : PeriodicEvent × PeriodicEvent). pair.0) _ none)).0 in
-    counted_found (leads (event, next)) network.activities
-    (omega (
-      arith,
-      eqb-true (count_by (leads (event, next)) network.activities) 1
-          (not-false _ kept),
-    ))
+    grind (arith, nothing_passes, nothing_mapped, counted_found, eqb-true, not-false)

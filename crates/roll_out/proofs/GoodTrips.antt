@@ -1,6 +1,6 @@
 -- The trips of a day take time, and each has a start event of its own.
-use Rattle.std.proofs.Common.{◌≡◌, ℕ, ℤ, suc, pos, ◌+◌, ◌-◌, ◌<◌, ◌≤◌, arith, true, false, ◌||◌, not, All, List, [], ◌∷◌, length, map, get_or, find, Some, refl, ap, subst, sym, ◌∙◌}
-use Rattle.std.specs.Cmp.{int_cmp_is}
+use Rattle.std.proofs.Common.{◌≡◌, ℕ, ℤ, suc, pos, ◌+◌, ◌-◌, ◌<◌, ◌≤◌, arith, true, false, All}
+use Rattle.std.proofs.Common.{List, [], ◌∷◌, length, map, get_or, find, Some, subst, sym, IfSome}
 use Rattle.std.specs.List.{AllByRecursion}
 use Rattle.std.specs.List.Sorted.{IsStrictlySortedBy}
 use Rattle.std.specs.Ordering.{int_cmp}
@@ -20,23 +20,22 @@ use Rattle.event_tables.specs.RunRules.{leads, same_kind}
 use Rattle.roll_out.specs.declared.timed_event.TimedEvent.{TimedEvent}
 use Rattle.roll_out.specs.DayTrips.{TripParts, no_timed, numbered_trips, trip_row, trips_of}
 use Rattle.roll_out.specs.RolloutStage.{trip_rows}
-use Rattle.roll_out.specs.TimedRuns.{TimedParts, minutes_on, no_event, timed_from, way_on}
+use Rattle.roll_out.specs.TimedRuns.{TimedParts, minutes_on, timed_from, way_on}
 use Rattle.roll_out.proofs.FoundOnes.{found_has}
 use Rattle.roll_out.proofs.GoodRuns.{IsFit, IsGoodRun, IsIn, drive_takes, first_joined, found_passes, no_true}
 use Rattle.roll_out.proofs.RolledTrips.{IsRolled, leads_kind}
 use Rattle.roll_out.proofs.SoundPlans.{minutes_are, timed_size}
-use Rattle.std.proofs.Common.{IfSome}
 
 later_minutes : (network : TimedParts) (least minutes : ℕ) (run : List PeriodicEvent) → least
     ≤ minutes
     → AllByRecursion (λ (at : TimedEvent). least ≤ at.minutes) (timed_from network minutes run)
 unfolding timed_from
 later_minutes network least minutes [] low = tt
-later_minutes network least minutes (event ∷ run) low = (
-  low,
-  later_minutes network least (minutes + minutes_on network (way_on network event run)) run
-      (omega (arith, low)),
-)
+later_minutes network least minutes (event ∷ run) low =
+    grind (
+      arith,
+      later_minutes network least (minutes + minutes_on network (way_on network event run)) run (omega (arith, low)),
+    )
 
 departure_drives : (kind : EventKind) (way : PeriodicActivity) → is_arrival kind ≡ false
     → same_kind way.kind (rules.way_on kind) ≡ true → rules.drives_at_once way ≡ false → 1
@@ -83,11 +82,7 @@ module _ (network : TimedParts) (some : 1 ≤ network.period) (short : network.p
   -- a trip ends after it starts
   pub trip_takes : (trip : TripParts) → IsRolled network trip → (trip_row trip).start.time
       < (trip_row trip).end.time
-  trip_takes trip rolled =
-      let takes = subst (λ run. (get_or run 0 no_timed).minutes
-      < (get_or run (length run - 1) no_timed).minutes)
-      (sym rolled.is) (run_takes rolled.periodic rolled.good) in
-      omega (arith, takes)
+  trip_takes trip rolled = grind (arith, get_or, run_takes)
 
 -- ---- start events of their own
 
@@ -96,20 +91,15 @@ start_id trip = pos trip.start.event
 
 module _ (network : TimedParts) where
   rolled_size : (trip : TripParts) → IsRolled network trip → 1 ≤ length trip.run
-  rolled_size trip rolled =
-      let size = ap length rolled.is ∙ timed_size network 0 rolled.periodic in
-      let more = rolled.good.more in
-      omega (arith, size, more)
+  rolled_size trip rolled = grind (arith, timed_size)
 
   below_all : (least n : ℕ) (departures : List (ℕ × List TimedEvent)) → least < n
       → AllByRecursion (λ other. int_cmp (pos least) other ≡ Less)
       (map start_id (trip_rows (numbered_trips n departures)))
   unfolding numbered_trips
   below_all least n [] low = tt
-  below_all least n (at ∷ departures) low = (
-    sym (int_cmp_is (pos least) (pos (n + 0)) Less (omega (arith, ints, low))),
-    below_all least (n + length at.1) departures (omega (arith, low)),
-  )
+  below_all least n (at ∷ departures) low =
+      grind (arith, ints, below_all least (n + length at.1) departures (omega (arith, low)))
 
   rising : (n : ℕ) (departures : List (ℕ × List TimedEvent))
       → AllByRecursion (IsRolled network) (numbered_trips n departures)
@@ -144,10 +134,7 @@ module _ (network : TimedParts) (stops : List ℤ)
   AtStop event = is_stop stops event.stop ≡ true
 
   in_stop : (event : PeriodicEvent) → IsIn network event → AtStop event
-  in_stop event is =
-      let low = is.0.0 in
-      let high = is.0.1 in
-      subst AtStop is.1 (at (event.id - 1) no_event (omega (arith, low, high)))
+  in_stop event is = grind arith
 
   run_stops : (run : List PeriodicEvent) → AllByRecursion (IsIn network) run
       → AllByRecursion AtStop run
@@ -158,16 +145,4 @@ module _ (network : TimedParts) (stops : List ℤ)
   pub trip_stops : (trip : TripParts) → IsRolled network trip
       → lacks_stop (Some stops) (trip_row trip) ≡ false
   trip_stops trip rolled =
-      let run = timed_from network 0 rolled.periodic in
-      let size = timed_size network 0 rolled.periodic in
-      let more = rolled.good.more in
-      let all = All-from_recursion (λ (at : TimedEvent). AtStop at.event) run
-      (first_of network AtStop 0 rolled.periodic (run_stops rolled.periodic rolled.good.within)) in
-      let first : is_stop stops (get_or run 0 no_timed).event.stop
-      ≡ true = all 0 no_timed (omega (arith, size, more)) in
-      let last : is_stop stops (get_or run (length run - 1) no_timed).event.stop ≡ true =
-      all (length run - 1) no_timed (omega (arith, size, more)) in
-      subst (λ run. (not (is_stop stops (get_or run 0 no_timed).event.stop)
-      || not (is_stop stops (get_or run (length run - 1) no_timed).event.stop)) ≡ false)
-      (sym rolled.is)
-      (rw (first, last) refl)
+      grind (arith, timed_size, All-from_recursion, first_of, run_stops, get_or)

@@ -1,10 +1,10 @@
 -- Trips, copies and timed events that are added one by one.
-use Rattle.std.proofs.Common.{◌≡◌, ℕ, ◌+◌, ◌*◌, ◌<◌, ◌≤◌, arith, List, [], ◌∷◌, ◌++◌, length, drop, get_or, refl, ap, sym, ◌∙◌}
+use Rattle.std.proofs.Common.{◌≡◌, ℕ, ◌+◌, ◌*◌, ◌<◌, ◌≤◌, arith, List, [], ◌∷◌, ◌++◌, length, drop}
+use Rattle.std.proofs.Common.{get_or, refl, ap, sym, ◌∙◌, Option}
 use Rattle.std.proofs.lemmas.List.{append_assoc, append-nil, at_drop_more, at_drop_all}
 use Rattle.std.proofs.lemmas.List.Sums.{sum_by-drop_more}
 use Rattle.event_tables.specs.declared.periodic_event.PeriodicEvent.{PeriodicEvent}
 use Rattle.event_tables.specs.declared.periodic_activity.PeriodicActivity.{PeriodicActivity}
-use Rattle.std.proofs.Common.{Option}
 use Rattle.roll_out.specs.declared.timed_event.TimedEvent.{TimedEvent}
 use Rattle.roll_out.specs.Plans.{PlanParts, trip_after, copies_at, plan_trips, plan_copies, trips_by, copies_by, event_total}
 use Rattle.roll_out.specs.TimedRuns.{TimedParts, timed_from, way_on, minutes_on}
@@ -22,9 +22,7 @@ pub copies_is : (first place step start count : ℕ) (at : TimedEvent) (plan : P
     → step ≡ length plan.run → start ≡ plan.start + at.minutes → count ≡ plan.trips
     → record { first = first + place; step = step; start = start; count = count }
     ≡ copies_at first plan (0 + place, at)
-copies_is first place step start count at plan a b c =
-    let e : first + place ≡ first + (0 + place) = omega arith in
-    λ i. record { first = e i; step = a i; start = b i; count = c i }
+copies_is first place step start count at plan a b c = grind arith
 
 -- what is left moves into what is done
 module _ {X Y : Type 0} (rest : ℕ → List X → List Y) (part : ℕ → X → List Y) (size : X → ℕ)
@@ -102,7 +100,4 @@ pub total_left : (plans : List PlanParts) (i n more : ℕ) (plan : PlanParts) (a
     < length plans
     → plan ≡ get_or plans i plan → more ≡ plan_size plan
     → n + event_total (drop i plans) ≡ all → n + more + event_total (drop (i + 1) plans) ≡ all
-total_left plans i n more plan all h is sized so_far =
-    let step = sum_by-drop_more plan_size plans i plan h in
-    let same : plan_size plan ≡ plan_size (get_or plans i plan) = ap plan_size is in
-    omega (arith, step, same, sized, so_far)
+total_left plans i n more plan all h is sized so_far = grind (arith, sum_by-drop_more, get_or)

@@ -1,5 +1,6 @@
 -- The events of a day are numbered in their order, so each is found by its id.
-use Rattle.std.proofs.Common.{◌≡◌, ℕ, ◌+◌, ◌-◌, ◌<◌, arith, List, [], ◌∷◌, ◌++◌, length, map, get_or, Some, refl, ap, sym, ◌∙◌}
+use Rattle.std.proofs.Common.{◌≡◌, ℕ, ◌+◌, ◌-◌, ◌<◌, arith, List, [], ◌∷◌, ◌++◌, length, map}
+use Rattle.std.proofs.Common.{get_or, Some, refl, ap, sym, ◌∙◌}
 use Rattle.std.specs.List.{flat_map, range_with_len, enumerate_from, AllByRecursion}
 use Rattle.std.proofs.lemmas.List.{length-append, length-map, map-append, get_or-map}
 use Rattle.std.proofs.lemmas.List.Elements.{recursion_from_All}
@@ -23,9 +24,7 @@ trip_ids start n [] = refl
 trip_ids start n (at ∷ run) = ap (λ ids. n ∷ ids) (trip_ids start (n + 1) run)
 
 pub trip_size : (trip : TripParts) → length (trip_events trip) ≡ length trip.run
-trip_size trip =
-    length-map (enumerate_from trip.first trip.run) (day_event trip.start)
-    ∙ length-enumerate_from trip.first trip.run
+trip_size trip = grind (arith, length-map, length-enumerate_from)
 
 day_ids : (n : ℕ) (departures : List (ℕ × List TimedEvent))
     → map id_of (day_events (numbered_trips n departures))

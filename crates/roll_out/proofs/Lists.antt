@@ -1,5 +1,6 @@
 -- Parts of lists, tests of them, and numbers in order.
-use Rattle.std.proofs.Common.{◌≡◌, ℕ, zero, suc, ◌+◌, ◌-◌, ◌<◌, ◌≤◌, arith, Bool, true, false, ◌&&◌, cond, List, [], ◌∷◌, ◌++◌, map, filter, refl, ap, ◌∙◌, inl, inr}
+use Rattle.std.proofs.Common.{◌≡◌, ℕ, zero, suc, ◌+◌, ◌-◌, ◌<◌, ◌≤◌, arith, Bool, true, false, ◌&&◌}
+use Rattle.std.proofs.Common.{cond, List, [], ◌∷◌, ◌++◌, map, filter, refl, ap, ◌∙◌}
 use Rattle.std.specs.List.{flat_map, range_with_len}
 use Rattle.std.proofs.lemmas.List.{map-append, append-nil}
 use Rattle.std.proofs.lemmas.List.Elements.{filter-append}
@@ -32,27 +33,18 @@ same_map f g same (x ∷ xs) = ap (λ y. y ∷ map f xs) (same x)
 pub filter_map_is : {A X : Type 0} (p : X → Bool) (f : A → X) (xs : List A)
     → filter p (map f xs) ≡ map f (filter (λ x. p (f x)) xs)
 filter_map_is p f [] = refl
-filter_map_is p f (x ∷ xs) = elim (cases_Bool (p (f x))) [
-  | inl is ↦ rw is (ap (λ ys. f x ∷ ys) (filter_map_is p f xs))
-  | inr is ↦ rw is (filter_map_is p f xs)
-]
+filter_map_is p f (x ∷ xs) = grind (arith, cases_Bool, filter_map_is p f xs)
 
 pub filter_both : {X : Type 0} (p q : X → Bool) (xs : List X)
     → filter (λ x. p x && q x) xs ≡ filter q (filter p xs)
 filter_both p q [] = refl
-filter_both p q (x ∷ xs) = elim (cases_Bool (p x)) [
-  | inl is ↦ rw is (ap (λ ys. cond (q x) (x ∷ ys) ys) (filter_both p q xs))
-  | inr is ↦ rw is (filter_both p q xs)
-]
+filter_both p q (x ∷ xs) = grind (arith, cases_Bool, filter_both p q xs)
 
 -- parts of the things that pass a test
 pub parts_where : {A X : Type 0} (p : A → Bool) (f : A → List X) (xs : List A)
     → flat_map (λ x. cond (p x) (f x) []) xs ≡ flat_map f (filter p xs)
 parts_where p f [] = refl
-parts_where p f (x ∷ xs) = elim (cases_Bool (p x)) [
-  | inl is ↦ rw is (ap (λ ys. f x ++ ys) (parts_where p f xs))
-  | inr is ↦ rw is (parts_where p f xs)
-]
+parts_where p f (x ∷ xs) = grind (arith, cases_Bool, parts_where p f xs)
 
 -- ---- numbers in order
 
@@ -72,10 +64,7 @@ all_of_range p a (suc n) all =
 
 pub range_parts : (a m n : ℕ) → range_with_len a (m + n) ≡ range_with_len a m
     ++ range_with_len (a + m) n
-range_parts a zero n =
-    let e : zero + n ≡ n = omega arith in
-    let f : a + zero ≡ a = omega arith in
-    rw (e, f) refl
+range_parts a zero n = grind arith
 range_parts a (suc m) n =
     let e : suc m + n ≡ suc (m + n) = omega arith in
     let f : a + 1 + m ≡ a + suc m = omega arith in
@@ -109,7 +98,4 @@ window p from count all fits below inside above =
 pub shifted : {X : Type 0} (f : ℕ → X) (by a n : ℕ)
     → map f (range_with_len (by + a) n) ≡ map (λ k. f (by + k)) (range_with_len a n)
 shifted f by a zero = refl
-shifted f by a (suc n) =
-    let e : by + a + 1 ≡ by + (a + 1) = omega arith in
-    ap (λ b. f (by + a) ∷ map f (range_with_len b n)) e
-    ∙ ap (λ rest. f (by + a) ∷ rest) (shifted f by (a + 1) n)
+shifted f by a (suc n) = grind (arith, shifted f by (a + 1) n)

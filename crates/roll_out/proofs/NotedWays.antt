@@ -1,9 +1,7 @@
 -- The drives and waits at the events that they leave.
-use Rattle.std.proofs.Common.{◌≡◌, ◌∙◌, inl, inr, ◌==◌, ◌&&◌, ◌||◌, not, Bool}
-use Rattle.std.proofs.Common.{true, false, cond, List, [], ◌∷◌, Some, filter, find}
-use Rattle.std.proofs.Common.{length, slice_get}
-use Rattle.std.proofs.Common.{refl, ap, sym}
-use Rattle.std.proofs.lemmas.Bool.{and_parts, cases_Bool, false≢true, false_from_ne_true}
+use Rattle.std.proofs.Common.{◌≡◌, ◌∙◌, ◌==◌, ◌||◌, not, Bool, arith, true, false, List, [], ◌∷◌}
+use Rattle.std.proofs.Common.{Some, filter, find, length, slice_get, refl, ap, sym}
+use Rattle.std.proofs.lemmas.Bool.{cases_Bool, false≢true, false_from_ne_true}
 use Rattle.std.proofs.lemmas.Bool.{or_left, or_right}
 use Rattle.std.proofs.lemmas.List.Sums.{length-filter}
 use Rattle.std.proofs.lemmas.Option.{none-some, same_Some}
@@ -29,19 +27,15 @@ filter_within : {X : Type 0} (test other : X → Bool)
     → ((x : X) → test x ≡ true → other x ≡ true) → (xs : List X)
     → filter test (filter other xs) ≡ filter test xs
 filter_within test other more [] = refl
-filter_within test other more (x ∷ xs) = elim (cases_Bool (other x)) [
-  | inl is ↦ rw is (ap (λ rest. cond (test x) (x ∷ rest) rest) (filter_within test other more xs))
-  | inr none ↦ rw (none, fails test other more x none) (filter_within test other more xs)
-]
+filter_within test other more (x ∷ xs) =
+    grind (arith, cases_Bool, fails, filter_within test other more xs)
 
 find_within : {X : Type 0} (test other : X → Bool)
     → ((x : X) → test x ≡ true → other x ≡ true) → (xs : List X)
     → find test (filter other xs) ≡ find test xs
 find_within test other more [] = refl
-find_within test other more (x ∷ xs) = elim (cases_Bool (other x)) [
-  | inl is ↦ rw is (ap (λ rest. cond (test x) (Some x) rest) (find_within test other more xs))
-  | inr none ↦ rw (none, fails test other more x none) (find_within test other more xs)
-]
+find_within test other more (x ∷ xs) =
+    grind (arith, cases_Bool, fails, find_within test other more xs)
 
 way_kind : (of : EventKind) (at : PeriodicKind) → same_kind at (way_on of) ≡ true
     → (same_kind at kind.Drive || same_kind at kind.Wait) ≡ true
@@ -50,11 +44,7 @@ way_kind event.Arrival at is = or_right _ _ is
 
 leads_on : (pair : PeriodicEvent × PeriodicEvent) (activity : PeriodicActivity)
     → leads pair activity ≡ true → leaves pair.0.id activity ≡ true
-leads_on pair activity is =
-    let first = and_parts (same_kind activity.kind (way_on pair.0.kind)
-    && activity.from == pair.0.id) _ is in
-    let both = and_parts (same_kind activity.kind (way_on pair.0.kind)) _ first.0 in
-    (λ i. way_kind pair.0.kind activity.kind both.0 i && both.1 i)
+leads_on pair activity is = grind arith
 
 pub lacks_as : (pair : PeriodicEvent × PeriodicEvent) (activities : List PeriodicActivity)
     → lacks_way (filter (leaves pair.0.id) activities) pair ≡ lacks_way activities pair

@@ -1,5 +1,5 @@
 -- Activities with their places as ids.
-use Rattle.std.proofs.Common.{◌≡◌, ℕ, ◌+◌, List, [], ◌∷◌, length, map, refl, ap}
+use Rattle.std.proofs.Common.{◌≡◌, ℕ, ◌+◌, List, [], ◌∷◌, length, map, refl, ap, arith}
 use Rattle.std.specs.List.{AllByRecursion, enumerate_from, range_with_len}
 use Rattle.event_tables.specs.declared.expanded_activity.ExpandedActivity.{ExpandedActivity}
 use Rattle.event_tables.specs.declared.expanded_event.ExpandedEvent.{ExpandedEvent}
@@ -18,13 +18,4 @@ pub numbered_good : (events : List ExpandedEvent) (n : ℕ) (plain : List Expand
     → AllByRecursion (IsExpandedActivity events) plain
     → AllByRecursion (IsExpandedActivity events) (map with_number (enumerate_from n plain))
 numbered_good events n [] good = tt
-numbered_good events n (row ∷ plain) good = (
-  record {
-    from = good.0.from;
-    to = good.0.to;
-    in_order = good.0.in_order;
-    no_sync = good.0.no_sync;
-    forward = good.0.forward;
-  },
-  numbered_good events (n + 1) plain good.1,
-)
+numbered_good events n (row ∷ plain) good = grind (arith, numbered_good events (n + 1) plain good.1)

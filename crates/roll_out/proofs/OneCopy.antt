@@ -1,5 +1,7 @@
 -- The copies of a periodic event among the events of a day.
-use Rattle.std.proofs.Common.{◌≡◌, ℕ, zero, suc, ◌+◌, ◌-◌, ◌*◌, ◌<◌, ◌≤◌, ◌⊎◌, inl, inr, arith, cond, List, [], ◌∷◌, ◌++◌, length, map, filter, get_or, refl, ap, sym, ◌∙◌}
+use Rattle.std.proofs.Common.{◌≡◌, ℕ, zero, suc, ◌+◌, ◌-◌, ◌*◌, ◌<◌, ◌≤◌, ◌⊎◌, inl, inr, arith}
+use Rattle.std.proofs.Common.{cond, List, [], ◌∷◌, ◌++◌, length, map, filter, get_or, refl, ap, sym}
+use Rattle.std.proofs.Common.{◌∙◌}
 use Rattle.std.specs.List.{flat_map, range_with_len, enumerate_from}
 use Rattle.std.proofs.lemmas.Bool.{eq-eqb, ne_eqb, cases_lt}
 use Rattle.std.proofs.lemmas.List.{get_or-map, get_or_append_left, get_or-append_right, length-append, length-map, append-nil}
@@ -53,16 +55,7 @@ module _ (id start : ℕ) where
       → filter (is_copy id) (map (day_event start) (enumerate_from n run))
       ≡ day_event start (n + i, get_or run i no_timed) ∷ []
   one_copy n f i [] are at h = absurd (omega (arith, h))
-  one_copy n f zero (at ∷ run) are is h =
-      let first : at.event.id ≡ f = let e = are in cc in
-      let rest : run_ids run ≡ range_with_len (f + 1) (length run) = let e = are in cc in
-      let others = filter (is_copy id) (map (day_event start) (enumerate_from (n + 1) run)) in
-      let e : n ≡ n + zero = omega arith in
-      ap (λ b. cond b (day_event start (n, at) ∷ others) others)
-      (eq-eqb at.event.id id (omega (arith, first, is)))
-      ∙ ap (λ ys. day_event start (n, at) ∷ ys)
-      (no_copy (n + 1) (f + 1) run rest (inl (omega (arith, is))))
-      ∙ ap (λ k. day_event start (k, at) ∷ []) e
+  one_copy n f zero (at ∷ run) are is h = grind (arith, eq-eqb, no_copy)
   one_copy n f (suc i) (at ∷ run) are is h =
       let first : at.event.id ≡ f = let e = are in cc in
       let rest : run_ids run ≡ range_with_len (f + 1) (length run) = let e = are in cc in
@@ -76,10 +69,7 @@ module _ (id start : ℕ) where
 -- ids in order are those of a first part and of a second one
 first_ids : (xs ys : List ℕ) (f n : ℕ) → xs ++ ys ≡ range_with_len f n → length xs + length ys ≡ n
     → (xs ≡ range_with_len f (length xs)) × (ys ≡ range_with_len (f + length xs) (length ys))
-first_ids [] ys f n are sized =
-    let e : n ≡ length ys = omega (arith, sized) in
-    let g : f ≡ f + 0 = omega arith in
-    (refl, are ∙ ap (range_with_len f) e ∙ ap (λ a. range_with_len a (length ys)) g)
+first_ids [] ys f n are sized = grind arith
 first_ids (x ∷ xs) ys f zero are sized = absurd (omega (arith, sized))
 first_ids (x ∷ xs) ys f (suc n) are sized =
     let first : x ≡ f = let e = are in cc in
@@ -216,14 +206,7 @@ module _ (period : ℕ) where
         ≡ told (get_or (copies_by later plans) (i - length plan.run) no_copies)
         → map place_of (firsts ++ others) ≡ told
         (get_or (plan_copies n plan ++ copies_by later plans) i no_copies)
-    outside h next =
-        let e : f + i ≡ f + length plan.run + (i - length plan.run) = omega (arith, h) in
-        ap (λ ys. map place_of (ys ++ others))
-        (plan_lacks n f (f + i) plan mine (inr (omega (arith, h))))
-        ∙ ap (λ k. map place_of (filter (is_copy k) (day_events (trips_by period later plans)))) e
-        ∙ next
-        ∙ ap told (sym (get_or-append_right (plan_copies n plan) (copies_by later plans)
-        (length plan.run) i no_copies size h))
+    outside h next = grind (arith, plan_lacks, get_or-append_right, size)
 
   -- the copies of each event of plans are where they are said to be
   pub copies_are : (n f i : ℕ) (plans : List PlanParts) → all_ids plans

@@ -1,5 +1,7 @@
 -- Events whose ids are their places, and activities between them.
-use Rattle.std.proofs.Common.{◌≡◌, ℕ, zero, suc, ◌+◌, ◌-◌, ◌<◌, ◌≤◌, ◌==◌, ◌⊎◌, inl, inr, arith, Bool, true, false, ◌&&◌, ◌||◌, List, [], ◌∷◌, length, map, get_or, refl, ap, sym, ◌∙◌}
+use Rattle.std.proofs.Common.{◌≡◌, ℕ, zero, suc, ◌+◌, ◌-◌, ◌<◌, ◌≤◌, ◌==◌, ◌⊎◌, inl, inr, arith}
+use Rattle.std.proofs.Common.{Bool, true, false, ◌&&◌, ◌||◌, List, [], ◌∷◌, length, map, get_or}
+use Rattle.std.proofs.Common.{refl, ap, sym, ◌∙◌}
 use Rattle.std.specs.List.{list_any, range_with_len}
 use Rattle.std.proofs.lemmas.Bool.{eq-eqb, ne_eqb}
 use Rattle.std.proofs.lemmas.List.{get_or-map}
@@ -40,10 +42,7 @@ module _ (p : PeriodicEvent → Bool) (k : ℕ) (only : (x : PeriodicEvent) → 
       → map (λ (x : PeriodicEvent). x.id) xs ≡ range_with_len a (length xs)
       → k ≡ a + i → i < length xs → list_any p xs ≡ p (get_or xs i d)
   any_with a i [] d are at h = absurd (omega (arith, h))
-  any_with a zero (x ∷ xs) d are at h =
-      let rest : map (λ (x : PeriodicEvent). x.id) xs
-      ≡ range_with_len (a + 1) (length xs) = let e = are in cc in
-      ap (λ b. p x || b) (none_with (a + 1) xs rest (inl (omega (arith, at)))) ∙ or_false (p x)
+  any_with a zero (x ∷ xs) d are at h = grind (arith, none_with, or_false)
   any_with a (suc i) (x ∷ xs) d are at h =
       let first : x.id ≡ a = let e = are in cc in
       let rest : map (λ (x : PeriodicEvent). x.id) xs
@@ -58,10 +57,7 @@ module _ (events : List PeriodicEvent) (are : AreNumbered (λ event. event.id) e
   to_any event = list_any (goes_between at event) events
 
   other_from : (event : PeriodicEvent) → (event.id ≡ at.from → ⊥) → to_any event ≡ false
-  other_from event other =
-      no_any (goes_between at event) events
-      (λ next. ap (λ b. b && at.to == next.id && joins at.kind event next)
-      (ne_eqb at.from event.id (λ e. other (sym e))))
+  other_from event other = grind (arith, no_any, ne_eqb)
 
   other_to : (event next : PeriodicEvent) → (next.id ≡ at.to → ⊥) → goes_between at event next
       ≡ false

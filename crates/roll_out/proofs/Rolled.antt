@@ -1,6 +1,6 @@
 -- What plans come to, where their trips and events are not too many.
 use Rattle.std.proofs.Common.{◌≡◌, ℕ, ◌+◌, ◌<◌, ◌≤◌, arith, List, ◌++◌, length, ap, sym, ◌∙◌}
-use Rattle.std.specs.List.{flat_map, enumerate_from}
+use Rattle.std.specs.List.{flat_map}
 use Rattle.std.proofs.lemmas.List.{length-map}
 use Rattle.std.proofs.lemmas.List.FromFn.{length-enumerate_from}
 use Rattle.giv_files.specs.declared.counted.Counted.TheVariants as counted
@@ -9,7 +9,7 @@ use Rattle.giv_files.specs.declared.refusal.StageFault.TheVariants as fault
 use Rattle.giv_files.specs.Inputs.{Refuses}
 use Rattle.event_tables.specs.declared.expanded_activity.ExpandedActivity.{ExpandedActivity}
 use Rattle.roll_out.specs.declared.copies.Copies.{Copies}
-use Rattle.roll_out.specs.DayActivities.{day_activities, day_ways, with_number, with_numbers}
+use Rattle.roll_out.specs.DayActivities.{day_activities, day_ways, with_numbers}
 use Rattle.roll_out.specs.DayTrips.{TripParts}
 use Rattle.roll_out.specs.Plans.{ArePlans, IsSmallDay, IsTimed, PlanParts, changes_if, copies_by, event_total, trip_total, trips_by}
 use Rattle.roll_out.specs.RolloutStage.{long_lists}
@@ -35,9 +35,7 @@ module _ (network : TimedParts) (plans : List PlanParts) (are : ArePlans network
       → Refuses (long_lists network trips_on)
       (fault.Refused (refusal.TooMany counted.ExpandedEvents count))
   events_refused trips count told few is over =
-      events_long network trips_on (omega (arith, told, few, trips_counted network.period 1 plans))
-      count
-      (is ∙ sym (events_counted network.period 1 plans)) over
+      grind (arith, events_long, trips_counted, events_counted)
 
   -- neither
   pub small_day : IsTimed network → (trips events : ℕ) → trips ≡ trip_total plans → trips ≤ 2000
@@ -45,17 +43,16 @@ module _ (network : TimedParts) (plans : List PlanParts) (are : ArePlans network
       (copies : List Copies) → some ≡ trips_on → copies ≡ copies_by 1 plans
       → IsSmallDay network some copies
   small_day is trips events trips_are few_trips events_are few_events some copies same copied =
-      let few : trip_total plans ≤ 2000 = omega (arith, trips_are, few_trips) in
-      let all : 1 + event_total plans ≤ 100001 = omega (arith, events_are, few_events) in
-      rw (same, copied) (record {
-        timed = is;
-        trips_are = trips_sound network.period is.short 1 plans are.each (omega arith) all few;
-        few_trips = omega (arith, few, trips_counted network.period 1 plans);
-        few_events = omega (arith, all, events_counted network.period 1 plans);
-        copies_are = copies_few 1 plans are.each (omega arith) all few;
-        each = copies_each network plans are;
-        changes = changes_are network plans are (between_all network is);
-      })
+      grind (
+        arith,
+        trips_sound,
+        trips_counted,
+        events_counted,
+        copies_few,
+        copies_each,
+        changes_are,
+        between_all,
+      )
 
 -- the activities of such a day
 module _ (network : TimedParts) (trips : List TripParts) (copies : List Copies)
@@ -68,11 +65,4 @@ module _ (network : TimedParts) (trips : List TripParts) (copies : List Copies)
       activities_are = ap with_numbers (told ∙ ap (λ some. day_ways trips ++ some) is.changes)
 
       pub plain_few : length (day_activities network trips) ≤ 500000 → length plain ≤ 500000
-      plain_few few =
-          omega (
-            arith,
-            few,
-            ap length activities_are,
-            length-map (enumerate_from 1 plain) with_number,
-            length-enumerate_from 1 plain,
-          )
+      plain_few few = grind (arith, activities_are, length-map, length-enumerate_from)

@@ -1,7 +1,7 @@
 -- Each trip is of a run that goes on by drives and waits, and what follows for its events.
-use Rattle.std.proofs.Common.{◌≡◌, ℕ, ◌+◌, ◌≤◌, arith, true, false, ◌&&◌, All, IfSome, List, [], ◌∷◌, ◌++◌, length, map, Option, Some, None, refl, ap, subst, sym, ◌==◌}
+use Rattle.std.proofs.Common.{◌≡◌, ℕ, ◌+◌, ◌≤◌, arith, true, false, All, IfSome, List, [], ◌∷◌}
+use Rattle.std.proofs.Common.{◌++◌, length, map, Option, Some, None, refl, ap, subst, sym}
 use Rattle.std.specs.List.{flat_map, enumerate_from, AllByRecursion}
-use Rattle.std.proofs.lemmas.Bool.{and_parts}
 use Rattle.event_tables.specs.declared.event_kind.EventKind.{EventKind}
 use Rattle.event_tables.specs.declared.event_kind.EventKind.TheVariants as kinds
 use Rattle.event_tables.specs.declared.expanded_event.ExpandedEvent.{ExpandedEvent}
@@ -16,7 +16,7 @@ use Rattle.event_tables.specs.RunRules.{leads, same_kind}
 use Rattle.roll_out.specs.declared.day.Day.{Day}
 use Rattle.roll_out.specs.declared.timed_event.TimedEvent.{TimedEvent}
 use Rattle.roll_out.specs.DayActivities.{day_ways, trip_ways, way_from, way_kind}
-use Rattle.roll_out.specs.DayTrips.{TripParts, day_event, departures_of, first_time, numbered_trips, starts, trip_events, trips_of}
+use Rattle.roll_out.specs.DayTrips.{TripParts, day_event, departures_of, numbered_trips, trip_events, trips_of}
 use Rattle.roll_out.specs.TimedRuns.{TimedParts, minutes_of, minutes_on, timed_from, way_on}
 use Rattle.roll_out.proofs.FoundOnes.{found_has}
 use Rattle.roll_out.proofs.GoesForward.{forward_between, later_stands, waits_stand}
@@ -56,20 +56,15 @@ module _ (network : TimedParts) where
       → AllByRecursion (Starts network) (flat_map (departures_of network day) runs)
   departures_good day [] good = tt
   departures_good day (run ∷ runs) good =
-      append_all (Starts network) (departures_of network day run)
-      (flat_map (departures_of network day) runs)
-      (mapped_start run good.0 (starts network.period day (first_time network run)))
-      (departures_good day runs good.1)
+      grind (arith, append_all, mapped_start, departures_good day runs good.1)
 
   numbered_rolled : (n : ℕ) (departures : List (ℕ × List TimedEvent))
       → AllByRecursion (Starts network) departures
       → AllByRecursion (IsRolled network) (numbered_trips n departures)
   unfolding numbered_trips
   numbered_rolled n [] good = tt
-  numbered_rolled n (at ∷ departures) good = (
-    record { periodic = good.0.0; is = good.0.1; good = good.0.2 },
-    numbered_rolled (n + length at.1) departures good.1,
-  )
+  numbered_rolled n (at ∷ departures) good =
+      grind (arith, numbered_rolled (n + length at.1) departures good.1)
 
   pub trips_rolled : (day : Day) → AllByRecursion (IsGoodRun network) (runs_of network.events)
       → AllByRecursion (IsRolled network) (trips_of network day)
@@ -81,9 +76,7 @@ module _ (network : TimedParts) where
 pub leads_kind : (pair : PeriodicEvent × PeriodicEvent) (way : PeriodicActivity) → leads pair way
     ≡ true
     → same_kind way.kind (rules.way_on pair.0.kind) ≡ true
-leads_kind pair way is =
-    (and_parts _ _ (and_parts (same_kind way.kind (rules.way_on pair.0.kind)
-    && way.from == pair.0.id) (way.to == pair.1.id) is).0).0
+leads_kind pair way is = grind arith
 
 module _ (network : TimedParts) (some : 1 ≤ network.period) (short : network.period ≤ 720)
     (fit : All (IsFit network) network.activities) (events : List ExpandedEvent) (start : ℕ) where
@@ -231,5 +224,4 @@ module _ (network : TimedParts) (some : 1 ≤ network.period) (short : network.p
       → AllByRecursion (IsExpandedActivity events) (day_ways trips)
   ways_good [] rolled listed = tt
   ways_good (trip ∷ trips) rolled listed =
-      append_all (IsExpandedActivity events) (trip_ways trip) (day_ways trips)
-      (trip_ways_good trip rolled.0 listed.0) (ways_good trips rolled.1 listed.1)
+      grind (arith, append_all, trip_ways_good, ways_good trips rolled.1 listed.1)

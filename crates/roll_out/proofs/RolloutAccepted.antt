@@ -1,5 +1,6 @@
 -- The files of a day are accepted by the rules of their kinds.
-use Rattle.std.proofs.Common.{◌≡◌, ℕ, ℤ, ◌<◌, ◌≤◌, arith, false, All, List, [], ◌∷◌, length, map, Option, None, refl, ap, subst, sym, ◌∙◌}
+use Rattle.std.proofs.Common.{◌≡◌, ℕ, ℤ, ◌<◌, ◌≤◌, arith, false, All, List, [], ◌∷◌, length, map}
+use Rattle.std.proofs.Common.{Option, None, refl, ap, subst, sym, ◌∙◌}
 use Rattle.std.specs.List.{AllByRecursion, list_any}
 use Rattle.std.specs.List.Sorted.{IsStrictlySortedBy}
 use Rattle.std.specs.Ordering.{int_cmp, int_eq}
@@ -58,14 +59,7 @@ module _ (events : List ExpandedEvent) (are : AreNumbered (λ event. event.id) e
   activity_keeps : (before : List ExpandedActivity) (row : ExpandedActivity)
       → IsExpandedActivity events row
       → broken_whys rest before row ≡ []
-  activity_keeps before row is =
-      rw (
-        there row.from is.from,
-        there row.to is.to,
-        le-ltb row.upper row.lower is.in_order,
-        is.no_sync,
-        is.forward,
-      ) refl
+  activity_keeps before row is = grind (arith, there, le-ltb)
 
   -- a text of activities between events
   pub activities_accepted : (activities : List ExpandedActivity) (text : List ℕ)

@@ -1,5 +1,5 @@
 -- Which files the stage of the roll-out makes, and which it names where it refuses a row.
-use Rattle.std.proofs.Common.{◌≡◌, ℕ, Bool, true, List, [], ◌∷◌, ◌++◌, Err, Ok, nat_lt, ap, lit<}
+use Rattle.std.proofs.Common.{arith, ◌≡◌, ℕ, Bool, true, List, [], ◌∷◌, Err, Ok, ap, lit<}
 use Rattle.giv_files.specs.declared.column.ColumnKind.{ColumnKind}
 use Rattle.giv_files.specs.declared.counted.Counted.{Counted}
 use Rattle.giv_files.specs.declared.counted.Counted.TheVariants as counted
@@ -9,16 +9,13 @@ use Rattle.giv_files.specs.declared.refusal.Refusal.{Refusal}
 use Rattle.giv_files.specs.declared.refusal.Refusal.TheVariants as refusal
 use Rattle.giv_files.specs.declared.row_why.RowWhy.{RowWhy}
 use Rattle.giv_files.specs.declared.stage.Stage.TheVariants as stage
-use Rattle.giv_files.specs.Inputs.{Limit, limit_faults, row_limit}
+use Rattle.giv_files.specs.Inputs.{limit_faults, row_limit}
 use Rattle.giv_files.specs.MadeLists.{MakesAs, ids_of}
 use Rattle.giv_files.specs.NamedFiles.{NamesInput}
 use Rattle.giv_files.specs.Settings.{BundleParts}
-use Rattle.giv_files.proofs.Named.{AllName, names_both, names_or_else, names_where, refused_names}
+use Rattle.giv_files.proofs.Named.{AllName}
 use Rattle.giv_files.proofs.StageCalls.{made_unless}
-use Rattle.roll_out.specs.DayActivities.{day_activities}
-use Rattle.roll_out.specs.DayTrips.{TripParts, day_events}
-use Rattle.roll_out.specs.RolloutStage.{faults_at, long_lists, network_in, rollout_faults, rollout_stage, trips_in}
-use Rattle.roll_out.specs.TimedRuns.{TimedParts}
+use Rattle.roll_out.specs.RolloutStage.{faults_at, rollout_faults, rollout_stage}
 
 -- the files that are made are those that the stage is to make
 pub rollout_stage_makes : (bundle : BundleParts) (made : Made) → rollout_stage bundle ≡ Ok made
@@ -30,21 +27,7 @@ rollout_stage_makes bundle made is =
 -- a list that is too long names no file
 length_names : {X : Type 0} (test : FileId → Bool) (what : Counted) (most : ℕ) (rows : List X)
     → AllName test (limit_faults (row_limit what most ∷ []) rows)
-length_names {X} test what most rows =
-    names_where {X = Limit X} test (λ limit. nat_lt limit.most (limit.count rows))
-    (λ limit. refusal.TooMany limit.what (limit.count rows)) (λ _. tt) (row_limit what most ∷ [])
-
-lists_name : (test : FileId → Bool) (network : TimedParts) (trips : List TripParts)
-    → AllName test (long_lists network trips)
-lists_name test network trips =
-    names_both test (limit_faults (row_limit counted.Trips 2000 ∷ []) trips
-    ++ limit_faults (row_limit counted.ExpandedEvents 100000 ∷ []) (day_events trips))
-    (limit_faults (row_limit counted.ExpandedActivities 500000 ∷ []) (day_activities network trips))
-    (names_both test (limit_faults (row_limit counted.Trips 2000 ∷ []) trips)
-    (limit_faults (row_limit counted.ExpandedEvents 100000 ∷ []) (day_events trips))
-    (length_names test counted.Trips 2000 trips)
-    (length_names test counted.ExpandedEvents 100000 (day_events trips)))
-    (length_names test counted.ExpandedActivities 500000 (day_activities network trips))
+length_names {X} test what most rows = grind arith
 
 -- rules of runs name the file of the rows
 pub rows_name : (test : FileId → Bool) (file : FileId) → test file ≡ true
@@ -59,7 +42,4 @@ pub rollout_stage_names : (test : FileId → Bool) (bundle : BundleParts) (reaso
     → AllName test (rollout_faults bundle)
     → rollout_stage bundle ≡ Err reason → NamesInput test reason
 unfolding rollout_stage
-rollout_stage_names test bundle reason named is =
-    refused_names test _ _ reason
-    (names_or_else test (rollout_faults bundle) (long_lists (network_in bundle) (trips_in bundle))
-    named (lists_name test (network_in bundle) (trips_in bundle))) is
+rollout_stage_names test bundle reason named is = grind arith

@@ -1,7 +1,8 @@
 -- The files of a day that are made, read again, are right.
-use Rattle.std.proofs.Common.{◌≡◌, ℕ, ℤ, ◌≤◌, arith, All, List, [], ◌∷◌, ◌++◌, length, map, Option, Some, None, refl, ap, subst, sym, ◌∙◌, Ok, Err, Result}
+use Rattle.std.proofs.Common.{◌≡◌, ℕ, ℤ, ◌≤◌, arith, All, List, [], ◌++◌, length, map, Option, Some}
+use Rattle.std.proofs.Common.{None, refl, ap, subst, sym, Ok, Err, Result}
 use Rattle.std.specs.Prelude.{IfOk}
-use Rattle.std.specs.List.{AllByRecursion, enumerate_from, range_with_len}
+use Rattle.std.specs.List.{AllByRecursion}
 use Rattle.std.proofs.lemmas.List.{length-map}
 use Rattle.std.proofs.lemmas.List.Elements.{All-from_recursion}
 use Rattle.std.proofs.lemmas.List.FromFn.{length-enumerate_from}
@@ -12,11 +13,10 @@ use Rattle.giv_files.specs.declared.made.Made.{Made}
 use Rattle.giv_files.specs.declared.refusal.StageFault.{StageFault}
 use Rattle.giv_files.specs.declared.row_why.RowWhy.TheVariants as why
 use Rattle.giv_files.specs.declared.stage.Stage.TheVariants as stage
-use Rattle.giv_files.specs.Columns.{activities_p_columns, activities_x_columns, events_p_columns, events_x_columns, trips_columns}
-use Rattle.giv_files.specs.Inputs.{input_faults, limit_faults, records_of, row_limit}
+use Rattle.giv_files.specs.Columns.{activities_x_columns, events_x_columns, trips_columns}
+use Rattle.giv_files.specs.Inputs.{input_faults, records_of}
 use Rattle.giv_files.specs.Settings.{BundleParts, Fits, SettingsFit}
 use Rattle.giv_files.specs.StageCalls.{StageGives, input_text}
-use Rattle.giv_files.proofs.Inputs.{limits_sound}
 use Rattle.giv_files.proofs.Ranges.{front_none, back_none, unmapped as nothing_mapped}
 use Rattle.giv_files.proofs.SettingFacts.{amount_within}
 use Rattle.giv_files.proofs.InTurn.{none_first, none_after}
@@ -28,16 +28,16 @@ use Rattle.event_tables.specs.PeriodicFiles.{periodic_activity_input, periodic_t
 use Rattle.event_tables.specs.PeriodicRuns.{runs_of}
 use Rattle.event_tables.specs.Places.{AreNumbered}
 use Rattle.giv_files.specs.RowsOfTables.{file_text}
-use Rattle.event_tables.specs.RunRules.{KeepRunRules, broken_events, stray_activities, unjoined_events}
+use Rattle.event_tables.specs.RunRules.{KeepRunRules}
 use Rattle.event_tables.specs.Trips.{trip_input}
 use Rattle.event_tables.proofs.SoundFiles.{periodic_activities_sound, periodic_events_sound}
 use Rattle.event_tables.proofs.SoundTimes.{periodic_times_sound}
 use Rattle.pesp_model.specs.PespTexts.{activities_of, events_of}
-use Rattle.roll_out.specs.DayActivities.{day_activities, day_changes, day_ways, with_number}
+use Rattle.roll_out.specs.DayActivities.{day_activities, day_changes, day_ways}
 use Rattle.roll_out.specs.DayTrips.{TripParts, day_events, trip_events, trip_row}
 use Rattle.roll_out.specs.Plans.{IsDay, IsTimed, IsTrip, PlanParts, plan_of, trips_by}
 use Rattle.roll_out.specs.RightRollout.{AtStops, IsTripOver, RolloutIsAccepted, RolloutIsRight}
-use Rattle.roll_out.specs.RolloutStage.{activities_in, day_in, events_in, faults_at, file_faults, long_lists, made_of, network_in, period_in, rollout_faults, rollout_stage, run_faults, trip_rows, trips_in}
+use Rattle.roll_out.specs.RolloutStage.{activities_in, day_in, events_in, file_faults, long_lists, made_of, network_in, period_in, rollout_faults, rollout_stage, run_faults, trip_rows, trips_in}
 use Rattle.roll_out.specs.TimedRuns.{TimedParts}
 use Rattle.roll_out.proofs.DayCells.{activities_fit, events_fit, trips_fit}
 use Rattle.roll_out.proofs.DayChangesGood.{changes_good, events_of_trips, mapped_from}
@@ -108,23 +108,7 @@ module _ (bundle : BundleParts) (own : bundle.stage ≡ stage.Rollout) (fits : F
 
   -- it keeps the rules of runs
   keep : KeepRunRules network.events network.activities
-  keep =
-      let broken = faults_at file.EventsP events_p_columns (input_text bundle 0) why.BrokenRun
-      (map event_id (broken_events network.events)) in
-      let unjoined = faults_at file.EventsP events_p_columns (input_text bundle 0) why.Unjoined
-      (map event_id (unjoined_events network.events network.activities)) in
-      let stray = faults_at file.ActivitiesP activities_p_columns (input_text bundle 1)
-      why.StrayActivity
-      (map activity_id (stray_activities network.events network.activities)) in
-      let front : broken ++ unjoined ≡ [] = front_none (broken ++ unjoined) stray runs_none in
-      record {
-        whole = nothing_mapped event_id (broken_events network.events)
-            (nothing_mapped _ _ (front_none broken unjoined front));
-        joined = nothing_mapped event_id (unjoined_events network.events network.activities)
-            (nothing_mapped _ _ (back_none broken unjoined front));
-        placed = nothing_mapped activity_id (stray_activities network.events network.activities)
-            (nothing_mapped _ _ (back_none (broken ++ unjoined) stray runs_none));
-      }
+  keep = grind (arith, event_id, activity_id, front_none, runs_none, nothing_mapped, back_none)
 
   fit : All (IsFit network) network.activities
   fit = all_fit network is_timed keep.placed
@@ -135,24 +119,13 @@ module _ (bundle : BundleParts) (own : bundle.stage ≡ stage.Rollout) (fits : F
   -- ---- the lists are not too long
 
   few_trips : length trips ≤ 2000
-  few_trips = (limits_sound (row_limit counted.Trips 2000) [] trips
-      (front_none (limit_faults (row_limit counted.Trips 2000 ∷ []) trips)
-      (limit_faults (row_limit counted.ExpandedEvents 100000 ∷ []) (events_in bundle))
-      (front_none _ (limit_faults (row_limit counted.ExpandedActivities 500000 ∷ [])
-      (activities_in bundle)) short))).0
+  few_trips = grind arith
 
   few_events : length (events_in bundle) ≤ 100000
-  few_events = (limits_sound (row_limit counted.ExpandedEvents 100000) [] (events_in bundle)
-      (back_none (limit_faults (row_limit counted.Trips 2000 ∷ []) trips)
-      (limit_faults (row_limit counted.ExpandedEvents 100000 ∷ []) (events_in bundle))
-      (front_none _ (limit_faults (row_limit counted.ExpandedActivities 500000 ∷ [])
-      (activities_in bundle)) short))).0
+  few_events = grind arith
 
   few_activities : length (activities_in bundle) ≤ 500000
-  few_activities = (limits_sound (row_limit counted.ExpandedActivities 500000) []
-      (activities_in bundle)
-      (back_none (limit_faults (row_limit counted.Trips 2000 ∷ []) trips
-      ++ limit_faults (row_limit counted.ExpandedEvents 100000 ∷ []) (events_in bundle)) _ short)).0
+  few_activities = grind arith
 
   abbrev plans : List PlanParts
   plans = map (plan_of network (day_in bundle)) (runs_of network.events)
@@ -198,11 +171,7 @@ module _ (bundle : BundleParts) (own : bundle.stage ≡ stage.Rollout) (fits : F
 
   activities_placed : AreNumbered (λ row. row.id) (activities_in bundle)
   unfolding day_activities
-  activities_placed =
-      let plain = day_ways trips ++ day_changes network (events_in bundle) in
-      numbers_are 1 plain
-      ∙ ap (range_with_len 1) (sym (length-map (enumerate_from 1 plain) with_number
-      ∙ length-enumerate_from 1 plain))
+  activities_placed = grind (arith, numbers_are, length-map, length-enumerate_from)
 
   trips_good : (stops : Option (List ℤ)) → AtStops stops network.events
       → AllByRecursion (TripGood stops) (trip_rows trips)
@@ -282,12 +251,7 @@ pub rollout_is_right : (bundle : BundleParts) (made : Made) → bundle.stage ≡
     → rollout_stage bundle ≡ Ok made → RolloutIsRight bundle made
 unfolding rollout_stage
 rollout_is_right bundle made own fits is =
-    let all = none_unless _ _ made is in
-    let none = none_first (rollout_faults bundle)
-    (long_lists (network_in bundle) (trips_in bundle)) all in
-    let short = none_after (rollout_faults bundle)
-    (long_lists (network_in bundle) (trips_in bundle)) all in
-    subst (RolloutIsRight bundle) (made_unless _ _ made is) (made_right bundle own fits none short)
+    grind (arith, none_unless, none_first, none_after, made_unless, made_right)
 
 -- what a call gives that meets the stage
 pub right_given : (bundle : BundleParts) (result : Result Made StageFault)

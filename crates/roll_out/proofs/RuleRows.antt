@@ -1,5 +1,6 @@
 -- The rows at which rules of runs are broken.
-use Rattle.std.proofs.Common.{◌≡◌, ℕ, ◌+◌, arith, All, List, [], ◌∷◌, ◌++◌, length, map, filter, drop, get_or, Result, ap, subst, sym, ◌∙◌}
+use Rattle.std.proofs.Common.{◌≡◌, ℕ, ◌+◌, arith, All, List, [], ◌∷◌, length, map, filter, drop}
+use Rattle.std.proofs.Common.{get_or, Result, ap, sym, ◌∙◌}
 use Rattle.std.specs.List.{flat_map, enumerate_from, zip, AllByRecursion}
 use Rattle.std.proofs.lemmas.List.{length-map, get_or-map}
 use Rattle.std.proofs.lemmas.List.Elements.{All-filter, All-map, All-append, All-nil, All-from_recursion}
@@ -14,7 +15,7 @@ use Rattle.giv_files.specs.Reading.{table_of}
 use Rattle.giv_files.specs.Settings.{BundleParts}
 use Rattle.giv_files.specs.StageCalls.{input_text}
 use Rattle.giv_files.specs.Tables.{TableRow}
-use Rattle.giv_files.proofs.Inputs.{parts_sound, refused_append, UnlessFault-weaker}
+use Rattle.giv_files.proofs.Inputs.{parts_sound, refused_append}
 use Rattle.event_tables.specs.declared.periodic_activity.PeriodicActivity.{PeriodicActivity}
 use Rattle.event_tables.specs.declared.periodic_event.PeriodicEvent.{PeriodicEvent}
 use Rattle.event_tables.specs.PeriodicFiles.{periodic_activity_input, periodic_event_ids, periodic_event_input}
@@ -150,10 +151,7 @@ module _ (bundle : BundleParts) where
   pub run_refused : (ids : List ℕ) (fault : StageFault) → ids ≡ broken_at
       → Refuses (broken ids) fault
       → Refuses (run_faults bundle) fault
-  run_refused ids fault are by =
-      refused_append (broken broken_at ++ unjoined unjoined_at) (stray stray_at) fault
-      (refused_append (broken broken_at) (unjoined unjoined_at) fault
-      (subst (λ some. Refuses (broken some) fault) are by))
+  run_refused ids fault are by = grind (arith, refused_append)
 
   module _ (first : List ℕ) (first_are : first ≡ broken_at) (first_none : first ≡ []) where
     no_broken : broken broken_at ≡ []
@@ -163,24 +161,11 @@ module _ (bundle : BundleParts) where
     pub event_refused : (ids : List ℕ) (fault : StageFault) → ids ≡ unjoined_at
         → Refuses (unjoined ids) fault
         → Refuses (run_faults bundle) fault
-    event_refused ids fault are by =
-        refused_append (broken broken_at ++ unjoined unjoined_at) (stray stray_at) fault
-        (subst (λ some. Refuses (some ++ unjoined unjoined_at) fault) (sym no_broken)
-        (subst (λ some. Refuses (unjoined some) fault) are by))
+    event_refused ids fault are by = grind (arith, refused_append, no_broken)
 
     module _ (second : List ℕ) (second_are : second ≡ unjoined_at) (second_none : second ≡ []) where
-      only_stray : stray stray_at ≡ run_faults bundle
-      only_stray =
-          let none : unjoined unjoined_at ≡ [] = ap unjoined (sym second_are ∙ second_none) in
-          ap (λ some. ([] ++ some) ++ stray stray_at) (sym none)
-          ∙ ap (λ some. (some ++ unjoined unjoined_at) ++ stray stray_at) (sym no_broken)
-
       -- a stray activity, or none
       pub activities_told : (ids : List ℕ) (result : Result (Unit {0}) StageFault) → ids ≡ stray_at
           → UnlessFault (stray ids) (λ _. ids ≡ []) result
           → UnlessFault (run_faults bundle) (λ _. run_faults bundle ≡ []) result
-      activities_told ids result are by =
-          let same = ap stray are ∙ only_stray in
-          UnlessFault-weaker (stray ids) (run_faults bundle) (λ _. ids ≡ [])
-          (λ _. run_faults bundle ≡ [])
-          result same (λ _ none. sym same ∙ ap stray none) by
+      activities_told ids result are by = grind arith

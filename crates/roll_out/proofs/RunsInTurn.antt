@@ -1,5 +1,6 @@
 -- Runs that are read from the left.
-use Rattle.std.proofs.Common.{◌≡◌, ℕ, suc, ◌==◌, ◌-◌, ◌+◌, ◌<◌, ◌≤◌, arith, true, false, cond, List, [], ◌∷◌, ◌++◌, length, take, drop, get_or, refl, ap, sym, ◌∙◌, inl, inr}
+use Rattle.std.proofs.Common.{◌≡◌, ℕ, suc, ◌==◌, ◌-◌, ◌+◌, ◌<◌, ◌≤◌, arith, true, false, cond, List}
+use Rattle.std.proofs.Common.{[], ◌∷◌, ◌++◌, length, take, drop, get_or, refl, ap}
 use Rattle.std.proofs.lemmas.List.{append_assoc, drop_more, drop_all, take_more, take_all}
 use Rattle.std.proofs.lemmas.Bool.{eqb-true, cases_Bool}
 use Rattle.event_tables.specs.declared.periodic_event.PeriodicEvent.{PeriodicEvent}
@@ -20,11 +21,7 @@ pub onto_more : (last next : PeriodicEvent) (some : List PeriodicEvent)
     → onto last some (before_runs next runs) ≡ onto next (some ++ next ∷ []) runs
 onto_more last next some [] same = rw same refl
 onto_more last next some ([] ∷ runs) same = rw same refl
-onto_more last next some ((event ∷ run) ∷ runs) same = elim (cases_Bool (same_run next event)) [
-  | inl is ↦ rw (is, same)
-      (ap (λ one. one ∷ runs) (sym (append_assoc some (next ∷ []) (event ∷ run))))
-  | inr is ↦ rw (is, same) refl
-]
+onto_more last next some ((event ∷ run) ∷ runs) same = grind (arith, cases_Bool, append_assoc)
 
 -- an event that does not agree ends the run
 pub onto_ends : (last next : PeriodicEvent) (some : List PeriodicEvent)
@@ -33,10 +30,7 @@ pub onto_ends : (last next : PeriodicEvent) (some : List PeriodicEvent)
     → onto last some (before_runs next runs) ≡ some ∷ before_runs next runs
 onto_ends last next some [] other = rw other refl
 onto_ends last next some ([] ∷ runs) other = rw other refl
-onto_ends last next some ((event ∷ run) ∷ runs) other = elim (cases_Bool (same_run next event)) [
-  | inl is ↦ rw (is, other) refl
-  | inr is ↦ rw (is, other) refl
-]
+onto_ends last next some ((event ∷ run) ∷ runs) other = grind arith
 
 before_onto : (event : PeriodicEvent) (runs : List (List PeriodicEvent))
     → before_runs event runs ≡ onto event (event ∷ []) runs
@@ -64,38 +58,19 @@ module _ (events : List PeriodicEvent) (d : PeriodicEvent) where
     pub run_goes_on : same_run (get_or events (i - 1) d) (get_or events i d) ≡ true
         → runs_of events ≡ onto (get_or events (i + 1 - 1) d) (take (i + 1) events)
         (runs_of (drop (i + 1) events))
-    run_goes_on same =
-        let at : i ≡ i + 1 - 1 = omega arith in
-        so_far ∙ ap (onto (get_or events (i - 1) d) (take i events)) next_is
-        ∙ onto_more (get_or events (i - 1) d) (get_or events i d) (take i events)
-        (runs_of (drop (i + 1) events)) same
-        ∙ ap (λ some. onto (get_or events i d) some (runs_of (drop (i + 1) events)))
-        (sym (take_more events i d inside))
-        ∙ ap (λ k. onto (get_or events k d) (take (i + 1) events) (runs_of (drop (i + 1) events)))
-        at
+    run_goes_on same = grind (arith, get_or, next_is, onto_more, take_more)
 
     -- and ends at one that does not
     pub run_ends : same_run (get_or events (i - 1) d) (get_or events i d) ≡ false
         → runs_of events ≡ take i events ∷ runs_of (drop i events)
-    run_ends other =
-        so_far ∙ ap (onto (get_or events (i - 1) d) (take i events)) next_is
-        ∙ onto_ends (get_or events (i - 1) d) (get_or events i d) (take i events)
-        (runs_of (drop (i + 1) events)) other
-        ∙ ap (λ runs. take i events ∷ runs) (sym next_is)
+    run_ends other = grind (arith, get_or, next_is, onto_ends)
 
   -- or at the last event
   pub run_over : (i : ℕ) → length events ≤ i
       → runs_of events ≡ onto (get_or events (i - 1) d) (take i events) (runs_of (drop i events))
       → runs_of events ≡ take (length events) events ∷ runs_of (drop (length events) events)
   unfolding runs_of
-  run_over i over so_far =
-      so_far
-      ∙ ap (λ rest. onto (get_or events (i - 1) d) (take i events) (runs_of rest))
-      (drop_all i events over)
-      ∙ ap (λ some. some ∷ []) (take_all i events over
-      ∙ sym (take_all (length events) events (omega arith)))
-      ∙ ap (λ rest. take (length events) events ∷ runs_of rest)
-      (sym (drop_all (length events) events (omega arith)))
+  run_over i over so_far = grind (arith, get_or, drop_all, take_all)
 
 -- no event makes no run
 pub no_runs : (events : List PeriodicEvent) → (length events == 0) ≡ true → runs_of events ≡ []

@@ -1,5 +1,7 @@
 -- The plans of the runs of a timetable.
-use Rattle.std.proofs.Common.{◌≡◌, ℕ, suc, ◌+◌, ◌*◌, ◌-◌, ◌/◌, ◌<◌, ◌≤◌, ◌≤ℤ◌, pos, nat_le, unsigned_abs, arith, Bool, true, false, cond, All, IfSome, List, [], ◌∷◌, ◌++◌, length, map, get_or, Option, Some, None, refl, ap, subst, sym, ◌∙◌}
+use Rattle.std.proofs.Common.{◌≡◌, ℕ, suc, ◌+◌, ◌*◌, ◌-◌, ◌/◌, ◌<◌, ◌≤◌, ◌≤ℤ◌, pos, nat_le, arith}
+use Rattle.std.proofs.Common.{Bool, true, false, cond, All, IfSome, List, [], ◌∷◌, length, map}
+use Rattle.std.proofs.Common.{get_or, Option, Some, None, refl, ap, subst, sym, ◌∙◌}
 use Rattle.std.specs.List.{flat_map, AllByRecursion}
 use Rattle.std.proofs.lemmas.List.{length-map, map-append}
 use Rattle.std.proofs.lemmas.List.Elements.{recursion_from_All, All-from_recursion}
@@ -15,11 +17,8 @@ use Rattle.roll_out.specs.declared.timed_event.TimedEvent.{TimedEvent}
 use Rattle.roll_out.specs.Plans.{ArePlans, IsBetween, IsDay, IsPlan, IsTimed, IsTimely, PlanParts, first_start, plan_of, start_count}
 use Rattle.roll_out.specs.TimedRuns.{TimedParts, minutes_of, minutes_on, no_time, time_at, timed_from, way_on}
 use Rattle.event_tables.specs.Places.{IsOneOf}
-use Rattle.pesp_model.proofs.LeastTensions.{rest, tension_is}
-use Rattle.std.proofs.Math.Nat.{mod-lt}
 use Rattle.std.proofs.lemmas.Int.{ints}
 use Rattle.std.proofs.lemmas.Nat.{div-add-mod', mul-le}
-use Rattle.std.proofs.lemmas.Grind.{div_ceil_times}
 use Rattle.std.proofs.lemmas.List.{get_or-map}
 use Rattle.std.proofs.lemmas.List.FromFn.{get_or-range_with_len}
 use Rattle.roll_out.proofs.FoundOnes.{found_has}
@@ -33,8 +32,7 @@ timed_ids : (network : TimedParts) (minutes : ℕ) (run : List PeriodicEvent)
 unfolding timed_from
 timed_ids network minutes [] = refl
 timed_ids network minutes (event ∷ run) =
-    ap (λ ids. event.id ∷ ids) (timed_ids network
-    (minutes + minutes_on network (way_on network event run)) run)
+    grind (arith, timed_ids network (minutes + minutes_on network (way_on network event run)) run)
 
 pub timed_size : (network : TimedParts) (minutes : ℕ) (run : List PeriodicEvent)
     → length (timed_from network minutes run) ≡ length run
@@ -53,15 +51,7 @@ module _ (network : TimedParts) (some : 1 ≤ network.period) (short : network.p
   pub minutes_are : (activity : PeriodicActivity)
       → (activity.lower ≤ minutes_of network activity)
       × (minutes_of network activity < activity.lower + network.period)
-  minutes_are activity =
-      let from = time_at network activity.from in
-      let to = time_at network activity.to in
-      let left : ℕ = rest network.period activity.lower from to in
-      let small : left < network.period =
-      mod-lt (to + (from + activity.lower) * network.period - (from + activity.lower)) some in
-      let is : minutes_of network activity ≡ activity.lower + left =
-      ap unsigned_abs (tension_is network.period activity.lower from to some) in
-      (omega (arith, is), omega (arith, is, small))
+  minutes_are activity = grind arith
 
   low_enough : (activity : PeriodicActivity) → IsBetween network activity → activity.lower ≤ 100000
   low_enough activity is = upper_low activity.lower activity.upper is.sound.in_order
@@ -69,10 +59,7 @@ module _ (network : TimedParts) (some : 1 ≤ network.period) (short : network.p
 
   minutes_short : (activity : PeriodicActivity) → IsBetween network activity
       → minutes_of network activity ≤ 100720
-  minutes_short activity is =
-      let few = minutes_are activity in
-      let low = low_enough activity is in
-      omega (arith, few.1, low, short)
+  minutes_short activity is = grind (arith, minutes_are, low_enough)
 
   way_short : (way : Option PeriodicActivity) → IfSome way (IsBetween network)
       → minutes_on network way ≤ 100720
@@ -112,11 +99,7 @@ module _ (network : TimedParts) (some : 1 ≤ network.period) (short : network.p
 
 pub between_all : (network : TimedParts) → IsTimed network
     → All (IsBetween network) network.activities
-between_all network is = λ i d h. record {
-  sound = is.activities_are.each i d h;
-  fits =
-      is.activities_are.fit i d h;
-}
+between_all network is = grind arith
 
 module _ (network : TimedParts) (is : IsTimed network) where
   id_in : (i : ℕ) (d : PeriodicEvent) → i < length network.events
@@ -140,11 +123,7 @@ module _ (network : TimedParts) (is : IsTimed network) where
 
   pub ids_in : AllByRecursion (λ (run : List PeriodicEvent). AllByRecursion
       (λ (event : PeriodicEvent). IsOneOf (length network.events) event.id) run) all_runs
-  ids_in = runs_have (λ (event : PeriodicEvent). IsOneOf (length network.events) event.id) all_runs
-      (subst (AllByRecursion (λ (event : PeriodicEvent). IsOneOf (length network.events) event.id))
-      (sym whole)
-      (recursion_from_All (λ (event : PeriodicEvent). IsOneOf (length network.events) event.id)
-      network.events id_in))
+  ids_in = grind (arith, runs_have, whole, recursion_from_All, id_in)
 
   fits_in : AllByRecursion (λ (run : List PeriodicEvent). AllByRecursion
       (λ (event : PeriodicEvent). InColumns events_p_columns (periodic_event_cells event)) run)
@@ -159,21 +138,12 @@ module _ (network : TimedParts) (is : IsTimed network) where
   -- the runs have some events, and not too many
   pub runs_sized : All (λ (run : List PeriodicEvent). (1 ≤ length run) × (length run ≤ 4000))
       all_runs
-  runs_sized = λ i d h. (
-    All-from_recursion (λ (run : List PeriodicEvent). 1 ≤ length run) all_runs
-        (runs_some network.events) i d h,
-    All-from_recursion (λ (run : List PeriodicEvent). length run ≤ 4000) all_runs runs_in i d h,
-  )
+  runs_sized = grind (arith, All-from_recursion, runs_some, runs_in)
 
   -- and these are those of the timetable
   pub runs_there : All (λ (run : List PeriodicEvent). All
       (λ event. IsOneOf (length network.events) event.id) run) all_runs
-  runs_there = λ i d h.
-      All-from_recursion (λ (event : PeriodicEvent). IsOneOf (length network.events) event.id)
-      (get_or all_runs i d)
-      (All-from_recursion (λ (run : List PeriodicEvent). AllByRecursion
-      (λ (event : PeriodicEvent). IsOneOf (length network.events) event.id) run) all_runs ids_in i
-      d h)
+  runs_there = grind (arith, All-from_recursion, get_or, ids_in)
 
 module _ (network : TimedParts) (is : IsTimed network) (day : Day) (in_week : IsDay day) where
   pub time_in : (id : ℕ) → 1 ≤ id → id ≤ length network.events → time_at network id < network.period
@@ -181,11 +151,7 @@ module _ (network : TimedParts) (is : IsTimed network) (day : Day) (in_week : Is
       is.times_are.in_period (id - 1) no_time (omega (arith, low, high, is.times_are.each_event))
 
   start_early : (time : ℕ) → time < network.period → first_start network.period day time ≤ 10800
-  start_early time within =
-      let high = (div_ceil_times (day.earliest - time) network.period is.some).1 in
-      let end = in_week.0 in
-      let short = is.short in
-      omega (arith, high, within, end, short)
+  start_early time within = grind arith
 
   count_few : (start : ℕ) → start_count network.period day start ≤ 10081
   count_few start = by (nat_le start day.latest)
@@ -237,31 +203,21 @@ module _ (network : TimedParts) (is : IsTimed network) (day : Day) (in_week : Is
       (map (plan_of network day) runs)
       ≡ map (λ (event : PeriodicEvent). event.id) (flat_map whole_run runs)
   plan_ids [] = refl
-  plan_ids (run ∷ runs) =
-      ap (λ ids. ids ++ flat_map (λ (plan : PlanParts). map (λ (at : TimedEvent). at.event.id)
-      plan.run)
-      (map (plan_of network day) runs)) (timed_ids network 0 run)
-      ∙ ap (λ ids. map (λ (event : PeriodicEvent). event.id) run ++ ids) (plan_ids runs)
-      ∙ sym (map-append (λ (event : PeriodicEvent). event.id) run (flat_map whole_run runs))
+  plan_ids (run ∷ runs) = grind (arith, timed_ids, map-append, whole_run, plan_ids runs)
 
   -- the plans of all runs are those of the timetable
   pub plans_are : ArePlans network (map (plan_of network day) (runs_of network.events))
-  plans_are = record {
-    each = All-from_recursion IsPlan (map (plan_of network day) (runs_of network.events))
-        (plans_sound (runs_of network.events) (runs_some network.events) (runs_in network is)
-        (fits_in network is) (ids_in network is));
-    few =
-        let less = runs_few (runs_of network.events) (runs_some network.events) in
-        let few = is.events_are.few in
-        omega (
-          arith,
-          length-map (runs_of network.events) (plan_of network day),
-          less,
-          ap length
-              (runs_whole network.events),
-          few,
-        );
-    placed = plan_ids (runs_of network.events)
-        ∙ ap (map (λ (event : PeriodicEvent). event.id)) (runs_whole network.events)
-        ∙ is.events_are.numbered;
-  }
+  plans_are =
+      grind (
+        arith,
+        All-from_recursion,
+        plans_sound,
+        runs_some,
+        runs_in,
+        fits_in,
+        ids_in,
+        runs_few,
+        length-map,
+        runs_whole,
+        plan_ids,
+      )

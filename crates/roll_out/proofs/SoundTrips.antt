@@ -1,14 +1,14 @@
 -- The trips of plans, and where the copies of their events are, have small numbers.
-use Rattle.std.proofs.Common.{◌≡◌, ℕ, zero, suc, ◌+◌, ◌*◌, ◌<◌, ◌≤◌, arith, All, List, [], ◌∷◌, length, map, refl, ap, ◌∙◌}
+use Rattle.std.proofs.Common.{◌≡◌, ℕ, zero, suc, ◌+◌, ◌*◌, ◌<◌, ◌≤◌, arith, All, List, [], ◌∷◌}
+use Rattle.std.proofs.Common.{length, map, refl, ap, ◌∙◌}
 use Rattle.std.specs.List.{flat_map, range_with_len, enumerate_from, AllByRecursion}
 use Rattle.std.proofs.lemmas.List.{length-map, length-append}
 use Rattle.std.proofs.lemmas.List.Elements.{All-nil, All-append, All-head, All-tail, All-map, All-from_recursion, recursion_from_All}
 use Rattle.std.proofs.lemmas.Grind.{flat_map-append}
 use Rattle.std.proofs.lemmas.List.FromFn.{length-range_with_len, length-enumerate_from}
 use Rattle.std.proofs.lemmas.List.Sums.{sum_by-cons}
-use Rattle.std.proofs.lemmas.Nat.{mul-le}
 use Rattle.roll_out.specs.declared.timed_event.TimedEvent.{TimedEvent}
-use Rattle.roll_out.specs.DayTrips.{day_event, day_events, trip_events}
+use Rattle.roll_out.specs.DayTrips.{day_events, trip_events}
 use Rattle.roll_out.specs.Plans.{AreFew, ArePlans, IsPlan, IsTimely, IsTrip, PlanParts, copies_at, copies_by, event_total, plan_copies, plan_trips, trip_after, trip_total, trips_by}
 use Rattle.roll_out.specs.TimedRuns.{TimedParts}
 use Rattle.roll_out.proofs.Growing.{plan_size}
@@ -37,19 +37,7 @@ module _ (period : ℕ) (short : period ≤ 720) where
   trip_sound : (n k : ℕ) (plan : PlanParts) → IsPlan plan → 1 ≤ n → n + plan_size plan ≤ 100001
       → plan.trips ≤ 2000
       → k < plan.trips → IsTrip (trip_after period n plan k)
-  trip_sound n k plan is low few rare here =
-      let size = length plan.run in
-      let before = mul-le (k + 1) size plan.trips size (omega (arith, here)) (omega arith) in
-      let one : (k + 1) * size ≡ k * size + size = grind arith in
-      let later = mul-le k period 2000 720 (omega (arith, here, rare)) short in
-      record {
-        low = omega (arith, low);
-        some = is.some;
-        ids = omega (arith, before, one, few);
-        short = is.short;
-        early = let early = is.early in omega (arith, later, early);
-        timely = is.timely;
-      }
+  trip_sound n k plan is low few rare here = grind arith
 
   plan_trips_sound : (n : ℕ) (plan : PlanParts) → IsPlan plan → 1 ≤ n → n + plan_size plan ≤ 100001
       → plan.trips ≤ 2000 → All IsTrip (plan_trips period n plan)
@@ -95,15 +83,13 @@ module _ (period : ℕ) where
       ≡ count * length plan.run
   part_events n plan a zero = omega arith
   part_events n plan a (suc count) =
-      let trip = trip_after period n plan a in
-      let both = length-append (trip_events trip)
-      (day_events (map (trip_after period n plan) (range_with_len (a + 1) count))) in
-      let size = length-map (enumerate_from trip.first plan.run) (day_event trip.start) in
-      let run = length-enumerate_from trip.first plan.run in
-      let rest = part_events n plan (a + 1) count in
-      let one : suc count * length plan.run ≡ length plan.run + count * length plan.run = grind
-      arith in
-      omega (arith, both, size, run, rest, one)
+      grind (
+        arith,
+        length-append,
+        length-map,
+        length-enumerate_from,
+        part_events n plan (a + 1) count,
+      )
 
   pub events_counted : (n : ℕ) (plans : List PlanParts)
       → length (day_events (trips_by period n plans)) ≡ event_total plans
@@ -156,13 +142,14 @@ copies_size : (n : ℕ) (plans : List PlanParts) → length (copies_by n plans)
 unfolding copies_by
 copies_size n [] = refl
 copies_size n (plan ∷ plans) =
-    let mine = length-map (enumerate_from 0 plan.run) (copies_at n plan) in
-    let run = length-enumerate_from 0 plan.run in
-    let ids = length-map plan.run (λ (at : TimedEvent). at.event.id) in
-    let both = length-append (plan_copies n plan) (copies_by (n + plan_size plan) plans) in
-    let other = length-append (ids_of plan) (flat_map ids_of plans) in
-    let rest = copies_size (n + plan_size plan) plans in
-    omega (arith, mine, run, ids, both, other, rest)
+    grind (
+      arith,
+      length-map,
+      length-enumerate_from,
+      length-append,
+      plan_size,
+      copies_size (n + plan_size plan) plans,
+    )
 
 -- there are copies of each event
 pub copies_each : (network : TimedParts) (plans : List PlanParts) → ArePlans network plans

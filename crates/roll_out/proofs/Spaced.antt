@@ -1,10 +1,10 @@
 -- Times that are whole periods apart.
-use Rattle.std.proofs.Common.{◌≡◌, ℕ, ◌+◌, ◌-◌, ◌*◌, ◌/◌, ◌%◌, ◌==◌, ◌<◌, ◌≤◌, nat_le, arith, Bool, true, false, ◌&&◌, cond, [], ◌∷◌, map, filter, refl, ap, sym, ◌∙◌, inl, inr}
+use Rattle.std.proofs.Common.{◌≡◌, ℕ, ◌+◌, ◌-◌, ◌*◌, ◌/◌, ◌%◌, ◌==◌, ◌<◌, ◌≤◌, nat_le, arith, Bool}
+use Rattle.std.proofs.Common.{true, false, ◌&&◌, [], ◌∷◌, map, filter, refl, ap, sym, ◌∙◌}
 use Rattle.std.specs.Int.{div_ceil}
 use Rattle.std.specs.List.{range_with_len}
-use Rattle.std.proofs.lemmas.Bool.{eq-eqb, ne_eqb, le-leb, lt-leb, leb-true, leb-false, cases_lt}
-use Rattle.std.proofs.lemmas.Grind.{div_ceil_times}
-use Rattle.std.proofs.lemmas.Nat.{mul-le, mod_below, div-add-mod', div-mul-add, mod-mul-add}
+use Rattle.std.proofs.lemmas.Bool.{eq-eqb, ne_eqb, le-leb, lt-leb, leb-true, leb-false}
+use Rattle.std.proofs.lemmas.Nat.{mul-le, div-add-mod'}
 use Rattle.std.proofs.Math.Bool.{and-false}
 use Rattle.roll_out.specs.declared.copies.Copies.{Copies}
 use Rattle.roll_out.specs.declared.day.Day.{Day}
@@ -20,23 +20,17 @@ module _ (period time : ℕ) (some : 1 ≤ period) (copies : Copies) where
 
   none_there : ((k : ℕ) → k < copies.count → copy_time period copies k ≡ time → ⊥)
       → [] ≡ ids_at period copies time
-  none_there none =
-      ap (map (copy_id copies)) (sym (none_of_range at 0 copies.count
-      (λ k low high. ne_eqb (copy_time period copies k) time (none k (omega (arith, high))))))
+  none_there none = grind (arith, none_of_range, ne_eqb)
 
   -- a time before the first copy
   pub before_copies : time < copies.start → [] ≡ ids_at period copies time
   before_copies early = none_there (λ k below e. omega (arith, e, early))
 
   plain : (k : ℕ) → (k * period) / period ≡ k
-  plain k =
-      let e : k * period ≡ k * period + 0 = omega arith in
-      ap (λ n. n / period) e ∙ div-mul-add k period 0 (omega (arith, some))
+  plain k = grind arith
 
   whole : (k : ℕ) → (k * period) % period ≡ 0
-  whole k =
-      let e : k * period ≡ k * period + 0 = omega arith in
-      ap (λ n. n % period) e ∙ mod-mul-add k period 0 (omega (arith, some))
+  whole k = grind arith
 
   module _ (late : copies.start ≤ time) where
     abbrev after : ℕ
@@ -52,10 +46,7 @@ module _ (period time : ℕ) (some : 1 ≤ period) (copies : Copies) where
 
     -- a time behind the last copy
     pub behind_copies : copies.count ≤ after / period → [] ≡ ids_at period copies time
-    behind_copies far =
-        none_there (λ k below e.
-        let same : after / period ≡ k = ap (λ n. n / period) (after_is k e) ∙ plain k in
-        omega (arith, same, far, below))
+    behind_copies far = grind (arith, none_there, after_is, plain)
 
     -- the time of a copy
     pub copy_found : after % period ≡ 0 → after / period < copies.count
@@ -77,15 +68,7 @@ module _ (period time : ℕ) (some : 1 ≤ period) (copies : Copies) where
         (λ e. let is = only k e in omega (arith, is, above)))))
 
 pub div_low : (a b period : ℕ) → 1 ≤ period → a * period ≤ b → a ≤ b / period
-div_low a b period some h = elim (cases_lt (b / period) a) [
-  | inl over ↦
-      let far = mul-le (b / period + 1) period a period (omega (arith, over)) (omega arith) in
-      let one : (b / period + 1) * period ≡ b / period * period + period = grind arith in
-      let parts = div-add-mod' b period in
-      let small = mod_below b period (omega (arith, some)) in
-      absurd (omega (arith, far, one, parts, small, h))
-  | inr low ↦ low
-]
+div_low a b period some h = grind arith
 
 -- ---- the starts of a day
 
@@ -111,21 +94,13 @@ module _ (period : ℕ) (some : 1 ≤ period) (day : Day) (time : ℕ) where
   at_time periods = time + periods * period
 
   early_ones : (k : ℕ) → k < skipped → at_time k < day.earliest
-  early_ones k below =
-      let high = (div_ceil_times (day.earliest - time) period (omega (arith, some))).1 in
-      let more = mul-le (k + 1) period skipped period (omega (arith, below)) (omega arith) in
-      let one : (k + 1) * period ≡ k * period + period = grind arith in
-      omega (arith, high, more, one)
+  early_ones k below = grind arith
 
   first_in : day.earliest ≤ start
-  first_in =
-      let low = (div_ceil_times (day.earliest - time) period (omega (arith, some))).0 in
-      omega (arith, low)
+  first_in = grind arith
 
   later_ones : (j : ℕ) → at_time (skipped + j) ≡ start + j * period
-  later_ones j =
-      let parts : (skipped + j) * period ≡ skipped * period + j * period = grind arith in
-      omega (arith, parts)
+  later_ones j = grind arith
 
   abbrev tests : ℕ → Bool
   tests k = is_in_day day (at_time k)
@@ -145,10 +120,7 @@ module _ (period : ℕ) (some : 1 ≤ period) (day : Day) (time : ℕ) where
     last_is = let parts = div-add-mod' (day.latest - start) period in omega (arith, parts)
 
     past_last : day.latest - start < last * period + period
-    past_last =
-        let parts = div-add-mod' (day.latest - start) period in
-        let small = mod_below (day.latest - start) period (omega (arith, some)) in
-        omega (arith, parts, small)
+    past_last = grind arith
 
     room : skipped + (last + 1) ≤ all
     room =
@@ -203,12 +175,8 @@ module _ (period : ℕ) (some : 1 ≤ period) (day : Day) (time : ℕ) where
 
   passing : (b : Bool) → nat_le start day.latest ≡ b
       → filter tests (range_with_len 0 all) ≡ range_with_len skipped (start_count period day start)
-  passing true within =
-      some_starts (leb-true start day.latest within)
-      ∙ ap (λ b. range_with_len skipped (cond b ((day.latest - start) / period + 1) 0)) (sym within)
-  passing false late =
-      no_starts (leb-false start day.latest late)
-      ∙ ap (λ b. range_with_len skipped (cond b ((day.latest - start) / period + 1) 0)) (sym late)
+  passing true within = grind (arith, some_starts, leb-true)
+  passing false late = grind (arith, no_starts, leb-false)
 
   -- the times of a day are its first one, and those whole periods later
   pub starts_are : starts period day time

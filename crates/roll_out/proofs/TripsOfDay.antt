@@ -1,5 +1,6 @@
 -- The trips of plans are those of the day.
-use Rattle.std.proofs.Common.{◌≡◌, ℕ, zero, suc, ◌+◌, ◌*◌, ◌≤◌, arith, List, [], ◌∷◌, ◌++◌, length, map, refl, ap, sym, ◌∙◌}
+use Rattle.std.proofs.Common.{◌≡◌, ℕ, zero, suc, ◌+◌, ◌*◌, ◌≤◌, arith, List, [], ◌∷◌, ◌++◌, length}
+use Rattle.std.proofs.Common.{map, refl, ap, sym, ◌∙◌}
 use Rattle.std.specs.List.{flat_map, range_with_len, sum_by}
 use Rattle.std.proofs.lemmas.List.Sums.{sum_by-cons}
 use Rattle.std.proofs.lemmas.Simd.{map-map}
@@ -7,9 +8,9 @@ use Rattle.event_tables.specs.declared.periodic_event.PeriodicEvent.{PeriodicEve
 use Rattle.event_tables.specs.PeriodicRuns.{runs_of}
 use Rattle.roll_out.specs.declared.day.Day.{Day}
 use Rattle.roll_out.specs.declared.timed_event.TimedEvent.{TimedEvent}
-use Rattle.roll_out.specs.DayTrips.{departures_of, first_time, numbered_trips, trips_of}
-use Rattle.roll_out.specs.Plans.{PlanParts, first_start, plan_of, plan_trips, trip_after, trips_by}
-use Rattle.roll_out.specs.TimedRuns.{TimedParts, timed_from}
+use Rattle.roll_out.specs.DayTrips.{departures_of, numbered_trips, trips_of}
+use Rattle.roll_out.specs.Plans.{PlanParts, plan_of, plan_trips, trip_after, trips_by}
+use Rattle.roll_out.specs.TimedRuns.{TimedParts}
 use Rattle.roll_out.proofs.Spaced.{starts_are}
 
 abbrev Departures : Type 0
@@ -41,12 +42,7 @@ module _ (network : TimedParts) (day : Day) (some : 1 ≤ network.period) where
         ≡ map (trip_after network.period n plan) (range_with_len a count)
     unfolding numbered_trips
     spread n a zero = refl
-    spread n a (suc count) =
-        let e : n + a * length plan.run + length plan.run
-        ≡ n + (a + 1) * length plan.run = grind arith in
-        ap (λ k. trip_after network.period n plan a
-        ∷ numbered_trips k (map departs (range_with_len (a + 1) count))) e
-        ∙ ap (λ rest. trip_after network.period n plan a ∷ rest) (spread n (a + 1) count)
+    spread n a (suc count) = grind (arith, spread n (a + 1) count)
 
     spread_size : (a count : ℕ) → size_of (map departs (range_with_len a count))
         ≡ count * length plan.run
@@ -62,12 +58,7 @@ module _ (network : TimedParts) (day : Day) (some : 1 ≤ network.period) where
   departures_are : (run : List PeriodicEvent)
       → departures_of network day run
       ≡ map (departs (plan_of network day run)) (range_with_len 0 (plan_of network day run).trips)
-  departures_are run =
-      ap (map (λ start. (start, timed_from network 0 run)))
-      (starts_are network.period some day (first_time network run))
-      ∙ map-map (λ start. (start, timed_from network 0 run))
-      (λ k. first_start network.period day (first_time network run) + k * network.period)
-      (range_with_len 0 (plan_of network day run).trips)
+  departures_are run = grind (arith, starts_are, map-map)
 
   day_trips : (n : ℕ) (runs : List (List PeriodicEvent))
       → numbered_trips n (flat_map (departures_of network day) runs)

@@ -1,10 +1,9 @@
 -- The runs of events are all of them, each with some.
-use Rattle.std.proofs.Common.{◌≡◌, ℕ, ◌≤◌, arith, List, [], ◌∷◌, ◌++◌, length, refl, ap, ◌∙◌, inl, inr}
+use Rattle.std.proofs.Common.{◌≡◌, ℕ, ◌≤◌, arith, List, [], ◌∷◌, ◌++◌, length, refl, ap, ◌∙◌}
 use Rattle.std.specs.List.{flat_map, AllByRecursion}
 use Rattle.std.proofs.lemmas.List.{length-append}
-use Rattle.std.proofs.lemmas.Bool.{cases_Bool}
 use Rattle.event_tables.specs.declared.periodic_event.PeriodicEvent.{PeriodicEvent}
-use Rattle.event_tables.specs.PeriodicRuns.{same_run, before_runs, runs_of}
+use Rattle.event_tables.specs.PeriodicRuns.{before_runs, runs_of}
 
 abbrev pub whole_run : List PeriodicEvent → List PeriodicEvent
 whole_run run = run
@@ -13,10 +12,7 @@ before_whole : (event : PeriodicEvent) (runs : List (List PeriodicEvent))
     → flat_map whole_run (before_runs event runs) ≡ event ∷ flat_map whole_run runs
 before_whole event [] = refl
 before_whole event ([] ∷ runs) = refl
-before_whole event ((next ∷ run) ∷ runs) = elim (cases_Bool (same_run event next)) [
-  | inl is ↦ rw is refl
-  | inr is ↦ rw is refl
-]
+before_whole event ((next ∷ run) ∷ runs) = grind arith
 
 -- the runs of events are all of them
 pub runs_whole : (events : List PeriodicEvent) → flat_map whole_run (runs_of events) ≡ events
@@ -30,10 +26,7 @@ before_some : (event : PeriodicEvent) (runs : List (List PeriodicEvent))
     → AllByRecursion (λ (run : List PeriodicEvent). 1 ≤ length run) (before_runs event runs)
 before_some event [] all = (omega arith, tt)
 before_some event ([] ∷ runs) all = (omega arith, all)
-before_some event ((next ∷ run) ∷ runs) all = elim (cases_Bool (same_run event next)) [
-  | inl is ↦ rw is (omega arith, all.1)
-  | inr is ↦ rw is (omega arith, all)
-]
+before_some event ((next ∷ run) ∷ runs) all = grind arith
 
 -- each run has an event
 pub runs_some : (events : List PeriodicEvent)
@@ -56,11 +49,7 @@ pub runs_few : (runs : List (List PeriodicEvent))
     → AllByRecursion (λ (run : List PeriodicEvent). 1 ≤ length run) runs
     → length runs ≤ length (flat_map whole_run runs)
 runs_few [] some = omega arith
-runs_few (run ∷ runs) some =
-    let step = length-append run (flat_map whole_run runs) in
-    let rest = runs_few runs some.1 in
-    let one = some.0 in
-    omega (arith, step, rest, one)
+runs_few (run ∷ runs) some = grind (arith, length-append, runs_few runs some.1)
 
 -- what holds of all events holds of those of each run
 pub runs_have : (P : PeriodicEvent → Type 0) (runs : List (List PeriodicEvent))

@@ -1,5 +1,8 @@
 -- A reader behind some of the rows of a table, one row more, and behind all of them.
-use Rattle.std.proofs.Common.{◌≡◌, ℕ, zero, suc, ◌+◌, ◌<◌, ◌≤◌, Bool, true, false, cond, List, [], ◌∷◌, ◌++◌, length, map, filter, drop, get_or, slice_get, Option, Some, None, IfSome, option_map, Result, Err, IfOk, refl, ap, sym, ◌∙◌, subst, arith, append_assoc}
+use Rattle.std.proofs.Common.{◌≡◌, ℕ, zero, suc, ◌+◌, ◌<◌, ◌≤◌, Bool, true, false, cond, List, []}
+use Rattle.std.proofs.Common.{◌∷◌, ◌++◌, length, map, filter, drop, get_or, slice_get, Option, Some}
+use Rattle.std.proofs.Common.{None, IfSome, option_map, Result, Err, IfOk, refl, ap, sym, ◌∙◌}
+use Rattle.std.proofs.Common.{subst, arith, append_assoc}
 use Rattle.std.specs.Option.{option_to_list}
 use Rattle.std.proofs.Math.Seq.{drop-cons}
 use Rattle.std.proofs.lemmas.List.{append-nil, drop_all, drop-map, length-map}
@@ -13,7 +16,7 @@ use Rattle.giv_files.specs.Tables.{TableRow, no_row, row_number}
 use Rattle.vehicle_model.specs.declared.plan_fault.PlanFault.{PlanFault}
 use Rattle.vehicle_model.specs.declared.plan_fault.PlanFault.TheVariants as fault
 use Rattle.vehicle_model.specs.Plans.{next, IsPlan}
-use Rattle.vehicle_model.specs.ReadSchedules.{nothing_read, one_more, trip_in, begins, last_seen, row_fits, has_form, first_row, all_come, form_faults, link_of, link_to, links_in, is_late, follow_faults, or_others, row_faults, plan_by, PlanGives}
+use Rattle.vehicle_model.specs.ReadSchedules.{nothing_read, one_more, trip_in, begins, row_fits, has_form, first_row, all_come, form_faults, link_of, link_to, links_in, is_late, follow_faults, or_others, row_faults, plan_by, PlanGives}
 use Rattle.vehicle_model.specs.Readers.{ReaderParts, has_come, after_link, after_trip, after_row, CanLink, Knows, IsBehind, unless_late, finished}
 use Rattle.vehicle_model.specs.Trips.{TripsParts, links_of}
 use Rattle.vehicle_model.proofs.Following.{gain_there}
@@ -26,12 +29,7 @@ module _ (trips : TripsParts) (rows : List (Numbered ScheduleRow)) (i : ℕ) (re
   form_is : (row : ScheduleRow) (after : Option ScheduleRow)
       → row_fits trips reader.before reader.last (has_come reader) row after
       ≡ has_form trips behind.read row after
-  form_is row after =
-      ap (λ before. row_fits trips before reader.last (has_come reader) row after) behind.knows.before
-      ∙ ap (λ last. row_fits trips behind.read.before last (has_come reader) row after)
-      behind.knows.last
-      ∙ ap (λ come. row_fits trips behind.read.before (last_seen behind.read) come row after)
-      (λ t k. behind.knows.come k t)
+  form_is row after = grind arith
 
   module _ (at : Numbered ScheduleRow) (rest : List (Numbered ScheduleRow)) (is : drop i rows ≡ at ∷ rest) where
     forms_here : form_faults trips nothing_read rows
@@ -62,10 +60,7 @@ module _ (trips : TripsParts) (rows : List (Numbered ScheduleRow)) (i : ℕ) (re
           ≡ (behind.links ++ option_to_list (link_to trips behind.read at.row))
           ++ links_in trips (one_more trips behind.read at.row) (map (λ one. one.row) rest)
       unfolding links_in
-      links_here = behind.linked
-          ∙ ap (λ some. behind.links ++ links_in trips behind.read (map (λ one. one.row) some)) is
-          ∙ sym (append_assoc behind.links (option_to_list (link_to trips behind.read at.row))
-          (links_in trips (one_more trips behind.read at.row) (map (λ one. one.row) rest)))
+      links_here = grind (arith, append_assoc)
 
       pub taken : (next : ℕ) → drop next rows ≡ rest
           → IsBehind trips rows next (after_row at.row (after_trip (trip_in trips at.row)
@@ -102,9 +97,7 @@ module _ (trips : TripsParts) (rows : List (Numbered ScheduleRow)) (i : ℕ) (re
 
     links_all : links_in trips nothing_read (map (λ one. one.row) rows) ≡ behind.links
     unfolding links_in
-    links_all = behind.linked
-        ∙ ap (λ some. behind.links ++ links_in trips behind.read (map (λ one. one.row) some)) past
-        ∙ append-nil behind.links
+    links_all = grind (arith, append-nil)
 
     faults_all : row_faults trips rows
         ≡ or_others (cond (all_come trips (has_come reader)) [] (fault.Trips 0 ∷ [])) (follow_faults trips behind.links)
@@ -173,9 +166,7 @@ module _ (trips : TripsParts) (table : List TableRow) (i : ℕ) (reader : Reader
   one_more_row = omega arith
 
   rest_is : drop i rows ≡ at ∷ drop (i + 1) rows
-  rest_is = drop-map row_of i table ∙ ap (map row_of) (drop-cons table i no_row within)
-      ∙ ap (λ some. at ∷ some) (sym (drop-map row_of (suc i) table))
-      ∙ ap (λ k. at ∷ drop k rows) one_more_row
+  rest_is = grind (arith, drop-map, drop-cons, one_more_row)
 
   fits_here : (b : Bool) → row_fits trips reader.before reader.last (has_come reader) row after ≡ b
       → row_fits trips reader.before reader.last (has_come reader) at.row (first_row (drop (i + 1) rows)) ≡ b

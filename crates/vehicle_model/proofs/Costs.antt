@@ -1,5 +1,7 @@
 -- What a plan costs, by the gains of its links.
-use Rattle.std.proofs.Common.{◌≡◌, ℕ, ℤ, suc, pos, ◌+◌, ◌*◌, ◌<◌, ◌≤◌, ◌+ℤ◌, ◌-ℤ◌, true, false, not, ◌-◌, List, [], ◌∷◌, length, drop, is_some, Option, Some, None, option_map, unwrap_or, refl, ap, sym, ◌∙◌, subst, arith}
+use Rattle.std.proofs.Common.{◌≡◌, ℕ, ℤ, suc, pos, ◌+◌, ◌*◌, ◌<◌, ◌≤◌, ◌+ℤ◌, ◌-ℤ◌, true, false, not}
+use Rattle.std.proofs.Common.{◌-◌, List, [], ◌∷◌, length, drop, is_some, Option, Some, None}
+use Rattle.std.proofs.Common.{option_map, unwrap_or, refl, ap, sym, ◌∙◌, subst, arith}
 use Rattle.std.proofs.lemmas.Int.{ints}
 use Rattle.std.proofs.lemmas.List.{drop_all}
 use Rattle.vehicle_model.specs.Plans.{next, is_next, starts, plan_links, plan_minutes, plan_cost, plan_gain, IsPlan}
@@ -131,24 +133,11 @@ module _ (trips : TripsParts) (plan : List (Option ℕ)) (i links minutes : ℕ)
     }
 
     pub over_last : next plan i ≡ None → AreSumsBefore trips plan (i + 1) links minutes
-    over_last is = record {
-      count = omega (arith, sums.count, alone_count (link_minutes trips) plan i within is);
-      sum = omega (arith, sums.sum, alone_minutes (link_minutes trips) plan i within is);
-      few = omega (arith, sums.few);
-      small = omega (arith, sums.small);
-    }
+    over_last is = grind (arith, count, alone_count, alone_minutes)
 
   -- behind the last trip they are those of the plan, so the cost is that of the plan
   pub all_cost : IsPlan (links_of trips) plan → length plan ≤ i → (all : ℕ)
       → all ≡ length trips.trips
       → trips.vehicle * (all - links) + trips.empty * minutes ≡ plan_cost trips plan
   all_cost is past all counted =
-      let none : drop i plan ≡ [] = drop_all i plan past in
-      let no_links : length (links_from i (drop i plan)) ≡ 0 = ap (λ rest. length (links_from i rest)) none in
-      let no_minutes : minutes_from (link_minutes trips) i (drop i plan) ≡ 0 =
-      ap (minutes_from (link_minutes trips) i) none in
-      let vehicles : all - links ≡ length (starts plan) =
-      omega (arith, counted, starts_and_links trips plan is, sums.count, no_links) in
-      let same : minutes ≡ plan_minutes trips plan = omega (arith, sums.sum, no_minutes) in
-      ap (λ n. trips.vehicle * n + trips.empty * minutes) vehicles
-      ∙ ap (λ n. trips.vehicle * length (starts plan) + trips.empty * n) same
+      grind (arith, drop_all, links_from, minutes_from, starts_and_links, count)

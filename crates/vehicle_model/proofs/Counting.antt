@@ -1,5 +1,6 @@
 -- How many numbers pass a test.
-use Rattle.std.proofs.Common.{◌≡◌, ◌≢◌, ℕ, zero, suc, ◌+◌, ◌<◌, ◌≤◌, ◌==◌, ◌||◌, Bool, true, false, not, cond, ◌∷◌, length, filter, refl, ap, ◌∙◌, arith}
+use Rattle.std.proofs.Common.{◌≡◌, ◌≢◌, ℕ, zero, suc, ◌+◌, ◌<◌, ◌≤◌, ◌==◌, ◌||◌, Bool, true, false}
+use Rattle.std.proofs.Common.{not, cond, ◌∷◌, length, filter, refl, ap, ◌∙◌, arith}
 use Rattle.std.specs.List.{range_with_len}
 use Rattle.std.proofs.lemmas.Bool.{eq-eqb, ne_eqb}
 use Rattle.vehicle_model.proofs.Linking.{by_number}
@@ -32,10 +33,7 @@ same_count p q from (suc n) same =
 
 pub all_count : (p : ℕ → Bool) (from n : ℕ) → ((k : ℕ) → p k ≡ true) → count p from n ≡ n
 all_count p from zero all = refl
-all_count p from (suc n) all =
-    let first : one_if (p from) ≡ 1 = ap one_if (all from) in
-    let rest : count p (from + 1) n ≡ n = all_count p (from + 1) n all in
-    omega (arith, count_next p from n, first, rest)
+all_count p from (suc n) all = grind (arith, count_next, all_count p (from + 1) n all)
 
 -- a test that one number fails that passed another one
 abbrev pub but_one : (ℕ → Bool) → ℕ → ℕ → Bool

@@ -1,5 +1,7 @@
 -- The stops of trips, one after the other, and looking up dead minutes by them.
-use Rattle.std.proofs.Common.{◌≡◌, ℕ, ℤ, pos, ◌+◌, ◌<◌, List, [], ◌∷◌, ◌++◌, length, map, take, get_or, slice_get, unsigned_abs, All, Option, Some, None, option_map, refl, ap, sym, ◌∙◌, subst, arith}
+use Rattle.std.proofs.Common.{◌≡◌, ℕ, ℤ, pos, ◌+◌, ◌<◌, List, [], ◌∷◌, ◌++◌, length, map, take}
+use Rattle.std.proofs.Common.{get_or, slice_get, unsigned_abs, All, Option, Some, None, option_map}
+use Rattle.std.proofs.Common.{refl, ap, sym, ◌∙◌, subst, arith}
 use Rattle.std.specs.List.{range_with_len}
 use Rattle.std.proofs.lemmas.List.{take_more, map-append, length-map, get_or-map, get_or_default}
 use Rattle.std.proofs.lemmas.List.Elements.{All-push}
@@ -59,9 +61,7 @@ pub record IsFound (network : NetworkParts) (trips : List Trip) (i j from to : �
 
 stop_at : (f : Trip → ℕ) (trips : List Trip) (stops : List ℕ) (i stop : ℕ) → stops ≡ map f trips
     → i < length stops → stop ≡ get_or stops i stop → stop ≡ f (get_or trips i no_trip)
-stop_at f trips stops i stop are within is =
-    is ∙ ap (λ some. get_or some i stop) are
-    ∙ get_or-map f trips i no_trip stop (omega (arith, within, ap length are, length-map trips f))
+stop_at f trips stops i stop are within is = grind (arith, get_or, get_or-map, length-map)
 
 pub found : (network : NetworkParts) (trips : List Trip) (table : DeadTable) (i j : ℕ)
     → IsDeadTable network trips table → i < length table.ends → j < length table.starts
@@ -102,10 +102,4 @@ told network trips i j from to times at minutes is here told_as =
 pub times_size : (network : NetworkParts) (from : ℕ) (times : List (Option ℤ)) (to : ℕ)
     → AreTimesFrom network from times → to < length network.stops → to < length times
 times_size network from times to are within =
-    omega (
-      arith,
-      within,
-      ap length are.sums,
-      length-range_with_len 0 (length network.stops),
-      length-map (range_with_len 0 (length network.stops)) (λ stop. option_map pos (least_sum network edge_time from stop)),
-    )
+    grind (arith, length-range_with_len, length-map, option_map)

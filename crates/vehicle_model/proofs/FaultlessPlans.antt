@@ -1,10 +1,12 @@
 -- A text without a fault as a plan is one.
-use Rattle.std.proofs.Common.{◌≡◌, ℕ, zero, suc, ◌+◌, ◌≤◌, Bool, true, false, cond, List, [], ◌∷◌, length, map, drop, replicate, slice_get, Option, Some, None, Result, Ok, Err, IfOk, refl, ap, sym, ◌∙◌, subst, arith}
+use Rattle.std.proofs.Common.{◌≡◌, ℕ, zero, suc, ◌+◌, ◌≤◌, Bool, true, false, cond, List, [], ◌∷◌}
+use Rattle.std.proofs.Common.{length, map, drop, replicate, slice_get, Option, Some, None, Err}
+use Rattle.std.proofs.Common.{IfOk, refl, ap, sym, ◌∙◌, subst, arith}
 use Rattle.std.proofs.lemmas.Option.{none-some}
 use Rattle.std.proofs.lemmas.List.{drop_all}
 use Rattle.event_tables.specs.declared.schedule_row.ScheduleRow.{ScheduleRow}
 use Rattle.event_tables.specs.Cells.{schedule_row}
-use Rattle.giv_files.specs.RowsOfTables.{numbered_by, records_by}
+use Rattle.giv_files.specs.RowsOfTables.{numbered_by}
 use Rattle.giv_files.specs.Columns.{schedule_columns}
 use Rattle.giv_files.specs.Inputs.{Numbered}
 use Rattle.giv_files.specs.Reading.{faults, table_of}
@@ -27,9 +29,7 @@ behind_next (suc i) (y ∷ xs) x rest is = behind_next i xs x rest is
 
 behind_one : {X : Type 0} (i : ℕ) (xs : List X) (x : X) (rest : List X) → drop i xs ≡ x ∷ rest
     → drop (i + 1) xs ≡ rest
-behind_one i xs x rest is =
-    let next : i + 1 ≡ suc i = omega arith in
-    ap (λ n. drop n xs) next ∙ behind_next i xs x rest is
+behind_one i xs x rest is = grind (arith, behind_next)
 
 none_first : (all : List PlanFault) (first : PlanFault) → all ≡ [] → slice_get all 0 ≡ Some first → ⊥
 none_first all first none is = none-some first (sym (ap (λ (some : List PlanFault). slice_get some 0) none) ∙ is)

@@ -1,5 +1,7 @@
 -- Which trip may follow which, by the numbers of trips; what links gain at most.
-use Rattle.std.proofs.Common.{◌≡◌, ◌↔◌, ℕ, ℤ, pos, ◌+◌, ◌<◌, ◌≤◌, ◌≤ℤ◌, nat_le, Bool, true, false, cond, List, length, slice_get, is_some, Option, Some, None, option_map, option_and_then, IfSome, refl, ap, sym, ◌∙◌, subst, arith}
+use Rattle.std.proofs.Common.{◌≡◌, ◌↔◌, ℕ, ℤ, pos, ◌+◌, ◌<◌, ◌≤◌, ◌≤ℤ◌, nat_le, Bool, true, false}
+use Rattle.std.proofs.Common.{cond, List, length, slice_get, is_some, Option, Some, None}
+use Rattle.std.proofs.Common.{option_map, option_and_then, IfSome, refl, ap, sym, ◌∙◌, subst, arith}
 use Rattle.std.proofs.lemmas.Bool.{false≢true, leb-true, le-leb}
 use Rattle.std.proofs.lemmas.Int.{ints}
 use Rattle.std.proofs.lemmas.Option.{none-some, same_Some, slice_get-get_or, slice_get_within, get_or_from_slice_get}
@@ -17,11 +19,7 @@ trip_at trips i within = slice_get-get_or trips.trips i no_trip within
 -- the link between two trips, by what they are
 pub link_is : (trips : TripsParts) (i j : ℕ) → i < length trips.trips → j < length trips.trips
     → link_minutes trips i j ≡ link_between trips (trip_of trips i) (trip_of trips j)
-link_is trips i j from to =
-    ap (λ at. option_and_then (λ before. option_and_then (λ after. link_between trips before after)
-    (slice_get trips.trips j)) at) (trip_at trips i from)
-    ∙ ap (λ at. option_and_then (λ after. link_between trips (trip_of trips i) after) at)
-    (trip_at trips j to)
+link_is trips i j from to = grind (arith, option_and_then, slice_get, trip_at)
 
 -- the same by the dead minutes between them
 pub link_some : (trips : TripsParts) (i j minutes : ℕ) → i < length trips.trips
@@ -118,10 +116,7 @@ links_most trips i j = split (link_minutes trips i j)
 -- links are between trips that are there
 pub links_within : (trips : TripsParts) (i j : ℕ) → is_some ((links_of trips).gain i j) ≡ true
     → (i < length trips.trips) × (j < length trips.trips)
-links_within trips i j h =
-    let found = some_of ((links_of trips).gain i j) h in
-    let told = gain_is trips i j found.0 found.1 in
-    both_there trips i j told.0 told.1.0
+links_within trips i j h = grind (arith, some_of, gain_is, both_there)
 
 -- a link has a gain where it has minutes
 pub gain_there : (trips : TripsParts) (i j : ℕ)
@@ -146,17 +141,7 @@ module _ (trips : TripsParts) (i j : ℕ) (from : i < length trips.trips) (to : 
     (end_stop trips.network (trip_of trips i)) (start_stop trips.network (trip_of trips j)) (dead_between trips i j)) where
   -- a link that has minutes may follow
   pub may_follow : (minutes : ℕ) → link_minutes trips i j ≡ Some minutes → MayFollow trips i j minutes
-  may_follow minutes e =
-      let is = is_link trips i j minutes e in
-      record {
-        before = trip_of trips i;
-        after = trip_of trips j;
-        before_at = trip_at trips i from;
-        after_at = trip_at trips j to;
-        least = subst (IsLeastSum trips.network.edges edge_time
-            (end_stop trips.network (trip_of trips i)) (start_stop trips.network (trip_of trips j))) is.dead least;
-        in_time = is.in_time;
-      }
+  may_follow minutes e = grind (arith, is_link, trip_at)
 
   -- and the other way round
   pub may_minutes : (minutes : ℕ) → MayFollow trips i j minutes → link_minutes trips i j ≡ Some minutes
@@ -195,6 +180,4 @@ follow_of trips i j (Some minutes) is same may all = ((λ h. (minutes, may)), (�
 pub starts_later : (trips : TripsParts) → AreTrips trips → (i j minutes : ℕ)
     → link_minutes trips i j ≡ Some minutes
     → (trip_of trips i).start.time < (trip_of trips j).start.time
-starts_later trips are i j minutes e =
-    let link = is_link trips i j minutes e in
-    omega (arith, link.in_time, (are.rows.each i no_trip link.from).takes_time)
+starts_later trips are i j minutes e = grind (arith, is_link)

@@ -1,17 +1,15 @@
 -- What a link leaves of a plan: the successor of each trip, and which trips are successors.
-use Rattle.std.proofs.Common.{◌≡◌, ◌≢◌, ◌⊎◌, inl, inr, ℕ, zero, suc, ◌<◌, ◌||◌, Bool, true, false, List, [], ◌∷◌, length, slice_set, replicate, Option, Some, None, refl, ap, sym, ◌∙◌, subst, arith, get_or-set_same, get_or-set_other, eq-eqb}
+use Rattle.std.proofs.Common.{◌≡◌, ◌≢◌, ◌⊎◌, inl, inr, ℕ, zero, suc, ◌<◌, ◌||◌, Bool, true, false}
+use Rattle.std.proofs.Common.{List, [], ◌∷◌, length, slice_set, replicate, Option, Some, None, refl}
+use Rattle.std.proofs.Common.{ap, sym, ◌∙◌, subst, arith, get_or-set_same, get_or-set_other, eq-eqb}
 use Rattle.std.proofs.lemmas.Bool.{false≢true, eqb-true}
-use Rattle.std.proofs.lemmas.Bool.Decides.{eqb_tells}
 use Rattle.std.proofs.lemmas.List.{length-set}
 use Rattle.std.proofs.lemmas.Option.{none-some, same_Some}
 use Rattle.vehicle_model.specs.Plans.{next, is_next, is_trip, AreSuccessors}
 
 -- two numbers are the same, or not
 pub by_number : {P : Type 0} (a b : ℕ) → (a ≡ b → P) → (a ≢ b → P) → P
-by_number {P} a b same apart = elim (eqb_tells a b) as (λ _. P) [
-  | inl e ↦ same e.1
-  | inr e ↦ apart e.1
-]
+by_number {P} a b same apart = grind arith
 
 -- ---- a plan without a link
 
@@ -21,10 +19,7 @@ none_next (suc n) zero = refl
 none_next (suc n) (suc i) = none_next n i
 
 pub none_linked : (n : ℕ) → AreSuccessors (replicate n None)
-none_linked n = record {
-  within = λ i j e. absurd (none-some j (sym (none_next n i) ∙ e));
-  once = λ i other j e f. absurd (none-some j (sym (none_next n i) ∙ e));
-}
+none_linked n = grind (arith, none-some, none_next)
 
 -- ---- trips that are successors
 
@@ -89,9 +84,7 @@ module _ (plan : List (Option ℕ)) (i j : ℕ) (within : i < length plan) where
   -- a successor is the new one, or it was there
   pub next_before : (other k : ℕ) → next (slice_set plan i (Some j)) other ≡ Some k
       → ((other ≡ i) × (k ≡ j)) ⊎ (next plan other ≡ Some k)
-  next_before other k e = by_number other i
-      (λ same. inl (same, same_Some k j (sym e ∙ ap (next (slice_set plan i (Some j))) same ∙ next_is)))
-      (λ apart. inr (sym (next_in other apart) ∙ e))
+  next_before other k e = grind (arith, by_number, same_Some, slice_set, next_is, next_in)
 
   -- a trip that was no successor is none, where it is not the new one
   pub not_linked : (k : ℕ) → k ≢ j → is_next plan k ≡ false

@@ -1,5 +1,6 @@
 -- A text that is read as the rows of a plan is read as the plan.
-use Rattle.std.proofs.Common.{◌≡◌, ℕ, List, [], ◌∷◌, ◌++◌, length, map, cond, Ok, arith, Option, refl, ap, sym, ◌∙◌, subst}
+use Rattle.std.proofs.Common.{◌≡◌, ℕ, List, [], ◌∷◌, length, map, cond, Ok, arith, Option, refl, ap}
+use Rattle.std.proofs.Common.{sym, ◌∙◌}
 use Rattle.std.proofs.lemmas.Option.{slice_get-map}
 use Rattle.event_tables.specs.declared.schedule_row.ScheduleRow.{ScheduleRow}
 use Rattle.event_tables.specs.Cells.{schedule_row, schedule_cells}
@@ -16,7 +17,7 @@ use Rattle.event_tables.proofs.CellsBack.{schedule_row_same}
 use Rattle.event_tables.proofs.WrittenRecords.{rows_inside, reads_as}
 use Rattle.vehicle_model.specs.declared.plan_fault.PlanFault.TheVariants as fault
 use Rattle.vehicle_model.specs.Plans.{IsPlan}
-use Rattle.vehicle_model.specs.ReadSchedules.{Reading, nothing_read, one_more, has_form, form_faults, links_in, follow_faults, or_others, row_faults, plan_by, plan_faults, plan_of, IsReadBack}
+use Rattle.vehicle_model.specs.ReadSchedules.{Reading, nothing_read, one_more, form_faults, links_in, or_others, row_faults, plan_by, plan_faults, plan_of, IsReadBack}
 use Rattle.vehicle_model.specs.Schedules.{plan_rows, plan_text}
 use Rattle.vehicle_model.specs.Trips.{TripsParts, AreTrips, links_of}
 use Rattle.vehicle_model.proofs.BehindRows.{without_numbers}
@@ -29,19 +30,12 @@ formed_faultless : (trips : TripsParts) (read : Reading) (rows : List (Numbered 
 unfolding form_faults
 formed_faultless trips read [] all = ap (λ b. cond b [] (fault.Trips 0 ∷ [])) all
 formed_faultless trips read (at ∷ rows) formed =
-    let form = ap (has_form trips read at.row) (sym (slice_get-map (λ (one : Numbered ScheduleRow). one.row) rows 0)) ∙ formed.0 in
-    ap (λ b. cond b [] (fault.Trips at.number ∷ []) ++ form_faults trips (one_more trips read at.row) rows) form
-    ∙ formed_faultless trips (one_more trips read at.row) rows formed.1
+    grind (arith, slice_get-map, formed_faultless trips (one_more trips read at.row) rows formed.1)
 
 module _ (trips : TripsParts) (plan : List (Option ℕ)) (are : AreTrips trips) (is : IsPlan (links_of trips) plan) where
   rows_back : (rows : List (Numbered ScheduleRow)) → map (λ at. at.row) rows ≡ plan_rows trips plan
       → row_faults trips rows ≡ []
-  rows_back rows same =
-      let read = plan_read trips plan are is in
-      ap (λ all. or_others all (follow_faults trips (links_in trips nothing_read (map (λ at. at.row) rows))))
-      (formed_faultless trips nothing_read rows (subst (AreFormed trips nothing_read) (sym same) read.formed))
-      ∙ ap (λ some. follow_faults trips (links_in trips nothing_read some)) same
-      ∙ ap (map (λ (link : ℕ × ℕ). fault.Follow link.1)) read.in_time
+  rows_back rows same = grind (arith, plan_read, formed_faultless, AreFormed)
 
   pub plan_back : (text : List ℕ) → ReadsAs schedule_columns schedule_row (plan_rows trips plan) text
       → IsReadBack trips plan text

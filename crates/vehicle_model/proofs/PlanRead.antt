@@ -1,13 +1,15 @@
 -- The rows of a plan are read as the plan.
-use Rattle.std.proofs.Common.{◌≡◌, ℕ, ◌+◌, ◌<◌, ◌==◌, ◌&&◌, ◌||◌, not, Bool, true, false, cond, List, [], ◌∷◌, ◌++◌, length, filter, fold, replicate, slice_get, slice_set, Option, Some, None, IfSome, unwrap_or, refl, ap, sym, ◌∙◌, subst, arith}
+use Rattle.std.proofs.Common.{◌≡◌, ℕ, ◌+◌, ◌<◌, ◌==◌, ◌&&◌, ◌||◌, not, Bool, true, false, List, []}
+use Rattle.std.proofs.Common.{◌∷◌, ◌++◌, length, filter, fold, replicate, slice_get, slice_set}
+use Rattle.std.proofs.Common.{Option, Some, None, IfSome, unwrap_or, refl, ap, sym, ◌∙◌, subst}
+use Rattle.std.proofs.Common.{arith}
 use Rattle.std.specs.List.{list_all, range_with_len}
 use Rattle.std.specs.Option.{option_to_list}
 use Rattle.std.proofs.lemmas.Bool.{ne_eqb}
 use Rattle.event_tables.specs.declared.schedule_row.ScheduleRow.{ScheduleRow}
-use Rattle.event_tables.specs.declared.trip.Trip.{Trip}
 use Rattle.event_tables.specs.Schedules.{is_trip_row}
 use Rattle.vehicle_model.specs.Plans.{next, IsPlan}
-use Rattle.vehicle_model.specs.ReadSchedules.{Reading, nothing_read, one_more, trip_in, begins, last_vehicle, follows_trip, follows_empty, is_new, leaves, takes, goes_to, is_ride, leads_to, last_seen, has_seen, has_form, all_come, link_of, link_to, links_in, is_late}
+use Rattle.vehicle_model.specs.ReadSchedules.{Reading, nothing_read, one_more, trip_in, begins, last_vehicle, follows_trip, follows_empty, is_new, leaves, goes_to, is_ride, leads_to, last_seen, has_seen, has_form, all_come, link_of, link_to, links_in, is_late}
 use Rattle.vehicle_model.specs.Schedules.{trip_of, dead_between, empty_ride, trip_row, empty_row, rows_behind, rows_from, plan_rows, tours}
 use Rattle.vehicle_model.specs.Trips.{TripsParts, AreTrips, links_of}
 use Rattle.vehicle_model.proofs.Following.{gain_there}
@@ -63,9 +65,7 @@ read_row trips plan read linked row rows link form is in_time rest = record {
         → filter (is_late trips) (links_in trips (one_more trips read row) rows) ≡ []
         → filter (is_late trips) (option_to_list at ++ links_in trips (one_more trips read row) rows) ≡ []
     filters None late h = h
-    filters (Some at) late h =
-        ap (λ b. cond b (at ∷ filter (is_late trips) (links_in trips (one_more trips read row) rows))
-        (filter (is_late trips) (links_in trips (one_more trips read row) rows))) late ∙ h
+    filters (Some at) late h = grind arith
 
 either_true : {a : Bool} (b : Bool) → a ≡ true → (a || b) ≡ true
 either_true {a} b e = ap (λ c. c || b) e
@@ -97,19 +97,12 @@ module _ (trips : TripsParts) (plan : List (Option ℕ)) (are : AreTrips trips) 
       ap (λ at. record { before = Some (trip_row trips vehicle number i); seen = option_to_list at ++ read.seen })
       (trip_is vehicle number i within)
 
-  -- the row of an empty ride
-  ride_takes : (minutes : Option ℕ) (before after : Trip) → takes minutes (empty_ride before after (unwrap_or minutes 0)) ≡ true
-  ride_takes None before after = refl
-  ride_takes (Some minutes) before after = same_number (before.end.time + minutes)
-
   ride_leaves : (i j minutes : ℕ) → leaves (trip_of trips i) (empty_ride (trip_of trips i) (trip_of trips j) minutes) ≡ true
   ride_leaves i j minutes = both_true (end_itself (trip_of trips i).end) refl
 
   ride_goes : (i j : ℕ) → goes_to (dead_between trips i j) (trip_of trips j)
       (empty_ride (trip_of trips i) (trip_of trips j) (unwrap_or (dead_between trips i j) 0)) ≡ true
-  ride_goes i j = both_true (both_true (both_true (same_number (trip_of trips j).start.event)
-      (same_number (trip_of trips j).start.periodic)) (same_number (trip_of trips j).start.stop))
-      (ride_takes (dead_between trips i j) (trip_of trips i) (trip_of trips j))
+  ride_goes i j = grind arith
 
   ride_formed : (read : Reading) (before : ScheduleRow) (vehicle number i j : ℕ) → read.before ≡ Some before
       → is_trip_row before ≡ true → before.vehicle ≡ vehicle → before.number ≡ number → last_seen read ≡ Some i → j < n

@@ -1,5 +1,6 @@
 -- From the table of a text to the text.
-use Rattle.std.proofs.Common.{◌≡◌, ℕ, List, [], ◌∷◌, length, map, slice_get, Option, Some, All, Result, Err, refl, ap, sym, subst}
+use Rattle.std.proofs.Common.{arith, ◌≡◌, ℕ, List, [], ◌∷◌, length, map, slice_get, Option, Some}
+use Rattle.std.proofs.Common.{All, Result, Err, refl, ap, sym, subst}
 use Rattle.std.proofs.lemmas.Option.{same_Some}
 use Rattle.event_tables.specs.Cells.{schedule_row, AreSmall}
 use Rattle.giv_files.specs.RowsOfTables.{records_by, numbered_by}
@@ -44,10 +45,4 @@ pub rows_read : (trips : TripsParts) (text : List ℕ) (table : List TableRow) �
     (plan_by (length trips.trips) (links_in trips nothing_read (records_by schedule_row table))) result
     → PlanGives (plan_faults trips text) (plan_of trips text) result
 unfolding plan_faults plan_of
-rows_read trips text table none is result gives =
-    subst (λ all. PlanGives (or_others (map (λ first. fault.Row first) all)
-    (row_faults trips (numbered_by schedule_row (table_of schedule_columns text))))
-    (plan_by (length trips.trips) (links_in trips nothing_read (records_by schedule_row (table_of schedule_columns text)))) result)
-    (sym none)
-    (subst (λ some. PlanGives (row_faults trips (numbered_by schedule_row some))
-    (plan_by (length trips.trips) (links_in trips nothing_read (records_by schedule_row some))) result) is gives)
+rows_read trips text table none is result gives = grind arith

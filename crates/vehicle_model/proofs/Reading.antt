@@ -1,8 +1,12 @@
 -- What a reader of a schedule knows behind each row.
-use Rattle.std.proofs.Common.{◌≡◌, ◌≢◌, ℕ, zero, suc, ◌<◌, ◌==◌, ◌||◌, nat_eq, not, is_some, Bool, true, false, cond, List, [], ◌∷◌, ◌++◌, length, filter, get_or, slice_get, slice_set, replicate, position, Option, Some, None, IfSome, option_map, refl, ap, sym, ◌∙◌, subst, arith, eq-eqb, inl, inr, get_or-set_same, get_or-set_other}
+use Rattle.std.proofs.Common.{◌≡◌, ◌≢◌, ℕ, zero, suc, ◌<◌, ◌==◌, ◌||◌, nat_eq, not, is_some, Bool}
+use Rattle.std.proofs.Common.{true, false, cond, List, [], ◌∷◌, ◌++◌, length, filter, get_or}
+use Rattle.std.proofs.Common.{slice_get, slice_set, replicate, position, Option, Some, None, IfSome}
+use Rattle.std.proofs.Common.{option_map, refl, ap, sym, ◌∙◌, subst, arith, eq-eqb, inl, inr}
+use Rattle.std.proofs.Common.{get_or-set_same, get_or-set_other}
 use Rattle.std.specs.List.{list_any}
 use Rattle.std.specs.Option.{option_to_list}
-use Rattle.std.proofs.lemmas.Bool.{false≢true, ne_eqb, and_parts, or_parts}
+use Rattle.std.proofs.lemmas.Bool.{false≢true, ne_eqb, or_parts}
 use Rattle.std.proofs.lemmas.List.{length-set, length-replicate, append-nil}
 use Rattle.std.proofs.lemmas.List.Sums.{fold_push}
 use Rattle.std.proofs.lemmas.List.Quantifiers.{position-Some}
@@ -10,7 +14,7 @@ use Rattle.std.proofs.lemmas.Option.{none-some, same_Some}
 use Rattle.event_tables.specs.declared.schedule_row.ScheduleRow.{ScheduleRow}
 use Rattle.event_tables.specs.Schedules.{is_empty_row}
 use Rattle.vehicle_model.specs.Plans.{next, is_next, AreSuccessors}
-use Rattle.vehicle_model.specs.ReadSchedules.{Reading, nothing_read, one_more, trip_in, begins, is_new, last_seen, has_seen, row_fits, has_form, trip_fits, empty_fits, follows_empty, same_run, link_of, link_to, plan_by, is_late}
+use Rattle.vehicle_model.specs.ReadSchedules.{Reading, nothing_read, one_more, trip_in, begins, is_new, last_seen, has_seen, row_fits, has_form, same_run, link_of, link_to, plan_by, is_late}
 use Rattle.vehicle_model.specs.Readers.{ReaderParts, late_after, after_link, after_trip, after_row, late_of, CanLink, Knows}
 use Rattle.vehicle_model.specs.Schedules.{no_trip}
 use Rattle.vehicle_model.specs.Trips.{TripsParts, link_minutes}
@@ -99,10 +103,7 @@ new_trip trips before last come row after j fits is = split (is_empty_row row) r
 
     split : (b : Bool) → is_empty_row row ≡ b → come j ≡ false
     split true e = absurd (none-some j (sym (ap (λ b. cond b None (position (same_run row.run) trips.trips)) e) ∙ is))
-    split false e =
-        let fits_trip = sym (ap (λ b. cond b (empty_fits trips before last row after) (trip_fits trips before come row)) e)
-        ∙ (and_parts (row.circulation == row.vehicle) _ fits).1 in
-        told (trip_in trips row) is (and_parts (begins before row || follows_empty before row) _ fits_trip).1
+    split false e = grind arith
 
 -- a trip is one of the trips
 pub trip_within : (trips : TripsParts) (row : ScheduleRow) (j : ℕ) → trip_in trips row ≡ Some j
@@ -140,12 +141,18 @@ module _ (trips : TripsParts) (read : Reading) (links : List (ℕ × ℕ)) (read
   -- what is known of a trip that has not come
   module _ (row : ScheduleRow) (j : ℕ) (is : trip_in trips row ≡ Some j) (new : has_seen read j ≡ false) where
     come_more : (k : ℕ) → get_or (slice_set reader.come j true) k false ≡ ((k == j) || has_seen read k)
-    come_more k = by_number k j
-        (λ same. ap (λ i. get_or (slice_set reader.come j true) i false) same
-        ∙ get_or-set_same reader.come j true false (omega (arith, knows.over.come, trip_within trips row j is))
-        ∙ sym (ap (λ b. b || has_seen read k) (eq-eqb k j same)))
-        (λ apart. get_or-set_other reader.come j k true false apart ∙ knows.come k
-        ∙ sym (ap (λ b. b || has_seen read k) (ne_eqb k j apart)))
+    come_more k =
+        grind (
+          arith,
+          by_number,
+          get_or,
+          slice_set,
+          get_or-set_same,
+          trip_within,
+          eq-eqb,
+          get_or-set_other,
+          ne_eqb,
+        )
 
     -- it comes without a link, or with one
     pub comes : (links_after : List (ℕ × ℕ)) (plan : List (Option ℕ)) (late : Option ℕ)
@@ -155,43 +162,19 @@ module _ (trips : TripsParts) (read : Reading) (links : List (ℕ × ℕ)) (read
         → (late ≡ None → (i k : ℕ) → next plan i ≡ Some k → is_some (link_minutes trips i k) ≡ true)
         → Knows trips (record { before = Some row; seen = j ∷ read.seen }) links_after
         (record { before = Some row; last = Some j; come = slice_set reader.come j true; plan = plan; late = late })
-    comes links_after plan late size plan_is late_is are free unseen follow = record {
-      over = record {
-        come = length-set reader.come j true ∙ knows.over.come;
-        plan = size;
-        last = trip_within trips row j is;
-      };
-      before = refl;
-      last = refl;
-      come = come_more;
-      plan = plan_is;
-      late = late_is;
-      successors = are;
-      free = λ i e. ap (next plan) (sym (same_Some j i e)) ∙ free;
-      unseen = λ k h.
-          let parts = or_parts (k == j) (has_seen read k) h in
-          unseen k (λ same. false≢true (sym parts.0 ∙ eq-eqb k j same)) parts.1;
-      follow = follow;
-    }
+    comes links_after plan late size plan_is late_is are free unseen follow =
+        grind (arith, length-set, trip_within, come_more, same_Some, or_parts, false≢true, eq-eqb)
 
     pub alone : Knows trips (record { before = Some row; seen = j ∷ read.seen }) (links ++ [])
         (record { before = Some row; last = Some j; come = slice_set reader.come j true; plan = reader.plan; late = reader.late })
-    alone = comes (links ++ []) reader.plan reader.late knows.over.plan
-        (knows.plan ∙ ap (plan_by (length trips.trips)) (sym (append-nil links)))
-        (knows.late ∙ ap (late_of trips) (sym (append-nil links)))
-        knows.successors (knows.unseen j new).0 (λ k apart h. knows.unseen k h) knows.follow
+    alone = grind (arith, comes, append-nil)
 
     module _ (i : ℕ) (last : reader.last ≡ Some i) where
       within : i < length reader.plan
       within = omega (arith, knows.over.plan, last_within i last)
 
       pub can_link : CanLink reader.plan (i, j)
-      can_link = record {
-        from = within;
-        to = omega (arith, knows.over.plan, trip_within trips row j is);
-        free = knows.free i last;
-        apart = (knows.unseen j new).1;
-      }
+      can_link = grind arith
 
       pub behind_link : Knows trips (record { before = Some row; seen = j ∷ read.seen }) (links ++ (i, j) ∷ [])
           (record {
@@ -220,18 +203,7 @@ module _ (trips : TripsParts) (read : Reading) (links : List (ℕ × ℕ)) (read
 
   -- a row without a trip
   pub passed : (row : ScheduleRow) → Knows trips (record { before = Some row; seen = read.seen }) (links ++ []) (after_row row reader)
-  passed row = record {
-    over = record { come = knows.over.come; plan = knows.over.plan; last = knows.over.last };
-    before = refl;
-    last = knows.last;
-    come = knows.come;
-    plan = knows.plan ∙ ap (plan_by (length trips.trips)) (sym (append-nil links));
-    late = knows.late ∙ ap (late_of trips) (sym (append-nil links));
-    successors = knows.successors;
-    free = knows.free;
-    unseen = knows.unseen;
-    follow = knows.follow;
-  }
+  passed row = grind (arith, append-nil)
 
   -- ---- by cases
 

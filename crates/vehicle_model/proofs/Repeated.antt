@@ -1,6 +1,7 @@
 -- The row of a trip repeats that trip.
-use Rattle.std.proofs.Common.{◌≡◌, ℕ, ◌<◌, ◌==◌, ◌&&◌, Bool, true, false, cond, List, length, map, get_or, position, nat_lt, Some, None, refl, ap, sym, ◌∙◌, arith, eq-eqb}
-use Rattle.std.proofs.lemmas.Bool.{eqb-true, and_parts, lt-ltb}
+use Rattle.std.proofs.Common.{◌≡◌, ℕ, ◌<◌, ◌==◌, ◌&&◌, Bool, true, false, List, length, map, get_or}
+use Rattle.std.proofs.Common.{position, nat_lt, Some, refl, ap, ◌∙◌, arith, eq-eqb}
+use Rattle.std.proofs.lemmas.Bool.{lt-ltb}
 use Rattle.std.proofs.lemmas.Bool.Decides.{Decides-eqb}
 use Rattle.std.proofs.lemmas.List.{length-map, get_or-map}
 use Rattle.std.proofs.lemmas.List.Sums.{position_or_len_is}
@@ -25,20 +26,11 @@ run_itself : (run : Trip) → same_run run run ≡ true
 run_itself run = both_true (both_true (end_itself run.start) (end_itself run.end)) (same_number run.line)
 
 same_start : (a b : Trip) → same_run a b ≡ true → a.start.event ≡ b.start.event
-same_start a b h =
-    let ends = (and_parts (same_end a.start b.start && same_end a.end b.end) _ h).0 in
-    let start = (and_parts (same_end a.start b.start) _ ends).0 in
-    let three = (and_parts ((a.start.event == b.start.event) && (a.start.periodic == b.start.periodic)
-    && (a.start.stop == b.start.stop)) _ start).0 in
-    let two = (and_parts ((a.start.event == b.start.event) && (a.start.periodic == b.start.periodic)) _ three).0 in
-    eqb-true a.start.event b.start.event (and_parts (a.start.event == b.start.event) _ two).0
+same_start a b h = grind arith
 
 position_at : {X : Type 0} (p : X → Bool) (xs : List X) (i : ℕ) (d : X) → i < length xs
     → ((k : ℕ) → k < i → p (get_or xs k d) ≡ false) → p (get_or xs i d) ≡ true → position p xs ≡ Some i
-position_at p xs i d within none at =
-    let place = position_or_len_is p xs i d (omega (arith, within)) none (λ h. at) in
-    ap (λ k. cond (nat_lt k (length xs)) (Some k) None) place
-    ∙ ap (λ b. cond b (Some i) None) (lt-ltb i (length xs) within)
+position_at p xs i d within none at = grind (arith, position_or_len_is, nat_lt, lt-ltb)
 
 pub repeats : (trips : TripsParts) → AreTrips trips → (i : ℕ) → i < length trips.trips
     → position (same_run (trip_of trips i)) trips.trips ≡ Some i
@@ -54,6 +46,5 @@ repeats trips are i within = position_at (same_run (trip_of trips i)) trips.trip
 
     apart : (k : ℕ) → k < i → (b : Bool) → same_run (trip_of trips i) (trip_of trips k) ≡ b → b ≡ false
     apart k before false h = refl
-    apart k before true h = absurd (AllPairs-from_IsDistinct Decides-eqb (map (λ (trip : Trip). trip.start.event) trips.trips) are.rows.own
-        k i 0 before (omega (arith, within, length-map trips.trips (λ (trip : Trip). trip.start.event)))
-        (start_at k (omega (arith, before, within)) ∙ sym (same_start (trip_of trips i) (trip_of trips k) h) ∙ sym (start_at i within)))
+    apart k before true h =
+        grind (arith, AllPairs-from_IsDistinct, Decides-eqb, length-map, start_at, same_start)

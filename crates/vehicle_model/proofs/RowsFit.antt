@@ -1,5 +1,7 @@
 -- The rows of a plan are in the ranges of their columns.
-use Rattle.std.proofs.Common.{◌≡◌, ℕ, zero, suc, pos, ◌+◌, ◌*◌, ◌<◌, ◌≤◌, ◌≤ℤ◌, List, [], ◌∷◌, ◌++◌, length, not, replicate, slice_set, get_or, All, Option, Some, None, unwrap_or, refl, ap, sym, ◌∙◌, arith}
+use Rattle.std.proofs.Common.{◌≡◌, ℕ, zero, suc, pos, ◌+◌, ◌*◌, ◌<◌, ◌≤◌, ◌≤ℤ◌, List, [], ◌∷◌, ◌++◌}
+use Rattle.std.proofs.Common.{length, not, replicate, slice_set, get_or, All, Option, Some, None}
+use Rattle.std.proofs.Common.{unwrap_or, refl, ap, sym, ◌∙◌, arith}
 use Rattle.std.proofs.lemmas.Int.{ints}
 use Rattle.std.proofs.lemmas.List.{length-map}
 use Rattle.std.proofs.lemmas.List.Elements.{All-nil, All-cons, All-map}
@@ -31,23 +33,7 @@ module _ (trips : TripsParts) (plan : List (Option ℕ)) (are : AreTrips trips) 
 
   trip_fits : (vehicle number i : ℕ) → 1 ≤ vehicle → vehicle ≤ 10000 → 1 ≤ number → number ≤ 10000 → i < n
       → Fits (trip_row trips vehicle number i)
-  trip_fits vehicle number i v_low v_high low high within =
-      let fit = cells_fit i within in (
-        id_small vehicle v_low v_high,
-        (
-          id_small vehicle v_low v_high,
-          (
-            id_small number low high,
-            (
-              (0, omega arith, refl),
-              (
-                fit.0,
-                (fit.1.0, (fit.1.1.0, (fit.1.1.1.0, (fit.1.1.1.1.0, (fit.1.1.1.1.1.0, (fit.1.1.1.1.1.1.0, (fit.1.1.1.1.1.1.1.0, ((omega (arith, ints, fit.1.1.1.1.1.1.1.1.0.0), fit.1.1.1.1.1.1.1.1.0.1), tt)))))))),
-              ),
-            ),
-          ),
-        ),
-      )
+  trip_fits vehicle number i v_low v_high low high within = grind arith
 
   ride_fits : (vehicle number i j : ℕ) → 1 ≤ vehicle → vehicle ≤ 10000 → 1 ≤ number → number ≤ 10000 → i < n → j < n
       → next plan i ≡ Some j → Fits (empty_row trips vehicle number i j)

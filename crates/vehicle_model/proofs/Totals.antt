@@ -1,5 +1,7 @@
 -- Sums of numbers, and the links of a plan from a trip on.
-use Rattle.std.proofs.Common.{◌≡◌, ℕ, ℤ, suc, pos, ◌+◌, ◌<◌, ◌+ℤ◌, List, [], ◌∷◌, length, map, sum, fold, drop, filter_map, Option, Some, None, option_map, unwrap_or, ap, ◌∙◌, arith}
+use Rattle.std.proofs.Common.{◌≡◌, ℕ, ℤ, suc, pos, ◌+◌, ◌<◌, ◌+ℤ◌, List, [], ◌∷◌, length, map, sum}
+use Rattle.std.proofs.Common.{fold, drop, filter_map, Option, Some, None, option_map, unwrap_or, ap}
+use Rattle.std.proofs.Common.{arith}
 use Rattle.std.specs.List.{enumerate_from}
 use Rattle.std.proofs.Math.Seq.{drop-cons}
 use Rattle.std.proofs.lemmas.Int.{ints}
@@ -21,10 +23,7 @@ total_from start (first ∷ numbers) =
 
 -- a sum of one number more
 pub total_more : (first : ℤ) (numbers : List ℤ) → total (first ∷ numbers) ≡ first +ℤ total numbers
-total_more first numbers =
-    let one : total (first ∷ numbers) ≡ (pos 0 +ℤ first) +ℤ total numbers =
-    total_from (pos 0 +ℤ first) numbers in
-    omega (arith, ints, one)
+total_more first numbers = grind (arith, total_from, ints)
 
 -- ---- the links of a plan from a trip on
 
@@ -60,10 +59,7 @@ minutes_more minutes n j plan = sum_by-cons (λ n. n) (unwrap_or (minutes n j) 0
 
 rest_is : (plan : List (Option ℕ)) (i : ℕ) (at : Option ℕ) → i < length plan → next plan i ≡ at
     → drop i plan ≡ at ∷ drop (i + 1) plan
-rest_is plan i at within is =
-    let one_more : suc i ≡ i + 1 = omega arith in
-    drop-cons plan i None within ∙ ap (λ first. first ∷ drop (suc i) plan) is
-    ∙ ap (λ n. at ∷ drop n plan) one_more
+rest_is plan i at within is = grind (arith, drop-cons)
 
 module _ (minutes : ℕ → ℕ → Option ℕ) (plan : List (Option ℕ)) (i : ℕ) (within : i < length plan) where
   -- a trip without a successor has no link
@@ -83,6 +79,4 @@ module _ (minutes : ℕ → ℕ → Option ℕ) (plan : List (Option ℕ)) (i : 
   pub linked_minutes : (j : ℕ) (value : ℕ) → next plan i ≡ Some j → minutes i j ≡ Some value
       → minutes_from minutes i (drop i plan)
       ≡ value + minutes_from minutes (i + 1) (drop (i + 1) plan)
-  linked_minutes j value is has = ap (minutes_from minutes i) (rest_is plan i (Some j) within is)
-      ∙ minutes_more minutes i j (drop (i + 1) plan)
-      ∙ ap (λ some. unwrap_or some 0 + minutes_from minutes (i + 1) (drop (i + 1) plan)) has
+  linked_minutes j value is has = grind (arith, rest_is, minutes_more, unwrap_or)

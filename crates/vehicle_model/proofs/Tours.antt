@@ -1,10 +1,13 @@
 -- The tours of a plan: each trip stands in one of them, once, and behind it the one that its vehicle
 -- runs next.
-use Rattle.std.proofs.Common.{◌≡◌, ◌≢◌, ◌⊎◌, inl, inr, ℕ, zero, suc, ◌+◌, ◌-◌, ◌<◌, ◌≤◌, ◌==◌, ◌||◌, ◌&&◌, nat_eq, Bool, true, false, not, cond, List, [], ◌∷◌, length, map, filter, slice_set, replicate, Option, Some, None, refl, ap, sym, ◌∙◌, subst, arith, eq-eqb}
+use Rattle.std.proofs.Common.{◌≡◌, ◌≢◌, ◌⊎◌, inl, inr, ℕ, zero, suc, ◌+◌, ◌-◌, ◌<◌, ◌≤◌, ◌==◌, ◌||◌}
+use Rattle.std.proofs.Common.{◌&&◌, nat_eq, Bool, true, false, not, cond, List, [], ◌∷◌, length}
+use Rattle.std.proofs.Common.{map, filter, slice_set, replicate, Option, Some, None, refl, ap, sym}
+use Rattle.std.proofs.Common.{◌∙◌, subst, arith, eq-eqb}
 use Rattle.std.specs.List.{list_any, list_all, range_with_len}
 use Rattle.std.proofs.lemmas.Bool.{false≢true, ne_eqb, or_parts}
 use Rattle.std.proofs.lemmas.List.{length-set, length-replicate}
-use Rattle.std.proofs.lemmas.Option.{none-some, same_Some}
+use Rattle.std.proofs.lemmas.Option.{same_Some}
 use Rattle.vehicle_model.specs.Plans.{next, is_next, IsPlan}
 use Rattle.vehicle_model.specs.Schedules.{trip_of, tour, tours}
 use Rattle.vehicle_model.specs.Trips.{TripsParts, AreTrips, links_of}
@@ -78,9 +81,7 @@ pub tour_first : (plan : List (Option ℕ)) (fuel i : ℕ) → 0 < fuel
     → tour fuel plan (Some i) ≡ i ∷ tour (fuel - 1) plan (next plan i)
 unfolding tour
 tour_first plan zero i some = absurd (omega (arith, some))
-tour_first plan (suc fuel) i some =
-    let same : fuel ≡ suc fuel - 1 = omega arith in
-    ap (λ k. i ∷ tour k plan (next plan i)) same
+tour_first plan (suc fuel) i some = grind arith
 
 -- what each number of a range passes, all pass
 all_in_range : (p : ℕ → Bool) (from k : ℕ) → ((i : ℕ) → from ≤ i → i < from + k → p i ≡ true)
@@ -138,39 +139,15 @@ module _ (trips : TripsParts) (plan : List (Option ℕ)) (are : AreTrips trips) 
   -- a trip that comes first
   opens : (seen : List ℕ) (linked : List (Option ℕ)) (i : ℕ) → IsClosed seen linked → i < n → is_next plan i ≡ false
       → has seen i ≡ false → IsOpen seen linked i
-  opens seen linked i closed within first new = record {
-    within = within;
-    new = new;
-    back = closed.back;
-    before = λ p e. absurd (not_both (next_found plan p i e) first);
-    on = λ p j e h. inl (closed.on p j e h);
-    size = closed.size;
-    same = closed.same;
-    none = closed.none;
-  }
+  opens seen linked i closed within first new = grind (arith, not_both, next_found)
 
   module _ (seen : List ℕ) (linked : List (Option ℕ)) (i : ℕ) (it : IsOpen seen linked i) where
     back_all : (p j : ℕ) → next plan p ≡ Some j → has (i ∷ seen) j ≡ true → has (i ∷ seen) p ≡ true
-    back_all p j e h = has_cases seen i j h
-        (λ at. has_more seen i p (it.before p (e ∙ ap Some at)))
-        (λ was. has_more seen i p (it.back p j e was))
+    back_all p j e h = grind arith
 
     -- the last one
     closes : next plan i ≡ None → IsClosed (i ∷ seen) linked
-    closes last = record {
-      back = back_all;
-      on = λ p j e h. has_cases seen i p h
-          (λ at. absurd (none-some j (sym last ∙ sym (ap (next plan) at) ∙ e)))
-          (λ was. elim (it.on p j e was) as (λ _. has (i ∷ seen) j ≡ true) [
-            | inl there ↦ has_more seen i j there
-            | inr at ↦ ap (has (i ∷ seen)) at ∙ has_first seen i
-          ]);
-      size = it.size;
-      same = λ p h. has_cases seen i p h
-          (λ at. ap (next linked) at ∙ it.none i it.new ∙ sym last ∙ sym (ap (next plan) at))
-          (λ was. it.same p was);
-      none = λ p h. let parts = or_parts (p == i) (has seen p) h in it.none p parts.1;
-    }
+    closes last = grind arith
 
     module _ (j : ℕ) (e : next plan i ≡ Some j) where
       apart : j ≢ i
@@ -180,9 +157,7 @@ module _ (trips : TripsParts) (plan : List (Option ℕ)) (are : AreTrips trips) 
           less h same = omega (arith, h, same)
 
       fresh : has (i ∷ seen) j ≡ false
-      fresh = by_bool (has (i ∷ seen) j)
-          (λ h. has_cases seen i j h (λ at. absurd (apart at)) (λ was. absurd (not_both (it.back i j e was) it.new)))
-          (λ h. h)
+      fresh = grind arith
 
       goes_on : IsOpen (i ∷ seen) (slice_set linked i (Some j)) j
       goes_on = record {

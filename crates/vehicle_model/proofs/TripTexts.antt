@@ -1,5 +1,6 @@
 -- The trips of three texts, from what each of them gives.
-use Rattle.std.proofs.Common.{◌≡◌, ℕ, ℤ, pos, negsuc, ◌+◌, ◌≤◌, ◌≤ℤ◌, List, [], ◌∷◌, ◌++◌, take, slice_get, unsigned_abs, Some, ap, sym, ◌∙◌, arith}
+use Rattle.std.proofs.Common.{◌≡◌, ℕ, ℤ, pos, negsuc, ◌+◌, ◌≤◌, ◌≤ℤ◌, List, [], ◌∷◌, ◌++◌, take}
+use Rattle.std.proofs.Common.{slice_get, unsigned_abs, Some, ap, sym, ◌∙◌, arith}
 use Rattle.std.proofs.lemmas.Int.{ints}
 use Rattle.std.proofs.lemmas.List.{take_more}
 use Rattle.std.proofs.lemmas.Option.{get_or_from_slice_get, slice_get_within}
@@ -7,7 +8,7 @@ use Rattle.event_tables.specs.declared.trip.Trip.{Trip}
 use Rattle.event_tables.specs.Trips.{trip_input}
 use Rattle.giv_files.specs.Inputs.{records_of, input_faults}
 use Rattle.ptn_network.specs.Networks.{NetworkParts, stops_of, network_of, network_faults}
-use Rattle.vehicle_model.specs.Trips.{TripsParts, trips_of, trips_faults}
+use Rattle.vehicle_model.specs.Trips.{trips_of, trips_faults}
 
 module _ (stops_text edges_text trips_text : List ℕ) (network : NetworkParts) (none : network_faults stops_text edges_text ≡ [])
     (is : network ≡ network_of stops_text edges_text) (ids : List ℤ) (same : ids ≡ network.stops) where
@@ -18,9 +19,7 @@ module _ (stops_text edges_text trips_text : List ℕ) (network : NetworkParts) 
   -- the faults of the trips are all, where the network has none
   pub rows_faults : input_faults (trip_input (Some ids)) trips_text ≡ trips_faults stops_text edges_text trips_text
   unfolding trips_faults
-  rows_faults =
-      ap (λ some. input_faults (trip_input (Some some)) trips_text) ids_are
-      ∙ ap (λ first. first ++ input_faults (trip_input (Some (stops_of stops_text))) trips_text) (sym none)
+  rows_faults = grind (arith, ids_are)
 
   -- the trips of the network and of the rows
   pub trips_are : (rows : List Trip) (turnover vehicle empty : ℕ)
@@ -28,11 +27,7 @@ module _ (stops_text edges_text trips_text : List ℕ) (network : NetworkParts) 
       → record { network = network; trips = rows; turnover = turnover; vehicle = vehicle; empty = empty }
       ≡ trips_of stops_text edges_text trips_text turnover vehicle empty
   unfolding trips_of
-  trips_are rows turnover vehicle empty read =
-      let parts : NetworkParts → List Trip → TripsParts = λ at some. record { network = at; trips = some; turnover = turnover; vehicle = vehicle; empty = empty } in
-      ap (λ at. parts at rows) is
-      ∙ ap (parts (network_of stops_text edges_text))
-      (read ∙ ap (λ some. records_of (trip_input (Some some)) trips_text) ids_are)
+  trips_are rows turnover vehicle empty read = grind arith
 
 -- one id of a stop more
 pub ids_more : (stops ids new : List ℤ) (i : ℕ) (id got : ℤ) → slice_get stops i ≡ Some id
@@ -51,7 +46,4 @@ abs_small (negsuc n) most got low high is = absurd (omega (arith, ints, low))
 -- trips under equal settings
 pub settings_are : (stops_text edges_text trips_text : List ℕ) {t t' v v' e e' : ℕ} → t ≡ t' → v ≡ v' → e ≡ e'
     → trips_of stops_text edges_text trips_text t v e ≡ trips_of stops_text edges_text trips_text t' v' e'
-settings_are stops_text edges_text trips_text {t} {t'} {v} {v'} {e} {e'} p q r =
-    ap (λ n. trips_of stops_text edges_text trips_text n v e) p
-    ∙ ap (λ n. trips_of stops_text edges_text trips_text t' n e) q
-    ∙ ap (λ n. trips_of stops_text edges_text trips_text t' v' n) r
+settings_are stops_text edges_text trips_text {t} {t'} {v} {v'} {e} {e'} p q r = grind arith

@@ -1,5 +1,7 @@
 -- The rows of vehicles, one after the other.
-use Rattle.std.proofs.Common.{◌≡◌, ℕ, zero, suc, ◌+◌, ◌-◌, ◌*◌, ◌<◌, ◌≤◌, not, List, [], ◌∷◌, ◌++◌, length, map, drop, get_or, All, Option, Some, None, Result, Ok, Err, IfOk, refl, ap, sym, ◌∙◌, subst, arith, append_assoc}
+use Rattle.std.proofs.Common.{◌≡◌, ℕ, zero, suc, ◌+◌, ◌-◌, ◌*◌, ◌<◌, ◌≤◌, not, List, [], ◌∷◌, ◌++◌}
+use Rattle.std.proofs.Common.{length, map, drop, get_or, All, Option, Some, None, Result, Ok, Err}
+use Rattle.std.proofs.Common.{IfOk, refl, ap, sym, ◌∙◌, subst, arith, append_assoc}
 use Rattle.std.specs.List.{range_with_len}
 use Rattle.std.proofs.Math.Seq.{drop-cons}
 use Rattle.std.proofs.lemmas.List.{append-nil, drop_all}
@@ -31,16 +33,7 @@ module _ (trips : TripsParts) (plan : List (Option ℕ)) (vehicle first : ℕ) (
 
   pub on_start : (rows : List ScheduleRow) → first < length plan
       → rows ≡ old ++ trip_row trips vehicle 1 first ∷ [] → AreBehindTurn rows 1 first 1
-  on_start rows within is = record {
-    within = within;
-    number_is = refl;
-    rows_are =
-        ap (λ some. some ++ rows_behind trips vehicle 1 first (tour (length plan - 1) plan (next plan first))) is
-        ∙ append_assoc old (trip_row trips vehicle 1 first ∷ [])
-        (rows_behind trips vehicle 1 first (tour (length plan - 1) plan (next plan first)))
-        ∙ ap (λ some. old ++ vehicle_rows trips vehicle some)
-        (sym (tour_first plan (length plan) first (omega (arith, within))));
-  }
+  on_start rows within is = grind (arith, append_assoc, tour_first)
 
   module _ (rows : List ScheduleRow) (number last turn : ℕ) (on : AreBehindTurn rows number last turn) where
     pub on_more : (j : ℕ) (ridden new : List ScheduleRow) → turn < length plan → next plan last ≡ Some j → j < length plan
@@ -48,26 +41,7 @@ module _ (trips : TripsParts) (plan : List (Option ℕ)) (vehicle first : ℕ) (
         → new ≡ ridden ++ trip_row trips vehicle (number + 2) j ∷ []
         → AreBehindTurn new (number + 2) j (turn + 1)
     unfolding rows_behind
-    on_more j ridden new left is within ridden_is new_is =
-        let rest : List ℕ = tour (length plan - (turn + 1)) plan (next plan j) in
-        let fuel : length plan - turn - 1 ≡ length plan - (turn + 1) = omega arith in
-        let goes : tour (length plan - turn) plan (next plan last) ≡ j ∷ rest =
-        ap (tour (length plan - turn) plan) is
-        ∙ tour_first plan (length plan - turn) j (omega (arith, left))
-        ∙ ap (λ k. j ∷ tour k plan (next plan j)) fuel in
-        let ride : ScheduleRow = empty_row trips vehicle (number + 1) last j in
-        let row : ScheduleRow = trip_row trips vehicle (number + 2) j in
-        let behind : List ScheduleRow = rows_behind trips vehicle (number + 2) j rest in
-        record {
-          within = within;
-          number_is = omega (arith, on.number_is);
-          rows_are =
-              ap (λ some. some ++ behind) (new_is ∙ ap (λ some. some ++ row ∷ []) ridden_is)
-              ∙ append_assoc (rows ++ ride ∷ []) (row ∷ []) behind
-              ∙ append_assoc rows (ride ∷ []) (row ∷ behind)
-              ∙ ap (λ some. rows ++ rows_behind trips vehicle number last some) (sym goes)
-              ∙ on.rows_are;
-        }
+    on_more j ridden new left is within ridden_is new_is = grind (arith, tour_first, append_assoc)
 
     nothing_behind : (rest : List ℕ) → rest ≡ [] → rows ++ rows_behind trips vehicle number last rest ≡ rows
     unfolding rows_behind
@@ -87,10 +61,7 @@ module _ (trips : TripsParts) (plan : List (Option ℕ)) (vehicle first : ℕ) (
         (ap (tour (length plan - turn) plan) is ∙ no_tour (length plan - turn))) ∙ on.rows_are
 
     pub on_end : length plan ≤ turn → rows ≡ all
-    on_end past =
-        let fuel : length plan - turn ≡ 0 = omega (arith, past) in
-        sym (nothing_behind (tour (length plan - turn) plan (next plan last))
-        (ap (λ k. tour k plan (next plan last)) fuel ∙ none_left (next plan last))) ∙ on.rows_are
+    on_end past = grind (arith, nothing_behind, none_left)
 
 -- ---- all vehicles
 
@@ -112,25 +83,12 @@ module _ (trips : TripsParts) (plan : List (Option ℕ)) where
       → AreBefore firsts (index + 1) new
   unfolding rows_from
   vehicles_more firsts index first rows new before within is added =
-      let one : suc index ≡ index + 1 = omega arith in
-      let rest : List (List ℕ) = map (λ at. tour (length plan) plan (Some at)) (drop (index + 1) firsts) in
-      let goes : drop index firsts ≡ first ∷ drop (index + 1) firsts =
-      drop-cons firsts index first within ∙ ap (λ at. at ∷ drop (suc index) firsts) (sym is)
-      ∙ ap (λ k. first ∷ drop k firsts) one in
-      ap (λ some. some ++ rows_from trips (index + 1 + 1) rest) added
-      ∙ append_assoc rows (vehicle_rows trips (index + 1) (tour (length plan) plan (Some first)))
-      (rows_from trips (index + 1 + 1) rest)
-      ∙ ap (λ some. rows ++ rows_from trips (index + 1) (map (λ at. tour (length plan) plan (Some at)) some)) (sym goes)
-      ∙ before
+      grind (arith, drop-cons, append_assoc)
 
   pub vehicles_end : (firsts : List ℕ) (index : ℕ) (rows : List ScheduleRow) → AreBefore firsts index rows
       → length firsts ≤ index → rows ≡ plan_rows trips plan
   unfolding rows_from
-  vehicles_end firsts index rows before past =
-      sym (append-nil rows)
-      ∙ ap (λ some. rows ++ rows_from trips (index + 1) (map (λ first. tour (length plan) plan (Some first)) some))
-      (sym (drop_all index firsts past))
-      ∙ before
+  vehicles_end firsts index rows before past = grind (arith, append-nil, drop_all)
 
 -- a text that is read as the rows is read back, if there was memory for it
 pub written : (trips : TripsParts) (plan : List (Option ℕ)) → AreTrips trips → IsPlan (links_of trips) plan

@@ -1,4 +1,5 @@
-use Rattle.std.proofs.Common.{◌∙◌, ◌++◌, ℕ, List, length, map, take, get_or, slice_set, Some, None, ap, sym, arith, Vec, Option}
+use Rattle.std.proofs.Common.{◌∙◌, ◌++◌, ℕ, List, length, map, take, get_or, slice_set, Some, None}
+use Rattle.std.proofs.Common.{ap, sym, arith, Vec, Option}
 use Rattle.std.specs.List.{items_where_true, range_with_len, reduce}
 use Rattle.std.proofs.lemmas.List.{take_more}
 use Rattle.std.proofs.lemmas.List.FromFn.{length-map-range_with_len}
