@@ -1,5 +1,7 @@
 -- Numbers of inputs without a fault that are not too great.
-use Rattle.std.proofs.Common.{◌≡◌, ◌≤◌, ◌≤ℤ◌, ℕ, ℤ, pos, negsuc, ◌*◌, true, false, cond, List, [], ◌∷◌, length, get_or, refl, arith, All, Some, option_map, unwrap_or, unsigned_abs}
+use Rattle.std.proofs.Common.{◌≡◌, ◌≤◌, ◌≤ℤ◌, ℕ, ℤ, pos, negsuc, ◌*◌, true, false, cond, List, []}
+use Rattle.std.proofs.Common.{◌∷◌, length, get_or, refl, arith, All, Some, option_map, unwrap_or}
+use Rattle.std.proofs.Common.{unsigned_abs}
 use Rattle.std.specs.List.{sum_by}
 use Rattle.std.specs.Ordering.{int_eq}
 use Rattle.std.proofs.lemmas.Int.{ints}
@@ -15,7 +17,7 @@ use Rattle.event_tables.specs.declared.disposed_time.DisposedTime.{DisposedTime}
 use Rattle.event_tables.specs.declared.expanded_event.ExpandedEvent.{ExpandedEvent}
 use Rattle.event_tables.specs.declared.schedule_row.ScheduleRow.{ScheduleRow}
 use Rattle.event_tables.specs.DisposedTimes.{AreDisposedTimes}
-use Rattle.event_tables.specs.Schedules.{AreScheduleRows, is_empty_row, is_trip_row}
+use Rattle.event_tables.specs.Schedules.{AreScheduleRows}
 use Rattle.evaluators.specs.declared.rows.CostRow.{CostRow}
 use Rattle.evaluators.specs.declared.rows.LineRow.{LineRow}
 use Rattle.evaluators.specs.FirstRows.{firsts}
@@ -117,6 +119,4 @@ times_below count rows are =
 
 pub rows_few : (events : List ExpandedEvent) (rows : List ScheduleRow) → AreScheduleRows events rows
     → length rows ≤ 4000
-rows_few events rows are =
-    let both = length-filter_both is_empty_row is_trip_row (λ row. refl) rows in
-    omega (arith, both, are.few_trips, are.few_empty)
+rows_few events rows are = grind (arith, length-filter_both)

@@ -1,9 +1,10 @@
 -- The rules of the file of the line concept, row by row.
-use Rattle.std.proofs.Common.{◌≡◌, ℕ, ℤ, ◌+◌, ◌<◌, not, Bool, true, false, cond, eqb, List, [], ◌∷◌, ◌++◌, length, map, take, drop, get_or, slice_get, refl, ap, sym, ◌∙◌, Option, Some, None, option_map, is_some, arith}
+use Rattle.std.proofs.Common.{◌≡◌, ℕ, ℤ, ◌+◌, ◌<◌, not, Bool, true, false, cond, eqb, List, [], ◌∷◌}
+use Rattle.std.proofs.Common.{◌++◌, length, map, take, drop, get_or, slice_get, refl, ap, sym, ◌∙◌}
+use Rattle.std.proofs.Common.{Option, Some, None, option_map, is_some, arith}
 use Rattle.std.specs.List.{find}
 use Rattle.std.specs.Option.{option_or}
 use Rattle.std.specs.Ordering.{int_eq}
-use Rattle.std.proofs.lemmas.Bool.{eq-eqb}
 use Rattle.std.proofs.lemmas.Bool.Decides.{Decides-int_eq}
 use Rattle.std.proofs.lemmas.Cmp.{int_eq_equiv}
 use Rattle.std.proofs.lemmas.List.{drop_more, get_or-map, length-map, take-append-drop, take-map}
@@ -36,13 +37,7 @@ find_costed : (costs : List CostRow) (line : ℤ) (rows : List LineRow)
     → find (λ costed. int_eq line costed.line) (map (costed costs) rows)
     ≡ option_map (costed costs) (first_row rows line)
 find_costed costs line [] = refl
-find_costed costs line (row ∷ rows) = elim (int_eq line row.line) as
-    (λ b. cond b (Some (costed costs row)) (find (λ costed. int_eq line costed.line)
-    (map (costed costs) rows)) ≡ option_map (costed costs) (cond b (Some row)
-    (first_row rows line))) [
-      | true ↦ refl
-      | false ↦ find_costed costs line rows
-    ]
+find_costed costs line (row ∷ rows) = grind (arith, option_map, find_costed costs line rows)
 
 -- a row that is found is of the line
 found_line : (line : ℤ) (rows : List LineRow) (row : LineRow) → first_row rows line ≡ Some row
@@ -66,13 +61,8 @@ some_mapped (Some row) = refl
 differs_from : (before : Option LineRow) (row found : LineRow)
     → Some found ≡ option_or before (Some row)
     → differs row before ≡ not (eqb row.frequency found.frequency)
-differs_from None row found e =
-    let same : found ≡ row = cc in
-    sym (ap not (ap (eqb row.frequency) (ap (λ (row : LineRow). row.frequency) same)
-    ∙ eq-eqb row.frequency row.frequency refl))
-differs_from (Some first) row found e =
-    let same : found ≡ first = cc in
-    ap (λ (first : LineRow). not (eqb row.frequency first.frequency)) (sym same)
+differs_from None row found e = grind arith
+differs_from (Some first) row found e = grind arith
 
 told_by : (known differs : Bool)
     → slice_get (cond (not known) (why.UnknownLine ∷ []) [] ++ (cond differs (why.FrequencyDiffers
@@ -134,13 +124,8 @@ module _ (costs : List CostRow) (rows : List LineRow) (i : ℕ) (d : LineRow)
       by : (o : Option LineRow) → first_row (take i rows) row.line ≡ o
           → broken_by line row.frequency
           ≡ slice_get (broken_whys (concept_input costs).row_rules (take i rows) row) 0
-      by None e =
-          tells row refl (sym is ∙ line_found ∙ ap (λ o. option_map (costed costs)
-          (option_or o (Some row))) e) (sym (ap (λ o. option_or o (Some row)) e))
-      by (Some found) e =
-          tells found (found_line row.line (take i rows) found e)
-          (sym is ∙ line_found ∙ ap (λ o. option_map (costed costs) (option_or o (Some row))) e)
-          (sym (ap (λ o. option_or o (Some row)) e))
+      by None e = grind (arith, line_found, option_map)
+      by (Some found) e = grind (arith, found_line, line_found, option_map)
 
 -- ---- the same of the rows of a table
 

@@ -1,9 +1,10 @@
 -- The first rows of keys, one row after the other.
-use Rattle.std.proofs.Common.{◌≡◌, ℕ, ℤ, ◌+◌, ◌<◌, ◌||◌, Bool, true, false, not, cond, List, [], ◌∷◌, ◌++◌, length, filter, get_or, take, refl, ap, sym, ◌∙◌, append-nil, Some}
+use Rattle.std.proofs.Common.{arith, ◌≡◌, ℕ, ℤ, ◌+◌, ◌<◌, ◌||◌, Bool, true, false, not, cond, List}
+use Rattle.std.proofs.Common.{[], ◌∷◌, ◌++◌, length, filter, get_or, take, refl, ap, sym, ◌∙◌}
+use Rattle.std.proofs.Common.{append-nil, Some}
 use Rattle.std.specs.List.{find, list_any}
 use Rattle.std.specs.Ordering.{int_eq}
 use Rattle.std.proofs.lemmas.Bool.{false≢true}
-use Rattle.std.proofs.lemmas.Bool.Decides.{Decides-int_eq}
 use Rattle.std.proofs.lemmas.Cmp.{int_eq_equiv}
 use Rattle.std.proofs.lemmas.List.{length_push, take_more}
 use Rattle.std.proofs.lemmas.List.Elements.{filter-append}
@@ -16,12 +17,8 @@ step : {X : Type 0} (first row : X) (some : List X) (test : X → Bool) (old sam
     ≡ cond (same || old) (first ∷ filter test some) (first ∷ filter test some ++ row ∷ [])
 step first row some test true true is = refl
 step first row some test true false is = refl
-step {X} first row some test false true is =
-    ap (λ (rest : List X). first ∷ rest) (filter-append test some (row ∷ [])
-    ∙ ap (λ t. filter test some ++ cond t (row ∷ []) []) is ∙ append-nil (filter test some))
-step {X} first row some test false false is =
-    ap (λ (rest : List X). first ∷ rest) (filter-append test some (row ∷ [])
-    ∙ ap (λ t. filter test some ++ cond t (row ∷ []) []) is)
+step {X} first row some test false true is = grind (arith, filter-append, test, append-nil)
+step {X} first row some test false false is = grind (arith, filter-append, test)
 
 -- what is found of all is found of those that pass a test, where what is looked for passes it
 find_passing : {X : Type 0} (p test : X → Bool) → ((x : X) → p x ≡ true → test x ≡ true)
@@ -95,9 +92,7 @@ module _ {X : Type 0} (key : X → ℤ) where
       test other = not (int_eq (key first) (key other))
 
       passes : int_eq line (key first) ≡ false → (x : X) → p x ≡ true → test x ≡ true
-      passes other x is =
-          ap (λ k. not (int_eq (key first) k)) (sym ((Decides-int_eq line (key x)).0 is))
-          ∙ ap not (int_eq_equiv.symm (key first) line ∙ other)
+      passes other x is = grind arith
 
       by : (b : Bool) → int_eq line (key first) ≡ b → find p (firsts key rows) ≡ find p rows
           → cond b (Some first) (find p (filter test (firsts key rows)))

@@ -1,5 +1,6 @@
 -- The values of each part, put together.
-use Rattle.std.proofs.Common.{◌≡◌, ◌≤◌, ℕ, suc, ℤ, ◌+◌, ltb, true, Bool, false, cond, List, [], ◌∷◌, ◌++◌, length, map, filter, take, refl, ap, ◌∙◌, codes}
+use Rattle.std.proofs.Common.{arith, ◌≡◌, ◌≤◌, ℕ, suc, ℤ, ◌+◌, ltb, true, Bool, false, cond, List}
+use Rattle.std.proofs.Common.{[], ◌∷◌, ◌++◌, length, map, filter, take, refl, ap, codes}
 use Rattle.std.specs.List.{flat_map, fold, sum_by}
 use Rattle.std.proofs.lemmas.List.{take_all}
 use Rattle.giv_files.specs.declared.refusal.Refusal.{Refusal}
@@ -67,12 +68,7 @@ pub lines_are : (costs : List CostRow) (rows : List LineRow) (lines : List Coste
     → running ≡ length (filter (λ line. ltb 0 line.frequency) lines)
     → record { cost = cost; running = running } ≡ line_values costs rows
 unfolding line_values
-lines_are costs rows lines cost running are c r =
-    let first = c ∙ ap (sum_by runs_cost) are ∙ sum_costed costs (lines_of rows) in
-    let second = r ∙ ap (λ lines. length (filter (λ (line : CostedLine). ltb 0 line.frequency)
-    lines)) are
-    ∙ count_costed costs (lines_of rows) in
-    λ i. record { cost = first i; running = second i }
+lines_are costs rows lines cost running are c r = grind (arith, sum_costed, count_costed)
 
 -- ---- the periodic timetable
 
@@ -89,13 +85,7 @@ pub periodic_are : (period : ℕ) (events : List PeriodicEvent) (activities : Li
       change = change;
     } ≡ periodic_values period events activities times
 unfolding periodic_values
-periodic_are period events activities times drive wait change d w c = λ i. record {
-  events = length events;
-  activities = length activities;
-  drive = d i;
-  wait = w i;
-  change = c i;
-}
+periodic_are period events activities times drive wait change d w c = grind arith
 
 -- ---- the day
 
@@ -114,13 +104,7 @@ pub day_are : (events : List ExpandedEvent) (activities : List ExpandedActivity)
     } ≡ day_values events activities schedule disposed
 unfolding day_values
 day_are events activities schedule disposed vehicles minutes delay greatest missed v e d g m =
-    λ i. record {
-      vehicles = v i;
-      empty_minutes = e i;
-      delay = d i;
-      greatest = g i;
-      missed = m i;
-    }
+    grind arith
 
 -- ---- the text
 
@@ -128,6 +112,4 @@ pub text_whole : (all : Statistic) (bytes : List ℕ) (i : ℕ) → 14 ≤ i
     → bytes ≡ codes "# key; value\n" ++ flat_map (value_line all) (take i measures)
     → bytes ≡ statistic_text all
 unfolding statistic_text
-text_whole all bytes i past is =
-    is ∙ ap (λ some. codes "# key; value\n" ++ flat_map (value_line all) some)
-    (take_all i measures past)
+text_whole all bytes i past is = grind (arith, take_all)

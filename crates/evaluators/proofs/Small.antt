@@ -1,8 +1,8 @@
 -- The statistic of inputs without a fault can be printed.
-use Rattle.std.proofs.Common.{◌≡◌, ◌≤◌, ◌<◌, ◌≤ℤ◌, ℕ, suc, ℤ, pos, neg_ℤ, ◌*◌, ◌+◌, ◌-◌, ◌+ℤ◌, ltb, true, Bool, false, cond, not, List, [], ◌∷◌, ◌++◌, length, map, filter, zip, get_or, refl, ap, sym, subst, arith, All, None, unsigned_abs}
+use Rattle.std.proofs.Common.{◌≡◌, ◌≤◌, ◌≤ℤ◌, ℕ, suc, ℤ, pos, neg_ℤ, ◌*◌, ◌+◌, ◌-◌, ◌+ℤ◌, ltb, true}
+use Rattle.std.proofs.Common.{Bool, false, cond, not, List, [], ◌∷◌, ◌++◌, length, map, filter, zip}
+use Rattle.std.proofs.Common.{get_or, refl, sym, subst, arith, All, None}
 use Rattle.std.specs.List.{fold}
-use Rattle.std.specs.Ordering.{int_eq}
-use Rattle.std.proofs.Math.Nat.{mod-lt}
 use Rattle.std.proofs.lemmas.Int.{ints}
 use Rattle.std.proofs.lemmas.List.{length-map}
 use Rattle.std.proofs.lemmas.List.Elements.{All-filter, All-head, All-tail}
@@ -33,14 +33,14 @@ use Rattle.event_tables.specs.Trips.{trip_input}
 use Rattle.event_tables.proofs.SoundFiles.{expanded_activities_sound, expanded_events_sound, periodic_activities_sound, periodic_events_sound}
 use Rattle.event_tables.proofs.SoundTimes.{disposed_times_sound}
 use Rattle.event_tables.proofs.SoundTrips.{schedule_rows_sound}
-use Rattle.pesp_model.proofs.LeastTensions.{rest, tension_is}
+use Rattle.pesp_model.proofs.LeastTensions.{rest}
 use Rattle.delay_management.specs.Lateness.{arrives, is_missed, lateness}
 use Rattle.delay_management.specs.LeastTimes.{later, latest}
 use Rattle.delay_management.specs.Problems.{delayed, is_of}
 use Rattle.evaluators.specs.declared.day_values.DayValues.{DayValues}
 use Rattle.evaluators.specs.Bounds.{IsSmall}
 use Rattle.evaluators.specs.FirstRows.{firsts}
-use Rattle.evaluators.specs.Statistic.{day_values, empty_minutes, line_values, minutes_late, minutes_of, minutes_of_row, minutes_with, periodic_values, schedule_cost, time_at, times_of}
+use Rattle.evaluators.specs.Statistic.{day_values, empty_minutes, line_values, minutes_late, minutes_of, minutes_of_row, minutes_with, periodic_values, schedule_cost, times_of}
 use Rattle.evaluators.specs.StatisticInputs.{concept_input, cost_input, lines_of}
 use Rattle.evaluators.specs.StatisticStage.{bundle_day, costs_of, day_faults, day_in, day_part, events_of, faults_between, faults_over, line_faults, line_part, lines_in, period_in, periodic_events_of, periodic_part, statistic_faults, statistic_in, trip_part}
 use Rattle.evaluators.proofs.Bounded.{cost_sum_below, costs_below, lines_few, rows_few, times_below}
@@ -71,15 +71,7 @@ lines_small costs text none =
 module _ (period : ℕ) (some : 1 ≤ period) (short : period ≤ 720) (times : List PeriodicTime) where
   minutes_short : (activity : PeriodicActivity) → activity.lower ≤ 100000
       → minutes_of period times activity ≤ 100720
-  minutes_short activity low =
-      let from = time_at times activity.from in
-      let to = time_at times activity.to in
-      let left : ℕ = rest period activity.lower from to in
-      let small : left < period =
-      mod-lt (to + (from + activity.lower) * period - (from + activity.lower)) some in
-      let is : minutes_of period times activity ≡ activity.lower + left =
-      ap unsigned_abs (tension_is period activity.lower from to some) in
-      omega (arith, is, small, low, short)
+  minutes_short activity low = grind arith
 
   with_small : (count : ℕ) (activities : List PeriodicActivity) (k : PeriodicKind)
       → ArePeriodicActivities count activities
@@ -101,10 +93,7 @@ module _ (period : ℕ) (some : 1 ≤ period) (short : period ≤ 720) (times : 
 firsts_fewer : {X : Type 0} (key : X → ℤ) (rows : List X) → length (firsts key rows) ≤ length rows
 unfolding firsts
 firsts_fewer key [] = omega arith
-firsts_fewer key (row ∷ rows) =
-    let rest = firsts_fewer key rows in
-    let few = shorter (λ other. not (int_eq (key row) (key other))) (firsts key rows) in
-    omega (arith, rest, few)
+firsts_fewer key (row ∷ rows) = grind (arith, rest, shorter, firsts_fewer key rows)
 
 minutes_small : (events : List ExpandedEvent) (rows : List ScheduleRow) → AreScheduleRows events
     rows
@@ -203,18 +192,14 @@ module _ (events_text activities_text schedule_text disposed_text : List ℕ)
 
   are_activities : AreExpandedActivities events
       (records_of (expanded_activity_input events) activities_text)
-  are_activities =
-      expanded_activities_sound events activities_text are_events.numbered
-      (front_none (input_faults (expanded_activity_input events) activities_text) _ behind)
+  are_activities = grind (arith, expanded_activities_sound, are_events, front_none, behind)
 
   last_two : input_faults (schedule_input events) schedule_text
       ++ input_faults (disposed_time_input (expanded_event_ids events)) disposed_text ≡ []
   last_two = back_none (input_faults (expanded_activity_input events) activities_text) _ behind
 
   are_rows : AreScheduleRows events (records_of (schedule_input events) schedule_text)
-  are_rows =
-      schedule_rows_sound events schedule_text are_events.numbered
-      (front_none (input_faults (schedule_input events) schedule_text) _ last_two)
+  are_rows = grind (arith, schedule_rows_sound, are_events, front_none, last_two)
 
   are_times : AreDisposedTimes (length events)
       (records_of (disposed_time_input (expanded_event_ids events)) disposed_text)

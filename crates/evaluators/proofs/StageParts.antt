@@ -1,5 +1,5 @@
 -- The parts of the stage: faults in their order, and what is made.
-use Rattle.std.proofs.Common.{◌≡◌, ℕ, [], length, ap, ◌∙◌, None, Ok, Err}
+use Rattle.std.proofs.Common.{◌≡◌, ℕ, [], length, None, Ok, Err, arith}
 use Rattle.giv_files.specs.declared.key.Key.TheVariants as key
 use Rattle.giv_files.specs.declared.made.Made.{Made}
 use Rattle.giv_files.specs.declared.refusal.StageFault.{StageFault}
@@ -15,7 +15,7 @@ use Rattle.evaluators.specs.declared.periodic_values.PeriodicValues.{PeriodicVal
 use Rattle.evaluators.specs.declared.statistic.Statistic.{Statistic}
 use Rattle.evaluators.specs.Statistic.{schedule_cost}
 use Rattle.evaluators.specs.StatisticStage.{bundle_day, day_part, line_part, lines_in, period_in, periodic_in, periodic_part, statistic_faults, statistic_in, statistic_made, statistic_stage, trip_part}
-use Rattle.evaluators.proofs.Parts.{both_none, refused_next}
+use Rattle.evaluators.proofs.Parts.{refused_next}
 
 module _ (bundle : BundleParts) where
   pub lines_refuse : (fault : StageFault) → Refuses (line_part bundle) fault
@@ -27,34 +27,23 @@ module _ (bundle : BundleParts) where
     pub periodic_refuses : (fault : StageFault) → Refuses (periodic_part bundle) fault
         → Refuses (statistic_faults bundle) fault
     unfolding statistic_faults
-    periodic_refuses fault h =
-        refused_next (line_part bundle) _ fault lines (refused_append (periodic_part bundle) _
-        fault h)
+    periodic_refuses fault h = grind (arith, refused_next, refused_append)
 
     module _ (periodic : periodic_part bundle ≡ []) where
       pub trips_refuse : (fault : StageFault) → Refuses (trip_part bundle) fault
           → Refuses (statistic_faults bundle) fault
       unfolding statistic_faults
-      trips_refuse fault h =
-          refused_next (line_part bundle) _ fault lines
-          (refused_next (periodic_part bundle) _ fault periodic
-          (refused_append (trip_part bundle) _ fault h))
+      trips_refuse fault h = grind (arith, refused_next, refused_append)
 
       module _ (trips : trip_part bundle ≡ []) where
         pub day_refuses : (fault : StageFault) → Refuses (day_part bundle) fault
             → Refuses (statistic_faults bundle) fault
         unfolding statistic_faults
-        day_refuses fault h =
-            refused_next (line_part bundle) _ fault lines
-            (refused_next (periodic_part bundle) _ fault periodic
-            (refused_next (trip_part bundle) (day_part bundle) fault trips h))
+        day_refuses fault h = grind arith
 
         pub all_none : day_part bundle ≡ [] → statistic_faults bundle ≡ []
         unfolding statistic_faults
-        all_none day =
-            both_none (line_part bundle) _ lines
-            (both_none (periodic_part bundle) _ periodic
-            (both_none (trip_part bundle) (day_part bundle) trips day))
+        all_none day = grind arith
 
   pub statistic_is : (lines : LineValues) (periodic : PeriodicValues) (trips : ℕ) (day : DayValues)
       (by_vehicle by_minute cost : ℕ) → lines ≡ lines_in (input_text bundle 0) (input_text bundle 1)
@@ -74,27 +63,15 @@ module _ (bundle : BundleParts) where
       }
       ≡ statistic_in bundle
   unfolding statistic_in
-  statistic_is lines periodic trips day by_vehicle by_minute cost l p t d v m c =
-      let costs = c ∙ (λ i. schedule_cost (v i) (m i) (d i)) in
-      λ i. record {
-        lines = l i;
-        periodic = p i;
-        trips = t i;
-        day = d i;
-        schedule_cost = costs i;
-      }
+  statistic_is lines periodic trips day by_vehicle by_minute cost l p t d v m c = grind arith
 
   pub stage_refused : (fault : StageFault) → Refuses (statistic_faults bundle) fault
       → StageGives (statistic_stage bundle) (Err fault)
   unfolding statistic_stage
-  stage_refused fault refused =
-      calls.stage_refused (statistic_faults bundle) (statistic_made (statistic_in bundle)) fault
-      refused
+  stage_refused fault refused = grind arith
 
   pub stage_made : (all : Statistic) (made : Made) → statistic_faults bundle ≡ []
       → all ≡ statistic_in bundle → made ≡ statistic_made all
       → StageGives (statistic_stage bundle) (Ok made)
   unfolding statistic_stage
-  stage_made all made none is m =
-      calls.stage_made (statistic_faults bundle) (statistic_made (statistic_in bundle)) made none
-      (m ∙ ap statistic_made is)
+  stage_made all made none is m = grind arith

@@ -1,9 +1,11 @@
 -- The rows of the text of a statistic.
-use Rattle.std.proofs.Common.{◌≡◌, ◌<◌, ◌≤ℤ◌, ◌^◌, ◌+◌, ◌/◌, ◌%◌, ℕ, ℤ, pos, negsuc, neg_ℤ, true, List, [], ◌∷◌, ◌++◌, length, map, refl, ap, sym, ◌∙◌, arith, codes, decimal, ne_eqb, append-nil, append_assoc, length-append}
+use Rattle.std.proofs.Common.{◌≡◌, ◌<◌, ◌≤ℤ◌, ◌^◌, ◌+◌, ℕ, ℤ, pos, negsuc, neg_ℤ, true, List, []}
+use Rattle.std.proofs.Common.{◌∷◌, ◌++◌, length, map, refl, ap, sym, ◌∙◌, arith, codes, ne_eqb}
+use Rattle.std.proofs.Common.{append-nil, append_assoc, length-append}
 use Rattle.std.specs.List.{flat_map, list_all}
 use Rattle.std.proofs.lemmas.Int.{ints}
 use Rattle.plan_num.specs.Number.{is_number_byte}
-use Rattle.plan_num.specs.Print.{fixed_text, fraction_text}
+use Rattle.plan_num.specs.Print.{fixed_text}
 use Rattle.plan_num.proofs.Printed.{decimal_some}
 use Rattle.plan_num.proofs.ReadBack.{magnitude_bytes}
 use Rattle.giv_files.specs.Rows.{Row, parts_of, rows}
@@ -30,9 +32,7 @@ number_bytes (pos n) h = magnitude_bytes n (omega (arith, ints, h.1))
 number_bytes (negsuc n) h = magnitude_bytes (n + 1) (omega (arith, ints, h.0))
 
 number_some : (n : ℤ) → IsPrintable n → 0 < length (fixed_text n)
-number_some (pos n) h =
-    let some = decimal_some (n / 1000000) (omega (arith, ints, h.1)) in
-    omega (arith, some, length-append (decimal (n / 1000000)) (fraction_text (n % 1000000)))
+number_some (pos n) h = grind (arith, decimal_some, ints, length-append)
 number_some (negsuc n) h = omega arith
 
 number_cell : (n : ℤ) → IsPrintable n → IsCell (fixed_text n)
@@ -87,10 +87,7 @@ module _ (all : Statistic) (small : IsSmall all) where
   line_is : (name number rest : List ℕ) → (name ++ codes "; " ++ number ++ 10 ∷ []) ++ rest
       ≡ joined (name ∷ number ∷ []) ++ 10 ∷ rest
   unfolding joined
-  line_is name number rest =
-      append_assoc (name ++ codes "; " ++ number) (10 ∷ []) rest
-      ∙ ap (λ (line : List ℕ). line ++ 10 ∷ rest) (append_assoc name (codes "; ") number
-      ∙ ap (λ (number : List ℕ). name ++ 59 ∷ 32 ∷ number) (sym (append-nil number)))
+  line_is name number rest = grind (arith, append_assoc, append-nil)
 
   lines_left : (number : ℕ) (some : List Measure)
       → map (λ row. row.fields) (rows_left number (parts_of (flat_map (value_line all) some)))
