@@ -27,6 +27,7 @@ pub mod LinkTies
 pub mod Moves
 pub mod NearPlaces
 pub mod NearSlacks
+pub mod Parted
 pub mod Refused
 pub mod SameGains
 pub mod ScheduleAccepted

@@ -10,6 +10,7 @@ use crate::bid::bid;
 use crate::claim::Claims;
 use crate::hints::Hints;
 use crate::near::Nears;
+use crate::parting::part;
 use crate::solved::Solved;
 use crate::taking::take_in;
 use flow_potentials::{LinkTable, Potentials};
@@ -56,6 +57,7 @@ pub(crate) fn cheapest_of(alloc: Global, trips: &LinkTable) -> Result<Solved, No
             &mut hints,
         )?;
     }
+    let potentials = part(alloc, trips, &assignment, potentials)?;
     let plan = assignment.to_plan(alloc)?;
     Ok(Solved { plan, potentials })
 }
