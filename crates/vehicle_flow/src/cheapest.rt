@@ -45,7 +45,7 @@ pub(crate) fn cheapest_of(alloc: Global, trips: &LinkTable) -> Result<Solved, No
     bid_all(trips, &order, &mut assignment, &mut potentials);
     let mut claims = Claims::new(alloc, count + 1)?;
     let mut nears = Nears::new(alloc, count + 1)?;
-    let mut hints = Hints::new(alloc, count + 1)?;
+    let mut hints = Hints::new(alloc, trips)?;
     for step in 0..count + count {
         take_in(
             trips,

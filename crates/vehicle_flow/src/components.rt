@@ -1,5 +1,6 @@
 // The strongly connected components of a graph, by one walk over its arcs.
 
+use crate::cells::{at, set, zeros};
 use plan_num::NoMemory;
 use std::alloc::Global;
 
@@ -110,25 +111,4 @@ impl Components {
             }
         }
     }
-}
-
-// The number of a node; 0 where there is no such node.
-fn at(numbers: &[usize], node: usize) -> usize {
-    numbers.get(node).copied().unwrap_or(0)
-}
-
-// Gives a node a number.
-fn set(numbers: &mut Vec<usize>, node: usize, number: usize) {
-    if node < numbers.len() {
-        numbers[node] = number;
-    }
-}
-
-// So many zeros.
-fn zeros(alloc: Global, count: usize) -> Result<Vec<usize>, NoMemory> {
-    let mut numbers = Vec::new(alloc);
-    for _node in 0..count {
-        numbers.push(0)?;
-    }
-    Ok(numbers)
 }

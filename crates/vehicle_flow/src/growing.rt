@@ -41,7 +41,7 @@ pub(crate) fn grow(
     match nearest(claims, assignment, nears, hints) {
         Some((place, near)) => {
             shift(trip, assignment, claims, potentials, near.slack);
-            shift_nears(claims, nears, hints, near.slack);
+            shift_nears(claims, assignment, nears, hints, near.slack);
             claims.claim(place, Some(near.by), near.from)?;
             match assignment.trip_at(place) {
                 Some(left) => look_from(

@@ -4,6 +4,7 @@
 
 mod assignment;
 mod bid;
+mod cells;
 mod cheapest;
 mod check;
 mod chosen;

@@ -195,16 +195,24 @@ fn bring(
 fn is_free_or_hint(assignment: &Assignment, hints: &mut Hints, place: usize) -> bool
     ensures { result ≡ true → is_next assignment.now place ≡ false }
 {
-    if assignment.is_free(place) {
-        return true;
+    match assignment.trip_at(place) {
+        Some(trip) => {
+            hints.put(place, trip);
+            false
+        }
+        None => true,
     }
-    hints.put(place);
-    false
 }
 
 /// Every place without a claim is nearer by a slack.
 #[tactic(auto, using(crate::proofs::Told::told_start, crate::proofs::Told::told_set, crate::proofs::NearPlaces::unmoved))]
-pub(crate) fn shift_nears(claims: &Claims, nears: &mut Nears, hints: &mut Hints, slack: u64)
+pub(crate) fn shift_nears(
+    claims: &Claims,
+    assignment: &Assignment,
+    nears: &mut Nears,
+    hints: &mut Hints,
+    slack: u64,
+)
     requires { length claims.now.at ≡ length nears.old }
     ensures each { length nears.new ≡ length nears.old }
     ensures shifted { (place : ℕ) → place < length nears.old → get_or nears.new place None
@@ -216,16 +224,24 @@ pub(crate) fn shift_nears(claims: &Claims, nears: &mut Nears, hints: &mut Hints,
     for place in 0..nears.len() {
         let near = shifted(claims, place, slack, nears.at(place));
         nears.set(place, near);
-        hint_if_exact(hints, place, near);
+        if is_exact(near) && !claims.is_claimed(place) {
+            hint(assignment, hints, place);
+        }
     }
 }
 
-// Keeps a place in mind that is as near as can be.
-fn hint_if_exact(hints: &mut Hints, place: usize, near: Option<Near>) {
-    if let Some(near) = near {
-        if near.slack == 0 {
-            hints.put(place);
-        }
+// Keeps the place of a trip in mind.
+fn hint(assignment: &Assignment, hints: &mut Hints, place: usize) {
+    if let Some(trip) = assignment.trip_at(place) {
+        hints.put(place, trip);
+    }
+}
+
+// Whether something is as near as can be.
+fn is_exact(near: Option<Near>) -> bool {
+    match near {
+        Some(near) => near.slack == 0,
+        None => false,
     }
 }
 
