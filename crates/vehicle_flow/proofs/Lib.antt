@@ -43,6 +43,7 @@ pub mod TightValid
 pub mod Told
 mod Tried
 pub mod Values
+pub mod VehicleCounts
 pub mod VehicleLaws
 pub mod VehicleMakes
 pub mod VehicleReads
