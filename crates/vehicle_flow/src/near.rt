@@ -3,7 +3,7 @@ ghost use Rattle.std.specs.Prelude.{ℕ, ◌≡◌, ◌+◌, ◌<◌, ◌≤◌,
 ghost use Rattle.flow_potentials.specs.Potentials.{AreOver};
 ghost use Rattle.vehicle_flow.specs.Claims.{claim_at};
 ghost use Rattle.vehicle_flow.specs.Growing.{looked, is_nearer, shifted, AreAsBefore, AreLooked, IsFreeAt};
-ghost use Rattle.vehicle_flow.specs.Nears.{slack_or_most};
+ghost use Rattle.vehicle_flow.specs.Nears.{slack_or_most, AreNearLinks, ArePassed};
 ghost use Rattle.vehicle_model.specs.Plans.{is_next};
 ghost use Rattle.vehicle_flow.specs.Slacks.{Covers};
 ghost use Rattle.vehicle_model.specs.Trips.{links_of};
@@ -12,7 +12,7 @@ use crate::assignment::Assignment;
 use crate::claim::Claims;
 use crate::hints::Hints;
 use crate::slack::{link_slack, of_trip};
-use flow_potentials::{LinkTable, Potentials};
+use flow_potentials::{Link, LinkTable, Potentials};
 use plan_num::NoMemory;
 use std::alloc::Global;
 use std::marker::Model;
@@ -144,12 +144,15 @@ pub(crate) fn look(
 {
     let own = of_trip(potentials, by);
     let links = trips.row(by);
-    for link in links {
-        let slack = link_slack(own, potentials, *link);
+    let mut step = next_nearer(links, own, potentials, nears, 0);
+    while step < links.len() {
+        let link = links[step];
+        let slack = link_slack(own, potentials, link);
         let near = Near { slack, by, from };
         if bring(claims, assignment, nears, hints, link.to, near) {
             return Some(link.to);
         }
+        step = next_nearer(links, own, potentials, nears, step + 1);
     }
     let last = trips.len();
     let near = Near {
@@ -161,6 +164,31 @@ pub(crate) fn look(
         return Some(last);
     }
     None
+}
+
+// The first of some links, from a step on, at which a trip is nearer than the nearest one so far. Most
+// links are passed over here.
+fn next_nearer(
+    links: &[Link],
+    own: u64,
+    potentials: &Potentials,
+    nears: &Nears,
+    first: usize,
+) -> usize
+    requires first { first ≤ length links.now }
+    requires own { own ≤ 1000000000000000000 }
+    requires links { AreNearLinks links.now own potentials.now.v (length nears.now) }
+    ensures low { first ≤ result }
+    ensures high { result ≤ length links.now }
+    ensures passed { ArePassed links.now own potentials.now.v nears.now first result }
+{
+    for step in first..links.len() {
+        let link = links[step];
+        if nears.is_nearer(link.to, link_slack(own, potentials, link)) {
+            return step;
+        }
+    }
+    links.len()
 }
 
 // Brings a trip to a place without a claim where it is nearer than the nearest one so far: tells whether
