@@ -4,8 +4,8 @@ use crate::cells::{at, set, zeros};
 use plan_num::NoMemory;
 use std::alloc::Global;
 
-/// The components so far. The number of one is no less than those of the components to which its nodes
-/// lead. Nothing is promised of them: who takes them looks whether they serve.
+/// The components so far. The number of one is no less than those of the components to which its
+/// nodes lead. Nothing is promised of them: who takes them looks whether they serve.
 #[derive(Drop)]
 pub(crate) struct Components {
     // The number of the component of each node, from 1; 0 where it has none so far.
@@ -80,8 +80,8 @@ impl Components {
         }
     }
 
-    /// Goes back from a node of which all arcs were looked at. Where it leads to none before it, what is
-    /// open from it on is a component.
+    /// Goes back from a node of which all arcs were looked at. Where it leads to none before it,
+    /// what is open from it on is a component.
     pub(crate) fn leave(&mut self, node: usize) {
         let least = at(&self.least, node);
         if least == at(&self.reached, node) {

@@ -1,7 +1,7 @@
-// Which trips can change places among themselves: a graph with a node for each trip, and one behind them
-// all for none. A trip leads to those that have a place at which it is tight, and to none where such a
-// place has no trip or where it needs no place. None leads to the trips without a place, and to those
-// that have one which needs no trip.
+// Which trips can change places among themselves: a graph with a node for each trip, and one behind
+// them all for none. A trip leads to those that have a place at which it is tight, and to none
+// where such a place has no trip or where it needs no place. None leads to the trips without a
+// place, and to those that have one which needs no trip.
 ghost use Rattle.std.specs.Prelude.{◌≡◌, ◌<◌, length};
 ghost use Rattle.flow_potentials.specs.Potentials.{AreOver};
 

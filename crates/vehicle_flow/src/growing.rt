@@ -13,8 +13,8 @@ use crate::shift::shift;
 use flow_potentials::{LinkTable, Potentials};
 use plan_num::NoMemory;
 
-/// Claims the nearest place of a tree. Where a trip has it the tree grows by this trip, which may find a
-/// place without one; where none has it the place is the answer.
+/// Claims the nearest place of a tree. Where a trip has it the tree grows by this trip, which may
+/// find a place without one; where none has it the place is the answer.
 pub(crate) fn grow(
     trips: &LinkTable,
     trip: usize,

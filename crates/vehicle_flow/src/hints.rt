@@ -8,14 +8,15 @@ use std::alloc::Global;
 // Trips whose counts of links differ by less count as equal.
 const ALIKE: usize = 64;
 
-/// Places that were as near as can be when they were put here. One of those whose trips have the most
-/// links comes first, since such a trip finds a place without one soonest, and among these the last one.
-/// The list promises nothing: who takes a place looks whether it still is the nearest.
+/// Places that were as near as can be when they were put here. One of those whose trips have the
+/// most links comes first, since such a trip finds a place without one soonest, and among these the
+/// last one. The list promises nothing: who takes a place looks whether it still is the nearest.
 #[derive(Drop)]
 pub(crate) struct Hints {
     // The group of each trip, by how many links it has.
     groups: Vec<usize>,
-    // The last place of each group and the place before each, by one more than their numbers; 0 for none.
+    // The last place of each group and the place before each, by one more than their numbers; 0 for
+    // none.
     last: Vec<usize>,
     before: Vec<usize>,
     // No greater group has a place.

@@ -17,8 +17,8 @@ use plan_num::NoMemory;
 use std::alloc::Global;
 use std::marker::Model;
 
-/// How near a place is: the least slack at it of the trips of the tree, the trip that has it, and the
-/// place that this would leave.
+/// How near a place is: the least slack at it of the trips of the tree, the trip that has it, and
+/// the place that this would leave.
 #[derive(Clone, Copy, Debug)]
 pub(crate) struct Near {
     /// The slack.
@@ -120,8 +120,8 @@ pub(crate) fn forget(nears: &mut Nears)
     }
 }
 
-/// Looks from a trip that comes to the tree, at each place without a claim, up to one without a trip at
-/// which its slack is 0.
+/// Looks from a trip that comes to the tree, at each place without a claim, up to one without a
+/// trip at which its slack is 0.
 pub(crate) fn look(
     trips: &LinkTable,
     potentials: &Potentials,
@@ -166,8 +166,8 @@ pub(crate) fn look(
     None
 }
 
-// The first of some links, from a step on, at which a trip is nearer than the nearest one so far. Most
-// links are passed over here.
+// The first of some links, from a step on, at which a trip is nearer than the nearest one so far.
+// Most links are passed over here.
 fn next_nearer(
     links: &[Link],
     own: u64,
@@ -191,8 +191,8 @@ fn next_nearer(
     links.len()
 }
 
-// Brings a trip to a place without a claim where it is nearer than the nearest one so far: tells whether
-// the place has no trip, and the slack is 0.
+// Brings a trip to a place without a claim where it is nearer than the nearest one so far: tells
+// whether the place has no trip, and the slack is 0.
 fn bring(
     claims: &Claims,
     assignment: &Assignment,

@@ -18,11 +18,11 @@ use std::alloc::Global;
 // The greatest potential.
 const MOST: u64 = 1_000_000_000_000_000_000;
 
-/// Potentials that meet a plan as some do, and under which mostly those pairs alone are tight that stand
-/// in some plan of least cost. A pair of two components stands in none, since no trip can come back over
-/// it. So each trip gains the number of its component, which its place loses: a tight pair of two
-/// components then is so no more. Whether all other links are still covered is looked at, since a
-/// number may be more than what they were short of being tight.
+/// Potentials that meet a plan as some do, and under which mostly those pairs alone are tight that
+/// stand in some plan of least cost. A pair of two components stands in none, since no trip can
+/// come back over it. So each trip gains the number of its component, which its place loses: a
+/// tight pair of two components then is so no more. Whether all other links are still covered is
+/// looked at, since a number may be more than what they were short of being tight.
 pub(crate) fn part(
     alloc: Global,
     trips: &LinkTable,
