@@ -90,14 +90,14 @@ fn next_of_trip(
         let link = links[arc];
         if own + potentials.natural_v(link.to) == link.gain {
             let next = node_at(assignment, link.to);
-            if is_new(found, trip, next) {
+            if found.look(trip, next) {
                 found.set_arcs(trip, arc + 1);
                 return Some(next);
             }
         }
     }
     found.set_arcs(trip, links.len());
-    if own == 0 && is_new(found, trip, trips.len()) {
+    if own == 0 && found.look(trip, trips.len()) {
         Some(trips.len())
     } else {
         None
@@ -115,24 +115,15 @@ fn next_of_none(
 {
     for trip in found.arcs(none)..assignment.len() {
         let next = node_at(assignment, trip);
-        if potentials.natural_v(trip) == 0 && is_new(found, none, next) {
+        if potentials.natural_v(trip) == 0 && found.look(none, next) {
             return Some(next);
         }
-        if assignment.next(trip).is_none() && is_new(found, none, trip) {
+        if assignment.next(trip).is_none() && found.look(none, trip) {
             return Some(trip);
         }
         found.set_arcs(none, trip + 1);
     }
     None
-}
-
-// Whether an arc leads to a node that was not reached.
-fn is_new(found: &mut Components, from: usize, to: usize) -> bool {
-    if found.is_new(to) {
-        return true;
-    }
-    found.look(from, to);
-    false
 }
 
 /// The node of the trip that has a place, or that of none.
