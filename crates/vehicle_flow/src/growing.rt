@@ -34,10 +34,10 @@ pub(crate) fn grow(
         (λ _. length nears.new ≡ length nears.old)) }
     ensures kept { OnOk result (StillCovers (links_of trips.now) potentials.old potentials.new) }
     ensures more { IfOk result (λ found. MatchOption found
-        (length claims.new.order ≡ length claims.old.order + 1) (λ _. ⊤)) }
+        ((length claims.new.order ≡ length claims.old.order + 1)
+        × (length claims.old.order < length claims.old.at)) (λ _. ⊤)) }
 {
     let _ = trips.len();
-    let _ = claims.count();
     match nearest(claims, assignment, nears, hints) {
         Some((place, near)) => {
             shift(trip, assignment, claims, potentials, near.slack);
@@ -85,7 +85,6 @@ pub(crate) fn look_from(
         × AreLooked (links_of trips.now) potentials.now claims.old by from nears.old nears.new)
         (IsPlaceFound (links_of trips.now) potentials.now trip assignment.now claims.new)) }
 {
-    let _ = claims.count();
     match look(
         trips, potentials, claims, assignment, nears, hints, by, from,
     ) {

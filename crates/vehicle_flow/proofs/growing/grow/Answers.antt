@@ -26,7 +26,7 @@ turn c = record {
       c.requires.growing.tight.each c.shift.ensures;
   each = c.shift_nears.ensures.each;
   told = c.shift_nears.ensures.shifted;
-  ordered = c.count.ensures.claims;
+  ordered = c.claim.ensures.claims;
   claimed = c.in_ok-claim-in-Some.ensures.claimed;
 }
 
@@ -62,8 +62,11 @@ returns-in-Some-trip_at-clause-near c = then_found c.look_from.result c.look_fro
 
 pub returns-in-Some-trip_at-clause-more : goal.returns-in-Some-trip_at-clause-more
 returns-in-Some-trip_at-clause-more c = then_found c.look_from.result c.look_from.ensures.looked
-    (λ looked. ap (λ x. length x.order) (looked.0 ∙ c.in_ok-claim-in-Some.ensures.claimed)
-    ∙ length_push c.args.claims.now.order c.in-Some.place)
+    (λ looked. (
+      ap (λ x. length x.order) (looked.0 ∙ c.in_ok-claim-in-Some.ensures.claimed)
+          ∙ length_push c.args.claims.now.order c.in-Some.place,
+      c.claim.ensures.few,
+    ))
     (λ place found. tt)
 
 pub returns-in-Some-trip_at-clause-kept : goal.returns-in-Some-trip_at-clause-kept
