@@ -74,11 +74,15 @@ impl Components {
 
     /// Looks at an arc, and tells whether it leads to a node that was not reached.
     pub(crate) fn look(&mut self, from: usize, to: usize) -> bool {
-        let step = at(&self.reached, to);
-        if step < at(&self.least, from) && at(&self.numbers, to) == 0 && 0 < step {
-            set(&mut self.least, from, step);
+        if 0 < at(&self.numbers, to) {
+            return false;
         }
-        step == 0
+        let step = at(&self.reached, to);
+        if step == 0 {
+            return true;
+        }
+        self.lower(from, step);
+        false
     }
 
     /// Goes back from a node of which all arcs were looked at. Where it leads to none before it,
@@ -90,9 +94,14 @@ impl Components {
         }
         self.walk.pop();
         if let Some(before) = self.last() {
-            let least = at(&self.least, before).min(least);
-            set(&mut self.least, before, least);
+            self.lower(before, least);
         }
+    }
+
+    // A node leads to one that was reached at a step.
+    fn lower(&mut self, node: usize, step: usize) {
+        let least = at(&self.least, node).min(step);
+        set(&mut self.least, node, least);
     }
 
     // Makes a component of what is open from a node on.
