@@ -1,10 +1,10 @@
 // Other potentials of a plan, under which fewer pairs are tight.
-ghost use Rattle.std.specs.Prelude.{ℕ, pos, ◌≡◌, ◌+◌, ◌<◌, ◌≤◌, true, false, length, Some, None, IfOk, MatchOption};
+ghost use Rattle.std.specs.Prelude.{ℕ, pos, ◌≡◌, ◌+◌, ◌<◌, ◌≤◌, true, length, Some, None, IfOk, MatchOption};
 ghost use Rattle.flow_potentials.specs.Potentials.{at, AreOver};
 ghost use Rattle.vehicle_flow.specs.Growing.{IsTaken};
 ghost use Rattle.vehicle_flow.specs.Parting.{AreMet, IsMet};
 ghost use Rattle.vehicle_flow.specs.Slacks.{Covers};
-ghost use Rattle.vehicle_model.specs.Plans.{next, is_next};
+ghost use Rattle.vehicle_model.specs.Plans.{next};
 ghost use Rattle.vehicle_model.specs.Trips.{links_of};
 
 use crate::assignment::Assignment;
