@@ -46,76 +46,88 @@ module _ (trips : TripsParts) (potentials : PotentialParts) (trip : ℕ) (plan :
         (sym is.waits ∙ ap (next plan) (sym same) ∙ tree.owns)) tree.owns ∙ e) in
         omega (arith, ints, most, least, sound.cheap_vehicle)
 
-    module _ (after : PotentialParts) (shift : AreShifted trip plan claims near.slack count potentials after)
-        (moved : List (Option Near)) (each : length moved ≡ length nears)
-        (told : (other : ℕ) → other < length nears
-        → get_or moved other None ≡ shifted (claim_at claims other) near.slack (get_or nears other None))
-        (ordered : AreClaims claims) (now : ClaimsParts)
-        (claimed : now ≡ record {
-          at = slice_set claims.at place
-              (Some (record { by = Some near.by; from = near.from; step = length claims.order }));
-          order = claims.order ++ place ∷ [];
-        }) where
-      growing : IsGrowing (links_of trips) after trip plan claims
-      growing = growing_after (links_of trips) potentials trip plan claims is nears are near.slack best.least
-          after shift (links_within trips)
+-- what one turn does: it shifts potentials by the slack of the nearest place, and claims the place
+pub record IsTurn (trips : TripsParts) (potentials : PotentialParts) (trip : ℕ) (plan : List (Option ℕ))
+    (claims : ClaimsParts) (nears : List (Option Near)) (place : ℕ) (near : Near) (after : PotentialParts)
+    (moved : List (Option Near)) (now : ClaimsParts) : Type 0 where
+  pub is : IsGrowing (links_of trips) potentials trip plan claims
+  pub are : AreNear (links_of trips) potentials trip plan claims nears
+  pub best : IsNearestPlace claims nears place near
+  pub shift : AreShifted trip plan claims near.slack (length trips.trips) potentials after
+  pub each : length moved ≡ length nears
+  pub told : (other : ℕ) → other < length nears
+      → get_or moved other None ≡ shifted (claim_at claims other) near.slack (get_or nears other None)
+  pub ordered : AreClaims claims
+  pub claimed : now ≡ record {
+    at = slice_set claims.at place
+        (Some (record { by = Some near.by; from = near.from; step = length claims.order }));
+    order = claims.order ++ place ∷ [];
+  }
 
-      -- what was covered still is
-      pub kept_covered : StillCovers (links_of trips) potentials after
-      kept_covered = covered_after (links_of trips) potentials trip plan claims is nears are near.slack best.least
-          after shift (links_within trips)
+module _ {trips : TripsParts} {potentials : PotentialParts} {trip : ℕ} {plan : List (Option ℕ)}
+    {claims : ClaimsParts} {nears : List (Option Near)} {place : ℕ} {near : Near} {after : PotentialParts}
+    {moved : List (Option Near)} {now : ClaimsParts}
+    (turn : IsTurn trips potentials trip plan claims nears place near after moved now) where
+  growing : IsGrowing (links_of trips) after trip plan claims
+  growing = growing_after (links_of trips) potentials trip plan claims turn.is nears turn.are near.slack turn.best.least
+      after turn.shift (links_within trips)
 
-      nears_moved : AreNear (links_of trips) after trip plan claims moved
-      nears_moved = nears_after (links_of trips) potentials trip plan claims is nears are near.slack best.least
-          after shift (links_within trips) moved each told
+  -- what was covered still is
+  pub kept_covered : StillCovers (links_of trips) potentials after
+  kept_covered = covered_after (links_of trips) potentials trip plan claims turn.is nears turn.are near.slack turn.best.least
+      after turn.shift (links_within trips)
 
-      near_moved : get_or moved place None ≡ Some (moved_near near.slack near)
-      near_moved = told place best.within
-          ∙ ap (λ claim. shifted claim near.slack (get_or nears place None)) best.open_place
-          ∙ ap (option_map (moved_near near.slack)) best.is
+  nears_moved : AreNear (links_of trips) after trip plan claims moved
+  nears_moved = nears_after (links_of trips) potentials trip plan claims turn.is nears turn.are near.slack turn.best.least
+      after turn.shift (links_within trips) moved turn.each turn.told
 
-      within : place < count + 1
-      within = omega (arith, best.within, are.each)
+  near_moved : get_or moved place None ≡ Some (moved_near near.slack near)
+  near_moved = turn.told place turn.best.within
+      ∙ ap (λ claim. shifted claim near.slack (get_or nears place None)) turn.best.open_place
+      ∙ ap (option_map (moved_near near.slack)) turn.best.is
 
-      from_tree : IsFrom trip plan claims near.by near.from
-      from_tree = nears_moved.from place (moved_near near.slack near) best.open_place near_moved
+  within : place < length trips.trips + 1
+  within = omega (arith, turn.best.within, turn.are.each)
 
-      exact : slack_to (links_of trips) after near.by place ≡ Some 0
-      exact = (subst (IsNear (links_of trips) after (in_tree trip plan claims) place) near_moved
-          (nears_moved.near place within best.open_place)).slack
-          ∙ ap Some (omega arith)
+  from_tree : IsFrom trip plan claims near.by near.from
+  from_tree = nears_moved.from place (moved_near near.slack near) turn.best.open_place near_moved
 
-      -- a place without a trip was found
-      pub found_now : is_next plan place ≡ false
-          → IsPlaceFound (links_of trips) after trip plan now place
-      found_now alone = subst (λ x. IsPlaceFound (links_of trips) after trip plan x place) (sym claimed)
-          (place_found (links_of trips) after trip plan claims growing ordered place within best.open_place near
-          from_tree exact alone)
+  exact : slack_to (links_of trips) after near.by place ≡ Some 0
+  exact = (subst (IsNear (links_of trips) after (in_tree trip plan claims) place) near_moved
+      (nears_moved.near place within turn.best.open_place)).slack
+      ∙ ap Some (omega arith)
 
-      -- or the tree has grown by the trip that has it
-      module _ (left : ℕ) (has : next plan left ≡ Some place) where
-        pub grown_now : IsGrowing (links_of trips) after trip plan now
-        grown_now = subst (IsGrowing (links_of trips) after trip plan) (sym claimed)
-            (grown (links_of trips) after trip plan claims growing ordered place within best.open_place near
-            from_tree exact left has)
+  -- a place without a trip was found
+  pub found_now : is_next plan place ≡ false
+      → IsPlaceFound (links_of trips) after trip plan now place
+  found_now alone = subst (λ x. IsPlaceFound (links_of trips) after trip plan x place) (sym turn.claimed)
+      (place_found (links_of trips) after trip plan claims growing turn.ordered place within turn.best.open_place near
+      from_tree exact alone)
 
-        pub left_covered : Covers (links_of trips) after left
-        left_covered = growing.covered left (placed_next trip plan left place has)
+  -- or the tree has grown by the trip that has it
+  module _ (left : ℕ) (has : next plan left ≡ Some place) where
+    pub grown_now : IsGrowing (links_of trips) after trip plan now
+    grown_now = subst (IsGrowing (links_of trips) after trip plan) (sym turn.claimed)
+        (grown (links_of trips) after trip plan claims growing turn.ordered place within turn.best.open_place near
+        from_tree exact left has)
 
-        pub left_from : IsFrom trip plan now left (Some place)
-        left_from = subst (λ x. IsFrom trip plan x left (Some place)) (sym claimed)
-            (from_left (links_of trips) after trip plan claims growing ordered place within best.open_place near
-            from_tree exact left has)
+    pub left_covered : Covers (links_of trips) after left
+    left_covered = growing.covered left (placed_next trip plan left place has)
 
-        pub nears_now : (last : List (Option Near)) (after_claims : ClaimsParts) → after_claims ≡ now
-            → length last ≡ length moved
-            → AreLooked (links_of trips) after now left (Some place) moved last
-            → AreNear (links_of trips) after trip plan after_claims last
-        nears_now last after_claims same size looks = subst (λ x. AreNear (links_of trips) after trip plan x last)
-            (sym (same ∙ claimed))
-            (nears_grown (links_of trips) after trip plan claims growing ordered place within best.open_place near
-            from_tree exact left has moved last nears_moved size
-            (subst (λ x. AreLooked (links_of trips) after x left (Some place) moved last) claimed looks))
+    pub left_from : IsFrom trip plan now left (Some place)
+    left_from = subst (λ x. IsFrom trip plan x left (Some place)) (sym turn.claimed)
+        (from_left (links_of trips) after trip plan claims growing turn.ordered place within turn.best.open_place near
+        from_tree exact left has)
+
+    pub nears_now : (last : List (Option Near)) (after_claims : ClaimsParts) → after_claims ≡ now
+        → length last ≡ length moved
+        → AreLooked (links_of trips) after now left (Some place) moved last
+        → AreNear (links_of trips) after trip plan after_claims last
+    nears_now last after_claims same size looks = subst (λ x. AreNear (links_of trips) after trip plan x last)
+        (sym (same ∙ turn.claimed))
+        (nears_grown (links_of trips) after trip plan claims growing turn.ordered place within turn.best.open_place near
+        from_tree exact left has moved last nears_moved size
+        (subst (λ x. AreLooked (links_of trips) after x left (Some place) moved last) turn.claimed looks))
 
 -- what a look leaves, by whether it found a place
 pub then_found : {E A B : Type 0} {P Q : ℕ → Type 0} (result : Result (Option ℕ) E)

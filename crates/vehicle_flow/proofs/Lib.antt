@@ -27,6 +27,7 @@ pub mod LinkTies
 pub mod Moves
 pub mod NearPlaces
 pub mod NearSlacks
+pub mod Parted
 pub mod Refused
 pub mod SameGains
 pub mod ScheduleAccepted
@@ -42,6 +43,7 @@ pub mod TightValid
 pub mod Told
 mod Tried
 pub mod Values
+pub mod VehicleCounts
 pub mod VehicleLaws
 pub mod VehicleMakes
 pub mod VehicleReads

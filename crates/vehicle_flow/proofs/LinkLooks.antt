@@ -1,15 +1,18 @@
 -- A look from a trip along its links, up to the place that the next link leads to.
-use Rattle.std.proofs.Common.{◌≡◌, ℕ, ◌<◌, ◌≤◌, ◌+◌, ◌-◌, List, length, slice_get, get_or, Option, Some, None, refl, ap, sym, ◌∙◌, subst, arith}
+use Rattle.std.proofs.Common.{◌≡◌, ℕ, zero, suc, ◌<◌, ◌≤◌, ◌+◌, ◌-◌, if◌then◌else◌, false, List, length, slice_get, get_or, Option, Some, None, refl, ap, sym, ◌∙◌, subst, arith}
 use Rattle.vehicle_model.specs.Trips.{Links}
 use Rattle.flow_potentials.specs.Potentials.{PotentialParts, at}
 use Rattle.flow_potentials.specs.declared.link_table.Link.{Link}
 use Rattle.vehicle_flow.specs.declared.near.Near.{Near}
 use Rattle.vehicle_flow.specs.Claims.{ClaimsParts, claim_at}
-use Rattle.vehicle_flow.specs.Growing.{looked, AreAsBefore, AreLooked}
-use Rattle.flow_potentials.specs.LinkRows.{end_of, reached, IsRow}
-use Rattle.vehicle_flow.specs.Slacks.{slack_to}
-use Rattle.flow_potentials.proofs.LinkRows.{gap_first, gap_next, reached_last, reached_next, reached_within}
-use Rattle.vehicle_flow.proofs.LinkSlacks.{gap_slack, link_slack}
+use Rattle.vehicle_flow.specs.Growing.{looked, is_nearer, AreAsBefore, AreLooked}
+use Rattle.vehicle_flow.specs.Nears.{AreNearLinks, ArePassed}
+use Rattle.vehicle_flow.specs.declared.claim.Claim.{Claim}
+use Rattle.std.proofs.lemmas.Bool.{false≢true}
+use Rattle.flow_potentials.specs.LinkRows.{end_of, link_to, reached, IsRow}
+use Rattle.vehicle_flow.specs.Slacks.{slack_to, Covers}
+use Rattle.flow_potentials.proofs.LinkRows.{gap_first, gap_next, item, reached_last, reached_next, reached_within}
+use Rattle.vehicle_flow.proofs.LinkSlacks.{gap_slack, link_covered, link_slack}
 use Rattle.vehicle_flow.proofs.Shifting.{slack_past}
 use Rattle.vehicle_flow.proofs.Told.{IsTold, told_at, told_start, told_up}
 
@@ -58,6 +61,60 @@ module _ (links : Links) (potentials : PotentialParts) (claims : ClaimsParts) (i
       told_gap place within
       (gap_slack links i row is potentials place within
       (gap_next links i row is k link e place (omega (arith, low)) high)))
+
+  -- links at which the trip is not nearer
+  looked_past : (now : List (Option Near)) (k more : ℕ)
+      → IsTold None told before now (reached links.count row k) → k + more ≤ length row
+      → ArePassed row (at potentials.u i) potentials.v now k (k + more)
+      → IsTold None told before now (reached links.count row (k + more))
+  looked_past now k zero are fits passed =
+      subst (λ n. IsTold None told before now (reached links.count row n)) (no_more k) are
+    where
+      no_more : (k : ℕ) → k ≡ k + 0
+      no_more k = omega arith
+  looked_past now k (suc more) are fits passed =
+      let link = get_or row (k + more) (link_to 0 0) in
+      let here : slice_get row (k + more) ≡ Some (get_or row (k + more) (link_to 0 0)) =
+      item row (k + more) (omega (arith, fits)) in
+      subst (λ n. IsTold None told before now (reached links.count row n)) (one_more k more)
+      (looked_more now now (k + more) (get_or row (k + more) (link_to 0 0))
+      (looked_past now k more are (omega (arith, fits))
+      (λ m link low high e. passed m link low (omega (arith, high)) e)) here
+      (record { each = refl; others = λ other apart. refl })
+      (not_nearer (claim_at claims (get_or row (k + more) (link_to 0 0)).to) _ _
+      (passed (k + more) (get_or row (k + more) (link_to 0 0)) (omega arith) (omega arith) here)))
+    where
+      one_more : (k more : ℕ) → (k + more) + 1 ≡ k + suc more
+      one_more k more = omega arith
+
+      not_nearer : (claim : Option Claim) (slack : ℕ) (old : Option Near)
+          → is_nearer slack old ≡ false → old ≡ looked claim (Some slack) i from old
+      not_nearer (Some found) slack old e = refl
+      not_nearer None slack None e = absurd (false≢true (sym e))
+      not_nearer None slack (Some old) e = ap (λ b. Some (if b
+          then record { slack = slack; by = i; from = from } else old)) (sym e)
+
+  module _ (own : ℕ) (own_is : own ≡ at potentials.u i) where
+    pub looked_to : (now : List (Option Near)) (k end : ℕ)
+        → IsTold None told before now (reached links.count row k) → k ≤ end → end ≤ length row
+        → ArePassed row own potentials.v now k end
+        → IsTold None told before now (reached links.count row end)
+    looked_to now k end are low high passed =
+        let is : k + (end - k) ≡ end = omega (arith, low) in
+        subst (λ n. IsTold None told before now (reached links.count row n)) is
+        (looked_past now k (end - k) are (omega (arith, low, high))
+        (λ m link first past e. subst (λ n. is_nearer (n + at potentials.v link.to - link.gain)
+        (get_or now link.to None) ≡ false) own_is
+        (passed m link first (omega (arith, past, low)) e)))
+
+    -- the links are near ones
+    pub near_links : Covers links potentials i → length potentials.v ≡ links.count → (places : ℕ)
+        → places ≡ links.count + 1 → AreNearLinks row own potentials.v places
+    near_links covers size places places_are k link e = record {
+      trip = omega (arith, (is.right k link e).within, size);
+      place = omega (arith, (is.right k link e).within, places_are);
+      covered = omega (arith, own_is, link_covered links i row is potentials covers k link e);
+    }
 
   -- and the place behind all trips
   pub looked_all : (now after : List (Option Near)) (k last : ℕ)

@@ -13,7 +13,7 @@ use Rattle.flow_potentials.specs.Potentials.{PotentialParts, at, AreOver, AreVal
 use Rattle.flow_potentials.proofs.Certified.{by_bound}
 use Rattle.vehicle_flow.specs.declared.claim.Claim.{Claim}
 use Rattle.vehicle_flow.specs.declared.near.Near.{Near}
-use Rattle.vehicle_flow.specs.Claims.{ClaimsParts, claim_at, AreClaims}
+use Rattle.vehicle_flow.specs.Claims.{ClaimsParts, claim_at}
 use Rattle.vehicle_flow.specs.Growing.{looking, is_placed, in_tree, StillCovers, looked, IsTaken, IsNear, AreLooked, AreNear, IsGrowing, IsPlaceFound}
 use Rattle.vehicle_flow.specs.Searches.{IsTightBut, IsHandedOn}
 use Rattle.flow_potentials.specs.LinkRows.{worth}
@@ -238,13 +238,6 @@ pub record IsTree (links : Links) (before potentials : PotentialParts) (trip : �
   pub growing : IsGrowing links potentials trip plan claims
   pub near : AreNear links potentials trip plan claims nears
   pub kept : StillCovers links before potentials
-
--- no more places are claimed than there are
-pub few_claimed : (links : Links) (before potentials : PotentialParts) (trip : ℕ) (plan : List (Option ℕ))
-    (claims : ClaimsParts) (nears : List (Option Near)) → IsTree links before potentials trip plan claims nears
-    → AreClaims claims → length claims.order ≤ links.count + 1
-few_claimed links before potentials trip plan claims nears is are =
-    omega (arith, is.growing.places, are.counted)
 
 -- trips are taken in, with room for each place; so are those of the first so many steps of which each
 -- comes once for all trips

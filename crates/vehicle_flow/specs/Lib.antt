@@ -5,6 +5,7 @@ pub mod ClaimablePlaces
 pub mod Claims
 pub mod Growing
 pub mod Nears
+pub mod Parting
 pub mod Places
 pub mod RightVehicles
 pub mod ScheduleChecks

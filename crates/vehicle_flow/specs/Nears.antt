@@ -1,5 +1,8 @@
 -- How near places are, and the slacks alone, which are asked most.
-use Rattle.std.specs.Prelude.{ℕ, ◌≡◌, ◌<◌, List, length, get_or, Option, Some, None}
+use Rattle.std.specs.Prelude.{ℕ, ◌≡◌, ◌+◌, ◌-◌, ◌<◌, ◌≤◌, false, List, length, get_or, slice_get, Option, Some, None}
+use Rattle.flow_potentials.specs.Potentials.{at}
+use Rattle.flow_potentials.specs.declared.link_table.Link.{Link}
+use Rattle.vehicle_flow.specs.Growing.{is_nearer}
 use Rattle.vehicle_flow.specs.declared.near.Near.{Near}
 
 -- the slack at a place; more than any slack where nothing is near
@@ -12,3 +15,19 @@ pub record AreSlacks (nears : List (Option Near)) (slacks : List ℕ) : Type 0 w
   pub each : length slacks ≡ length nears
   pub slack : (place : ℕ) → place < length nears
       → get_or slacks place 0 ≡ slack_or_most (get_or nears place None)
+
+-- links of a trip to places of which so many are known, and which its potential and theirs cover
+pub record IsNearLink (own : ℕ) (v : List ℕ) (places : ℕ) (link : Link) : Type 0 where
+  pub trip : link.to < length v
+  pub place : link.to < places
+  pub covered : link.gain ≤ own + at v link.to
+
+abbrev pub AreNearLinks : List Link → ℕ → List ℕ → ℕ → Type 0
+AreNearLinks links own v places = (k : ℕ) (link : Link) → slice_get links k ≡ Some link
+    → IsNearLink own v places link
+
+-- at the places of the links from one on, up to another, the trip is not nearer than what was nearest
+abbrev pub ArePassed : List Link → ℕ → List ℕ → List (Option Near) → ℕ → ℕ → Type 0
+ArePassed links own v nears first end = (k : ℕ) (link : Link) → first ≤ k → k < end
+    → slice_get links k ≡ Some link
+    → is_nearer (own + at v link.to - link.gain) (get_or nears link.to None) ≡ false

@@ -10,6 +10,7 @@ use crate::bid::bid;
 use crate::claim::Claims;
 use crate::hints::Hints;
 use crate::near::Nears;
+use crate::parting::part;
 use crate::solved::Solved;
 use crate::taking::take_in;
 use flow_potentials::{LinkTable, Potentials};
@@ -17,8 +18,8 @@ use plan_num::NoMemory;
 use std::alloc::Global;
 use vehicle_model::Trips;
 
-/// A plan of least cost, and potentials that are valid for it. Which plan of least cost it is is left
-/// open.
+/// A plan of least cost, and potentials that are valid for it. Which plan of least cost it is is
+/// left open.
 pub fn cheapest_plan(alloc: Global, trips: &Trips) -> Result<Solved, NoMemory>
     ensures plan { IfOk result (λ solved. IsPlan (links_of trips.now) solved.plan) }
     ensures valid { IfOk result (λ solved. AreValid (links_of trips.now) solved.plan solved.potentials) }
@@ -29,9 +30,9 @@ pub fn cheapest_plan(alloc: Global, trips: &Trips) -> Result<Solved, NoMemory>
 }
 
 /// The same from the links of the trips. First each trip bids for a place. Then trip after trip is
-/// given a successor or none along a least walk of the residual graph, as in the Hungarian method for
-/// assignments (H. W. Kuhn, 1955); those that end last come first, since then a trip finds its successor
-/// mostly among places that nobody could take before.
+/// given a successor or none along a least walk of the residual graph, as in the Hungarian method
+/// for assignments (H. W. Kuhn, 1955); those that end last come first, since then a trip finds its
+/// successor mostly among places that nobody could take before.
 pub(crate) fn cheapest_of(alloc: Global, trips: &LinkTable) -> Result<Solved, NoMemory>
     ensures plan { IfOk result (λ solved. IsPlan (links_of trips.now) solved.plan) }
     ensures valid { IfOk result (λ solved. AreValid (links_of trips.now) solved.plan solved.potentials) }
@@ -44,7 +45,7 @@ pub(crate) fn cheapest_of(alloc: Global, trips: &LinkTable) -> Result<Solved, No
     bid_all(trips, &order, &mut assignment, &mut potentials);
     let mut claims = Claims::new(alloc, count + 1)?;
     let mut nears = Nears::new(alloc, count + 1)?;
-    let mut hints = Hints::new(alloc, count + 1)?;
+    let mut hints = Hints::new(alloc, trips)?;
     for step in 0..count + count {
         take_in(
             trips,
@@ -56,6 +57,7 @@ pub(crate) fn cheapest_of(alloc: Global, trips: &LinkTable) -> Result<Solved, No
             &mut hints,
         )?;
     }
+    let potentials = part(alloc, trips, &assignment, potentials)?;
     let plan = assignment.to_plan(alloc)?;
     Ok(Solved { plan, potentials })
 }
@@ -63,8 +65,8 @@ pub(crate) fn cheapest_of(alloc: Global, trips: &LinkTable) -> Result<Solved, No
 // How many bids may come one upon the other before the next trip bids.
 const MOST_BIDS: usize = 16;
 
-// Lets each trip bid for a place, and those that lose theirs as well. Which trips have places then is
-// left open.
+// Lets each trip bid for a place, and those that lose theirs as well. Which trips have places then
+// is left open.
 fn bid_all(
     trips: &LinkTable,
     order: &[Ending],
@@ -115,8 +117,8 @@ fn by_ends(alloc: Global, trips: &Trips) -> Result<Vec<Ending>, NoMemory> {
     Ok(order)
 }
 
-// The trip of a step: first some trip for each, from the last end on, and then each of all trips, so
-// that none is left out whatever the order is.
+// The trip of a step: first some trip for each, from the last end on, and then each of all trips,
+// so that none is left out whatever the order is.
 fn trip_of(order: &[Ending], count: usize, step: usize) -> usize
     requires { step < count + count }
     ensures within { result < count }

@@ -112,6 +112,7 @@ impl Claims {
           order = self.old.order ++ place ∷ [];
         }) }
         ensures few { length self.old.order < length self.old.at }
+        ensures claims { AreClaims self.old }
     {
         let step = self.count();
         self.order.push(place)?;

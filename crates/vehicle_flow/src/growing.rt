@@ -13,8 +13,8 @@ use crate::shift::shift;
 use flow_potentials::{LinkTable, Potentials};
 use plan_num::NoMemory;
 
-/// Claims the nearest place of a tree. Where a trip has it the tree grows by this trip, which may find a
-/// place without one; where none has it the place is the answer.
+/// Claims the nearest place of a tree. Where a trip has it the tree grows by this trip, which may
+/// find a place without one; where none has it the place is the answer.
 pub(crate) fn grow(
     trips: &LinkTable,
     trip: usize,
@@ -34,14 +34,14 @@ pub(crate) fn grow(
         (λ _. length nears.new ≡ length nears.old)) }
     ensures kept { OnOk result (StillCovers (links_of trips.now) potentials.old potentials.new) }
     ensures more { IfOk result (λ found. MatchOption found
-        (length claims.new.order ≡ length claims.old.order + 1) (λ _. ⊤)) }
+        ((length claims.new.order ≡ length claims.old.order + 1)
+        × (length claims.old.order < length claims.old.at)) (λ _. ⊤)) }
 {
     let _ = trips.len();
-    let _ = claims.count();
     match nearest(claims, assignment, nears, hints) {
         Some((place, near)) => {
             shift(trip, assignment, claims, potentials, near.slack);
-            shift_nears(claims, nears, hints, near.slack);
+            shift_nears(claims, assignment, nears, hints, near.slack);
             claims.claim(place, Some(near.by), near.from)?;
             match assignment.trip_at(place) {
                 Some(left) => look_from(
@@ -85,7 +85,6 @@ pub(crate) fn look_from(
         × AreLooked (links_of trips.now) potentials.now claims.old by from nears.old nears.new)
         (IsPlaceFound (links_of trips.now) potentials.now trip assignment.now claims.new)) }
 {
-    let _ = claims.count();
     match look(
         trips, potentials, claims, assignment, nears, hints, by, from,
     ) {

@@ -1,53 +1,72 @@
 // Places that may be nearest.
 
+use crate::cells::{at, set, zeros};
+use flow_potentials::LinkTable;
 use plan_num::NoMemory;
 use std::alloc::Global;
 
-/// Places that were as near as can be when they were put here, the first one first. The list promises
-/// nothing: who takes a place looks whether it still is the nearest.
+// Trips whose counts of links differ by less count as equal.
+const ALIKE: usize = 64;
+
+/// Places that were as near as can be when they were put here. One of those whose trips have the
+/// most links comes first, since such a trip finds a place without one soonest, and among these the
+/// last one. The list promises nothing: who takes a place looks whether it still is the nearest.
 #[derive(Drop)]
 pub(crate) struct Hints {
-    places: Vec<usize>,
-    count: usize,
-    taken: usize,
+    // The group of each trip, by how many links it has.
+    groups: Vec<usize>,
+    // The last place of each group and the place before each, by one more than their numbers; 0 for
+    // none.
+    last: Vec<usize>,
+    before: Vec<usize>,
+    // No greater group has a place.
+    most: usize,
 }
 
 impl Hints {
-    /// No hint, and room for so many.
-    pub(crate) fn new(alloc: Global, room: usize) -> Result<Hints, NoMemory> {
-        let mut places = Vec::new(alloc);
-        for _place in 0..room {
-            places.push(0)?;
+    /// No hint.
+    pub(crate) fn new(alloc: Global, trips: &LinkTable) -> Result<Hints, NoMemory> {
+        let count = trips.len();
+        let mut groups = Vec::new(alloc);
+        for trip in 0..count {
+            groups.push(trips.row(trip).len() / ALIKE)?;
         }
         Ok(Hints {
-            places,
-            count: 0,
-            taken: 0,
+            groups,
+            last: zeros(alloc, count / ALIKE + 1)?,
+            before: zeros(alloc, count + 1)?,
+            most: 0,
         })
     }
 
     /// Takes all hints back.
     pub(crate) fn clear(&mut self) {
-        self.count = 0;
-        self.taken = 0;
+        for group in 0..self.last.len() {
+            self.last[group] = 0;
+        }
+        self.most = 0;
     }
 
-    /// Puts a place behind the others, where there is room.
-    pub(crate) fn put(&mut self, place: usize) {
-        if self.count < self.places.len() {
-            self.places[self.count] = place;
-            self.count += 1;
-        }
+    /// Puts the place of a trip before the others of its group.
+    pub(crate) fn put(&mut self, place: usize, trip: usize) {
+        let group = at(&self.groups, trip);
+        let before = at(&self.last, group);
+        set(&mut self.before, place, before);
+        set(&mut self.last, group, place.saturating_add(1));
+        self.most = self.most.max(group);
     }
 
     /// The next place.
     pub(crate) fn take(&mut self) -> Option<usize> {
-        if self.taken < self.count && self.taken < self.places.len() {
-            let place = self.places[self.taken];
-            self.taken += 1;
-            Some(place)
-        } else {
-            None
+        for _turn in 0..self.last.len() {
+            let next = at(&self.last, self.most);
+            if 0 < next {
+                let before = at(&self.before, next - 1);
+                set(&mut self.last, self.most, before);
+                return Some(next - 1);
+            }
+            self.most = self.most.saturating_sub(1);
         }
+        None
     }
 }

@@ -4,11 +4,14 @@
 
 mod assignment;
 mod bid;
+mod cells;
 mod cheapest;
 mod check;
 mod chosen;
 mod claim;
 mod claimable;
+mod components;
+mod exchange;
 mod given;
 mod growing;
 mod handing;
@@ -17,6 +20,7 @@ mod judge;
 mod made;
 mod near;
 mod nearest;
+mod parting;
 mod pinned;
 mod report;
 mod schedule_fault;

@@ -3,7 +3,7 @@ ghost use Rattle.std.specs.Prelude.{ℕ, ◌≡◌, ◌+◌, ◌<◌, ◌≤◌,
 ghost use Rattle.flow_potentials.specs.Potentials.{AreOver};
 ghost use Rattle.vehicle_flow.specs.Claims.{claim_at};
 ghost use Rattle.vehicle_flow.specs.Growing.{looked, is_nearer, shifted, AreAsBefore, AreLooked, IsFreeAt};
-ghost use Rattle.vehicle_flow.specs.Nears.{slack_or_most};
+ghost use Rattle.vehicle_flow.specs.Nears.{slack_or_most, AreNearLinks, ArePassed};
 ghost use Rattle.vehicle_model.specs.Plans.{is_next};
 ghost use Rattle.vehicle_flow.specs.Slacks.{Covers};
 ghost use Rattle.vehicle_model.specs.Trips.{links_of};
@@ -12,13 +12,13 @@ use crate::assignment::Assignment;
 use crate::claim::Claims;
 use crate::hints::Hints;
 use crate::slack::{link_slack, of_trip};
-use flow_potentials::{LinkTable, Potentials};
+use flow_potentials::{Link, LinkTable, Potentials};
 use plan_num::NoMemory;
 use std::alloc::Global;
 use std::marker::Model;
 
-/// How near a place is: the least slack at it of the trips of the tree, the trip that has it, and the
-/// place that this would leave.
+/// How near a place is: the least slack at it of the trips of the tree, the trip that has it, and
+/// the place that this would leave.
 #[derive(Clone, Copy, Debug)]
 pub(crate) struct Near {
     /// The slack.
@@ -120,8 +120,8 @@ pub(crate) fn forget(nears: &mut Nears)
     }
 }
 
-/// Looks from a trip that comes to the tree, at each place without a claim, up to one without a trip at
-/// which its slack is 0.
+/// Looks from a trip that comes to the tree, at each place without a claim, up to one without a
+/// trip at which its slack is 0.
 pub(crate) fn look(
     trips: &LinkTable,
     potentials: &Potentials,
@@ -144,12 +144,15 @@ pub(crate) fn look(
 {
     let own = of_trip(potentials, by);
     let links = trips.row(by);
-    for link in links {
-        let slack = link_slack(own, potentials, *link);
+    let mut step = next_nearer(links, own, potentials, nears, 0);
+    while step < links.len() {
+        let link = links[step];
+        let slack = link_slack(own, potentials, link);
         let near = Near { slack, by, from };
         if bring(claims, assignment, nears, hints, link.to, near) {
             return Some(link.to);
         }
+        step = next_nearer(links, own, potentials, nears, step + 1);
     }
     let last = trips.len();
     let near = Near {
@@ -163,8 +166,33 @@ pub(crate) fn look(
     None
 }
 
-// Brings a trip to a place without a claim where it is nearer than the nearest one so far: tells whether
-// the place has no trip, and the slack is 0.
+// The first of some links, from a step on, at which a trip is nearer than the nearest one so far.
+// Most links are passed over here.
+fn next_nearer(
+    links: &[Link],
+    own: u64,
+    potentials: &Potentials,
+    nears: &Nears,
+    first: usize,
+) -> usize
+    requires first { first ≤ length links.now }
+    requires own { own ≤ 1000000000000000000 }
+    requires links { AreNearLinks links.now own potentials.now.v (length nears.now) }
+    ensures low { first ≤ result }
+    ensures high { result ≤ length links.now }
+    ensures passed { ArePassed links.now own potentials.now.v nears.now first result }
+{
+    for step in first..links.len() {
+        let link = links[step];
+        if nears.is_nearer(link.to, link_slack(own, potentials, link)) {
+            return step;
+        }
+    }
+    links.len()
+}
+
+// Brings a trip to a place without a claim where it is nearer than the nearest one so far: tells
+// whether the place has no trip, and the slack is 0.
 fn bring(
     claims: &Claims,
     assignment: &Assignment,
@@ -195,16 +223,24 @@ fn bring(
 fn is_free_or_hint(assignment: &Assignment, hints: &mut Hints, place: usize) -> bool
     ensures { result ≡ true → is_next assignment.now place ≡ false }
 {
-    if assignment.is_free(place) {
-        return true;
+    match assignment.trip_at(place) {
+        Some(trip) => {
+            hints.put(place, trip);
+            false
+        }
+        None => true,
     }
-    hints.put(place);
-    false
 }
 
 /// Every place without a claim is nearer by a slack.
 #[tactic(auto, using(crate::proofs::Told::told_start, crate::proofs::Told::told_set, crate::proofs::NearPlaces::unmoved))]
-pub(crate) fn shift_nears(claims: &Claims, nears: &mut Nears, hints: &mut Hints, slack: u64)
+pub(crate) fn shift_nears(
+    claims: &Claims,
+    assignment: &Assignment,
+    nears: &mut Nears,
+    hints: &mut Hints,
+    slack: u64,
+)
     requires { length claims.now.at ≡ length nears.old }
     ensures each { length nears.new ≡ length nears.old }
     ensures shifted { (place : ℕ) → place < length nears.old → get_or nears.new place None
@@ -216,16 +252,24 @@ pub(crate) fn shift_nears(claims: &Claims, nears: &mut Nears, hints: &mut Hints,
     for place in 0..nears.len() {
         let near = shifted(claims, place, slack, nears.at(place));
         nears.set(place, near);
-        hint_if_exact(hints, place, near);
+        if is_exact(near) && !claims.is_claimed(place) {
+            hint(assignment, hints, place);
+        }
     }
 }
 
-// Keeps a place in mind that is as near as can be.
-fn hint_if_exact(hints: &mut Hints, place: usize, near: Option<Near>) {
-    if let Some(near) = near {
-        if near.slack == 0 {
-            hints.put(place);
-        }
+// Keeps the place of a trip in mind.
+fn hint(assignment: &Assignment, hints: &mut Hints, place: usize) {
+    if let Some(trip) = assignment.trip_at(place) {
+        hints.put(place, trip);
+    }
+}
+
+// Whether something is as near as can be.
+fn is_exact(near: Option<Near>) -> bool {
+    match near {
+        Some(near) => near.slack == 0,
+        None => false,
     }
 }
 

@@ -21,7 +21,7 @@ pub(crate) fn vehicles_line(alloc: Global, trips: &Trips, plan: &Plan) -> Result
         alloc,
         Stage::Vehicles,
         &[
-            count_text(alloc, vehicle_count(plan), "vehicles")?,
+            count_text(alloc, vehicle_count(trips, plan), "vehicles")?,
             cost_text(alloc, trips, plan)?,
             Text::copy(alloc, b"optimal")?,
         ],
@@ -43,7 +43,7 @@ pub(crate) fn pinned_line(
         alloc,
         Stage::Vehicles,
         &[
-            count_text(alloc, vehicle_count(plan), "vehicles")?,
+            count_text(alloc, vehicle_count(trips, plan), "vehicles")?,
             cost_text(alloc, trips, plan)?,
             Text::copy(alloc, mark_text(potentials))?,
             Text::copy(alloc, b"pinned")?,
@@ -61,11 +61,18 @@ fn mark_text(potentials: &Option<Potentials>) -> &'static [u8]
     }
 }
 
-// How many vehicles a plan has.
-fn vehicle_count(plan: &Plan) -> usize
+// How many vehicles a plan has: as many as trips without a next one.
+fn vehicle_count(trips: &Trips, plan: &Plan) -> usize
+    requires { IsPlan (links_of trips.now) plan.now }
     ensures { result ≡ length (starts plan.now) }
 {
-    (0..plan.len()).filter(|j| !plan.is_next(*j)).count()
+    let mut links = 0;
+    for i in 0..trips.len() {
+        if plan.next(i).is_some() {
+            links += 1;
+        }
+    }
+    trips.len() - links
 }
 
 // What a plan costs.

@@ -45,7 +45,6 @@ pub(crate) fn take_in(
 }
 
 // Finds a place without a trip that can be handed on to a trip.
-#[tactic(auto, using(crate::proofs::TakenIn::few_claimed))]
 fn find_place(
     trips: &LinkTable,
     trip: usize,
@@ -69,7 +68,6 @@ fn find_place(
         return Ok(place);
     }
     loop {
-        let _ = claims.count();
         if let Some(place) = grow(trips, trip, assignment, potentials, claims, nears, hints)? {
             return Ok(place);
         }

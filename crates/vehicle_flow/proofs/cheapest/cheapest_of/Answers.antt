@@ -26,19 +26,22 @@ loop-step-preserved c = taken_step (links_of c.args.trips.now) c.loop-step.poten
     ∙ ap (λ n. c.loop-step.step - n) c.len-count.ensures.count)
     c.in_ok-take_in.ensures.places c.in_ok-take_in.ensures.nears
 
+pub part-requires-clause-covered : goal.part-requires-clause-covered
+part-requires-clause-covered c i within = c.loop-step.invariant.covered i
+    (omega (arith, within, c.loop-step-test.false, c.loop-step.auto.step-end, c.len-count.ensures.count))
+
 pub returns-clause-plan : goal.returns-clause-plan
 returns-clause-plan c = subst (IsPlan (links_of c.args.trips.now)) (sym c.in_ok-plan.ensures)
-    (all_plan c.args.trips.now c.loop-step.potentials c.loop-step.assignment c.loop-step.invariant.is
-    (λ i within. c.loop-step.invariant.covered i
-    (omega (arith, within, c.loop-step-test.false, c.loop-step.auto.step-end, c.len-count.ensures.count))))
+    (all_plan c.args.trips.now c.in_ok-potentials-2.potentials c.loop-step.assignment
+    c.in_ok-potentials-2.ensures.taken c.in_ok-potentials-2.ensures.covered)
 
 pub returns-clause-valid : goal.returns-clause-valid
-returns-clause-valid c = subst (λ plan. AreValid (links_of c.args.trips.now) plan c.loop-step.potentials)
+returns-clause-valid c = subst
+    (λ plan. AreValid (links_of c.args.trips.now) plan c.in_ok-potentials-2.potentials)
     (sym c.in_ok-plan.ensures)
-    (all_valid c.args.trips.now c.loop-step.potentials c.loop-step.assignment c.loop-step.invariant.is
-    (λ i within. c.loop-step.invariant.covered i
-    (omega (arith, within, c.loop-step-test.false, c.loop-step.auto.step-end, c.len-count.ensures.count))))
+    (all_valid c.args.trips.now c.in_ok-potentials-2.potentials c.loop-step.assignment
+    c.in_ok-potentials-2.ensures.taken c.in_ok-potentials-2.ensures.covered)
 
 pub returns-clause-cheapest : goal.returns-clause-cheapest
-returns-clause-cheapest c = certified_cheapest c.args.trips.now c.in_ok-plan.plan c.loop-step.potentials
-    (returns-clause-valid c) (returns-clause-plan c)
+returns-clause-cheapest c = certified_cheapest c.args.trips.now c.in_ok-plan.plan
+    c.in_ok-potentials-2.potentials (returns-clause-valid c) (returns-clause-plan c)

@@ -1,5 +1,5 @@
 -- What is told of the places up to the one that the next link leads to.
-use Rattle.std.proofs.Common.{get_or, length, None}
+use Rattle.std.proofs.Common.{◌≤◌, ◌-◌, get_or, length, None}
 use Rattle.vehicle_flow.specs.Claims.{claim_at}
 use Rattle.vehicle_flow.specs.Growing.{looked}
 use Rattle.flow_potentials.specs.LinkRows.{reached}
@@ -8,7 +8,13 @@ use Rattle.vehicle_flow.specs.Slacks.{slack_to}
 use Rattle.vehicle_flow.proofs.Told.{IsTold}
 use Rattle.vehicle_flow.proofs.near.look.Given as goal
 
-abbrev pub invariant-loop-link : goal.invariant-loop-link
-invariant-loop-link l = IsTold None (λ i. looked (claim_at l.claims i)
-    (slack_to (links_of l.trips) l.potentials l.by i) l.by l.from (get_or l.fn.nears i None)) l.fn.nears
-    l.nears (reached (length l.trips.trips) l.links l.link-index)
+abbrev pub invariant-loop-step : goal.invariant-loop-step
+invariant-loop-step l = record {
+  told : IsTold None (λ i. looked (claim_at l.claims i)
+      (slack_to (links_of l.trips) l.potentials l.by i) l.by l.from (get_or l.fn.nears i None))
+      l.fn.nears l.nears (reached (length l.trips.trips) l.links l.step);
+  within : l.step ≤ length l.links;
+}
+
+abbrev pub decreases-loop-step : goal.decreases-loop-step
+decreases-loop-step l = length l.links - l.step
