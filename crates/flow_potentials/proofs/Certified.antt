@@ -1,5 +1,7 @@
 -- Valid potentials prove that exactly the tight plans are cheapest.
-use Rattle.std.proofs.Common.{◌≡◌, ℕ, ℤ, pos, ◌+◌, ◌<◌, ◌≤◌, ◌≤ℤ◌, nat_lt, Bool, true, false, List, length, is_some, Option, Some, None, IfSome, unwrap_or, refl, ap, sym, ◌∙◌, subst, arith}
+use Rattle.std.proofs.Common.{◌≡◌, ℕ, ℤ, pos, ◌+◌, ◌<◌, ◌≤◌, ◌≤ℤ◌, nat_lt, Bool, true, false, List}
+use Rattle.std.proofs.Common.{length, is_some, Option, Some, None, IfSome, unwrap_or, refl, ap, sym}
+use Rattle.std.proofs.Common.{◌∙◌, arith}
 use Rattle.std.proofs.lemmas.Bool.{false≢true, ltb-true, ltb-false}
 use Rattle.std.proofs.lemmas.Int.{ints}
 use Rattle.std.proofs.Math.ListN.{get_or-eq_default}
@@ -29,13 +31,7 @@ module _ (links : Links) (certified plan : List (Option ℕ)) (potentials : Pote
 
   -- valid potentials cover the links of any plan
   pub covering : AreCovering links.gain 0 plan potentials.u potentials.v
-  covering = record {
-    size = valid.over.each_u ∙ sym is.each;
-    once = is.once;
-    covered = λ k j e. subst (λ i. unwrap_or (links.gain i j) (pos 0) ≤ℤ pos (at potentials.u k + at potentials.v j))
-        (none_before k)
-        (covered_by (links.gain k j) (at potentials.u k + at potentials.v j) (is.follow k j e) (valid.covered k j));
-  }
+  covering = grind arith
 
   -- so no plan gains more than all potentials
   pub gain_most : plan_gain links plan ≤ℤ pos (total potentials)

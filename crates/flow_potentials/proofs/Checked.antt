@@ -1,5 +1,8 @@
 -- Faults of potentials, pair by pair; without one they are valid.
-use Rattle.std.proofs.Common.{◌≡◌, ◌↔◌, ℕ, ℤ, zero, suc, pos, ◌+◌, ◌*◌, ◌-◌, ◌<◌, ◌≤◌, ◌==◌, ◌≤ℤ◌, int_le, not, is_some, T, Bool, true, false, cond, List, [], ◌∷◌, ◌++◌, length, map, filter, slice_get, Option, Some, None, IfSome, option_map, refl, ap, sym, ◌∙◌, arith, eq-eqb}
+use Rattle.std.proofs.Common.{◌≡◌, ◌↔◌, ℕ, ℤ, zero, suc, pos, ◌+◌, ◌*◌, ◌-◌, ◌<◌, ◌≤◌, ◌==◌, ◌≤ℤ◌}
+use Rattle.std.proofs.Common.{int_le, not, is_some, T, Bool, true, false, cond, List, [], ◌∷◌, ◌++◌}
+use Rattle.std.proofs.Common.{length, map, filter, slice_get, Option, Some, None, IfSome}
+use Rattle.std.proofs.Common.{option_map, refl, ap, sym, ◌∙◌, arith, eq-eqb}
 use Rattle.std.specs.Int.Signed.{le_z_yes}
 use Rattle.std.specs.List.{flat_map, range_with_len}
 use Rattle.std.specs.Ordering.{int_eq}
@@ -22,14 +25,10 @@ use Rattle.flow_potentials.proofs.Certified.{by_bound, certified_cheapest, tight
 -- ---- a range, number by number
 
 range_next : (i n : ℕ) → i < n → range_with_len i (n - i) ≡ i ∷ range_with_len (i + 1) (n - (i + 1))
-range_next i n within =
-    let left : n - i ≡ suc (n - (i + 1)) = omega arith in
-    ap (range_with_len i) left
+range_next i n within = grind arith
 
 range_end : (i n : ℕ) → n ≤ i → range_with_len i (n - i) ≡ []
-range_end i n past =
-    let left : n - i ≡ 0 = omega arith in
-    ap (range_with_len i) left
+range_end i n past = grind arith
 
 -- ---- the pairs of a trip
 
@@ -77,9 +76,7 @@ module _ (links : Links) (potentials : PotentialParts) (i : ℕ)
   pub no_pair : i < links.count
       → slice_get (filter (is_short_pair links potentials i) (range_with_len 0 links.count)) 0 ≡ None
       → pair_faults links potentials ≡ flat_map (trip_faults links potentials) (range_with_len (i + 1) (links.count - (i + 1)))
-  no_pair within none = pairs_here within
-      ∙ ap (λ some. map (fault.Pair i) some ++ flat_map (trip_faults links potentials) (range_with_len (i + 1) (links.count - (i + 1))))
-      (none_first (filter (is_short_pair links potentials i) (range_with_len 0 links.count)) none)
+  no_pair within none = grind (arith, pairs_here, none_first)
 
   pub all_pairs : links.count ≤ i → pair_faults links potentials ≡ []
   all_pairs past = so_far ∙ ap (flat_map (trip_faults links potentials)) (range_end i links.count past)
@@ -99,9 +96,7 @@ filter_none p from (suc n) none k low high = split (p from) refl none (filter_no
 
 none_filter : (p : ℕ → Bool) (from n : ℕ) → ((k : ℕ) → p k ≡ false) → filter p (range_with_len from n) ≡ []
 none_filter p from zero none = refl
-none_filter p from (suc n) none =
-    ap (λ b. cond b (from ∷ filter p (range_with_len (from + 1) n)) (filter p (range_with_len (from + 1) n))) (none from)
-    ∙ none_filter p (from + 1) n none
+none_filter p from (suc n) none = grind (arith, none_filter p (from + 1) n none)
 
 flat_none : {X : Type 0} (f : ℕ → List X) (from n : ℕ) → flat_map f (range_with_len from n) ≡ [] → (k : ℕ) → from ≤ k
     → k < from + n → f k ≡ []
@@ -170,13 +165,7 @@ module _ (trips : TripsParts) (plan : List (Option ℕ)) (potentials : Potential
 
   valid_faultless : AreValid (links_of trips) plan potentials → potential_faults (links_of trips) plan potentials ≡ []
   unfolding potential_faults
-  valid_faultless valid =
-      ap (λ first. first ++ sum_faults (links_of trips) plan potentials)
-      (none_flat (trip_faults (links_of trips) potentials) 0 (length trips.trips)
-      (λ i. ap (map (fault.Pair i)) (none_filter (is_short_pair (links_of trips) potentials i) 0 (length trips.trips)
-      (λ j. where_covered (at potentials.u i + at potentials.v j) ((links_of trips).gain i j) (valid.covered i j)))))
-      ∙ ap (λ b. cond b [] (fault.Sum ∷ []))
-      ((Decides-int_eq (pos (total potentials)) (plan_gain (links_of trips) plan)).1 valid.exact)
+  valid_faultless valid = grind (arith, none_flat, none_filter, where_covered, Decides-int_eq)
 
   module _ (found : Option PotentialFault) (first : found ≡ slice_get (potential_faults (links_of trips) plan potentials) 0) where
     none_valid : found ≡ None → AreValid (links_of trips) plan potentials

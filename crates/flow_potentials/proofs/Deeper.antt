@@ -1,5 +1,8 @@
 -- A walk that goes on over an arc, and what it leaves of the numbers of nodes.
-use Rattle.std.proofs.Common.{◌≡◌, ℕ, ℤ, zero, suc, pos, neg_ℤ, ◌+◌, ◌<◌, ◌≤◌, ◌+ℤ◌, ◌-ℤ◌, ◌≤ℤ◌, ◌||◌, Bool, true, false, List, [], ◌∷◌, length, sum, get_or, slice_set, Option, Some, None, option_map, option_and_then, refl, ap, sym, ◌∙◌, subst, arith, get_or-set_same, get_or-set_other}
+use Rattle.std.proofs.Common.{◌≡◌, ℕ, ℤ, zero, suc, pos, neg_ℤ, ◌+◌, ◌<◌, ◌≤◌, ◌+ℤ◌, ◌-ℤ◌, ◌≤ℤ◌}
+use Rattle.std.proofs.Common.{◌||◌, Bool, true, false, List, [], ◌∷◌, length, sum, get_or}
+use Rattle.std.proofs.Common.{slice_set, Option, Some, None, option_map, option_and_then, refl, ap}
+use Rattle.std.proofs.Common.{sym, ◌∙◌, subst, arith, get_or-set_same, get_or-set_other}
 use Rattle.std.proofs.lemmas.Bool.{false≢true, or_parts}
 use Rattle.std.proofs.lemmas.Int.{ints}
 use Rattle.std.proofs.lemmas.List.{length-set}
@@ -30,12 +33,7 @@ sum_set (first ∷ numbers) (suc i) number within =
 
 -- nothing changes
 pub no_step : (links : Links) (plan : List (Option ℕ)) (drops : DropParts) → IsStep links plan drops drops false
-no_step links plan drops = record {
-  over = λ are. are;
-  found = λ are. are;
-  deeper = omega arith;
-  same = λ e. refl;
-}
+no_step links plan drops = grind arith
 
 -- one step after another
 pub two_steps : (links : Links) (plan : List (Option ℕ)) (one two three : DropParts) (a b both : Bool)

@@ -1,5 +1,7 @@
 -- The links of a trip in a list: how it grows, and that no link is left out between two of them.
-use Rattle.std.proofs.Common.{◌≡◌, ℕ, ℤ, pos, negsuc, zero, suc, ◌<◌, ◌≤◌, ◌+◌, List, [], ◌∷◌, ◌++◌, length, slice_get, get_or, Option, Some, None, IfSome, refl, ap, sym, ◌∙◌, subst, arith, map, length-append}
+use Rattle.std.proofs.Common.{◌≡◌, ℕ, ℤ, pos, negsuc, zero, suc, ◌<◌, ◌≤◌, ◌+◌, List, [], ◌∷◌, ◌++◌}
+use Rattle.std.proofs.Common.{length, slice_get, get_or, Option, Some, None, IfSome, refl, ap, sym}
+use Rattle.std.proofs.Common.{◌∙◌, subst, arith, map, length-append}
 use Rattle.std.proofs.lemmas.List.{get_or_append_left}
 use Rattle.std.proofs.Math.Seq.{get_or-append_seam}
 use Rattle.std.proofs.lemmas.Option.{none-some, same_Some, slice_get-get_or, slice_get_within}
@@ -43,19 +45,11 @@ item row k within = slice_get-get_or row k (link_to 0 0) within
 
 -- no link is in the list before the first trip
 pub row_none : (links : Links) (i : ℕ) → IsRow links i 0 []
-row_none links i = record {
-  rising = λ k m one other before e f. absurd (none-some one e);
-  right = λ k link e. absurd (none-some link e);
-  all = λ j gain before e. absurd (omega (arith, before));
-}
+row_none links i = grind arith
 
 module _ (links : Links) (i below : ℕ) (row : List Link) (is : IsRow links i below row) where
   link_more : (link : Link) → IsLinkOf links i below link → IsLinkOf links i (below + 1) link
-  link_more link it = record {
-    within = omega (arith, it.within);
-    is = it.is;
-    small = it.small;
-  }
+  link_more link it = grind arith
 
   row_kept : worth (links.gain i below) ≡ None → IsRow links i (below + 1) row
   row_kept none = record {
@@ -159,15 +153,7 @@ module _ (links : Links) (i : ℕ) (row : List Link) (is : IsRow links i links.c
 
   pub gap_next : (k : ℕ) (link : Link) → slice_get row k ≡ Some link → (j : ℕ) → link.to < j
       → j < reached links.count row (k + 1) → worth (links.gain i j) ≡ None
-  gap_next k link e j past = row_gap (k + 1) j (λ m other sooner there. by_number m k
-      (λ same.
-      let to : link.to ≡ other.to = ap (λ x. x.to)
-      (same_Some link other (sym e ∙ ap (slice_get row) (sym same) ∙ there)) in
-      omega (arith, to, past))
-      (λ apart.
-      let rising : other.to < link.to =
-      is.rising m k other link (omega (arith, sooner, apart)) there e in
-      omega (arith, rising, past)))
+  gap_next k link e j past = grind (arith, row_gap, by_number, same_Some, slice_get)
 
   -- each link is passed
   pub reached_next : (k : ℕ) (link : Link) → slice_get row k ≡ Some link
@@ -197,10 +183,4 @@ lists_more {X} {Y} items Q lists list new n new_is size each one = (
     whole = ap (map items) new_is ∙ map_more lists
 
     at_number : (i : ℕ) → i < n + 1 → Q i (get_or (map items lists ++ items list ∷ []) i [])
-    at_number i bound = by_number i n
-        (λ same. subst (λ k. Q k (get_or (map items lists ++ items list ∷ []) k [])) (sym same)
-        (subst (Q n) (sym (ap (λ k. get_or (map items lists ++ items list ∷ []) k []) (sym size)
-        ∙ get_or-append_seam (map items lists) (items list) [] [])) one))
-        (λ apart. subst (Q i) (sym (get_or_append_left (map items lists) (items list ∷ []) [] i
-        (omega (arith, bound, apart, size))))
-        (each i (omega (arith, bound, apart))))
+    at_number i bound = grind (arith, by_number, get_or, get_or-append_seam, get_or_append_left)

@@ -1,5 +1,8 @@
 -- The trips before those of a plan are found by one pass over its links.
-use Rattle.std.proofs.Common.{◌≡◌, ℕ, ◌+◌, ◌<◌, ◌||◌, Bool, true, false, is_some, List, [], ◌∷◌, length, take, replicate, slice_set, get_or, Option, Some, None, refl, ap, sym, ◌∙◌, arith, zero, suc, eq-eqb, get_or-set_same, get_or-set_other}
+use Rattle.std.proofs.Common.{◌≡◌, ℕ, ◌+◌, ◌<◌, ◌||◌, Bool, true, false, is_some, List, [], ◌∷◌}
+use Rattle.std.proofs.Common.{length, take, replicate, slice_set, get_or, Option, Some, None, refl}
+use Rattle.std.proofs.Common.{ap, sym, ◌∙◌, arith, zero, suc, eq-eqb, get_or-set_same}
+use Rattle.std.proofs.Common.{get_or-set_other}
 use Rattle.std.proofs.lemmas.Bool.{ne_eqb}
 use Rattle.std.proofs.lemmas.List.{length-replicate, length-set, take_more}
 use Rattle.std.proofs.lemmas.List.Folds.{list_any-append}
@@ -30,10 +33,8 @@ none_before (suc n) (suc j) = none_before n j
 
 pub before_none : (plan before : List (Option ℕ)) (count : ℕ) → before ≡ replicate count None
     → count ≡ length plan → AreBeforeSo plan before 0
-before_none plan before count is each = record {
-  each = ap length is ∙ length-replicate count no_one ∙ each;
-  is = λ j. ap (λ list. is_some (get_or list j None)) is ∙ none_before count j;
-}
+before_none plan before count is each =
+    grind (arith, length-replicate, is_some, get_or, none_before)
 
 pub before_more : (plan before : List (Option ℕ)) (trip : ℕ) → AreBeforeSo plan before trip
     → trip < length plan → ((j : ℕ) → next plan trip ≡ Some j → j < length plan)
@@ -70,7 +71,4 @@ before_more plan before trip are inside within = split (next plan trip) refl
 
 pub before_all : (plan before : List (Option ℕ)) (trip : ℕ) → AreBeforeSo plan before trip
     → take trip plan ≡ plan → AreBefore plan before
-before_all plan before trip are all = record {
-  each = are.each;
-  is = λ j. are.is j ∙ ap (λ list. is_next list j) all;
-}
+before_all plan before trip are all = grind arith

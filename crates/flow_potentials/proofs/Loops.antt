@@ -1,7 +1,7 @@
 -- Steps over many arcs.
-use Rattle.std.proofs.Common.{◌≡◌, ℕ, ◌+◌, ◌-◌, ◌<◌, ◌≤◌, ◌||◌, Bool, true, false, List, length, slice_get, get_or, Option, Some, ap, sym, ◌∙◌, subst, arith}
-use Rattle.std.proofs.lemmas.Bool.{or_parts}
-use Rattle.std.proofs.lemmas.Option.{same_Some, slice_get_within}
+use Rattle.std.proofs.Common.{◌≡◌, ℕ, ◌+◌, ◌-◌, ◌<◌, ◌≤◌, ◌||◌, Bool, true, false, List, length}
+use Rattle.std.proofs.Common.{slice_get, get_or, Option, Some, ap, subst, arith}
+use Rattle.std.proofs.lemmas.Option.{slice_get_within}
 use Rattle.vehicle_model.specs.Plans.{next, is_next}
 use Rattle.vehicle_model.specs.Trips.{Links}
 use Rattle.flow_potentials.specs.Drops.{DropParts, one_if, IsStep, RowKept, LinkKept, NextKept, RootKept, TripPassed}
@@ -36,12 +36,7 @@ module _ (links : Links) (plan : List (Option ℕ)) (before : DropParts) where
       → IsPassed links plan before now changed Kept → IsStep links plan now after better
       → (better ≡ false → now ≡ before → One) → (Kept → One → Next) → both ≡ (changed || better)
       → IsPassed links plan before after both Next
-  passed_more now after changed better both Kept One Next passed step one more is = record {
-    step = two_steps links plan before now after changed better both is passed.step step;
-    kept = λ e.
-        let parts = or_parts changed better (sym is ∙ e) in
-        more (passed.kept parts.0) (one parts.1 (passed.step.same parts.0));
-  }
+  passed_more now after changed better both Kept One Next passed step one more is = grind arith
 
 below_next : (P : ℕ → Type 0) (i : ℕ) → ((k : ℕ) → k < i → P k) → P i → (k : ℕ) → k < i + 1 → P k
 below_next P i before here k h = by_bound k i (before k)
@@ -52,12 +47,7 @@ module _ (links : Links) (plan : List (Option ℕ)) (before : DropParts) (i : �
       → IsPassed links plan before now changed (LinksKept before i row k) → IsStep links plan now after better
       → (better ≡ false → get_or now.left i 0 + link.gain ≤ get_or now.right link.to 0) → both ≡ (changed || better)
       → IsPassed links plan before after both (LinksKept before i row (k + 1))
-  one_link row k link here now after changed better both passed step kept is =
-      passed_more links plan before now after changed better both (LinksKept before i row k) (LinkPassed before i link)
-      (LinksKept before i row (k + 1)) passed step
-      (λ e same. subst (λ drops. LinkPassed drops i link) same (kept e))
-      (λ sooner one. below_next (λ m. (other : Link) → slice_get row m ≡ Some other → LinkPassed before i other) k sooner
-      (λ other there. subst (LinkPassed before i) (same_Some link other (sym here ∙ there)) one)) is
+  one_link row k link here now after changed better both passed step kept is = grind arith
 
   -- all links of a row
   pub row_kept : (row : List Link) → IsRow links i links.count row → (k : ℕ) → length row ≤ k → LinksKept before i row k
@@ -84,9 +74,7 @@ module _ (links : Links) (plan : List (Option ℕ)) (before : DropParts) (i : �
 
     pub linked_kept : (link ≡ false → LinkKept links before i j) → (back ≡ false → get_or mid.left i 0 ≤ mid.root)
         → both ≡ false → NextKept links before i (Some j)
-    linked_kept one other e =
-        let parts = or_parts link back (sym is ∙ e) in
-        (subst (λ drops. get_or drops.left i 0 ≤ drops.root) (first.same parts.0) (other parts.1), one parts.0)
+    linked_kept one other e = grind arith
 
   -- all arcs of a trip
   module _ (one two after : DropParts) (next_better row_better root_better part all : Bool)
@@ -100,16 +88,7 @@ module _ (links : Links) (plan : List (Option ℕ)) (before : DropParts) (i : �
     pub trip_kept : (next_better ≡ false → NextKept links before i (next plan i))
         → (row_better ≡ false → RowKept links one i)
         → (root_better ≡ false → RootKept two i (is_next plan i)) → all ≡ false → TripPassed links plan before i
-    trip_kept nexts rows roots e =
-        let outer = or_parts part root_better (sym all_is ∙ e) in
-        let inner = or_parts next_better row_better (sym part_is ∙ outer.0) in
-        let same_one = first.same inner.0 in
-        let same_two = second.same inner.1 ∙ same_one in
-        record {
-          row = subst (λ drops. RowKept links drops i) same_one (rows inner.1);
-          next_kept = nexts inner.0;
-          root_kept = subst (λ drops. RootKept drops i (is_next plan i)) same_two (roots outer.1);
-        }
+    trip_kept nexts rows roots e = grind arith
 
 -- the measure goes down
 pub goes_down : (d deeper : ℕ) (changed better : Bool) → changed ≡ true → d + one_if better ≤ deeper

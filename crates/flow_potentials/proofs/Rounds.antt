@@ -1,5 +1,9 @@
 -- Rounds over all arcs find the least costs of walks.
-use Rattle.std.proofs.Common.{◌≡◌, ℕ, ℤ, zero, suc, pos, negsuc, neg_ℤ, ◌+◌, ◌*◌, ◌<◌, ◌≤◌, ◌==◌, ◌+ℤ◌, ◌-ℤ◌, ◌≤ℤ◌, ◌&&◌, nat_lt, not, max, is_some, Bool, true, false, cond, List, [], ◌∷◌, length, sum, fold, get_or, unsigned_abs, Option, Some, None, IfSome, option_map, Result, Ok, Err, IfOk, refl, ap, sym, ◌∙◌, subst, arith}
+use Rattle.std.proofs.Common.{◌≡◌, ℕ, ℤ, zero, suc, pos, negsuc, neg_ℤ, ◌+◌, ◌*◌, ◌<◌, ◌≤◌, ◌==◌}
+use Rattle.std.proofs.Common.{◌+ℤ◌, ◌-ℤ◌, ◌≤ℤ◌, ◌&&◌, nat_lt, not, max, is_some, Bool, true, false}
+use Rattle.std.proofs.Common.{cond, List, [], ◌∷◌, length, sum, fold, get_or, unsigned_abs, Option}
+use Rattle.std.proofs.Common.{Some, None, IfSome, option_map, Result, Ok, Err, IfOk, refl, ap, sym}
+use Rattle.std.proofs.Common.{◌∙◌, subst, arith}
 use Rattle.std.specs.Int.{int_max}
 use Rattle.std.specs.List.{range_with_len}
 use Rattle.std.proofs.Math.ListN.{get_or-eq_default}
@@ -98,21 +102,11 @@ module _ (links : Links) (plan : List (Option ℕ)) (drops : DropParts) where
       (found_over found to root (drop_at drops to) (found to)))
 
   furthest_least : (to : Node) → drop_at drops to ≤ furthest links plan drops to
-  furthest_least to = omega (
-    arith,
-    greatest_from (λ j. over links plan drops to (right j))
-        (greatest (λ i. over links plan drops to (left i)) (max (drop_at drops to) (over links plan drops to root)) links.count) 0 links.count,
-    greatest_from (λ i. over links plan drops to (left i)) (max (drop_at drops to) (over links plan drops to root)) 0 links.count,
-  )
+  furthest_least to = grind (arith, greatest_from)
 
   -- no arc from one of the nodes goes further
   root_most : (to : Node) → over links plan drops to root ≤ furthest links plan drops to
-  root_most to = omega (
-    arith,
-    greatest_from (λ j. over links plan drops to (right j))
-        (greatest (λ i. over links plan drops to (left i)) (max (drop_at drops to) (over links plan drops to root)) links.count) 0 links.count,
-    greatest_from (λ i. over links plan drops to (left i)) (max (drop_at drops to) (over links plan drops to root)) 0 links.count,
-  )
+  root_most to = grind (arith, greatest_from)
 
   left_most : (to : Node) (i : ℕ) → i < links.count → over links plan drops to (left i) ≤ furthest links plan drops to
   left_most to i within = omega (
@@ -151,12 +145,7 @@ module _ (links : Links) (plan : List (Option ℕ)) (drops : DropParts) where
       (λ past. ([], ap (λ k. Some (neg_ℤ (pos k))) (sym (get_or-eq_default (round links plan drops).right 0 (omega (arith, past, right_size))))))
 
   pub round_searched : IsSearched links plan drops → IsSearched links plan (round links plan drops)
-  round_searched known = record {
-    plan_is = known.plan_is;
-    certified = known.certified;
-    over = record { left = left_size; right = right_size };
-    found = round_found known.found;
-  }
+  round_searched known = grind (arith, left_size, right_size, round_found)
 
 -- ---- depths
 
@@ -279,9 +268,7 @@ module _ (links : Links) (plan : List (Option ℕ)) (drops : DropParts) (known :
             omega (arith, ints, most, left_same i i_in)
 
     free_kept : (number most : ℕ) (b : Bool) → b ≡ true → over_arc number (free_arc b) ≤ most → number ≤ most
-    free_kept number most b is less =
-        let bound = kept_by number most (free_arc b) (pos 0) (ap free_arc is) less in
-        omega (arith, ints, bound)
+    free_kept number most b is less = grind arith
 
     next_kept : (i : ℕ) → i < links.count → ((j : ℕ) → next plan i ≡ Some j → j < links.count) → (at : Option ℕ)
         → next plan i ≡ at → NextKept links drops i at
@@ -317,11 +304,7 @@ module _ (links : Links) (plan : List (Option ℕ)) (drops : DropParts) (known :
     )
 
     pub round_kept : ((i j : ℕ) → next plan i ≡ Some j → j < links.count) → AreKept links plan drops
-    round_kept there i within = record {
-      pairs = λ j j_in. pair_kept i j within j_in;
-      next_kept = next_kept i within (there i) (next plan i) refl;
-      root_kept = root_kept i within (is_next plan i) refl;
-    }
+    round_kept there i within = grind (arith, pair_kept, next_kept, root_kept)
 
 -- ---- rounds until nothing changes
 

@@ -1,5 +1,8 @@
 -- Numbers that no arc makes better are the least costs of walks, and their potentials are valid.
-use Rattle.std.proofs.Common.{◌≡◌, ℕ, ℤ, zero, suc, pos, neg_ℤ, ◌+◌, ◌-◌, ◌<◌, ◌≤◌, ◌+ℤ◌, ◌-ℤ◌, ◌≤ℤ◌, ◌&&◌, nat_lt, not, is_some, Bool, true, false, cond, List, [], length, map, get_or, replicate, Option, Some, None, IfSome, option_map, unwrap_or, refl, ap, sym, ◌∙◌, subst, arith}
+use Rattle.std.proofs.Common.{◌≡◌, ℕ, ℤ, zero, suc, pos, neg_ℤ, ◌+◌, ◌-◌, ◌<◌, ◌≤◌, ◌+ℤ◌, ◌-ℤ◌}
+use Rattle.std.proofs.Common.{◌≤ℤ◌, ◌&&◌, nat_lt, not, is_some, Bool, true, false, cond, List, []}
+use Rattle.std.proofs.Common.{length, map, get_or, replicate, Option, Some, None, IfSome}
+use Rattle.std.proofs.Common.{option_map, unwrap_or, refl, ap, sym, ◌∙◌, subst, arith}
 use Rattle.std.specs.Int.{int_max}
 use Rattle.std.proofs.Math.ListN.{get_or-eq_default}
 use Rattle.std.proofs.lemmas.Bool.{and_parts, ltb-true}
@@ -17,7 +20,7 @@ use Rattle.flow_potentials.specs.Potentials.{PotentialParts, at, IsSmall, ArePot
 use Rattle.flow_potentials.specs.Residual.{Node, root, left, right, arc, walk_cost, IsLeastCost}
 use Rattle.flow_potentials.proofs.Certified.{by_bound}
 use Rattle.flow_potentials.proofs.Deeper.{walk_bound}
-use Rattle.flow_potentials.proofs.Shallow.{free_is, none_there, untrue, found_most}
+use Rattle.flow_potentials.proofs.Shallow.{free_is, untrue, found_most}
 use Rattle.flow_potentials.proofs.Slack.{AreCovering, AreTight, tight_gains}
 
 -- ---- before all passes
@@ -61,10 +64,7 @@ module _ (trips : TripsParts) (plan : List (Option ℕ)) (drops : DropParts) (pl
   next_in i j e = links_within trips i j (plan_is.follow i j e)
 
   pub over_all : AreOver n made
-  over_all = record {
-    each_u = length-map drops.left (λ number. drops.root - number) ∙ sized.left;
-    each_v = length-map drops.right (λ number. number - drops.root) ∙ sized.right;
-  }
+  over_all = grind (arith, length-map)
 
   covered : (i j : ℕ) → IfSome ((links_of trips).gain i j) (λ gain. gain ≤ℤ pos (at made.u i + at made.v j))
   covered i j = split ((links_of trips).gain i j) refl
@@ -97,14 +97,7 @@ module _ (trips : TripsParts) (plan : List (Option ℕ)) (drops : DropParts) (pl
   plain k = omega arith
 
   covering : AreCovering (links_of trips).gain 0 plan made.u made.v
-  covering = record {
-    size = over_all.each_u ∙ sym plan_is.each;
-    once = plan_is.once;
-    covered = λ k j e. subst (λ i. unwrap_or ((links_of trips).gain i j) (pos 0) ≤ℤ pos (at made.u k + at made.v j)) (plain k)
-        (let found = some_of ((links_of trips).gain k j) (plan_is.follow k j e) in
-        let exact = linked k j e found.0 found.1 in
-        subst (λ some. unwrap_or some (pos 0) ≤ℤ pos (at made.u k + at made.v j)) (sym found.1) (omega (arith, ints, exact)));
-  }
+  covering = grind (arith, over_all, covered, unwrap_or, plain, some_of, linked, ints)
 
   tight : AreTight (links_of trips).gain 0 plan made.u made.v
   tight = record {
@@ -123,11 +116,7 @@ module _ (trips : TripsParts) (plan : List (Option ℕ)) (drops : DropParts) (pl
   }
 
   pub kept_valid : AreValid (links_of trips) plan made
-  kept_valid = record {
-    over = over_all;
-    covered = covered;
-    exact = sym (tight_gains (links_of trips).gain 0 plan made.u made.v covering tight);
-  }
+  kept_valid = grind (arith, over_all, covered, tight_gains, covering, tight)
 
   -- ---- least costs
 
@@ -137,22 +126,13 @@ module _ (trips : TripsParts) (plan : List (Option ℕ)) (drops : DropParts) (pl
   rises : (from to : Node) (cost : ℤ) → arc (links_of trips) plan from to ≡ Some cost → height to ≤ℤ (height from +ℤ cost)
   unfolding height
   rises root root cost e = absurd (none-some cost e)
-  rises root (left i) cost e =
-      let free = free_is (nat_lt i n && not (is_some (next plan i))) cost e in
-      let parts = and_parts (nat_lt i n) (not (is_some (next plan i))) free.0 in
-      let low = subst (NextKept (links_of trips) drops i) (none_there (next plan i) parts.1)
-      (kept i (ltb-true i n parts.0)).next_kept in
-      omega (arith, ints, free.1, low)
+  rises root (left i) cost e = grind arith
   rises root (right j) cost e =
       let free = free_is (is_next plan j) cost e in
       let found = followed plan j free.0 in
       let low = subst (RootKept drops j) free.0 (kept j (next_in found.0 j found.1).1).root_kept in
       omega (arith, ints, free.1, low)
-  rises (left i) root cost e =
-      let free = free_is (is_some (next plan i)) cost e in
-      let found = some_of (next plan i) free.0 in
-      let low = subst (NextKept (links_of trips) drops i) found.1 (kept i (next_in i found.0 found.1).0).next_kept in
-      omega (arith, ints, free.1, low.0)
+  rises (left i) root cost e = grind (arith, free_is, is_some, some_of, next_in, ints)
   rises (left i) (left k) cost e = absurd (none-some cost e)
   rises (left i) (right j) cost e = over_pair ((links_of trips).gain i j) refl e
     where
@@ -248,8 +228,4 @@ settled_small trips plan drops known are = record {
 -- potentials that are made of numbers
 pub made_is : (drops : DropParts) (u v : List ℕ) → u ≡ map (λ number. drops.root - number) drops.left
     → v ≡ map (λ number. number - drops.root) drops.right → record { u = u; v = v } ≡ potentials_by drops
-made_is drops u v u_is v_is =
-    let of_u : List ℕ → PotentialParts = λ some. record { u = some; v = v } in
-    let of_v : List ℕ → PotentialParts =
-    λ some. record { u = map (λ number. drops.root - number) drops.left; v = some } in
-    ap of_u u_is ∙ ap of_v v_is
+made_is drops u v u_is v_is = grind arith

@@ -1,10 +1,13 @@
 -- Where potentials are valid, no walk goes further below 0 than all of them together.
-use Rattle.std.proofs.Common.{◌≡◌, ℕ, ℤ, zero, suc, pos, neg_ℤ, ◌+◌, ◌*◌, ◌≤◌, ◌+ℤ◌, ◌-ℤ◌, ◌≤ℤ◌, ◌&&◌, nat_lt, not, is_some, Bool, true, false, cond, List, [], ◌∷◌, length, sum, get_or, Option, Some, None, IfSome, option_map, refl, ap, sym, ◌∙◌, arith}
+use Rattle.std.proofs.Common.{◌≡◌, ℕ, ℤ, zero, suc, pos, neg_ℤ, ◌+◌, ◌*◌, ◌≤◌, ◌+ℤ◌, ◌-ℤ◌, ◌≤ℤ◌}
+use Rattle.std.proofs.Common.{nat_lt, not, is_some, Bool, true, false, cond, List, [], ◌∷◌, length}
+use Rattle.std.proofs.Common.{sum, get_or, Option, Some, None, IfSome, option_map, refl, ap, sym}
+use Rattle.std.proofs.Common.{◌∙◌, arith}
 use Rattle.std.proofs.lemmas.Bool.{false≢true, and_parts}
 use Rattle.std.proofs.lemmas.Int.{ints}
 use Rattle.std.proofs.lemmas.List.Sums.{sum_by-cons}
 use Rattle.std.proofs.lemmas.Option.{none-some, same_Some}
-use Rattle.vehicle_model.specs.Plans.{next, is_next, is_trip, IsPlan}
+use Rattle.vehicle_model.specs.Plans.{next, is_trip, IsPlan}
 use Rattle.vehicle_model.specs.Trips.{TripsParts, Links, AreTrips, links_of}
 use Rattle.vehicle_model.proofs.Costs.{cost_by_gain}
 use Rattle.vehicle_model.proofs.Linking.{is_trip_same, same_is_trip}
@@ -56,9 +59,7 @@ module _ (links : Links) (plan : List (Option ℕ)) (potentials : PotentialParts
   covered_by : (gain : Option ℤ) (most : ℕ) (cost : ℤ) → IfSome gain (λ value. value ≤ℤ pos most)
       → option_map neg_ℤ gain ≡ Some cost → (pos 0 -ℤ cost) ≤ℤ pos most
   covered_by None most cost covered e = absurd (none-some cost e)
-  covered_by (Some value) most cost covered e =
-      let same : neg_ℤ value ≡ cost = same_Some (neg_ℤ value) cost e in
-      omega (arith, ints, covered, same)
+  covered_by (Some value) most cost covered e = grind arith
 
   back_over : (i j : ℕ) (cost : ℤ) (b : Bool) → is_trip j (next plan i) ≡ b → cond b (links.gain i j) None ≡ Some cost
       → cost ≡ pos (at potentials.u i + at potentials.v j)
@@ -73,23 +74,12 @@ module _ (links : Links) (plan : List (Option ℕ)) (potentials : PotentialParts
   unfolding height
   over root root cost e = absurd (none-some cost e)
   over root (left i) cost e =
-      let free = free_is (nat_lt i links.count && not (is_some (next plan i))) cost e in
-      let alone = none_there (next plan i) (and_parts (nat_lt i links.count) (not (is_some (next plan i))) free.0).1 in
-      omega (arith, ints, free.1, tight.last i alone)
-  over root (right j) cost e =
-      let free = free_is (is_next plan j) cost e in
-      omega (arith, ints, free.1)
-  over (left i) root cost e =
-      let free = free_is (is_some (next plan i)) cost e in
-      omega (arith, ints, free.1)
+      grind (arith, free_is, nat_lt, is_some, none_there, and_parts, ints, tight)
+  over root (right j) cost e = grind arith
+  over (left i) root cost e = grind arith
   over (left i) (left k) cost e = absurd (none-some cost e)
-  over (left i) (right j) cost e =
-      let covered = covered_by (links.gain i j) (at potentials.u i + at potentials.v j) cost (valid.covered i j) e in
-      omega (arith, ints, covered)
-  over (right j) root cost e =
-      let free = free_is (nat_lt j links.count && not (is_next plan j)) cost e in
-      let first = untrue (is_next plan j) (and_parts (nat_lt j links.count) (not (is_next plan j)) free.0).1 in
-      omega (arith, ints, free.1, tight.first j first)
+  over (left i) (right j) cost e = grind (arith, covered_by, ints)
+  over (right j) root cost e = grind (arith, free_is, nat_lt, untrue, and_parts, ints, tight)
   over (right j) (left i) cost e =
       let same = back_over i j cost (is_trip j (next plan i)) refl e in
       omega (arith, ints, same)

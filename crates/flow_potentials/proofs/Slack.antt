@@ -1,6 +1,8 @@
 -- What a plan gains against numbers that cover its links: never more than all of them, and as much
 -- exactly where it is tight.
-use Rattle.std.proofs.Common.{◌≡◌, ◌≢◌, ℕ, ℤ, zero, suc, pos, ◌+◌, ◌<◌, ◌+ℤ◌, ◌≤ℤ◌, ◌==◌, ◌||◌, eq-eqb, false, List, [], ◌∷◌, length, sum, set, Option, Some, None, unwrap_or, refl, ap, sym, ◌∙◌, subst, arith}
+use Rattle.std.proofs.Common.{◌≡◌, ◌≢◌, ℕ, ℤ, zero, suc, pos, ◌+◌, ◌<◌, ◌+ℤ◌, ◌≤ℤ◌, ◌==◌, ◌||◌}
+use Rattle.std.proofs.Common.{eq-eqb, false, List, [], ◌∷◌, length, sum, set, Option, Some, None}
+use Rattle.std.proofs.Common.{unwrap_or, refl, ap, sym, ◌∙◌, subst, arith}
 use Rattle.std.proofs.lemmas.Bool.{or_parts, ne_eqb, false≢true}
 use Rattle.std.proofs.lemmas.Int.{ints}
 use Rattle.std.proofs.lemmas.List.{get_or-set_other}
@@ -110,9 +112,14 @@ module _ (gain : ℕ → ℕ → Option ℤ) where
   at_most n [] u v are = omega (arith, ints)
   at_most n (next_trip ∷ plan) [] v are = absurd (omega (arith, are.size))
   at_most n (None ∷ plan) (first ∷ u) v are =
-      let rest : gains_from gain (n + 1) plan ≤ℤ pos (sum u + sum v) =
-      at_most (n + 1) plan u v (rest_alone n plan first u v are) in
-      omega (arith, ints, sum_more first u, rest)
+      grind (
+        arith,
+        gains_from,
+        rest_alone,
+        ints,
+        sum_more,
+        at_most (n + 1) plan u v (rest_alone n plan first u v are),
+      )
   at_most n (Some j ∷ plan) (first ∷ u) v are =
       let rest : gains_from gain (n + 1) plan ≤ℤ pos (sum u + sum (set v j 0)) =
       at_most (n + 1) plan u (set v j 0) (rest_linked n j plan first u v are) in
@@ -124,11 +131,7 @@ module _ (gain : ℕ → ℕ → Option ℤ) where
   -- a plan that gains as much is tight
   pub then_tight : (n : ℕ) (plan : List (Option ℕ)) (u v : List ℕ) → AreCovering n plan u v
       → gains_from gain n plan ≡ pos (sum u + sum v) → AreTight n plan u v
-  then_tight n [] [] v are all = record {
-    linked = λ k j e. absurd (none-some j e);
-    last = λ k h e. refl;
-    first = λ j h. all_zero v (omega (arith, ints, all)) j;
-  }
+  then_tight n [] [] v are all = grind (arith, none-some, all_zero, ints)
   then_tight n [] (first ∷ u) v are all = absurd (omega (arith, are.size))
   then_tight n (next_trip ∷ plan) [] v are all = absurd (omega (arith, are.size))
   then_tight n (None ∷ plan) (first ∷ u) v are all =

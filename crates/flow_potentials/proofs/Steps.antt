@@ -1,5 +1,8 @@
 -- Steps over arcs, as they are made.
-use Rattle.std.proofs.Common.{◌≡◌, ℕ, ℤ, pos, neg_ℤ, ◌+◌, ◌*◌, ◌<◌, ◌≤◌, ◌+ℤ◌, ◌-ℤ◌, ◌≤ℤ◌, ◌&&◌, not, is_some, Bool, true, false, List, [], ◌∷◌, suc, length, sum, get_or, slice_set, Option, Some, None, IfSome, option_map, refl, ap, sym, ◌∙◌, subst, arith}
+use Rattle.std.proofs.Common.{◌≡◌, ℕ, ℤ, pos, neg_ℤ, ◌+◌, ◌*◌, ◌<◌, ◌≤◌, ◌+ℤ◌, ◌-ℤ◌, ◌≤ℤ◌, ◌&&◌}
+use Rattle.std.proofs.Common.{not, is_some, Bool, true, false, List, [], ◌∷◌, suc, length, sum}
+use Rattle.std.proofs.Common.{get_or, slice_set, Option, Some, None, IfSome, option_map, refl, ap}
+use Rattle.std.proofs.Common.{sym, ◌∙◌, subst, arith}
 use Rattle.std.proofs.lemmas.Bool.{false≢true, lt-ltb}
 use Rattle.std.proofs.lemmas.Int.{ints}
 use Rattle.std.proofs.lemmas.List.Sums.{sum_by-cons}
@@ -16,12 +19,7 @@ use Rattle.flow_potentials.proofs.Shallow.{pair_most, back_most, back_arc, found
 -- what is known stays known behind a step
 pub still_searched : (links : Links) (plan : List (Option ℕ)) (before after : DropParts) (changed : Bool)
     → IsSearched links plan before → IsStep links plan before after changed → IsSearched links plan after
-still_searched links plan before after changed known step = record {
-  plan_is = known.plan_is;
-  certified = known.certified;
-  over = step.over known.over;
-  found = step.found known.found;
-}
+still_searched links plan before after changed known step = grind arith
 
 module _ (links : Links) (plan : List (Option ℕ)) (drops : DropParts) (known : IsSearched links plan drops) (i j : ℕ) where
   -- over a link of a row

@@ -1,5 +1,7 @@
 -- Rows of potentials, one after the other.
-use Rattle.std.proofs.Common.{◌≡◌, ℕ, ℤ, suc, pos, negsuc, ◌+◌, ◌<◌, ◌≤◌, ◌≤ℤ◌, nat_lt, Bool, true, false, cond, List, [], ◌∷◌, ◌++◌, length, map, take, drop, get_or, slice_get, unsigned_abs, All, Some, ap, sym, ◌∙◌, arith, append_assoc}
+use Rattle.std.proofs.Common.{◌≡◌, ℕ, ℤ, suc, pos, negsuc, ◌+◌, ◌<◌, ◌≤◌, ◌≤ℤ◌, nat_lt, Bool, true}
+use Rattle.std.proofs.Common.{false, cond, List, [], ◌∷◌, ◌++◌, length, map, take, drop, get_or}
+use Rattle.std.proofs.Common.{slice_get, unsigned_abs, All, Some, ap, sym, ◌∙◌, arith, append_assoc}
 use Rattle.std.proofs.Math.Seq.{drop-cons}
 use Rattle.std.proofs.lemmas.Int.{ints}
 use Rattle.std.proofs.lemmas.List.{take_more, take_all, map-append, drop_all, length-map}
@@ -28,15 +30,11 @@ module _ (count : ℕ) (table : List TableRow) (i : ℕ) (so_far : gaps_from cou
 
   pub gap_found : i < length table → is_trip_row count i (get_or table i no_row) ≡ false
       → slice_get (gaps_from count 0 table) 0 ≡ Some (record { row = (get_or table i no_row).number; why = why.OrderGap })
-  gap_found within e = ap (λ all. slice_get all 0) (gaps_here within
-      ∙ ap (λ b. cond b [] (record { row = (get_or table i no_row).number; why = why.OrderGap } ∷ [])
-      ++ gaps_from count (i + 1) (drop (i + 1) table)) e)
+  gap_found within e = grind (arith, slice_get, gaps_here, get_or)
 
   pub no_gap : i < length table → is_trip_row count i (get_or table i no_row) ≡ true
       → gaps_from count 0 table ≡ gaps_from count (i + 1) (drop (i + 1) table)
-  no_gap within e = gaps_here within
-      ∙ ap (λ b. cond b [] (record { row = (get_or table i no_row).number; why = why.OrderGap } ∷ [])
-      ++ gaps_from count (i + 1) (drop (i + 1) table)) e
+  no_gap within e = grind (arith, gaps_here, get_or)
 
   pub gap_end : length table ≤ i → (b : Bool) → nat_lt i count ≡ b
       → gaps_from count 0 table ≡ cond b (record { row = 0; why = why.OrderGap } ∷ []) []
@@ -91,10 +89,7 @@ table_potentials table fit u v u_is v_is = rw (u_is, v_is) (record {
 
 pub table_over : (table : List TableRow) (count : ℕ) (u v : List ℕ) → u ≡ column_of 1 table → v ≡ column_of 2 table
     → length table ≡ count → AreOver count (record { u = u; v = v })
-table_over table count u v u_is v_is counted = record {
-  each_u = ap length u_is ∙ length-map table (λ row. unsigned_abs (get_or row.cells 1 (pos 0))) ∙ counted;
-  each_v = ap length v_is ∙ length-map table (λ row. unsigned_abs (get_or row.cells 2 (pos 0))) ∙ counted;
-}
+table_over table count u v u_is v_is counted = grind (arith, length-map, unsigned_abs, get_or)
 
 -- ---- writing
 
@@ -103,12 +98,4 @@ pub rows_more : (u v : List ℕ) (i : ℕ) (all rows new : List TableRow) → i 
     → new ≡ rows ++ record { number = 0; cells = pos (i + 1) ∷ pos (at u i) ∷ pos (at v i) ∷ [] } ∷ []
     → new ++ rows_from (i + 1 + 1) (drop (i + 1) u) (drop (i + 1) v) ≡ all
 rows_more u v i all rows new in_u in_v so_far added =
-    let row : TableRow = record { number = 0; cells = pos (i + 1) ∷ pos (at u i) ∷ pos (at v i) ∷ [] } in
-    let rest : List TableRow = rows_from (i + 1 + 1) (drop (i + 1) u) (drop (i + 1) v) in
-    let u_is : drop i u ≡ at u i ∷ drop (i + 1) u = drop-cons u i 0 in_u ∙ ap (λ k. at u i ∷ drop k u) (one_more i) in
-    let v_is : drop i v ≡ at v i ∷ drop (i + 1) v = drop-cons v i 0 in_v ∙ ap (λ k. at v i ∷ drop k v) (one_more i) in
-    ap (λ some. some ++ rest) added
-    ∙ append_assoc rows (row ∷ []) rest
-    ∙ ap (λ some. rows ++ rows_from (i + 1) some (at v i ∷ drop (i + 1) v)) (sym u_is)
-    ∙ ap (λ some. rows ++ rows_from (i + 1) (drop i u) some) (sym v_is)
-    ∙ so_far
+    grind (arith, drop-cons, one_more, append_assoc)

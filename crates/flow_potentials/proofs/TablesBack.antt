@@ -1,13 +1,15 @@
 -- Potentials that are written are read back.
-use Rattle.std.proofs.Common.{◌≡◌, ℕ, ℤ, suc, pos, ◌+◌, ◌≤◌, ◌==◌, ◌&&◌, nat_lt, true, cond, List, [], ◌∷◌, ◌++◌, length, map, drop, get_or, slice_get, unsigned_abs, All, Some, Result, Ok, Err, IfOk, refl, ap, sym, ◌∙◌, subst, arith, eq-eqb}
-use Rattle.std.proofs.lemmas.Bool.{lt-ltb, le-ltb}
+use Rattle.std.proofs.Common.{◌≡◌, ℕ, ℤ, suc, pos, ◌+◌, ◌≤◌, nat_lt, List, [], ◌∷◌, length, map}
+use Rattle.std.proofs.Common.{drop, get_or, slice_get, unsigned_abs, All, Some, Result, Ok, Err}
+use Rattle.std.proofs.Common.{IfOk, refl, ap, sym, ◌∙◌, subst, arith, eq-eqb}
+use Rattle.std.proofs.lemmas.Bool.{lt-ltb}
 use Rattle.std.proofs.lemmas.Int.{ints}
 use Rattle.std.proofs.lemmas.List.Elements.{All-nil, All-cons}
 use Rattle.giv_files.specs.declared.read_fault.RowFault.{RowFault}
 use Rattle.giv_files.specs.declared.read_fault.ReadFault.{ReadFault}
 use Rattle.giv_files.specs.declared.read_fault.ReadFault.TheVariants as read
 use Rattle.giv_files.specs.declared.row_why.RowWhy.TheVariants as why
-use Rattle.giv_files.specs.Columns.{id, fixed, potential_columns}
+use Rattle.giv_files.specs.Columns.{potential_columns}
 use Rattle.giv_files.specs.Reading.{faults, table_of, ReadGives}
 use Rattle.giv_files.specs.Tables.{TableRow}
 use Rattle.giv_files.specs.Writing.{table_text, CanWrite, ReadsBack}
@@ -16,15 +18,11 @@ use Rattle.giv_files.proofs.Ranges.{table_in_columns}
 use Rattle.giv_files.proofs.WrittenBack.{written_back}
 use Rattle.vehicle_model.specs.ReadSchedules.{or_others}
 use Rattle.flow_potentials.specs.Potentials.{PotentialParts, IsSmall, ArePotentials}
-use Rattle.flow_potentials.specs.PotentialTables.{rows_from, potential_rows, potential_header, potentials_text, is_trip_row, gaps_from, table_faults, column_of, potentials_in, potentials_of, IsReadBack, FitsColumns, PotentialsGive}
+use Rattle.flow_potentials.specs.PotentialTables.{rows_from, potential_rows, potential_header, potentials_text, gaps_from, table_faults, column_of, potentials_in, potentials_of, IsReadBack, FitsColumns, PotentialsGive}
 
 -- the columns can be written
 pub columns_written : All CanWrite potential_columns
-columns_written =
-    let number : CanWrite (fixed 1000000000000) = (omega (arith, ints), omega (arith, ints)) in
-    All-cons CanWrite id (fixed 1000000000000 ∷ fixed 1000000000000 ∷ []) (omega (arith, ints), omega (arith, ints))
-    (All-cons CanWrite (fixed 1000000000000) (fixed 1000000000000 ∷ []) number
-    (All-cons CanWrite (fixed 1000000000000) [] number (All-nil CanWrite)))
+columns_written = grind arith
 
 -- ---- the rows of potentials are in their columns
 
@@ -67,29 +65,23 @@ table_is : (count before : ℕ) (table : List TableRow) (u v : List ℕ) → len
     → map (λ one. one.cells) table ≡ map (λ one. one.cells) (rows_from (before + 1) u v)
     → IsTable count before table u v
 unfolding gaps_from
-table_is count before [] [] [] same all e = record {
-  gaps = ap (λ b. cond b (record { row = 0; why = why.OrderGap } ∷ []) []) (le-ltb before count (omega (arith, all)));
-  u_is = refl;
-  v_is = refl;
-}
+table_is count before [] [] [] same all e = grind arith
 table_is count before table [] (b ∷ v) same all e = absurd (omega (arith, same))
 table_is count before table (a ∷ u) [] same all e = absurd (omega (arith, same))
 table_is count before (row ∷ table) [] [] same all e = cc
 table_is count before [] (a ∷ u) (b ∷ v) same all e = cc
 table_is count before (row ∷ table) (a ∷ u) (b ∷ v) same all e =
-    let cells : row.cells ≡ pos (before + 1) ∷ pos a ∷ pos b ∷ [] = first_cells row table _ _ e in
-    let rest : IsTable count (before + 1) table u v = table_is count (before + 1) table u v (omega (arith, same))
-    (omega (arith, all)) (rest_cells row table _ _ e) in
-    let place : (unsigned_abs (get_or row.cells 0 (pos 0)) == before + 1) ≡ true =
-    ap (λ some. unsigned_abs (get_or some 0 (pos 0)) == before + 1) cells ∙ eq-eqb (before + 1) (before + 1) refl in
-    let form : is_trip_row count before row ≡ true =
-    ap (λ b. b && nat_lt before count) place ∙ lt-ltb before count (omega (arith, all)) in
-    record {
-      gaps = ap (λ b. cond b [] (record { row = row.number; why = why.OrderGap } ∷ []) ++ gaps_from count (before + 1) table) form
-          ∙ rest.gaps;
-      u_is = ap (λ some. unsigned_abs (get_or some 1 (pos 0)) ∷ column_of 1 table) cells ∙ ap (λ some. a ∷ some) rest.u_is;
-      v_is = ap (λ some. unsigned_abs (get_or some 2 (pos 0)) ∷ column_of 2 table) cells ∙ ap (λ some. b ∷ some) rest.v_is;
-    }
+    grind (
+      arith,
+      first_cells,
+      rest_cells,
+      unsigned_abs,
+      get_or,
+      eq-eqb,
+      nat_lt,
+      lt-ltb,
+      table_is count (before + 1) table u v (omega (arith, same)) (omega (arith, all)) (rest_cells row table _ _ e),
+    )
 
 -- a text with the cells of potentials
 pub reads_back : (potentials : PotentialParts) → ArePotentials potentials → (text : List ℕ)
@@ -138,10 +130,7 @@ pub rows_read : (count : ℕ) (text : List ℕ) (table : List TableRow) → faul
     → PotentialsGive (gaps_from count 0 table) (potentials_in table) result
     → PotentialsGive (table_faults count text) (potentials_of text) result
 unfolding table_faults potentials_of
-rows_read count text table none is result gives =
-    subst (λ all. PotentialsGive (or_others all (gaps_from count 0 (table_of potential_columns text)))
-    (potentials_in (table_of potential_columns text)) result) (sym none)
-    (subst (λ some. PotentialsGive (gaps_from count 0 some) (potentials_in some) result) is gives)
+rows_read count text table none is result gives = grind arith
 
 pub table_fits : (text : List ℕ) (table : List TableRow) → faults potential_columns text ≡ []
     → table ≡ table_of potential_columns text → All FitsColumns table
