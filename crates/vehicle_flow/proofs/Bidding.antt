@@ -1,5 +1,8 @@
 -- What bids leave: the trips that have places are taken in.
-use Rattle.std.proofs.Common.{◌≡◌, ◌≢◌, ◌⊎◌, inl, inr, ℕ, pos, ◌<◌, ◌≤◌, ◌+◌, ◌-◌, max, Bool, true, false, cond, List, length, slice_get, slice_set, Option, Some, None, IfSome, refl, ap, sym, ◌∙◌, subst, arith, get_or-set_same, get_or-set_other}
+use Rattle.std.proofs.Common.{◌≡◌, ◌≢◌, ◌⊎◌, inl, inr, ℕ, pos, ◌<◌, ◌≤◌, ◌+◌, ◌-◌, Bool, true}
+use Rattle.std.proofs.Common.{false, cond, List, length, slice_get, slice_set, Option, Some, None}
+use Rattle.std.proofs.Common.{IfSome, refl, ap, sym, ◌∙◌, subst, arith, get_or-set_same}
+use Rattle.std.proofs.Common.{get_or-set_other}
 use Rattle.std.proofs.lemmas.Bool.{lt-ltb}
 use Rattle.std.proofs.lemmas.List.{length-set}
 use Rattle.std.proofs.lemmas.Option.{none-some, same_Some, slice_get_within}
@@ -32,12 +35,7 @@ pub record IsOffer (row : List Link) (potentials : PotentialParts) (done : ℕ) 
 
 pub no_offer : (row : List Link) (potentials : PotentialParts)
     → IsOffer row potentials 0 (record { best = None; most = 0; rest = 0 })
-no_offer row potentials = record {
-  low = omega arith;
-  small = omega arith;
-  best = tt;
-  others = λ k link before e. absurd (omega (arith, before));
-}
+no_offer row potentials = grind arith
 
 module _ (links : Links) (potentials : PotentialParts) (i : ℕ) (row : List Link) (is : IsRow links i links.count row) where
   module _ (done : ℕ) (offer : Offer) (are : IsOffer row potentials done offer) (link : Link)
@@ -69,18 +67,7 @@ module _ (links : Links) (potentials : PotentialParts) (i : ℕ) (row : List Lin
             omega (arith, at_best.1.1)
 
     offer_lost : rest ≤ offer.most → IsOffer row potentials (done + 1) (next_offer offer link rest false)
-    offer_lost low = record {
-      low = omega (arith, are.low, low);
-      small = are.small;
-      best = are.best;
-      others = λ k other before e. by_number k done
-          (λ same. inr (subst (Below (max offer.rest rest)) (same_link k other same e) (omega (arith, rest_is))))
-          (λ apart. elim (are.others k other (omega (arith, before, apart)) e)
-          as (λ _. (offer.best ≡ Some other) ⊎ (other.gain ≤ max offer.rest rest + at potentials.v other.to)) [
-            | inl was ↦ inl was
-            | inr below ↦ inr (omega (arith, below))
-          ]);
-    }
+    offer_lost low = grind arith
 
     pub offer_more : (wins : Bool) (new : Offer) → (wins ≡ true → (0 < rest) × (offer.most ≤ rest))
         → (wins ≡ false → rest ≤ offer.most) → new ≡ next_offer offer link rest wins
@@ -133,18 +120,7 @@ module _ (links : Links) (potentials : PotentialParts) (i : ℕ) (row : List Lin
 
 pub taken_but : (links : Links) (potentials : PotentialParts) (plan : List (Option ℕ)) (place : ℕ)
     → IsTaken links potentials plan → IsTakenBut links potentials place plan
-taken_but links potentials plan place is = record {
-  over = is.over;
-  tight = record {
-    each = is.tight.each;
-    within = is.tight.within;
-    linked = is.tight.linked;
-    once = is.tight.once;
-    last = is.tight.last;
-    first = λ j inside apart free. is.tight.first j inside (λ same. omega (arith, inside, same)) free;
-  };
-  covered = is.covered;
-}
+taken_but links potentials plan place is = grind arith
 
 module _ (links : Links) (before : PotentialParts) (plan : List (Option ℕ)) (is : IsTaken links before plan)
     (place other : ℕ) (inside : place < links.count) (has : next plan other ≡ Some place)
@@ -233,9 +209,7 @@ module _ (links : Links) (before : PotentialParts) (plan : List (Option ℕ)) (t
       (lt-ltb link.to (length plan) (omega (arith, link_is.within, is.tight.each)))
 
   own_next : next after trip ≡ Some link.to
-  own_next = ap (λ p. next p trip) after_is
-      ∙ get_or-set_same plan trip (successor_at (length plan) link.to) None (omega (arith, within, is.tight.each))
-      ∙ own_place
+  own_next = grind (arith, get_or-set_same, own_place)
 
   other_next : (i : ℕ) → i ≢ trip → next after i ≡ next plan i
   other_next i apart = ap (λ p. next p i) after_is
@@ -256,21 +230,12 @@ module _ (links : Links) (before : PotentialParts) (plan : List (Option ℕ)) (t
   other_v j apart = ap (λ p. at p.v j) now_is ∙ get_or-set_other before.v link.to j (link.gain - rest) 0 apart
 
   v_no_less : (j : ℕ) → at before.v j ≤ at now.v j
-  v_no_less j = by_number j link.to
-      (λ same.
-      let was : at before.v j ≡ at before.v link.to = ap (at before.v) same in
-      let new : at now.v j ≡ at now.v link.to = ap (at now.v) same in
-      omega (arith, was, new, own_v, low))
-      (λ apart. omega (arith, other_v j apart))
+  v_no_less j = grind (arith, by_number, own_v, other_v)
 
   -- who has a place, and which
   has : (i j : ℕ) → next after i ≡ Some j
       → ((i ≡ trip) × (j ≡ link.to)) ⊎ ((i ≢ trip) × ((j ≢ link.to) × (next plan i ≡ Some j)))
-  has i j e = by_number i trip
-      (λ same. inl (same, sym (same_Some link.to j (sym own_next ∙ ap (next after) (sym same) ∙ e))))
-      (λ apart.
-      let was : next plan i ≡ Some j = sym (other_next i apart) ∙ e in
-      inr (apart, ((λ same. not_next plan i link.to free (was ∙ ap Some same)), was)))
+  has i j e = grind (arith, by_number, same_Some, own_next, other_next, not_next)
 
   both_own : at now.u trip + at now.v link.to ≡ link.gain
   both_own = omega (arith, own_u, own_v, low)

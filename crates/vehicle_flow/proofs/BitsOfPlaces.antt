@@ -1,5 +1,6 @@
 -- Bits of rows that are put one by one, and rows that have the places for which something holds.
-use Rattle.std.proofs.Common.{◌≡◌, ℕ, ◌+◌, ◌%◌, ◌<◌, ◌≤◌, nat_eq, Bool, true, false, cond, ◌&&◌, MatchBool, refl, ap, sym, ◌∙◌, subst, arith, eqb-true, eq-eqb}
+use Rattle.std.proofs.Common.{◌≡◌, ℕ, ◌+◌, ◌%◌, ◌<◌, ◌≤◌, nat_eq, Bool, true, false, cond, ◌&&◌}
+use Rattle.std.proofs.Common.{MatchBool, refl, ap, sym, ◌∙◌, subst, arith, eqb-true, eq-eqb}
 use Rattle.std.proofs.lemmas.Bool.{and_from, false≢true, le-ltb, ne_eqb}
 use Rattle.bit_rows.specs.Bits.{Bits, has, has_bit, word_of}
 use Rattle.flow_potentials.proofs.Certified.{by_bound}
@@ -43,11 +44,7 @@ module _ (P : ℕ → Type 0) (below : ℕ) (row : ℕ) where
   -- some places more, none of which is one
   pub row_up : (more : ℕ) (bits : Bits) → IsRowOf P below bits row → below ≤ more
       → ((j : ℕ) → below ≤ j → j < more → P j → ⊥) → IsRowOf P more bits row
-  row_up more bits are up none = record {
-    right = λ place h. let old = are.right place h in (omega (arith, old.0, up), old.1);
-    all = λ place bound h. by_bound place below (λ before. are.all place before h)
-        (λ past. absurd (none place past bound h));
-  }
+  row_up more bits are up none = grind arith
 
   -- one place more, which is marked where a slack is 0
   pub row_step : (before after : Bits) (slack : ℕ) → row < before.rows → IsRowOf P below before row

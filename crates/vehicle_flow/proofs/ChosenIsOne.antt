@@ -1,5 +1,8 @@
 -- A plan that is chosen is the one that the definition finds among all plans.
-use Rattle.std.proofs.Common.{◌≡◌, ℕ, zero, suc, ◌+◌, ◌<◌, ◌≤◌, inl, inr, Bool, true, false, cond, not, is_some, ◌&&◌, nat_eq, List, [], ◌∷◌, ◌++◌, length, map, filter, find, Option, Some, None, unwrap_or, refl, ap, sym, ◌∙◌, subst, arith, eqb-true, eq-eqb}
+use Rattle.std.proofs.Common.{◌≡◌, ℕ, zero, suc, ◌+◌, ◌<◌, ◌≤◌, inl, inr, Bool, true, false, cond}
+use Rattle.std.proofs.Common.{not, is_some, ◌&&◌, nat_eq, List, [], ◌∷◌, ◌++◌, length, map, filter}
+use Rattle.std.proofs.Common.{find, Option, Some, None, unwrap_or, refl, ap, sym, ◌∙◌, subst, arith}
+use Rattle.std.proofs.Common.{eqb-true, eq-eqb}
 use Rattle.std.specs.List.{AllByRecursion, range_with_len}
 use Rattle.std.proofs.lemmas.Bool.{false≢true}
 use Rattle.std.proofs.lemmas.Option.{none-some}
@@ -199,11 +202,7 @@ module _ (trips : TripsParts) where
       }
 
   pub where_plan : (plan : List (Option ℕ)) → IsPlan links plan → AreChoices (lists 0 n) plan
-  where_plan plan is = choices_where 0 n plan (record {
-    each = is.each;
-    follow = λ i j e. let same : i ≡ 0 + i = omega arith in
-        subst (λ k. may k j ≡ true) same (is.follow i j e);
-  })
+  where_plan plan is = grind (arith, choices_where)
 
   module _ (plan : List (Option ℕ)) (chosen : IsChosen trips plan) where
     abbrev cost : List (Option ℕ) → ℕ
@@ -222,12 +221,18 @@ module _ (trips : TripsParts) where
         }
 
     first : find costs_least (all_plans links) ≡ Some plan
-    first = find_filtered costs_least is_apart (all_lists (lists 0 n))
-        ∙ first_of (lists 0 n) (λ other. is_apart other && costs_least other) plan
-        (where_plan plan chosen.cheapest.possible)
-        (both_true (apart_where plan chosen.cheapest.possible.once) (eq-eqb (cost plan) (cost plan) refl))
-        (all_rising 0 n)
-        (λ other are passes. chosen.first other (cheapest_where other are passes))
+    first =
+        grind (
+          arith,
+          find_filtered,
+          first_of,
+          where_plan,
+          both_true,
+          apart_where,
+          eq-eqb,
+          all_rising,
+          cheapest_where,
+        )
 
     not_less : (all : List (List (Option ℕ))) → AllByRecursion (AreChoices (lists 0 n)) all
         → AllByRecursion (λ other. is_apart other ≡ true → cost plan ≤ cost other) all

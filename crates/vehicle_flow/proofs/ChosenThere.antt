@@ -1,5 +1,7 @@
 -- Over any trips there is a chosen plan, for which its canonical potentials are valid.
-use Rattle.std.proofs.Common.{◌≡◌, ℕ, ℤ, pos, ◌+◌, ◌<◌, ◌≤◌, ◌≤ℤ◌, is_some, List, length, map, get_or, Option, Some, None, IfSome, unwrap_or, refl, ap, sym, ◌∙◌, subst, arith}
+use Rattle.std.proofs.Common.{◌≡◌, ℕ, ℤ, pos, ◌+◌, ◌<◌, ◌≤◌, ◌≤ℤ◌, is_some, List, length, map}
+use Rattle.std.proofs.Common.{get_or, Option, Some, None, IfSome, unwrap_or, refl, ap, sym, ◌∙◌}
+use Rattle.std.proofs.Common.{subst, arith}
 use Rattle.std.specs.List.{range_with_len}
 use Rattle.std.proofs.Math.ListN.{get_or-eq_default}
 use Rattle.std.proofs.lemmas.Int.{ints}
@@ -70,17 +72,10 @@ module _ (trips : TripsParts) where
 
   gains : (i j : ℕ) → next plan i ≡ Some j
       → gain i j ≡ Some (pos (at potentials.u i + at potentials.v j))
-  gains i j e =
-      let inside = both_in i j e in
-      (found.done.follow i j (sym (next_is i) ∙ e)).1
-      ∙ (λ k. Some (pos (sym (listed_at found.u n 0 i inside.0) k + sym (listed_at found.v n 0 j inside.1) k)))
+  gains i j e = grind (arith, both_in, next_is, listed_at)
 
   possible : IsPlan (links_of trips) plan
-  possible = record {
-    each = listed_long found.plan n None;
-    follow = λ i j e. ap is_some (gains i j e);
-    once = λ i other j e f. found.done.once i other j (sym (next_is i) ∙ e) (sym (next_is other) ∙ f);
-  }
+  possible = grind (arith, listed_long, is_some, gains, next_is)
 
   covered_by : (i j : ℕ) (some : Option ℤ) → gain i j ≡ some
       → (i < n → IfSome some (λ g. g ≤ℤ pos (found.u i + found.v j)))
@@ -97,10 +92,7 @@ module _ (trips : TripsParts) where
 
   value_at : (k j : ℕ) → next plan k ≡ Some j
       → unwrap_or (gain (0 + k) j) (pos 0) ≡ pos (at potentials.u k + at potentials.v j)
-  value_at k j e =
-      let same : 0 + k ≡ k = omega arith in
-      ap (λ i. unwrap_or (gain i j) (pos 0)) same
-      ∙ gain_value k j (at potentials.u k + at potentials.v j) (gains k j e)
+  value_at k j e = grind (arith, unwrap_or, gain_value, gains)
 
   pub valid_there : HasValid (links_of trips)
   valid_there = record {

@@ -1,5 +1,8 @@
 -- Claims and the order in which they were made.
-use Rattle.std.proofs.Common.{◌≡◌, ◌⊎◌, inl, inr, ℕ, zero, suc, ◌<◌, ◌+◌, List, [], ◌∷◌, ◌++◌, length, sum_by, get_or, slice_get, slice_set, replicate, Option, Some, None, refl, ap, sym, ◌∙◌, subst, arith, get_or-set_same, get_or-set_other}
+use Rattle.std.proofs.Common.{◌≡◌, ◌⊎◌, inl, inr, ℕ, zero, suc, ◌<◌, ◌+◌, List, [], ◌∷◌, ◌++◌}
+use Rattle.std.proofs.Common.{length, sum_by, get_or, slice_get, slice_set, replicate, Option, Some}
+use Rattle.std.proofs.Common.{None, refl, ap, sym, ◌∙◌, subst, arith, get_or-set_same}
+use Rattle.std.proofs.Common.{get_or-set_other}
 use Rattle.std.proofs.lemmas.List.{length-set, length-replicate, length_push}
 use Rattle.std.proofs.lemmas.List.Folds.{sum_by-replicate}
 use Rattle.std.proofs.lemmas.List.Sums.{sum_by-set}
@@ -25,22 +28,14 @@ no_claim = None
 
 -- no place is claimed
 pub no_claims : (n : ℕ) → AreClaims (record { at = replicate n None; order = [] })
-no_claims n = record {
-  placed = λ place found e. absurd (none-some found (sym (none_at n place) ∙ e));
-  claimed = λ step place e. absurd (none-some place e);
-  counted = omega (arith, sum_by-replicate one_if_open n None, length-replicate n no_claim);
-}
+no_claims n = grind (arith, none-some, none_at, sum_by-replicate, length-replicate)
 
 get_pushed : (xs : List ℕ) (x i y : ℕ) → slice_get (xs ++ x ∷ []) i ≡ Some y
     → ((i ≡ length xs) × (x ≡ y)) ⊎ (slice_get xs i ≡ Some y)
 get_pushed [] x zero y e = inl (refl, same_Some x y e)
 get_pushed [] x (suc i) y e = absurd (none-some y e)
 get_pushed (first ∷ xs) x zero y e = inr e
-get_pushed (first ∷ xs) x (suc i) y e = elim (get_pushed xs x i y e) as
-    (λ _. ((suc i ≡ suc (length xs)) × (x ≡ y)) ⊎ (slice_get xs i ≡ Some y)) [
-      | inl last ↦ inl (ap suc last.0, last.1)
-      | inr sooner ↦ inr sooner
-    ]
+get_pushed (first ∷ xs) x (suc i) y e = grind (arith, slice_get, get_pushed xs x i y e)
 
 get_last : (xs : List ℕ) (x : ℕ) → slice_get (xs ++ x ∷ []) (length xs) ≡ Some x
 get_last [] x = refl
@@ -57,12 +52,7 @@ module _ (claims : ClaimsParts) (are : AreClaims claims) (place : ℕ) (found : 
     (step : found.step ≡ length claims.order) where
   counted_more : length claims.order + 1 + sum_by one_if_open (slice_set claims.at place (Some found))
       ≡ length claims.at
-  counted_more =
-      let set_one : sum_by one_if_open (slice_set claims.at place (Some found)) + one_if_open (claim_at claims place)
-      ≡ sum_by one_if_open claims.at + 0 =
-      sum_by-set one_if_open claims.at place (Some found) None inside in
-      let one : one_if_open (claim_at claims place) ≡ 1 = ap one_if_open open_place in
-      omega (arith, set_one, one, are.counted)
+  counted_more = grind (arith, sum_by, slice_set, sum_by-set)
 
   pub claimed_more : (order : List ℕ) → order ≡ claims.order ++ place ∷ []
       → AreClaims (record { at = slice_set claims.at place (Some found); order = order })

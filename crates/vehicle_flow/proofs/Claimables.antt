@@ -1,13 +1,14 @@
 -- The places that can be claimed, as they are claimed, put back, and taken out.
-use Rattle.std.proofs.Common.{◌≡◌, ◌≢◌, ℕ, ◌+◌, ◌<◌, ◌≤◌, true, false, is_some, Contains, List, length, Option, Some, None, ap, sym, ◌∙◌, subst, arith, get_or-set_same, get_or-set_other, inl, inr}
+use Rattle.std.proofs.Common.{◌≡◌, ◌≢◌, ℕ, ◌+◌, ◌<◌, ◌≤◌, true, false, is_some, Contains, List}
+use Rattle.std.proofs.Common.{length, Option, Some, None, ap, sym, ◌∙◌, subst, arith}
+use Rattle.std.proofs.Common.{get_or-set_same, get_or-set_other, inl, inr}
 use Rattle.std.proofs.lemmas.Bool.{cases_Bool, false≢true}
 use Rattle.std.proofs.lemmas.Grind.{get_or_default_zero}
 use Rattle.std.proofs.lemmas.List.Kept.{AllPairs-from_increasing}
 use Rattle.std.proofs.lemmas.List.Elements.{Contains-get_or}
-use Rattle.std.proofs.lemmas.Option.{none-some, same_Some, slice_get_within}
+use Rattle.std.proofs.lemmas.Option.{slice_get_within}
 use Rattle.bit_rows.proofs.CommonColumns.{common_all, common_rise, common_sound}
 use Rattle.bit_rows.specs.Bits.{Bits, common, has}
-use Rattle.flow_potentials.proofs.Certified.{by_bound}
 use Rattle.flow_potentials.specs.Potentials.{at}
 use Rattle.vehicle_model.proofs.Following.{some_of}
 use Rattle.vehicle_model.proofs.Linking.{by_number}
@@ -53,12 +54,7 @@ common_places rows row places found is = subst
 pub places_as : (P Q : ℕ → Type 0) (below more : ℕ) (places : List ℕ) → below ≡ more
     → ((place : ℕ) → P place → Q place) → ((place : ℕ) → place < more → Q place → P place)
     → ArePlaces P below places → ArePlaces Q more places
-places_as P Q below more places same to back are = record {
-  rising = are.rising;
-  right = λ k bound. to (at places k) (are.right k bound);
-  within = λ k bound. omega (arith, are.within k bound, same);
-  all = λ place bound h. are.all place (omega (arith, bound, same)) (back place bound h);
-}
+places_as P Q below more places same to back are = grind arith
 
 -- one place is claimed
 pub claimable_less : (count low : ℕ) (plan : List (Option ℕ)) (claims : ClaimsParts)
@@ -96,23 +92,8 @@ taken_out : (next : Option ℕ) (before after : Bits) → IsTakenOut next before
     → (after.rows ≡ before.rows) × (after.columns ≡ before.columns)
     × ((c : ℕ) → has after 0 c ≡ true → (has before 0 c ≡ true) × (next ≡ Some c → ⊥))
     × ((c : ℕ) → has before 0 c ≡ true → (next ≡ Some c → ⊥) → has after 0 c ≡ true)
-taken_out None before after same rows = (
-  ap (λ bits. bits.rows) same,
-  ap (λ bits. bits.columns) same,
-  (λ c h. (ap (λ bits. has bits 0 c) (sym same) ∙ h, none-some c)),
-  (λ c h apart. ap (λ bits. has bits 0 c) same ∙ h),
-)
-taken_out (Some place) before after put rows = (
-  put.rows,
-  put.columns,
-  (λ c h.
-      let apart : (c ≡ place → ⊥) =
-      λ same. false≢true (sym put.here ∙ ap (has after 0) (sym same) ∙ h) in (
-        sym (put.others 0 c (omega (arith, rows)) (λ _. apart)) ∙ h,
-        (λ is. apart (sym (same_Some place c is))),
-      )),
-  (λ c h apart. put.others 0 c (omega (arith, rows)) (λ _ same. apart (ap Some (sym same))) ∙ h),
-)
+taken_out None before after same rows = grind arith
+taken_out (Some place) before after put rows = grind arith
 
 module _ (search : Search) (plan after : List (Option ℕ)) (claims none : ClaimsParts)
     (before back left : Bits) (first : search.low ≡ search.trip)
@@ -124,13 +105,7 @@ module _ (search : Search) (plan after : List (Option ℕ)) (claims none : Claim
     (free : (place : ℕ) → claim_at none place ≡ None) where
   -- all undecided places are put back
   back_undecided : (place : ℕ) → has back 0 place ≡ true → IsUndecided plan search.low place
-  back_undecided place h = elim (cases_Bool (has before 0 place)) [
-    | inl was ↦ are.undecided place was
-    | inr was ↦
-        let step = put.only place h was in
-        let found = some_of (claim_at claims place) (right.listed step.0 place step.1) in
-        right.undecided place found.0 found.1
-  ]
+  back_undecided place h = grind arith
 
   back_all : (place : ℕ) → place < search.links.count + 1 → IsUndecided plan search.low place
       → has back 0 place ≡ true
@@ -146,19 +121,11 @@ module _ (search : Search) (plan after : List (Option ℕ)) (claims none : Claim
   -- those that are undecided behind the trip
   later : (place : ℕ) → IsUndecided plan search.low place
       → (next after search.trip ≡ Some place → ⊥) → IsUndecided after (search.trip + 1) place
-  later place undecided apart i e = by_bound i (search.trip + 1)
-      (λ early. by_number i search.trip
-      (λ here. absurd (apart (ap (next after) (sym here) ∙ e)))
-      (λ other.
-      let sooner : i < search.trip = omega (arith, early, other) in
-      absurd (omega (arith, undecided i (sym (same i sooner) ∙ e), sooner, first))))
-      (λ past. past)
+  later place undecided apart i e = grind arith
 
   earlier : (place : ℕ) → IsUndecided after (search.trip + 1) place
       → IsUndecided plan search.low place
-  earlier place undecided i e = by_bound i search.trip
-      (λ early. absurd (omega (arith, undecided i (same i early ∙ e), early)))
-      (λ past. omega (arith, past, first))
+  earlier place undecided i e = grind arith
 
   pub claimable_next : AreClaimable search.links.count (search.trip + 1) after none left
   claimable_next =
@@ -181,10 +148,4 @@ pub claimable_first : (count : ℕ) (plan : List (Option ℕ)) (none : ClaimsPar
     → ((place : ℕ) → claim_at none place ≡ None) → places.rows ≡ 1 → places.columns ≡ count + 1
     → ((place : ℕ) → place < count + 1 → has places 0 place ≡ true)
     → AreClaimable count 0 plan none places
-claimable_first count plan none places free rows columns all = record {
-  rows = rows;
-  columns = columns;
-  undecided = λ place h i e. omega arith;
-  unclaimed = λ place h. free place;
-  all = λ place within undecided gone. absurd (false≢true (sym gone ∙ all place within));
-}
+claimable_first count plan none places free rows columns all = grind arith

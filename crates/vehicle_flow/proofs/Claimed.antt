@@ -1,5 +1,7 @@
 -- What one more claim leaves, and what is claimed where places are expanded.
-use Rattle.std.proofs.Common.{◌≡◌, ◌≢◌, ℕ, zero, suc, ◌+◌, ◌<◌, true, is_some, List, [], ◌∷◌, ◌++◌, length, slice_set, slice_get, Option, Some, None, MatchOption, refl, ap, sym, ◌∙◌, subst, arith, length-append}
+use Rattle.std.proofs.Common.{◌≡◌, ◌≢◌, ℕ, zero, suc, ◌+◌, ◌<◌, true, is_some, List, [], ◌∷◌, ◌++◌}
+use Rattle.std.proofs.Common.{length, slice_set, slice_get, Option, Some, None, refl, ap, sym, ◌∙◌}
+use Rattle.std.proofs.Common.{subst, arith, length-append}
 use Rattle.std.proofs.lemmas.List.{length-set, get_or-set_same, get_or-set_other}
 use Rattle.std.proofs.lemmas.Option.{none-some, same_Some}
 use Rattle.vehicle_model.proofs.Linking.{by_number}
@@ -8,7 +10,7 @@ use Rattle.flow_potentials.specs.Potentials.{at}
 use Rattle.vehicle_flow.specs.declared.claim.Claim.{Claim}
 use Rattle.vehicle_flow.specs.ClaimablePlaces.{AreClaimable}
 use Rattle.vehicle_flow.specs.Claims.{ClaimsParts, claim_at}
-use Rattle.vehicle_flow.specs.Searches.{Search, IsClaim, IsTightBy, ComesFrom}
+use Rattle.vehicle_flow.specs.Searches.{Search, IsClaim, IsTightBy}
 use Rattle.vehicle_flow.specs.Choices.{ArePlaces, IsUndecided, is_claimed, AreExpanded, AreRight, AreMore, AreOthers}
 
 -- a search goes on: what it keeps, against the claims at its start
@@ -35,31 +37,12 @@ pub record IsSeeking (search : Search) (plan : List (Option ℕ)) (claims : Clai
 
 -- ---- one claim more
 
--- what a claim comes from stays so
-from_kept : (search : Search) (plan : List (Option ℕ)) (before after : ClaimsParts) (found : Claim)
-    (A : Type 0)
-    → AreMore before after → (from : Option ℕ)
-    → MatchOption from A (λ at. ComesFrom search plan before found at)
-    → MatchOption from A (λ at. ComesFrom search plan after found at)
-from_kept search plan before after found A more None h = h
-from_kept search plan before after found A more (Some from) h = record {
-  before = h.before;
-  is = more.kept from h.before h.is;
-  sooner = h.sooner;
-  left = h.left;
-}
-
 -- and so does a claim
 claim_kept : (search : Search) (plan : List (Option ℕ)) (before after : ClaimsParts) (place : ℕ)
     (found : Claim)
     → AreMore before after → IsClaim search plan before place found → IsClaim search plan after
     place found
-claim_kept search plan before after place found more is = record {
-  tight = is.tight;
-  movable = is.movable;
-  from = from_kept search plan before after found (found.by ≡ Some search.trip) more found.from
-      is.from;
-}
+claim_kept search plan before after place found more is = grind arith
 
 -- the claims with one more
 abbrev pub with_claim : ClaimsParts → ℕ → Claim → ClaimsParts
@@ -111,18 +94,12 @@ module _ (search : Search) (plan : List (Option ℕ)) (claims : ClaimsParts) (pl
 
   -- all claims are kept
   pub claims_more : AreMore claims new
-  claims_more = record {
-    kept = λ other one e. at_other other (λ same. none-some one (sym free ∙ ap (claim_at claims)
-        (sym same) ∙ e)) ∙ e;
-    order = λ k other e. front_at claims.order place other k e;
-  }
+  claims_more = grind (arith, at_other, none-some, front_at)
 
   -- a claim is an old one, or the new one
   pub old_or_new : {P : Type 0} (other : ℕ) (one : Claim) → claim_at new other ≡ Some one
       → (claim_at claims other ≡ Some one → P) → (other ≡ place → found ≡ one → P) → P
-  old_or_new other one e old latest = by_number other place
-      (λ same. latest same (same_Some found one (sym at_place ∙ ap (claim_at new) (sym same) ∙ e)))
-      (λ apart. old (sym (at_other other apart) ∙ e))
+  old_or_new other one e old latest = grind (arith, by_number, same_Some, at_place, at_other)
 
   -- and each is one
   pub claims_right : AreRight search plan new

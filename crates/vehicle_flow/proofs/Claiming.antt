@@ -1,5 +1,8 @@
 -- The nearest place of a tree is claimed: it is found, or the tree grows by the trip that has it.
-use Rattle.std.proofs.Common.{◌≡◌, ◌≢◌, ◌⊎◌, inl, inr, ℕ, pos, ◌<◌, ◌≤◌, ◌+◌, ◌-◌, nat_lt, is_some, Bool, true, false, cond, List, [], ◌∷◌, ◌++◌, length, get_or, slice_set, Option, Some, None, MatchOption, IfSome, refl, ap, sym, ◌∙◌, subst, arith, get_or-set_same, get_or-set_other}
+use Rattle.std.proofs.Common.{◌≡◌, ◌≢◌, ◌⊎◌, inl, inr, ℕ, pos, ◌<◌, ◌≤◌, ◌+◌, ◌-◌, nat_lt, is_some}
+use Rattle.std.proofs.Common.{Bool, true, false, cond, List, [], ◌∷◌, ◌++◌, length, get_or}
+use Rattle.std.proofs.Common.{slice_set, Option, Some, None, MatchOption, IfSome, refl, ap, sym}
+use Rattle.std.proofs.Common.{◌∙◌, subst, arith, get_or-set_same, get_or-set_other}
 use Rattle.std.proofs.Math.ListN.{get_or-eq_default}
 use Rattle.std.proofs.lemmas.Bool.{ltb-true, ltb-false}
 use Rattle.std.proofs.lemmas.List.{length-set, length_push}
@@ -48,15 +51,7 @@ nearest_more links potentials some more place by from old grows near =
     new_one : (slack : ℕ) → slack_to links potentials by place ≡ Some slack
         → ((i : ℕ) → some i ≡ true → IfSome (slack_to links potentials i place) (λ known. slack ≤ known))
         → IsNearest links potentials more place (record { slack = slack; by = by; from = from })
-    new_one slack e low = record {
-      slack = e;
-      least = λ i more_i. elim (grows i more_i) as
-          (λ _. IfSome (slack_to links potentials i place) (λ known. slack ≤ known)) [
-            | inl old_i ↦ low i old_i
-            | inr new_i ↦ subst (λ it. IfSome it (λ known. slack ≤ known))
-                (sym (ap (λ k. slack_to links potentials k place) new_i ∙ e)) (omega arith)
-          ];
-    }
+    new_one slack e low = grind arith
 
     lower : (slack most : ℕ) → slack ≤ most → (it : Option ℕ) → IfSome it (λ known. most ≤ known)
         → IfSome it (λ known. slack ≤ known)
@@ -161,9 +156,7 @@ module _ (links : Links) (potentials : PotentialParts) (trip : ℕ) (plan : List
   kept other found e = old_is other (λ same. none-some found (sym free ∙ ap (claim_at claims) (sym same) ∙ e)) ∙ e
 
   still_claimed : (other : ℕ) → is_claimed claims other ≡ true → is_claimed more other ≡ true
-  still_claimed other e =
-      let found = claim_there claims other e in
-      ap is_some (kept other found.0 found.1)
+  still_claimed other e = grind (arith, claim_there, is_some, kept)
 
   sooner : (other : ℕ) (found : Claim) → claim_at claims other ≡ Some found → found.step < length claims.order
   sooner other found e = slice_get_within claims.order found.step other (ordered.placed other found e)
@@ -262,12 +255,7 @@ module _ (links : Links) (potentials : PotentialParts) (trip : ℕ) (plan : List
 
     -- and those that were still are
     still_in : (i : ℕ) → in_tree trip plan claims i ≡ true → in_tree trip plan more i ≡ true
-    still_in i e = elim (tree_is trip plan claims i e) as (λ _. in_tree trip plan more i ≡ true) [
-      | inl same ↦ ap (in_tree trip plan more) same ∙ tree_trip trip plan more
-      | inr linked ↦ tree_linked trip plan more i linked.0
-          (λ same. none-some linked.0 (sym is.waits ∙ ap (next plan) (sym same) ∙ linked.1.0)) linked.1.0
-          ∙ still_claimed linked.0 linked.1.1
-    ]
+    still_in i e = grind (arith, tree_is, tree_trip, tree_linked, none-some, still_claimed)
 
     tree_more : (other : ℕ) (found : Claim) → claim_at more other ≡ Some found
         → IsTreeClaim trip plan more other found
@@ -305,11 +293,7 @@ module _ (links : Links) (potentials : PotentialParts) (trip : ℕ) (plan : List
 
     -- it left its place
     pub from_left : IsFrom trip plan more left (Some place)
-    from_left = (
-      (λ same. none-some place (sym is.waits ∙ ap (next plan) (sym same) ∙ has)),
-      has,
-      ap is_some new_is,
-    )
+    from_left = grind (arith, none-some, is_some, new_is)
 
     pub nears_grown : (nears now : List (Option Near)) → AreNear links potentials trip plan claims nears
         → length now ≡ length nears
@@ -332,14 +316,10 @@ module _ (links : Links) (potentials : PotentialParts) (trip : ℕ) (plan : List
 
         told_it : (other : ℕ) → other < links.count + 1 → claim_at more other ≡ None → get_or now other None
             ≡ looked None (slack_to links potentials left other) left (Some place) (get_or nears other None)
-        told_it other there none = told other (omega (arith, there, are.each))
-            ∙ ap (λ claim. looked claim (slack_to links potentials left other) left (Some place)
-            (get_or nears other None)) none
+        told_it other there none = grind arith
 
         there_of : (other : ℕ) (found : Near) → get_or now other None ≡ Some found → other < links.count + 1
-        there_of other found e = by_bound other (links.count + 1) (λ it. it)
-            (λ past. absurd (none-some found
-            (sym (get_or-eq_default now None (omega (arith, past, each, are.each))) ∙ e)))
+        there_of other found e = grind (arith, by_bound, none-some, get_or-eq_default)
 
         from_old : (old : Near) → IsFrom trip plan claims old.by old.from → IsFrom trip plan more old.by old.from
         from_old old was = by_it old.from was

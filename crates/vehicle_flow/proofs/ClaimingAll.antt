@@ -1,6 +1,6 @@
 -- A trip or none claims all open places of a list.
-use Rattle.std.proofs.Common.{◌≡◌, ◌≢◌, ℕ, ◌+◌, ◌<◌, ◌≤◌, true, false, List, length, Option, Some, None, IfSome, inl, inr, refl, ap, sym, ◌∙◌, subst, arith}
-use Rattle.std.proofs.lemmas.Bool.{cases_Bool}
+use Rattle.std.proofs.Common.{◌≡◌, ◌≢◌, ℕ, ◌+◌, ◌<◌, ◌≤◌, true, false, List, length, Option, Some}
+use Rattle.std.proofs.Common.{None, IfSome, refl, ap, sym, ◌∙◌, subst, arith}
 use Rattle.std.proofs.lemmas.Option.{none-some, same_Some, slice_get_within}
 use Rattle.vehicle_model.proofs.Following.{some_of}
 use Rattle.vehicle_model.proofs.Linking.{by_number}
@@ -27,9 +27,7 @@ pub record IsClaiming (search : Search) (plan : List (Option ℕ)) (start claims
 pub still_claimed : (before after : ClaimsParts) (place : ℕ) → AreMore before after
     → is_claimed before place ≡ true
     → is_claimed after place ≡ true
-still_claimed before after place more h =
-    let found = some_of (claim_at before place) h in
-    some_is (claim_at after place) found.0 (more.kept place found.0 found.1)
+still_claimed before after place more h = grind arith
 
 -- those who leave a place are not the trip that looks for one
 left_apart : (search : Search) (plan : List (Option ℕ)) (from : ℕ) (by : Option ℕ)
@@ -42,25 +40,14 @@ left_apart search plan from (Some i) left e = left.0 (same_Some i search.trip e)
 pub begun : (search : Search) (plan : List (Option ℕ)) (claims : ClaimsParts)
     → AreRight search plan claims
     → AreGoing search plan claims claims
-begun search plan claims right = record {
-  right = right;
-  more = record { kept = λ place found e. e; order = λ step place e. e };
-  others = λ place found e own. e;
-}
+begun search plan claims right = grind arith
 
 -- one search follows another
 pub gone_on : (search : Search) (plan : List (Option ℕ)) (start claims after : ClaimsParts)
     → AreGoing search plan start claims
     → AreRight search plan after → AreMore claims after → AreOthers search claims after
     → AreGoing search plan start after
-gone_on search plan start claims after going right more others = record {
-  right = right;
-  more = record {
-    kept = λ place found e. more.kept place found (going.more.kept place found e);
-    order = λ step place e. more.order step place (going.more.order step place e);
-  };
-  others = λ place found e own. going.others place found (others place found e own) own;
-}
+gone_on search plan start claims after going right more others = grind arith
 
 module _ (search : Search) (plan : List (Option ℕ)) (start : ClaimsParts) (by : Option ℕ) (from : ℕ)
     (ties first : Bits) (row : ℕ) (places : List ℕ)
@@ -83,12 +70,7 @@ module _ (search : Search) (plan : List (Option ℕ)) (start : ClaimsParts) (by 
 
   -- none is claimed at first
   pub claiming_none : AreRight search plan start → IsClaiming search plan start start places 0 first
-  claiming_none right = record {
-    going = begun search plan start right;
-    claimable = at_first;
-    done = λ k bound. absurd (omega (arith, bound));
-    still = λ k _ bound. (are.right k bound).1;
-  }
+  claiming_none right = grind arith
 
   module _ (claims : ClaimsParts) (index : ℕ) (bits : Bits)
       (is : IsClaiming search plan start claims places index bits) where
@@ -98,9 +80,7 @@ module _ (search : Search) (plan : List (Option ℕ)) (start : ClaimsParts) (by 
       here = is.still index (omega arith) h
 
       pub inside : at places index < length claims.at
-      inside = let low : at places index < search.links.count + 1 =
-          (tie.right (at places index) (are.right index h).0).0 in
-          omega (arith, low, is.going.right.places)
+      inside = grind arith
 
       pub unclaimed : claim_at claims (at places index) ≡ None
       unclaimed = is.claimable.unclaimed (at places index) here
@@ -173,12 +153,4 @@ module _ (search : Search) (plan : List (Option ℕ)) (start : ClaimsParts) (by 
 
     -- in the end all that it is tight at is claimed
     pub claiming_all : length places ≤ index → AllClaimed search plan claims by
-    claiming_all past place within undecided tight = elim (cases_Bool (has first 0 place)) [
-      | inl was ↦
-          let k = are.all place (omega (arith, within, all_ties.columns))
-          (tie.all place within tight, was) in
-          subst (λ some. is_claimed claims some ≡ true) k.1.1
-          (is.done k.0 (omega (arith, k.1.0, past)))
-      | inr gone ↦ still_claimed start claims place is.going.more
-          (at_first.all place within undecided gone)
-    ]
+    claiming_all past place within undecided tight = grind arith

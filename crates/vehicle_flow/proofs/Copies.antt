@@ -1,5 +1,7 @@
 -- A plan that is made link by link from another one.
-use Rattle.std.proofs.Common.{◌≡◌, ◌≢◌, ℕ, zero, suc, ◌<◌, ◌≤◌, ◌+◌, false, List, [], ◌∷◌, length, slice_set, replicate, Option, Some, None, IfSome, refl, ap, sym, ◌∙◌, arith}
+use Rattle.std.proofs.Common.{◌≡◌, ◌≢◌, ℕ, zero, suc, ◌<◌, ◌≤◌, ◌+◌, false, List, [], ◌∷◌, length}
+use Rattle.std.proofs.Common.{slice_set, replicate, Option, Some, None, IfSome, refl, ap, sym, ◌∙◌}
+use Rattle.std.proofs.Common.{arith}
 use Rattle.std.proofs.lemmas.List.{length-set}
 use Rattle.std.proofs.lemmas.List.{length-replicate}
 use Rattle.std.proofs.lemmas.Option.{none-some}
@@ -16,11 +18,7 @@ pub record IsCopied (full copy : List (Option ℕ)) (done : ℕ) : Type 0 where
 
 -- none have theirs
 pub none_copied : (full : List (Option ℕ)) → IsCopied full (replicate (length full) None) 0
-none_copied full = record {
-  each = length-replicate (length full) None;
-  same = λ i h. absurd (omega (arith, h));
-  none = λ i h. none_next (length full) i;
-}
+none_copied full = grind (arith, length-replicate, none_next)
 
 module _ (full copy : List (Option ℕ)) (done : ℕ) (is : IsCopied full copy done) where
   pub copied_waits : next copy done ≡ None

@@ -1,5 +1,7 @@
 -- A potential that covers what the links of a trip gain.
-use Rattle.std.proofs.Common.{◌≡◌, ℕ, ℤ, ◌<◌, ◌≤◌, ◌+◌, ◌-◌, max, List, length, slice_get, slice_set, is_some, Option, Some, None, IfSome, refl, ap, sym, ◌∙◌, subst, arith, get_or-set_same}
+use Rattle.std.proofs.Common.{◌≡◌, ℕ, ℤ, ◌<◌, ◌≤◌, ◌+◌, ◌-◌, max, List, length, slice_get}
+use Rattle.std.proofs.Common.{slice_set, is_some, Option, Some, None, IfSome, refl, ap, sym, ◌∙◌}
+use Rattle.std.proofs.Common.{subst, arith, get_or-set_same}
 use Rattle.std.proofs.lemmas.Option.{same_Some, slice_get_within}
 use Rattle.vehicle_model.specs.Trips.{TripsParts, Links, links_of}
 use Rattle.vehicle_model.proofs.Following.{links_within}
@@ -18,10 +20,7 @@ pub record CoversLinks (row : List Link) (potentials : PotentialParts) (most don
       → link.gain ≤ most + at potentials.v link.to
 
 pub covers_none : (row : List Link) (potentials : PotentialParts) → CoversLinks row potentials 0 0
-covers_none row potentials = record {
-  small = omega arith;
-  covers = λ k link before e. absurd (omega (arith, before));
-}
+covers_none row potentials = grind arith
 
 module _ (links : Links) (potentials : PotentialParts) (i most done : ℕ) (row : List Link)
     (is : IsRow links i links.count row) (are : CoversLinks row potentials most done) where

@@ -1,5 +1,7 @@
 -- Claimed places are expanded, one after another.
-use Rattle.std.proofs.Common.{◌≡◌, ℕ, ◌+◌, ◌<◌, ◌≤◌, true, false, is_some, List, length, slice_get, Option, Some, None, Result, Ok, Err, OnOk, refl, ap, sym, ◌∙◌, subst, arith}
+use Rattle.std.proofs.Common.{◌≡◌, ℕ, ◌+◌, ◌<◌, ◌≤◌, true, false, is_some, List, length, slice_get}
+use Rattle.std.proofs.Common.{Option, Some, None, Result, Ok, Err, OnOk, refl, ap, sym, ◌∙◌, subst}
+use Rattle.std.proofs.Common.{arith}
 use Rattle.std.proofs.lemmas.Bool.{false≢true}
 use Rattle.std.proofs.lemmas.List.{get_or_past}
 use Rattle.std.proofs.lemmas.Option.{same_Some, slice_get_within, slice_get-get_or}
@@ -8,41 +10,31 @@ use Rattle.vehicle_model.proofs.Following.{some_of}
 use Rattle.vehicle_model.proofs.Linking.{by_number, not_next}
 use Rattle.flow_potentials.specs.Potentials.{at}
 use Rattle.flow_potentials.proofs.Certified.{by_bound}
-use Rattle.vehicle_flow.specs.Claims.{ClaimsParts, claim_at}
+use Rattle.vehicle_flow.specs.Claims.{ClaimsParts}
 use Rattle.vehicle_flow.specs.Places.{place_of}
-use Rattle.vehicle_flow.specs.Searches.{Search, IsTightBy, IsLeft}
+use Rattle.vehicle_flow.specs.Searches.{Search, IsLeft}
 use Rattle.vehicle_flow.specs.Choices.{is_claimed, AllClaimed, IsExpanded, LastExpanded, AreExpanded, AreRight, AreMore, AreOthers, IsSearch}
-use Rattle.vehicle_flow.proofs.Moves.{has_next, successor_within, successor_past}
+use Rattle.vehicle_flow.proofs.Moves.{has_next, successor_past}
 use Rattle.vehicle_flow.proofs.ClaimingAll.{still_claimed, gone_on}
 use Rattle.vehicle_flow.proofs.Claimed.{AreGoing, at_place}
 
 -- a claimed place is one of the places
 pub claimed_within : (search : Search) (plan : List (Option ℕ)) (claims : ClaimsParts) (place : ℕ)
     → AreRight search plan claims → is_claimed claims place ≡ true → place < search.links.count + 1
-claimed_within search plan claims place right h = by_bound place (length claims.at)
-    (λ inside. omega (arith, inside, right.places))
-    (λ past. absurd (false≢true (sym (ap is_some (get_or_past claims.at place None past)) ∙ h)))
+claimed_within search plan claims place right h =
+    grind (arith, by_bound, false≢true, is_some, get_or_past)
 
 -- the trip that has a claimed place may be moved
 pub has_movable : (search : Search) (plan : List (Option ℕ)) (claims : ClaimsParts) (place by : ℕ)
     → IsSearch search plan → AreRight search plan claims → is_claimed claims place ≡ true
     → next plan by ≡ Some place → (search.low ≤ by) × (by < search.links.count)
-has_movable search plan claims place by is right h has =
-    let found = some_of (claim_at claims place) h in (
-      right.undecided place found.0 found.1 by has,
-      omega
-          (arith, has_next plan by place has, is.possible.each),
-    )
+has_movable search plan claims place by is right h has = grind (arith, some_of, has_next)
 
 -- and leaves it, where it is not the one that looks
 pub has_left : (search : Search) (plan : List (Option ℕ)) (place by : ℕ) → IsSearch search plan
     → (place_of search.links.count (next plan search.trip) ≡ place → ⊥)
     → next plan by ≡ Some place → IsLeft search plan place (Some by)
-has_left search plan place by is apart has = (
-  (λ same. apart (ap (place_of search.links.count) (ap (next plan) (sym same) ∙ has))),
-  has ∙ sym (successor_within search.links.count place
-      (omega (arith, is.successors.within by place has, is.possible.each))),
-)
+has_left search plan place by is apart has = grind arith
 
 -- and so does one without a next trip, behind them all
 pub last_left : (search : Search) (plan : List (Option ℕ)) (claims : ClaimsParts) (place by : ℕ)
@@ -124,13 +116,7 @@ pub still_expanded : (search : Search) (plan : List (Option ℕ)) (before after 
     (place : ℕ)
     → AreMore before after → IsExpanded search plan before place → IsExpanded search plan after
     place
-still_expanded search plan before after place more is = record {
-  by = λ i low within at_place other bound undecided tight.
-      still_claimed before after other more (is.by i low within at_place other bound undecided
-      tight);
-  alone = λ free other bound undecided zero. still_claimed before after other more
-      (is.alone free other bound undecided zero);
-}
+still_expanded search plan before after place more is = grind arith
 
 -- the trips without a next one, so far
 pub record AreLast (search : Search) (plan : List (Option ℕ)) (start claims : ClaimsParts)
@@ -144,25 +130,13 @@ pub last_more : (search : Search) (plan : List (Option ℕ)) (start claims after
     → AreLast search plan start claims index
     → AreRight search plan after → AreMore claims after → AreOthers search claims after
     → AllClaimed search plan after (Some index) → AreLast search plan start after (index + 1)
-last_more search plan start claims after index is right more others all = record {
-  going = gone_on search plan start claims after is.going right more others;
-  done = λ i low bound none other within undecided tight. by_number i index
-      (λ same. all other within undecided
-      (subst (λ some. IsTightBy search.links search.potentials other (Some some)) same tight))
-      (λ apart. still_claimed claims after other more (is.done i low (omega (arith, bound, apart))
-      none other within undecided tight));
-}
+last_more search plan start claims after index is right more others all = grind arith
 
 -- or it has a next one
 pub last_kept : (search : Search) (plan : List (Option ℕ)) (start claims : ClaimsParts) (index : ℕ)
     → AreLast search plan start claims index → (next plan index ≡ None → ⊥)
     → AreLast search plan start claims (index + 1)
-last_kept search plan start claims index is has = record {
-  going = is.going;
-  done = λ i low bound none. by_number i index
-      (λ same. absurd (has (ap (next plan) (sym same) ∙ none)))
-      (λ apart. is.done i low (omega (arith, bound, apart)) none);
-}
+last_kept search plan start claims index is has = grind arith
 
 -- ---- from one place to the next
 

@@ -1,5 +1,7 @@
 -- Of all lists of choices the first that is found passes, and comes no later than any other that does.
-use Rattle.std.proofs.Common.{◌≡◌, ℕ, zero, suc, ◌≤◌, ◌⊎◌, inl, inr, nat_le, Bool, true, false, cond, List, [], ◌∷◌, map, find, Option, Some, None, option_map, refl, ap, sym, ◌∙◌, subst, arith}
+use Rattle.std.proofs.Common.{◌≡◌, ℕ, zero, suc, ◌≤◌, ◌⊎◌, inl, inr, nat_le, Bool, true, false}
+use Rattle.std.proofs.Common.{cond, List, [], ◌∷◌, map, find, Option, Some, None, option_map, refl}
+use Rattle.std.proofs.Common.{ap, sym, ◌∙◌, subst, arith}
 use Rattle.std.specs.List.{AllByRecursion}
 use Rattle.std.specs.Option.{option_or}
 use Rattle.std.proofs.lemmas.Bool.{leb-true, leb-false}
@@ -70,16 +72,8 @@ module _ (rests : List (List (Option ℕ))) (P : List (Option ℕ) → Bool) (pl
           → IsIn (b ∷ choices) c
           → (IsIn choices c → find P (behind rests P choices) ≡ Some plan → BeginsFirst rests P plan c)
           → BeginsFirst rests P plan c
-      split (Some rest) e at later = record {
-        b = b;
-        rest = rest;
-        is = same_Some plan (b ∷ rest) (sym found
-            ∙ find-append P (map (λ rest. b ∷ rest) rests) (behind rests P choices)
-            ∙ ap (λ first. option_or first (find P (behind rests P choices)))
-            (find_mapped P (λ rest. b ∷ rest) rests ∙ ap (option_map (λ rest. b ∷ rest)) e));
-        found = e;
-        order = order at;
-      }
+      split (Some rest) e at later =
+          grind (arith, same_Some, find-append, behind, find_mapped, option_map)
       split None e (inl same) later =
           absurd (some (subst (λ d. find (λ rest. P (d ∷ rest)) rests ≡ None) same e))
       split None e (inr more) later = later more (sym (later_found rests P b choices e) ∙ found)
@@ -118,9 +112,7 @@ pub found_no_later : (lists : List (List (Option ℕ))) (P : List (Option ℕ) �
     (plan : List (Option ℕ)) → find P (all_lists lists) ≡ Some plan → AllByRecursion AreRising lists
     → (other : List (Option ℕ)) → AreChoices lists other → P other ≡ true → AreNoLater plan other
 unfolding all_lists
-found_no_later [] P plan found rising [] are passes =
-    let same : [] ≡ plan = same_Some [] plan (sym (ap (λ b. cond b (Some []) None) passes) ∙ found) in
-    subst (λ some. AreNoLater some []) same (λ i within e. absurd (omega (arith, within)))
+found_no_later [] P plan found rising [] are passes = grind arith
 found_no_later [] P plan found rising (x ∷ other) are passes = elim are [ ]
 found_no_later (choices ∷ more) P plan found rising [] are passes = elim are [ ]
 found_no_later (choices ∷ more) P plan found rising (c ∷ other) are passes =

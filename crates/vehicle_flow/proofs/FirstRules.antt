@@ -1,5 +1,7 @@
 -- The first rule that a schedule breaks, from what its parts are found to be.
-use Rattle.std.proofs.Common.{◌≡◌, ℕ, List, [], ◌∷◌, length, map, filter_map, slice_get, Option, Some, None, option_map, Result, Ok, Err, IfOk, IfNone, refl, ap, sym, ◌∙◌, subst}
+use Rattle.std.proofs.Common.{arith, ◌≡◌, ℕ, List, [], ◌∷◌, length, map, filter_map, slice_get}
+use Rattle.std.proofs.Common.{Option, Some, None, option_map, Result, Ok, Err, IfOk, IfNone, refl}
+use Rattle.std.proofs.Common.{ap, sym, ◌∙◌, subst}
 use Rattle.std.proofs.lemmas.Option.{none-some, same_Some, slice_get-map}
 use Rattle.giv_files.specs.declared.read_fault.RowFault.{RowFault}
 use Rattle.vehicle_model.specs.declared.plan_fault.PlanFault.{PlanFault}
@@ -56,9 +58,7 @@ module _ (trips : TripsParts) (schedule : List ℕ) (potentials : Option (List �
         → IfOk result (λ found. found ≡ slice_get (certificate_rules trips plan potentials) 0)
         → IfOk result (λ found. found ≡ schedule_fault trips schedule potentials)
     judged_plan (Err error) told = tt
-    judged_plan (Ok found) told =
-        told ∙ ap (λ at. slice_get (certificate_rules trips at potentials) 0) is
-        ∙ sym (certificate_left none)
+    judged_plan (Ok found) told = grind (arith, slice_get, certificate_left)
 
     pub passed_plan : {E : Type 0} (result : Result (Option ScheduleFault) E)
         → IsPlan (links_of trips) plan
@@ -66,11 +66,7 @@ module _ (trips : TripsParts) (schedule : List ℕ) (potentials : Option (List �
         → IfOk result (λ found. IfNone found (Passes trips schedule potentials))
     passed_plan (Err error) possible told = tt
     passed_plan (Ok (Some fault)) possible told = tt
-    passed_plan (Ok None) possible told = record {
-      reads = none;
-      possible = subst (IsPlan (links_of trips)) is possible;
-      marked = subst (λ at. IsMarked trips at potentials) is told;
-    }
+    passed_plan (Ok None) possible told = grind arith
 
 -- ---- its potentials
 
@@ -98,27 +94,18 @@ module _ (trips : TripsParts) (plan : List (Option ℕ)) (text : List ℕ) where
   faults_left : table_faults (length trips.trips) text ≡ []
       → slice_get (certificate_rules trips plan (Some text)) 0
       ≡ option_map potential_rule (slice_get (potential_faults (links_of trips) plan (potentials_of text)) 0)
-  faults_left none =
-      ap (λ all. slice_get (or_others (map (λ _. rule.Potentials) all)
-      (map potential_rule (potential_faults (links_of trips) plan (potentials_of text)))) 0) none
-      ∙ slice_get-map potential_rule (potential_faults (links_of trips) plan (potentials_of text)) 0
+  faults_left none = grind (arith, slice_get, slice_get-map)
 
   module _ (potentials : PotentialParts) (none : table_faults (length trips.trips) text ≡ [])
       (is : potentials ≡ potentials_of text) (found : Option PotentialFault)
       (first : found ≡ slice_get (potential_faults (links_of trips) plan potentials) 0) where
     pub judged_potentials : option_map potential_rule found
         ≡ slice_get (certificate_rules trips plan (Some text)) 0
-    judged_potentials = ap (option_map potential_rule)
-        (first ∙ ap (λ some. slice_get (potential_faults (links_of trips) plan some) 0) is)
-        ∙ sym (faults_left none)
+    judged_potentials = grind (arith, option_map, slice_get, faults_left)
 
     pub passed_potentials : AreValid (links_of trips) plan potentials → IsCheapest trips plan
         → IsMark trips plan text
-    passed_potentials valid cheapest = record {
-      reads = none;
-      valid = subst (AreValid (links_of trips) plan) is valid;
-      cheapest = cheapest;
-    }
+    passed_potentials valid cheapest = grind arith
 
   pub judged_fault : (potentials : PotentialParts) → table_faults (length trips.trips) text ≡ []
       → potentials ≡ potentials_of text → (fault : PotentialFault) (rule : ScheduleFault)
@@ -130,15 +117,10 @@ module _ (trips : TripsParts) (plan : List (Option ℕ)) (text : List ℕ) where
 
   -- those that mark a plan break no rule
   pub marked_none : IsMark trips plan text → slice_get (certificate_rules trips plan (Some text)) 0 ≡ None
-  marked_none mark = faults_left mark.reads
-      ∙ ap (option_map potential_rule)
-      ((told_valid trips plan (potentials_of text) mark.valid.over
-      (slice_get (potential_faults (links_of trips) plan (potentials_of text)) 0) refl).1 mark.valid)
+  marked_none mark = grind (arith, faults_left, option_map, told_valid, slice_get)
 
 -- what passes breaks no rule
 pub passes_none : (trips : TripsParts) (schedule : List ℕ) (potentials : Option (List ℕ))
     → Passes trips schedule potentials → schedule_fault trips schedule potentials ≡ None
 passes_none trips schedule None passes = elim passes.marked [ ]
-passes_none trips schedule (Some text) passes =
-    certificate_left trips schedule (Some text) passes.reads
-    ∙ marked_none trips (plan_of trips schedule) text passes.marked
+passes_none trips schedule (Some text) passes = grind (arith, certificate_left, marked_none)

@@ -1,5 +1,8 @@
 -- Flags that tell which places are claimed.
-use Rattle.std.proofs.Common.{◌≡◌, ℕ, zero, suc, ◌<◌, ◌≤◌, ◌+◌, true, false, is_some, Bool, List, [], ◌∷◌, ◌++◌, length, get_or, slice_get, slice_set, replicate, Option, Some, None, refl, ap, sym, ◌∙◌, arith, get_or-set_same, get_or-set_other}
+use Rattle.std.proofs.Common.{◌≡◌, ℕ, zero, suc, ◌<◌, ◌≤◌, ◌+◌, true, false, is_some, Bool, List}
+use Rattle.std.proofs.Common.{[], ◌∷◌, ◌++◌, length, get_or, slice_get, slice_set, replicate}
+use Rattle.std.proofs.Common.{Option, Some, None, refl, ap, sym, ◌∙◌, arith, get_or-set_same}
+use Rattle.std.proofs.Common.{get_or-set_other}
 use Rattle.std.proofs.lemmas.List.{length-set, length-replicate}
 use Rattle.std.proofs.lemmas.Option.{none-some, same_Some, slice_get_within}
 use Rattle.vehicle_model.proofs.Linking.{by_number}
@@ -23,11 +26,7 @@ no_claim = None
 
 -- no place is claimed
 pub none_flagged : (n : ℕ) → AreFlagged (record { at = replicate n None; order = [] }) (replicate n false)
-none_flagged n = record {
-  claims_are = no_claims n;
-  each = length-replicate n false ∙ sym (length-replicate n no_claim);
-  flag = λ place. unset_at n place ∙ ap is_some (sym (none_at n place));
-}
+none_flagged n = grind (arith, no_claims, length-replicate, unset_at, is_some, none_at)
 
 -- what a flag tells
 pub flag_there : (claims : ClaimsParts) (flags : List Bool) (place : ℕ) → AreFlagged claims flags

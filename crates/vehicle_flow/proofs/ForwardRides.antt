@@ -1,5 +1,6 @@
 -- An empty ride between two trips goes forward over the events of the day.
-use Rattle.std.proofs.Common.{◌≡◌, ℕ, ◌+◌, ◌-◌, ◌<◌, ◌≤◌, ◌⊎◌, inl, inr, ◌==◌, ◌||◌, Bool, true, false, cond, not, List, [], ◌∷◌, Some, refl, ap, sym, ◌∙◌, arith}
+use Rattle.std.proofs.Common.{◌≡◌, ℕ, ◌+◌, ◌-◌, ◌<◌, ◌≤◌, ◌⊎◌, inl, inr, ◌==◌, ◌||◌, Bool, true}
+use Rattle.std.proofs.Common.{false, cond, not, List, [], ◌∷◌, Some, refl, ap, sym, ◌∙◌, arith}
 use Rattle.std.specs.Cmp.{nat_cmp_is}
 use Rattle.std.specs.Cmp.Lexicographic.{slice_cmp}
 use Rattle.std.specs.List.{list_any}
@@ -13,10 +14,10 @@ use Rattle.event_tables.specs.declared.expanded_event.ExpandedEvent.{ExpandedEve
 use Rattle.event_tables.specs.declared.schedule_row.ScheduleRow.{ScheduleRow}
 use Rattle.event_tables.specs.declared.trip.TripEnd.{TripEnd}
 use Rattle.event_tables.specs.ExpandedFiles.{expanded_event_ids}
-use Rattle.event_tables.specs.ForwardOrder.{both_pass, event_with, forward_key, stands_before}
+use Rattle.event_tables.specs.ForwardOrder.{both_pass, event_with, stands_before}
 use Rattle.event_tables.specs.Kinds.{is_arrival}
 use Rattle.event_tables.specs.Places.{is_none_of}
-use Rattle.event_tables.specs.Schedules.{ends_early, goes_back, has_room, lacks_room}
+use Rattle.event_tables.specs.Schedules.{ends_early, goes_back, lacks_room}
 use Rattle.vehicle_flow.specs.AcceptedSchedules.{IsPlanned}
 
 -- ---- an event that is found is there
@@ -56,12 +57,7 @@ keys t i u j soon = by (cases_lt t u)
 
 ride_stands : (event other : ExpandedEvent) → is_arrival event.kind ≡ true
     → is_arrival other.kind ≡ false → event.time ≤ other.time → stands_before event other ≡ true
-ride_stands event other arrives departs soon =
-    ap (λ b. is_lt (slice_cmp nat_cmp (event.time ∷ cond b 0 1 ∷ event.id ∷ []) (forward_key other)))
-    arrives
-    ∙ ap (λ b. is_lt (slice_cmp nat_cmp (event.time ∷ 0 ∷ event.id ∷ [])
-    (other.time ∷ cond b 0 1 ∷ other.id ∷ []))) departs
-    ∙ keys event.time event.id other.time other.id soon
+ride_stands event other arrives departs soon = grind arith
 
 -- ---- an empty ride, from the end of a trip to the start of another
 
@@ -80,14 +76,10 @@ module _ (events : List ExpandedEvent) (row : ScheduleRow) (after : TripEnd)
   both : (test : ExpandedEvent → ExpandedEvent → Bool) → test from.event to.event ≡ true
       → both_pass test (event_with events row.run.start.event) (event_with events row.run.end.event)
       ≡ true
-  both test passes =
-      ap (λ first. both_pass test first (event_with events row.run.end.event)) from.there
-      ∙ ap (both_pass test (Some from.event)) found ∙ passes
+  both test passes = grind arith
 
   room : lacks_room events row ≡ false
-  room = ap not (both (has_room (row.run.end.time - row.run.start.time))
-      (ap not (le-ltb to.event.time (from.event.time + (row.run.end.time - row.run.start.time))
-      (omega (arith, long, soon, from.time, to.time)))))
+  room = grind arith
 
   back : goes_back events row ≡ false
   back = ap not (both stands_before (ride_stands from.event to.event

@@ -1,5 +1,6 @@
 -- The trips of a bundle, from what its texts and settings are read as.
-use Rattle.std.proofs.Common.{◌≡◌, ℕ, pos, ◌≤◌, true, List, length, Result, refl, ap, ◌∙◌, arith, unsigned_abs, to_z}
+use Rattle.std.proofs.Common.{◌≡◌, ℕ, pos, ◌≤◌, true, List, length, Result, refl, ap, arith}
+use Rattle.std.proofs.Common.{unsigned_abs, to_z}
 use Rattle.std.proofs.lemmas.Int.{ints, to_z-of_z}
 use mir.Syntax.{w64}
 use Rattle.giv_files.specs.declared.key.Key.TheVariants as key
@@ -54,7 +55,4 @@ module _ (bundle : BundleParts) (own : takes_trips bundle.stage ≡ true) (fits 
       → UnlessFault (vehicles_faults bundle) (λ made. made ≡ trips_in bundle) result
   unfolding trips_in
   trips_given stops edges trips turnover vehicle empty a b c d e f result given =
-      UnlessFault-weaker _ _ _ _ result (λ i. trips_faults (a i) (b i) (c i))
-      (λ made is. is ∙ (λ i. trips_of (a i) (b i) (c i) ((signed turnover (omega (arith, d, turnover_few)) ∙ d) i)
-      ((signed vehicle (omega (arith, e, vehicle_few)) ∙ e) i) ((signed empty (omega (arith, f, empty_few)) ∙ f) i)))
-      given
+      grind (arith, UnlessFault-weaker, signed, turnover_few, vehicle_few, empty_few)

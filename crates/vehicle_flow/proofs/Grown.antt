@@ -1,5 +1,7 @@
 -- What one turn of growing a tree leaves.
-use Rattle.std.proofs.Common.{◌≡◌, ℕ, pos, ◌<◌, ◌≤◌, ◌≤ℤ◌, ◌+◌, true, false, List, [], ◌∷◌, ◌++◌, length, get_or, slice_set, Option, Some, None, Result, Ok, Err, IfOk, OnOk, IfSome, MatchOption, option_map, ap, sym, ◌∙◌, subst, arith}
+use Rattle.std.proofs.Common.{◌≡◌, ℕ, pos, ◌<◌, ◌≤◌, ◌≤ℤ◌, ◌+◌, true, false, List, [], ◌∷◌, ◌++◌}
+use Rattle.std.proofs.Common.{length, get_or, slice_set, Option, Some, None, Result, Ok, Err, IfOk}
+use Rattle.std.proofs.Common.{OnOk, IfSome, MatchOption, ap, sym, ◌∙◌, subst, arith}
 use Rattle.std.proofs.lemmas.Int.{ints}
 use Rattle.std.proofs.lemmas.Option.{none-some}
 use Rattle.vehicle_model.specs.Plans.{next, is_next}
@@ -82,9 +84,7 @@ module _ {trips : TripsParts} {potentials : PotentialParts} {trip : ℕ} {plan :
       after turn.shift (links_within trips) moved turn.each turn.told
 
   near_moved : get_or moved place None ≡ Some (moved_near near.slack near)
-  near_moved = turn.told place turn.best.within
-      ∙ ap (λ claim. shifted claim near.slack (get_or nears place None)) turn.best.open_place
-      ∙ ap (option_map (moved_near near.slack)) turn.best.is
+  near_moved = grind arith
 
   within : place < length trips.trips + 1
   within = omega (arith, turn.best.within, turn.are.each)
@@ -93,9 +93,7 @@ module _ {trips : TripsParts} {potentials : PotentialParts} {trip : ℕ} {plan :
   from_tree = nears_moved.from place (moved_near near.slack near) turn.best.open_place near_moved
 
   exact : slack_to (links_of trips) after near.by place ≡ Some 0
-  exact = (subst (IsNear (links_of trips) after (in_tree trip plan claims) place) near_moved
-      (nears_moved.near place within turn.best.open_place)).slack
-      ∙ ap Some (omega arith)
+  exact = grind (arith, near_moved, nears_moved, within)
 
   -- a place without a trip was found
   pub found_now : is_next plan place ≡ false

@@ -1,5 +1,7 @@
 -- Places that are handed on along claims: each step leaves a tight plan, but for one place.
-use Rattle.std.proofs.Common.{◌≡◌, ◌≢◌, inl, inr, ℕ, pos, ◌<◌, ◌≤◌, ◌+◌, false, List, length, slice_set, Option, Some, None, MatchOption, IfSome, refl, ap, sym, ◌∙◌, subst, arith}
+use Rattle.std.proofs.Common.{◌≡◌, ◌≢◌, inl, inr, ℕ, pos, ◌<◌, ◌≤◌, ◌+◌, false, List, length}
+use Rattle.std.proofs.Common.{slice_set, Option, Some, None, MatchOption, IfSome, refl, ap, sym}
+use Rattle.std.proofs.Common.{◌∙◌, subst, arith}
 use Rattle.std.proofs.Math.ListN.{get_or-eq_default}
 use Rattle.std.proofs.lemmas.List.{length-set}
 use Rattle.std.proofs.lemmas.Option.{none-some, same_Some}
@@ -23,10 +25,7 @@ claimed_within claims place found e = by_bound place (length claims.at) (λ with
 apart_by_step : (claims : ClaimsParts) (place other : ℕ) (found sooner : Claim)
     → claim_at claims place ≡ Some found → claim_at claims other ≡ Some sooner
     → sooner.step < found.step → other ≢ place
-apart_by_step claims place other found sooner e f less same =
-    let one : sooner.step ≡ found.step =
-    ap (λ x. x.step) (same_Some sooner found (sym f ∙ ap (claim_at claims) same ∙ e)) in
-    omega (arith, less, one)
+apart_by_step claims place other found sooner e f less same = grind arith
 
 module _ (search : Search) (plan : List (Option ℕ)) (claims : ClaimsParts) (place : ℕ)
     (is : IsFound search plan claims place) where
@@ -75,13 +74,7 @@ module _ (search : Search) (plan : List (Option ℕ)) (claims : ClaimsParts) (pl
     each = length-set plan i (successor_at search.links.count place) ∙ is.tight.each
 
     within : (k j : ℕ) → next after k ≡ Some j → j < search.links.count
-    within k j e = elim (moved_next plan i (successor_at search.links.count place) inside k j e) as
-        (λ _. j < search.links.count) [
-          | inl new ↦
-              let trip = some_successor search.links.count place j new.1 in
-              omega (arith, trip.0, trip.1)
-          | inr old ↦ is.tight.within k j old.1
-        ]
+    within k j e = grind (arith, moved_next, inside, some_successor, tight)
 
     linked : (k j : ℕ) → next after k ≡ Some j
         → search.links.gain k j ≡ Some (pos (at search.potentials.u k + at search.potentials.v j))
@@ -116,12 +109,7 @@ module _ (search : Search) (plan : List (Option ℕ)) (claims : ClaimsParts) (pl
         ]
 
     last : (k : ℕ) → (k ≡ search.trip → ⊥) → next after k ≡ None → at search.potentials.u k ≡ 0
-    last k apart e = by_number k i
-        (λ same. ap (at search.potentials.u) same ∙ tight.last (no_successor search.links.count place
-        (sym (moved_is plan i (successor_at search.links.count place) inside)
-        ∙ ap (next after) (sym same) ∙ e)))
-        (λ other. is.tight.last k apart
-        (sym (moved_other plan i (successor_at search.links.count place) inside k other) ∙ e))
+    last k apart e = grind (arith, by_number, tight, no_successor, moved_is, inside, moved_other)
 
     same_before : (k : ℕ) → k < search.low → next after k ≡ next plan k
     same_before k less = moved_other plan i (successor_at search.links.count place) inside k
@@ -203,14 +191,17 @@ module _ (search : Search) (plan : List (Option ℕ)) (claims : ClaimsParts) (pl
           (λ same. apart_by_step claims place place_left is.found left is.claimed e
           (omega (arith, less, f, comes.sooner))
           (sym (some_successor search.links.count place place_left same).1)) free
-      left_after (Some k) sooner place_left left less e f leaves_it = (
-        leaves_it.0,
-        moved_other plan i (successor_at search.links.count place) inside k (λ same. apart_by_step claims from place_left
-            comes.before left comes.is e (omega (arith, less, f))
-            (same_place search.links.count place_left from
-            (omega (arith, claimed_within claims place_left left e, is.places)) from_few
-            (sym leaves_it.1 ∙ ap (next plan) same ∙ leaves.1))) ∙ leaves_it.1,
-      )
+      left_after (Some k) sooner place_left left less e f leaves_it =
+          grind (
+            arith,
+            moved_other,
+            inside,
+            apart_by_step,
+            same_place,
+            claimed_within,
+            from_few,
+            leaves,
+          )
 
       claims_after : AreClaimsBefore search after claims (comes.before.step + 1)
       claims_after other sooner e less =
@@ -259,10 +250,7 @@ module _ (search : Search) (plan : List (Option ℕ)) (claims : ClaimsParts) (pl
 
   sooner_step : (from : ℕ) (comes : ComesFrom search plan claims is.found from)
       → step_of (claim_at claims from) < step_of (claim_at claims place)
-  sooner_step from comes =
-      let before : step_of (claim_at claims from) ≡ comes.before.step = ap step_of comes.is in
-      let now : step_of (claim_at claims place) ≡ is.found.step = ap step_of is.claimed in
-      omega (arith, before, now, comes.sooner)
+  sooner_step from comes = grind arith
 
   -- what one step leaves
   pub passed_on : MatchOption is.found.from (IsHandedOn search claims plan (given_to plan is.found.by place))
@@ -278,18 +266,9 @@ module _ (search : Search) (plan : List (Option ℕ)) (claims : ClaimsParts) (pl
 
       more_step : (from : ℕ) → ComesFrom search plan claims is.found from → (by : Option ℕ)
           → is.found.by ≡ by → IsPassedOn search claims plan (given_to plan by place) place from
-      more_step from comes None e = record {
-        found = handed_alone from e comes;
-        sooner = sooner_step from comes;
-        same = λ i less. refl;
-      }
-      more_step from comes (Some i) e = subst
-          (λ n. IsPassedOn search claims plan (slice_set plan i (successor_at n place)) place from)
-          (sym is.tight.each) (record {
-            found = handed_further i e from comes;
-            sooner = sooner_step from comes;
-            same = same_before i e;
-          })
+      more_step from comes None e = grind (arith, handed_alone, sooner_step)
+      more_step from comes (Some i) e =
+          grind (arith, slice_set, tight, each, handed_further, sooner_step, same_before)
 
       by_from : (from : Option ℕ) → is.found.from ≡ from
           → MatchOption from (is.found.by ≡ Some search.trip) (λ left. ComesFrom search plan claims is.found left)
@@ -303,12 +282,7 @@ module _ (search : Search) (plan : List (Option ℕ)) (claims : ClaimsParts) (pl
       → left ≡ given_to plan claim.by place
       → MatchOption claim.from (IsHandedOn search claims plan left)
       (λ from. IsPassedOn search claims plan left place from)
-  passed_by claim e left leaves = subst
-      (λ xs. MatchOption claim.from (IsHandedOn search claims plan xs)
-      (λ from. IsPassedOn search claims plan xs place from)) (sym leaves)
-      (subst (λ x. MatchOption x.from (IsHandedOn search claims plan (given_to plan x.by place))
-      (λ from. IsPassedOn search claims plan (given_to plan x.by place) place from))
-      (same_Some is.found claim (sym is.claimed ∙ e)) passed_on)
+  passed_by claim e left leaves = grind (arith, leaves, same_Some, passed_on)
 
 -- a place that was handed on so far
 pub record IsHanding (search : Search) (claims : ClaimsParts) (start plan : List (Option ℕ)) (place : ℕ) : Type 0 where

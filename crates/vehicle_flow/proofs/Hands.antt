@@ -1,6 +1,8 @@
 -- A plan and its potentials, where one trip is in hand: it has no successor, and its potential may be
 -- more than nothing. Some plan takes each trip on its side, or all potentials on a side go down.
-use Rattle.std.proofs.Common.{◌≡◌, ◌≢◌, ℕ, ℤ, zero, suc, pos, ◌+◌, ◌<◌, ◌≤◌, ◌≤ℤ◌, ◌==◌, ◌&&◌, ◌||◌, not, Bool, true, false, Option, Some, None, IfSome, refl, ap, sym, ◌∙◌, subst, arith, eq-eqb}
+use Rattle.std.proofs.Common.{◌≡◌, ◌≢◌, ℕ, ℤ, zero, suc, pos, ◌+◌, ◌<◌, ◌≤◌, ◌≤ℤ◌, ◌==◌, ◌&&◌, ◌||◌}
+use Rattle.std.proofs.Common.{not, Bool, true, false, Option, Some, None, IfSome, refl, ap, sym}
+use Rattle.std.proofs.Common.{◌∙◌, subst, arith}
 use Rattle.std.proofs.lemmas.Bool.{false≢true, ne_eqb}
 use Rattle.std.proofs.lemmas.Option.{none-some, same_Some}
 use Rattle.vehicle_model.proofs.Counting.{count, one_less}
@@ -44,13 +46,7 @@ module _ (gain : ℕ → ℕ → Option ℤ) where
   module _ (taken : ℕ) (u v : ℕ → ℕ) where
     -- a trip in hand that has nothing may stay without a successor
     pub drops : (plan : Plan) (h : ℕ) → IsInHand taken u v plan h → u h ≡ 0 → IsDone taken u v plan
-    drops plan h it nothing = record {
-      follow = it.held.follow;
-      once = it.held.once;
-      covered = it.held.covered;
-      last = λ i e never. by_number i h (λ same. ap u same ∙ nothing) (λ apart. it.held.last i e apart);
-      first = it.held.first;
-    }
+    drops plan h it nothing = grind arith
 
     -- it may take a trip that comes behind none
     pub links : (plan : Plan) (h j : ℕ) → IsInHand taken u v plan h → gain h j ≡ Some (pos (u h + v j))
@@ -110,11 +106,7 @@ module _ (gain : ℕ → ℕ → Option ℤ) where
       is_j i x same e = same_Some j x (sym (at_hand i same) ∙ e)
 
       follows : (i x : ℕ) → i ≡ h → j ≡ x → (i < taken) × (gain i x ≡ Some (pos (u i + v x)))
-      follows i x same at = (
-        subst (λ y. y < taken) (sym same) it.within,
-        subst (λ y. gain y x ≡ Some (pos (u y + v x))) (sym same)
-            (subst (λ y. gain h y ≡ Some (pos (u h + v y))) at tight),
-      )
+      follows i x same at = grind arith
 
       -- a link that was there to the trip that is taken is that from the other one
       was_other : (i x : ℕ) → i ≢ h → i ≢ k → passed i ≡ Some x → j ≡ x → ⊥
@@ -155,10 +147,7 @@ module _ (gain : ℕ → ℕ → Option ℤ) where
 
       -- what comes behind none still does
       pub free_still : (x : ℕ) → IsFree plan x → IsFree passed x
-      free_still x is i e = by_place i
-          (λ same. is k (behind ∙ ap Some (is_j i x same e)))
-          (λ apart same. none-some x (sym (at_other i apart same) ∙ e))
-          (λ apart other. is i (sym (elsewhere i apart other) ∙ e))
+      free_still x is i e = grind arith
 
   -- ---- the trips that may be in hand
 
@@ -196,9 +185,7 @@ module _ (gain : ℕ → ℕ → Option ℤ) where
 
     was_out : (hands : ℕ → Bool) (k i : ℕ) → with_hand hands k i ≡ false
         → (i ≢ k) × (hands i ≡ false)
-    was_out hands k i e = by_number i k
-        (λ same. absurd (not_both (ap (λ b. b || hands i) (eq-eqb i k same)) e))
-        (λ apart. (apart, sym (ap (λ b. b || hands i) (ne_eqb i k apart)) ∙ e))
+    was_out hands k i e = grind arith
 
     pub record IsReached (hands : ℕ → Bool) (j : ℕ) : Type 0 where
       pub i : ℕ
@@ -257,12 +244,7 @@ module _ (gain : ℕ → ℕ → Option ℤ) where
               (λ apart. ap (λ b. b || hands i) apart ∙ e)
 
           wider : (i : ℕ) → CanHold hands i → CanHold (with_hand hands k) i
-          wider i can = record {
-            other = can.other;
-            holds = can.holds;
-            outside = λ l e. can.outside l (was_out hands k l e).1;
-            free = can.free;
-          }
+          wider i can = grind arith
 
     one_more : (hands : ℕ → Bool) → AreHands hands → IsFound (comes_next hands) taken
         → (k : ℕ) × (k < taken) × (hands k ≡ false) × AreHands (with_hand hands k)

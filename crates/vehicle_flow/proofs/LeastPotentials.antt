@@ -1,6 +1,8 @@
 -- For each links there are a plan and potentials that are valid for it: trip by trip, where potentials go
 -- down until the trip in hand has its place.
-use Rattle.std.proofs.Common.{◌≡◌, ◌≢◌, ℕ, ℤ, zero, suc, pos, negsuc, ◌+◌, ◌-◌, ◌<◌, ◌≤◌, ◌≤ℤ◌, ◌==◌, ◌&&◌, not, is_some, Bool, true, false, cond, Option, Some, None, IfSome, refl, ap, sym, ◌∙◌, subst, arith, eqb-true, eq-eqb}
+use Rattle.std.proofs.Common.{◌≡◌, ◌≢◌, ℕ, ℤ, zero, suc, pos, negsuc, ◌+◌, ◌-◌, ◌<◌, ◌≤◌, ◌≤ℤ◌}
+use Rattle.std.proofs.Common.{◌==◌, ◌&&◌, not, is_some, Bool, true, false, cond, Option, Some, None}
+use Rattle.std.proofs.Common.{IfSome, refl, ap, sym, ◌∙◌, subst, arith, eqb-true, eq-eqb}
 use Rattle.std.proofs.lemmas.Bool.{false≢true}
 use Rattle.std.proofs.lemmas.Int.{ints}
 use Rattle.std.proofs.lemmas.Option.{none-some}
@@ -109,15 +111,7 @@ module _ (gain : ℕ → ℕ → Option ℤ) where
         (rest : (lower raised : ℕ → ℕ) → IsInHand gain taken lower raised plan h → lower h + 1 ≤ u h
         → HasDone gain taken) where
       first_hands : AreHands gain taken u v plan h it (λ i. i == h)
-      first_hands = record {
-        start = eq-eqb h h refl;
-        each = λ i is. record {
-          other = plan;
-          holds = subst (IsInHand gain taken u v plan) (sym (eqb-true i h is)) it;
-          outside = λ k e. refl;
-          free = λ j is_free. is_free;
-        };
-      }
+      first_hands = grind arith
 
       module _ (hands : ℕ → Bool) (all : AreAllHands gain taken u v plan h it hands) where
         abbrev has_nothing : ℕ → Bool
@@ -130,15 +124,7 @@ module _ (gain : ℕ → ℕ → Option ℤ) where
         is_open j = is_reached gain taken u v plan h it hands j && not (is_linked j)
 
         dropped : IsFound has_nothing taken → HasDone gain taken
-        dropped found =
-            let can = all.are.each found.i (front_true (hands found.i) _ found.passes) in
-            record {
-              u = u;
-              v = v;
-              plan = can.other;
-              done = drops gain taken u v can.other found.i can.holds
-                  (eqb-true (u found.i) 0 (back_true (hands found.i) _ found.passes));
-            }
+        dropped found = grind (arith, front_true, drops, eqb-true, back_true)
 
         free_where : (j : ℕ) → is_linked j ≡ false → IsFree gain plan j
         free_where j none i e =

@@ -1,5 +1,7 @@
 -- A look from a trip along its links, up to the place that the next link leads to.
-use Rattle.std.proofs.Common.{◌≡◌, ℕ, zero, suc, ◌<◌, ◌≤◌, ◌+◌, ◌-◌, if◌then◌else◌, false, List, length, slice_get, get_or, Option, Some, None, refl, ap, sym, ◌∙◌, subst, arith}
+use Rattle.std.proofs.Common.{◌≡◌, ℕ, zero, suc, ◌<◌, ◌≤◌, ◌+◌, ◌-◌, if◌then◌else◌, false, List}
+use Rattle.std.proofs.Common.{length, slice_get, get_or, Option, Some, None, refl, ap, sym, ◌∙◌}
+use Rattle.std.proofs.Common.{subst, arith}
 use Rattle.vehicle_model.specs.Trips.{Links}
 use Rattle.flow_potentials.specs.Potentials.{PotentialParts, at}
 use Rattle.flow_potentials.specs.declared.link_table.Link.{Link}
@@ -35,12 +37,7 @@ module _ (links : Links) (potentials : PotentialParts) (claims : ClaimsParts) (i
       unlooked (Some found) = refl
 
   pub looked_start : IsTold None told before before (reached links.count row 0)
-  looked_start = told_up None told before before 0 (reached links.count row 0) (told_start None told before)
-      (omega arith)
-      (λ place low high.
-      let within : place < links.count = omega (arith, high, reached_within links i row is 0) in
-      told_gap place within
-      (gap_slack links i row is potentials place within (gap_first links i row is place high)))
+  looked_start = grind (arith, told_up, told_start, reached_within, told_gap, gap_slack, gap_first)
 
   -- a link more
   pub looked_more : (now after : List (Option Near)) (k : ℕ) (link : Link)

@@ -1,7 +1,9 @@
 -- At which places a trip is tight, by its links.
-use Rattle.std.proofs.Common.{◌≡◌, ◌≢◌, ℕ, pos, ◌<◌, ◌≤◌, ◌+◌, ◌-◌, nat_eq, true, false, MatchBool, List, length, slice_get, Option, Some, None, IfSome, ap, sym, ◌∙◌, subst, arith}
+use Rattle.std.proofs.Common.{◌≡◌, ◌≢◌, ℕ, pos, ◌<◌, ◌≤◌, ◌+◌, ◌-◌, nat_eq, true, false, MatchBool}
+use Rattle.std.proofs.Common.{List, length, slice_get, Option, Some, None, IfSome, ap, sym, ◌∙◌}
+use Rattle.std.proofs.Common.{subst, arith}
 use Rattle.std.proofs.lemmas.Bool.{false≢true}
-use Rattle.std.proofs.lemmas.Option.{none-some, same_Some}
+use Rattle.std.proofs.lemmas.Option.{none-some}
 use Rattle.bit_rows.specs.Bits.{Bits, has}
 use Rattle.vehicle_model.proofs.Linking.{by_number}
 use Rattle.vehicle_model.specs.Trips.{Links}
@@ -42,20 +44,12 @@ module _ (links : Links) (potentials : PotentialParts) (i : ℕ) (row : List Lin
 
   tight_no : (k : ℕ) (link : Link) → slice_get row k ≡ Some link → Tight link.to
       → at potentials.u i + at potentials.v link.to - link.gain ≡ 0
-  tight_no k link e tight =
-      let gain_is : link.gain ≡ at potentials.u i + at potentials.v link.to =
-      same_Some link.gain (at potentials.u i + at potentials.v link.to)
-      (sym (is.right k link e).is ∙ ap worth (tight.linked (is.right k link e).within)) in
-      omega (arith, gain_is)
+  tight_no k link e tight = grind arith
 
   -- no place before the first link
   pub ties_start : (ties : Bits) → ((place : ℕ) → has ties i place ≡ false)
       → IsRowOf Tight (reached links.count row 0) ties i
-  ties_start ties none = record {
-    right = λ place h. absurd (false≢true (sym (none place) ∙ h));
-    all = λ place bound tight. absurd (tight_gap place (omega (arith, bound, reached_within links i row is 0))
-        (gap_first links i row is place bound) tight);
-  }
+  ties_start ties none = grind (arith, false≢true, tight_gap, reached_within, gap_first)
 
   -- a link more
   pub ties_more : (before after : Bits) (k : ℕ) (link : Link) (slack : ℕ) → i < before.rows

@@ -1,5 +1,8 @@
 -- What a plan is after one trip was given another place, and the trips before them.
-use Rattle.std.proofs.Common.{◌≡◌, ◌≢◌, ◌⊎◌, inl, inr, ℕ, zero, suc, ◌<◌, ◌≤◌, nat_lt, Bool, true, false, cond, List, [], ◌∷◌, length, slice_set, replicate, Option, Some, None, MatchOption, IfSome, refl, ap, sym, ◌∙◌, subst, arith, get_or-set_same, get_or-set_other}
+use Rattle.std.proofs.Common.{◌≡◌, ◌≢◌, ◌⊎◌, inl, inr, ℕ, zero, suc, ◌<◌, ◌≤◌, nat_lt, Bool, true}
+use Rattle.std.proofs.Common.{false, cond, List, [], ◌∷◌, length, slice_set, replicate, Option}
+use Rattle.std.proofs.Common.{Some, None, MatchOption, IfSome, refl, ap, sym, ◌∙◌, subst, arith}
+use Rattle.std.proofs.Common.{get_or-set_same, get_or-set_other}
 use Rattle.std.proofs.lemmas.Bool.{ltb-true, ltb-false}
 use Rattle.std.proofs.lemmas.List.{length-set}
 use Rattle.std.proofs.lemmas.Option.{none-some, same_Some}
@@ -63,9 +66,7 @@ module _ (plan : List (Option ℕ)) (i : ℕ) (at : Option ℕ) (within : i < le
   -- what comes after a trip is the new one, or it was there
   pub moved_next : (other k : ℕ) → next (slice_set plan i at) other ≡ Some k
       → ((other ≡ i) × (at ≡ Some k)) ⊎ ((other ≢ i) × (next plan other ≡ Some k))
-  moved_next other k e = by_number other i
-      (λ same. inl (same, sym moved_is ∙ sym (ap (next (slice_set plan i at)) same) ∙ e))
-      (λ apart. inr (apart, sym (moved_other other apart) ∙ e))
+  moved_next other k e = grind (arith, by_number, moved_is, slice_set, moved_other)
 
   -- a trip that comes after none still does, where it is not the new one
   pub moved_free : (k : ℕ) → at ≢ Some k → is_next plan k ≡ false
@@ -130,23 +131,8 @@ module _ (after before : List (Option ℕ)) (are : AreLinked after before) where
   -- a trip gives its place up
   module _ (i : ℕ) (inside : i < length after) where
     left_none : next after i ≡ None → AreLinked (slice_set after i None) before
-    left_none none = record {
-      each = are.each ∙ sym (length-set after i None);
-      within = λ k j e. elim (moved_next after i None inside k j e) as
-          (λ _. j < length (slice_set after i None)) [
-            | inl new ↦ absurd (none-some j new.1)
-            | inr old ↦ subst (λ n. j < n) (sym (length-set after i None)) (are.within k j old.1)
-          ];
-      both = λ k j. (
-        (λ e. elim (moved_next after i None inside k j e) as (λ _. next before j ≡ Some k) [
-          | inl new ↦ absurd (none-some j new.1)
-          | inr old ↦ (are.both k j).0 old.1
-        ]),
-        (λ e. by_number k i
-            (λ same. absurd (none-some j (sym none ∙ (are.both i j).1 (e ∙ ap Some same))))
-            (λ apart. moved_other after i None inside k apart ∙ (are.both k j).1 e)),
-      );
-    }
+    left_none none =
+        grind (arith, length-set, moved_next, slice_set, none-some, by_number, moved_other)
 
     left_some : (own : ℕ) → next after i ≡ Some own
         → AreLinked (slice_set after i None) (slice_set before own None)
@@ -231,14 +217,7 @@ module _ (after before : List (Option ℕ)) (are : AreLinked after before) where
 
 -- so many trips, none after another
 pub none_before : (n : ℕ) → AreLinked (replicate n None) (replicate n None)
-none_before n = record {
-  each = refl;
-  within = λ i j e. absurd (none-some j (sym (none_next n i) ∙ e));
-  both = λ i j. (
-    (λ e. absurd (none-some j (sym (none_next n i) ∙ e))),
-    (λ e. absurd (none-some i (sym (none_next n j) ∙ e))),
-  );
-}
+none_before n = grind (arith, none-some, none_next)
 
 -- a place that was taken away and given another one is given this one
 pub set_again : {X : Type 0} (xs : List X) (i : ℕ) (a b : X)
@@ -251,9 +230,7 @@ set_again (x ∷ xs) (suc i) a b = ap (λ rest. x ∷ rest) (set_again xs i a b)
 pub given_inside : (plan away : List (Option ℕ)) (i place : ℕ) → away ≡ slice_set plan i None
     → place < length plan
     → slice_set away i (Some place) ≡ slice_set plan i (successor_at (length plan) place)
-given_inside plan away i place is within = ap (λ xs. slice_set xs i (Some place)) is
-    ∙ set_again plan i None (Some place)
-    ∙ ap (slice_set plan i) (sym (successor_within (length plan) place within))
+given_inside plan away i place is within = grind (arith, slice_set, set_again, successor_within)
 
 pub given_past : (plan : List (Option ℕ)) (i place : ℕ) → length plan ≤ place
     → slice_set plan i None ≡ slice_set plan i (successor_at (length plan) place)

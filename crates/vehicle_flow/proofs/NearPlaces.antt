@@ -1,5 +1,7 @@
 -- The nearest place among those that were looked at.
-use Rattle.std.proofs.Common.{◌≡◌, inl, inr, ℕ, ◌<◌, ◌≤◌, ◌+◌, ◌-◌, List, length, get_or, replicate, Option, Some, None, MatchOption, IfSome, refl, ap, sym, ◌∙◌, subst, arith}
+use Rattle.std.proofs.Common.{◌≡◌, inl, inr, ℕ, ◌<◌, ◌≤◌, ◌+◌, ◌-◌, List, length, get_or, replicate}
+use Rattle.std.proofs.Common.{Option, Some, None, MatchOption, IfSome, refl, ap, sym, ◌∙◌, subst}
+use Rattle.std.proofs.Common.{arith}
 use Rattle.std.proofs.lemmas.Bool.{false≢true}
 use Rattle.std.proofs.lemmas.Option.{none-some}
 use Rattle.vehicle_model.proofs.Linking.{by_number}
@@ -13,18 +15,14 @@ use Rattle.vehicle_flow.proofs.Told.{IsTold}
 -- nothing is near any place
 pub forgotten_all : (old now : List (Option Near)) (done : ℕ) → IsTold None (λ i. None) old now done
     → length old ≤ done → now ≡ replicate (length old) None
-forgotten_all old now done are past = all_none now
-    (λ i h. are.is i (omega (arith, h, past, are.each)))
-    ∙ ap (λ n. replicate n None) are.each
+forgotten_all old now done are past = grind (arith, all_none)
 
 -- without a slack nothing is nearer than it was
 pub unmoved : (claim : Option Claim) (slack : ℕ) (near : Option Near) → slack ≡ 0
     → near ≡ shifted claim slack near
 unmoved (Some found) slack near none = refl
 unmoved None slack None none = refl
-unmoved None slack (Some near) none =
-    let same : near.slack ≡ near.slack - slack = omega (arith, none) in
-    ap (λ n. Some (record { slack = n; by = near.by; from = near.from })) same
+unmoved None slack (Some near) none = grind arith
 
 -- the nearest place among the first ones
 pub record IsBestBefore (claims : ClaimsParts) (nears : List (Option Near)) (place : ℕ) (at : ℕ) (near : Near) : Type 0 where
@@ -45,28 +43,13 @@ module _ (claims : ClaimsParts) (nears : List (Option Near)) (place : ℕ) where
   -- a place more at which nothing is near
   best_none : (best : Option (ℕ × Near)) → IsBest claims nears place best → near_at place ≡ None
       → IsBest claims nears (place + 1) best
-  best_none None are none = λ other before. by_number other place
-      (λ same. ap near_at same ∙ none)
-      (λ apart. are other (omega (arith, before, apart)))
-  best_none (Some found) are none = record {
-    within = omega (arith, are.within);
-    is = are.is;
-    least = λ other before. by_number other place
-        (λ same. subst (λ it. IfSome it (λ x. found.1.slack ≤ x.slack)) (sym none ∙ ap near_at (sym same)) tt)
-        (λ apart. are.least other (omega (arith, before, apart)));
-  }
+  best_none None are none = grind arith
+  best_none (Some found) are none = grind arith
 
   -- the first place at which something is near
   best_first : (near : Near) → IsBest claims nears place None → near_at place ≡ Some near
       → IsBest claims nears (place + 1) (Some (place, near))
-  best_first near are is = record {
-    within = omega arith;
-    is = is;
-    least = λ other before. by_number other place
-        (λ same. subst (λ it. IfSome it (λ x. near.slack ≤ x.slack)) (sym is ∙ ap near_at (sym same)) (omega arith))
-        (λ apart. subst (λ it. IfSome it (λ x. near.slack ≤ x.slack))
-        (sym (are other (omega (arith, before, apart)))) tt);
-  }
+  best_first near are is = grind arith
 
   -- a nearer one, or not
   best_of : (best found : ℕ × Near) (near : Near) → IsBestBefore claims nears place best.0 best.1
@@ -134,12 +117,4 @@ pub best_all : (claims : ClaimsParts) (nears : List (Option Near)) (done : ℕ) 
     (λ found. IsNearestPlace claims nears found.0 found.1)
 best_all claims nears done None are all = λ place within free.
     ap (λ claim. open_near claim (get_or nears place None)) (sym free) ∙ are place (omega (arith, within, all))
-best_all claims nears done (Some found) are all =
-    let there = open_is (claim_at claims found.0) (get_or nears found.0 None) found.1 are.is in
-    record {
-      within = omega (arith, are.within, all);
-      open_place = there.0;
-      is = there.1;
-      least = λ other within free. subst (λ claim. IfSome (open_near claim (get_or nears other None))
-          (λ it. found.1.slack ≤ it.slack)) free (are.least other (omega (arith, within, all)));
-    }
+best_all claims nears done (Some found) are all = grind arith

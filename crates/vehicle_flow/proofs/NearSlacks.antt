@@ -1,5 +1,7 @@
 -- The slacks at all places, as they are kept.
-use Rattle.std.proofs.Common.{◌≡◌, ℕ, zero, suc, ◌<◌, ◌≤◌, nat_lt, List, length, get_or, slice_set, replicate, Option, Some, None, refl, ap, sym, ◌∙◌, arith, get_or-set_same, get_or-set_other}
+use Rattle.std.proofs.Common.{◌≡◌, ℕ, zero, suc, ◌<◌, ◌≤◌, nat_lt, List, length, get_or, slice_set}
+use Rattle.std.proofs.Common.{replicate, Option, Some, None, refl, ap, ◌∙◌, arith, get_or-set_same}
+use Rattle.std.proofs.Common.{get_or-set_other}
 use Rattle.std.proofs.lemmas.Bool.{lt-ltb}
 use Rattle.std.proofs.lemmas.List.{length-set, length-replicate}
 use Rattle.vehicle_model.proofs.Linking.{by_number}
@@ -22,28 +24,14 @@ most_at most (suc n) (suc k) within = most_at most n k (omega (arith, within))
 
 -- nothing is near
 pub no_slacks : (n : ℕ) → AreSlacks (replicate n None) (replicate n 18446744073709551615)
-no_slacks n = record {
-  each = length-replicate n 18446744073709551615 ∙ sym (length-replicate n no_near);
-  slack = λ place within. most_at 18446744073709551615 n place
-      (omega (arith, within, length-replicate n no_near))
-      ∙ ap slack_or_most (sym (nothing_at n place));
-}
+no_slacks n = grind (arith, length-replicate, most_at, nothing_at)
 
 -- one place is nearer
 pub slacks_set : (nears : List (Option Near)) (slacks : List ℕ) (place : ℕ) (near : Option Near)
     → AreSlacks nears slacks → place < length nears
     → AreSlacks (slice_set nears place near) (slice_set slacks place (slack_or_most near))
-slacks_set nears slacks place near are inside = record {
-  each = length-set slacks place (slack_or_most near) ∙ are.each ∙ sym (length-set nears place near);
-  slack = λ other within. by_number other place
-      (λ here. ap (λ k. get_or (slice_set slacks place (slack_or_most near)) k 0) here
-      ∙ get_or-set_same slacks place (slack_or_most near) 0 (omega (arith, inside, are.each))
-      ∙ ap slack_or_most (sym (ap (λ k. get_or (slice_set nears place near) k None) here
-      ∙ get_or-set_same nears place near None inside)))
-      (λ apart. get_or-set_other slacks place other (slack_or_most near) 0 apart
-      ∙ are.slack other (omega (arith, within, length-set nears place near))
-      ∙ ap slack_or_most (sym (get_or-set_other nears place other near None apart)));
-}
+slacks_set nears slacks place near are inside =
+    grind (arith, length-set, by_number, get_or, slice_set, get_or-set_same, get_or-set_other)
 
 -- a slack is less than that of the nearest one
 pub nearer_by_slack : (nears : List (Option Near)) (slacks : List ℕ) (place slack : ℕ)

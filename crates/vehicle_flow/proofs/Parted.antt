@@ -1,10 +1,10 @@
 -- Other potentials that meet the plan of a search.
-use Rattle.std.proofs.Common.{◌≡◌, ℕ, pos, ◌<◌, ◌≤◌, ◌+◌, List, length, slice_get, Option, Some, None, IfSome, MatchOption, refl, ap, sym, ◌∙◌, subst, arith}
+use Rattle.std.proofs.Common.{◌≡◌, ℕ, pos, ◌<◌, ◌≤◌, ◌+◌, List, length, slice_get, Option, Some}
+use Rattle.std.proofs.Common.{None, IfSome, MatchOption, refl, sym, ◌∙◌, subst, arith}
 use Rattle.std.proofs.Math.ListN.{get_or-eq_default}
-use Rattle.std.proofs.lemmas.Option.{none-some, same_Some, slice_get_within}
+use Rattle.std.proofs.lemmas.Option.{none-some, slice_get_within}
 use Rattle.vehicle_model.specs.Plans.{next}
 use Rattle.vehicle_model.specs.Trips.{Links}
-use Rattle.vehicle_model.proofs.Linking.{by_number}
 use Rattle.flow_potentials.specs.Potentials.{PotentialParts, at}
 use Rattle.flow_potentials.specs.declared.link_table.Link.{Link}
 use Rattle.flow_potentials.specs.LinkRows.{link_to, worth, IsRow}
@@ -26,10 +26,7 @@ pub covered_more : (row : List Link) (potentials : PotentialParts) (i done : ℕ
     → AreCovered row potentials i done → (link : Link) → slice_get row done ≡ Some link
     → link.gain ≤ at potentials.u i + at potentials.v link.to
     → AreCovered row potentials i (done + 1)
-covered_more row potentials i done are link here low k other before e = by_number k done
-    (λ same. subst (λ link. link.gain ≤ at potentials.u i + at potentials.v link.to)
-    (same_Some link other (sym here ∙ ap (slice_get row) (sym same) ∙ e)) low)
-    (λ apart. are k other (omega (arith, before, apart)) e)
+covered_more row potentials i done are link here low k other before e = grind arith
 
 -- where all are, so are all links of the trip
 pub row_covers : (links : Links) (potentials : PotentialParts) (i done : ℕ) (row : List Link)

@@ -1,5 +1,6 @@
 -- What the call of the stage of a planner's schedule gives, from what its parts are found to be.
-use Rattle.std.proofs.Common.{◌≡◌, ℕ, List, [], ◌∷◌, ◌++◌, length, map, slice_get, Option, Some, None, option_map, Ok, Err, refl, ap, sym, ◌∙◌, subst}
+use Rattle.std.proofs.Common.{arith, ◌≡◌, ℕ, List, [], ◌∷◌, ◌++◌, length, map, slice_get, Option}
+use Rattle.std.proofs.Common.{Some, None, option_map, Ok, Err, refl, ap, sym, ◌∙◌, subst}
 use Rattle.std.proofs.lemmas.Option.{none-some, slice_get-map}
 use Rattle.giv_files.specs.declared.made.Made.{Made}
 use Rattle.giv_files.specs.declared.refusal.StageFault.{StageFault}
@@ -8,7 +9,7 @@ use Rattle.giv_files.specs.Inputs.{Refuses}
 use Rattle.giv_files.specs.Settings.{BundleParts}
 use Rattle.giv_files.specs.StageCalls.{StageGives, input_text}
 use Rattle.giv_files.proofs.Inputs.{refused_append}
-use Rattle.giv_files.proofs.StageCalls.{stage_made, stage_refused}
+use Rattle.giv_files.proofs.StageCalls.{stage_refused}
 use Rattle.vehicle_model.specs.declared.plan_fault.PlanFault.{PlanFault}
 use Rattle.vehicle_model.specs.declared.plan_fault.PlanFault.TheVariants as plan_fault
 use Rattle.vehicle_model.specs.ReadSchedules.{plan_faults, plan_of, PlanGives}
@@ -93,10 +94,4 @@ module _ (bundle : BundleParts) where
         → text ≡ input_text bundle 4 → potentials ≡ marking_potentials trips plan text
         → made ≡ plan_kept trips plan potentials → StageGives (pinned_vehicles_stage bundle) (Ok made)
     unfolding pinned_vehicles_stage
-    kept_given plan text potentials made fine plan_is text_is found given =
-        let same_plan : plan ≡ plan_of (trips_in bundle) (input_text bundle 3) =
-        plan_is ∙ (λ i. plan_of (is i) (own i)) in
-        let same_marks : potentials ≡ marking_potentials (trips_in bundle) (plan_of (trips_in bundle) (input_text bundle 3)) (input_text bundle 4) =
-        found ∙ (λ i. marking_potentials (is i) (same_plan i) (text_is i)) in
-        stage_made (pinned_vehicles_faults bundle) _ made (faults_left ∙ fine)
-        (given ∙ (λ i. plan_kept (is i) (same_plan i) (same_marks i)))
+    kept_given plan text potentials made fine plan_is text_is found given = grind arith

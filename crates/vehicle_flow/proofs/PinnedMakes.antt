@@ -1,5 +1,6 @@
 -- Which files the stage of a planner's schedule makes, which it names where it refuses a row, and what it gives.
-use Rattle.std.proofs.Common.{◌≡◌, ℕ, List, [], ◌∷◌, map, true, Bool, Option, Some, None, Result, Ok, Err, IfOk, ap, lit<, refl, subst}
+use Rattle.std.proofs.Common.{arith, ◌≡◌, ℕ, List, [], ◌∷◌, map, true, Bool, Option, Some, None}
+use Rattle.std.proofs.Common.{Result, Ok, Err, IfOk, ap, lit<, refl}
 use Rattle.giv_files.specs.declared.file_id.FileId.{FileId}
 use Rattle.giv_files.specs.declared.file_id.FileId.TheVariants as file
 use Rattle.giv_files.specs.declared.made.Made.{Made}
@@ -13,7 +14,7 @@ use Rattle.giv_files.specs.Settings.{BundleParts, Fits}
 use Rattle.giv_files.specs.StageCalls.{StageGives, input_text}
 use Rattle.giv_files.proofs.Named.{AllName, names_both, refused_names}
 use Rattle.giv_files.proofs.Ranges.{front_none}
-use Rattle.giv_files.proofs.StageCalls.{made_unless, none_unless}
+use Rattle.giv_files.proofs.StageCalls.{none_unless}
 use Rattle.ptn_network.specs.Networks.{network_faults, stops_of}
 use Rattle.ptn_network.proofs.NamedFaults.{network_names}
 use Rattle.event_tables.specs.Trips.{trip_input}
@@ -38,13 +39,7 @@ kept_makes trips plan (Some potentials) = (0, lit< tt, refl)
 pub pinned_vehicles_makes : (bundle : BundleParts) (made : Made) → pinned_vehicles_stage bundle ≡ Ok made
     → MakesAs stage.PinnedVehicles (ids_of made.files)
 unfolding pinned_vehicles_stage
-pinned_vehicles_makes bundle made is =
-    let trips = trips_in bundle in
-    let plan = plan_of trips (input_text bundle 3) in
-    let potentials = marking_potentials trips plan (input_text bundle 4) in
-    subst (λ (made : Made). MakesAs stage.PinnedVehicles (ids_of made.files))
-    (made_unless (pinned_vehicles_faults bundle) (plan_kept trips plan potentials) made is)
-    (kept_makes trips plan potentials)
+pinned_vehicles_makes bundle made is = grind arith
 
 -- each fault of a plan names the file of the planner's schedule
 plan_names : (test : FileId → Bool) → test file.PinnedSchedule ≡ true → (all : List PlanFault)
@@ -77,12 +72,7 @@ pinned_vehicles_names test stop edge schedule bundle reason named is =
 module _ (bundle : BundleParts) (own : bundle.stage ≡ stage.PinnedVehicles) (fits : Fits bundle) where
   none_there : (made : Made) → pinned_vehicles_stage bundle ≡ Ok made → vehicles_faults bundle ≡ []
   unfolding pinned_vehicles_stage
-  none_there made is =
-      let trips = trips_in bundle in
-      let plan = plan_of trips (input_text bundle 3) in
-      let potentials = marking_potentials trips plan (input_text bundle 4) in
-      front_none (vehicles_faults bundle) (map plan_refusal (plan_faults trips (input_text bundle 3)))
-      (none_unless (pinned_vehicles_faults bundle) (plan_kept trips plan potentials) made is)
+  none_there made is = grind (arith, front_none, none_unless)
 
   -- the law of the stage: what it makes is right
   pub pinned_vehicles_right : (made : Made) → pinned_vehicles_stage bundle ≡ Ok made

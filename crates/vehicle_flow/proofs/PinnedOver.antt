@@ -1,18 +1,15 @@
 -- What is right about a planner's schedule over the bundle of its stage is right over that of the plain stage in its
 -- place; and so is what the plain stage makes.
-use Rattle.std.proofs.Common.{◌≡◌, List, [], Some, None, IfSome, ap, subst}
+use Rattle.std.proofs.Common.{◌≡◌, List, Some, None, ap, subst, arith}
 use Rattle.giv_files.specs.declared.key.Key.TheVariants as key
 use Rattle.giv_files.specs.declared.made.MadeFile.{MadeFile}
-use Rattle.giv_files.specs.declared.refusal.Refusal.{Refusal}
 use Rattle.giv_files.specs.Settings.{BundleParts, amount}
 use Rattle.giv_files.specs.StageCalls.{input_text}
-use Rattle.vehicle_model.specs.ReadSchedules.{plan_faults, plan_of}
-use Rattle.vehicle_model.specs.Plans.{IsPlan}
-use Rattle.vehicle_model.specs.Trips.{TripsParts, links_of, trips_of, trips_faults}
+use Rattle.vehicle_model.specs.Trips.{TripsParts, trips_of, trips_faults}
 use Rattle.vehicle_flow.specs.AcceptedSchedules.{IsAccepted}
 use Rattle.vehicle_flow.specs.RightSchedules.{passed_over, PinnedScheduleIsRight, ScheduleIsRight}
 use Rattle.vehicle_flow.specs.RightVehicles.{VehicleFilesAreRight, VehiclesAreRight}
-use Rattle.vehicle_flow.specs.ScheduleChecks.{schedule_fault, IsMark}
+use Rattle.vehicle_flow.specs.ScheduleChecks.{schedule_fault}
 use Rattle.vehicle_flow.specs.VehicleStage.{trips_in, vehicles_faults}
 
 -- two bundles have the same trips: their first three texts are the same, and so are the settings of trips
@@ -34,15 +31,7 @@ module _ (bundle other : BundleParts) (same : HaveSameTrips bundle other) where
 
   -- so what is right over the one is right over the other
   pub right_over : (files : List MadeFile) → ScheduleIsRight bundle files → ScheduleIsRight other files
-  right_over files right = record {
-    inputs = subst (λ (all : List Refusal). all ≡ []) same_faults right.inputs;
-    schedule = right.schedule;
-    potentials = right.potentials;
-    each = right.each;
-    reads = subst (λ trips. plan_faults trips right.schedule ≡ []) same_trips right.reads;
-    possible = subst (λ trips. IsPlan (links_of trips) (plan_of trips right.schedule)) same_trips right.possible;
-    marked = subst (λ trips. IfSome right.potentials (IsMark trips (plan_of trips right.schedule))) same_trips right.marked;
-  }
+  right_over files right = grind (arith, same_faults, same_trips)
 
   pub pinned_over : (files : List MadeFile) → PinnedScheduleIsRight bundle files → PinnedScheduleIsRight other files
   unfolding right_over

@@ -1,6 +1,7 @@
 -- The places that a search has claimed and expanded are a closed set, so no tight plan that agrees
 -- on what is decided gives them to the trip that looks for a place.
-use Rattle.std.proofs.Common.{◌≡◌, ℕ, ◌<◌, ◌≤◌, true, false, is_some, Bool, List, length, take, slice_get, Option, Some, None, refl, ap, sym, ◌∙◌, arith}
+use Rattle.std.proofs.Common.{◌≡◌, ℕ, ◌<◌, ◌≤◌, true, false, is_some, Bool, List, length, take}
+use Rattle.std.proofs.Common.{slice_get, Option, Some, None, refl, ap, sym, ◌∙◌, arith}
 use Rattle.std.proofs.lemmas.Bool.{false≢true}
 use Rattle.std.proofs.lemmas.List.{get_or-take, length-take}
 use Rattle.std.proofs.lemmas.Option.{slice_get_within}
@@ -102,24 +103,11 @@ module _ (search : Search) (plan : List (Option ℕ)) (is : IsSearch search plan
       other) where
     pub other_tight : (to : Option ℕ) → next other search.trip ≡ to
         → IsTightAt search.links search.potentials search.trip (place_of search.links.count to)
-    other_tight None e = record {
-      linked = λ h. absurd (omega (arith, h));
-      last = λ past. tight.last search.trip e;
-    }
-    other_tight (Some j) e = record {
-      linked = λ h. tight.linked search.trip j e;
-      last = λ past. let bound : j < search.links.count = in_other search.trip j e in absurd
-          (omega (arith, bound, past));
-    }
+    other_tight None e = grind arith
+    other_tight (Some j) e = grind arith
 
     -- and it is undecided
     pub other_undecided : (to : Option ℕ) → next other search.trip ≡ to
         → IsUndecided plan search.low (place_of search.links.count to)
-    other_undecided None e i h =
-        let bound : search.links.count < search.links.count = inside i search.links.count h in
-        absurd (omega (arith, bound))
-    other_undecided (Some j) e i h = by_bound i search.low
-        (λ before.
-        let same : i ≡ search.trip = fits.once i search.trip j (agrees i before ∙ h) e in
-        absurd (omega (arith, same, before, is.first)))
-        (λ past. past)
+    other_undecided None e i h = grind arith
+    other_undecided (Some j) e i h = grind arith

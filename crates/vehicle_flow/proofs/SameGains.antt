@@ -10,16 +10,4 @@ use Rattle.flow_potentials.specs.Potentials.{PotentialParts, AreValid}
 pub valid_for : (trips : TripsParts) (plan other : List (Option ℕ)) (potentials : PotentialParts)
     → IsCheapest trips plan → IsCheapest trips other → AreValid (links_of trips) plan potentials
     → AreValid (links_of trips) other potentials
-valid_for trips plan other potentials cheapest also valid = record {
-  over = valid.over;
-  covered = valid.covered;
-  exact = omega (
-    arith,
-    ints,
-    valid.exact,
-    cost_by_gain trips plan cheapest.possible,
-    cost_by_gain trips other also.possible,
-    cheapest.least other also.possible,
-    also.least plan cheapest.possible,
-  );
-}
+valid_for trips plan other potentials cheapest also valid = grind (arith, ints, cost_by_gain)

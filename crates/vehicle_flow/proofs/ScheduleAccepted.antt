@@ -1,5 +1,7 @@
 -- The schedule of a plan has no fault as an input over the events of which its trips are.
-use Rattle.std.proofs.Common.{◌≡◌, ℕ, ◌+◌, ◌<◌, ◌≤◌, ◌&&◌, ◌||◌, false, not, cond, nat_lt, List, [], ◌∷◌, ◌++◌, length, filter, replicate, slice_set, All, Option, Some, None, unwrap_or, refl, ap, sym, ◌∙◌, subst, arith}
+use Rattle.std.proofs.Common.{◌≡◌, ℕ, ◌+◌, ◌<◌, ◌≤◌, ◌&&◌, ◌||◌, false, not, cond, nat_lt, List, []}
+use Rattle.std.proofs.Common.{◌∷◌, ◌++◌, length, filter, replicate, slice_set, All, Option, Some}
+use Rattle.std.proofs.Common.{None, unwrap_or, refl, ap, sym, ◌∙◌, subst, arith}
 use Rattle.std.specs.List.{AllByRecursion}
 use Rattle.std.proofs.lemmas.Bool.{le-ltb}
 use Rattle.event_tables.specs.declared.expanded_event.ExpandedEvent.{ExpandedEvent}
@@ -9,14 +11,14 @@ use Rattle.event_tables.specs.ExpandedFiles.{expanded_event_ids}
 use Rattle.event_tables.specs.Headers.{schedule_header}
 use Rattle.event_tables.specs.Places.{is_none_of}
 use Rattle.giv_files.specs.RowsOfTables.{rows_by}
-use Rattle.event_tables.specs.Schedules.{ends_early, goes_back, is_empty_row, is_trip_row, kind_limit, lacks_room, schedule_input, schedule_rules}
+use Rattle.event_tables.specs.Schedules.{ends_early, goes_back, is_empty_row, is_trip_row, lacks_room, schedule_input, schedule_rules}
 use Rattle.giv_files.proofs.WrittenColumns.{columns_written}
 use Rattle.event_tables.proofs.CellsBack.{schedule_row_same}
 use Rattle.event_tables.proofs.WrittenRecords.{rows_inside}
 use Rattle.giv_files.specs.declared.counted.Counted.TheVariants as counted
 use Rattle.giv_files.specs.declared.refusal.Refusal.TheVariants as refusal
 use Rattle.giv_files.specs.Columns.{schedule_columns}
-use Rattle.giv_files.specs.Inputs.{input_faults, limit_fault, limit_faults, records}
+use Rattle.giv_files.specs.Inputs.{input_faults, limit_faults, records}
 use Rattle.giv_files.specs.Writing.{ReadsBack}
 use Rattle.giv_files.proofs.Accepted.{KeepRules, accepted}
 use Rattle.giv_files.proofs.Headers.{plain_header}
@@ -64,11 +66,7 @@ module _ (trips : TripsParts) (plan : List (Option ℕ)) (are : AreTrips trips)
   out i within = rolled i no_trip (omega (arith, within, is.each))
 
   trip_good : (vehicle number i : ℕ) → i < n → IsGood events (trip_row trips vehicle number i)
-  trip_good vehicle number i within = record {
-    start = planned_known events _ _ (out i within).start;
-    end = planned_known events _ _ (out i within).end;
-    forward = refl;
-  }
+  trip_good vehicle number i within = grind (arith, planned_known, out)
 
   ride_good : (vehicle number i j : ℕ) → i < n → j < n → next plan i ≡ Some j
       → IsGood events (empty_row trips vehicle number i j)
@@ -146,12 +144,7 @@ module _ (trips : TripsParts) (plan : List (Option ℕ)) (are : AreTrips trips)
 
   few : (rows : List ScheduleRow) → rows ≡ plan_rows trips plan
       → limit_faults (schedule_input events).limits rows ≡ []
-  few rows same =
-      let each = subst (AreRows []) (sym same) rows_are in
-      ap (λ first. first ++ (limit_fault rows (kind_limit is_empty_row) ++ []))
-      (under (length (filter is_trip_row rows)) (omega (arith, each.few_trips, few_left)))
-      ∙ ap (λ second. second ++ [])
-      (under (length (filter is_empty_row rows)) (omega (arith, each.few_rides, few_left)))
+  few rows same = grind (arith, rows_are, under, few_left)
 
   back : ReadsBack schedule_columns (rows_by schedule_cells (plan_rows trips plan)) (plan_text trips plan)
   unfolding plan_text

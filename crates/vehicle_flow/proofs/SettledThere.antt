@@ -1,5 +1,6 @@
 -- Over any trips the chosen plan is there, and its canonical potentials are valid.
-use Rattle.std.proofs.Common.{◌≡◌, ℕ, ◌&&◌, nat_eq, Bool, true, List, length, find, Option, Some, None, refl, subst, arith, eqb-true, eq-eqb}
+use Rattle.std.proofs.Common.{◌≡◌, ℕ, ◌&&◌, nat_eq, Bool, true, List, length, find, Option, Some}
+use Rattle.std.proofs.Common.{None, refl, subst, arith, eqb-true, eq-eqb}
 use Rattle.vehicle_model.specs.Plans.{all_lists, chosen_plan, is_apart, plan_cost, IsCheapest, IsChosen}
 use Rattle.vehicle_model.specs.Trips.{TripsParts, AreTrips, links_of}
 use Rattle.flow_potentials.proofs.Certified.{certified_cheapest}
@@ -25,26 +26,27 @@ module _ (trips : TripsParts) where
   passes other = is_apart other && nat_eq (plan_cost trips other) (plan_cost trips certified.plan)
 
   passes_where : (other : List (Option ℕ)) → IsCheapest trips other → passes other ≡ true
-  passes_where other also =
-      both_true (apart_where other also.possible.once)
-      (eq-eqb (plan_cost trips other) (plan_cost trips certified.plan)
-      (omega (arith, also.least certified.plan cheapest.possible, cheapest.least other also.possible)))
+  passes_where other also = grind (arith, both_true, apart_where, eq-eqb, cheapest)
 
   first_chosen : (plan : List (Option ℕ)) → find passes (all_lists (lists trips 0 n)) ≡ Some plan
       → IsChosen trips plan
   first_chosen plan found =
-      let told = found_holds (AreChoices (lists trips 0 n)) passes (all_lists (lists trips 0 n))
-      (all_choices (lists trips 0 n)) plan found in
-      let same = eqb-true (plan_cost trips plan) (plan_cost trips certified.plan)
-      (back_true (is_apart plan) _ told.1) in
-      record {
-        cheapest = record {
-          possible = plan_where trips plan told.0 (front_true (is_apart plan) _ told.1);
-          least = λ other fits. omega (arith, same, cheapest.least other fits);
-        };
-        first = λ other also. found_no_later (lists trips 0 n) passes plan found (all_rising trips 0 n) other
-            (where_plan trips other also.possible) (passes_where other also);
-      }
+      grind (
+        arith,
+        found_holds,
+        AreChoices,
+        lists,
+        all_choices,
+        eqb-true,
+        back_true,
+        cheapest,
+        plan_where,
+        front_true,
+        found_no_later,
+        all_rising,
+        where_plan,
+        passes_where,
+      )
 
   pub chosen_there : IsChosen trips (chosen_plan trips)
   chosen_there = by (find passes (all_lists (lists trips 0 n))) refl

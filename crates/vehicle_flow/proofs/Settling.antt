@@ -1,5 +1,7 @@
 -- A trip has its place for good: its own one, or another that it was handed.
-use Rattle.std.proofs.Common.{◌≡◌, ◌≢◌, ℕ, ◌+◌, ◌<◌, ◌≤◌, true, false, is_some, List, length, slice_set, Option, Some, None, MatchOption, Result, Ok, Err, IfOk, refl, ap, sym, ◌∙◌, subst, arith}
+use Rattle.std.proofs.Common.{◌≡◌, ◌≢◌, ℕ, ◌+◌, ◌<◌, ◌≤◌, true, false, is_some, List, length}
+use Rattle.std.proofs.Common.{slice_set, Option, Some, None, MatchOption, Result, Ok, Err, IfOk}
+use Rattle.std.proofs.Common.{refl, ap, sym, ◌∙◌, subst, arith}
 use Rattle.std.proofs.lemmas.List.{length-set, get_or-take, get_or_past}
 use Rattle.std.proofs.lemmas.Option.{none-some}
 use Rattle.vehicle_model.specs.Plans.{next, is_next, IsPlan, IsChosen, ComesNoLater}
@@ -13,7 +15,7 @@ use Rattle.vehicle_flow.specs.Claims.{ClaimsParts, claim_at}
 use Rattle.vehicle_flow.specs.Places.{place_of, successor_at}
 use Rattle.vehicle_flow.specs.Searches.{Search, IsLeft, IsClaim, IsTightBut, ComesFrom, IsFound, IsHandedOn}
 use Rattle.vehicle_flow.specs.Choices.{is_claimed, AreRight, AgreeBefore, AreWithin, IsSearch, IsFirst, IsSought, IsLeast, IsSettled}
-use Rattle.vehicle_flow.proofs.Moves.{moved_is, moved_other, successor_within, successor_past}
+use Rattle.vehicle_flow.proofs.Moves.{moved_is, moved_other}
 
 -- a place that comes no later
 no_later : (count : ℕ) (mine other : Option ℕ) → ((j : ℕ) → other ≡ Some j → j < count)
@@ -26,9 +28,7 @@ no_later count None None inside h = tt
 
 -- what comes at a place has no later place
 place_back : (count place : ℕ) → place_of count (successor_at count place) ≤ place
-place_back count place = by_bound place count
-    (λ within. omega (arith, ap (place_of count) (successor_within count place within)))
-    (λ past. omega (arith, past, ap (place_of count) (successor_past count place past)))
+place_back count place = grind arith
 
 module _ (search : Search) (plan : List (Option ℕ)) (is : IsSearch search plan) where
   inside : AreWithin search.links plan
@@ -62,14 +62,8 @@ module _ (search : Search) (plan : List (Option ℕ)) (is : IsSearch search plan
       -- and its own one has none
       own_next : (to : Option ℕ) → next plan search.trip ≡ to → (i : ℕ) → next moved i ≡ Some own
           → ⊥
-      own_next None e i h =
-          let bound : own < search.links.count = inside i own (was i own h) in
-          let last : own ≡ search.links.count = own_is ∙ ap (place_of search.links.count) e in
-          absurd (omega (arith, bound, last))
-      own_next (Some j) e i h =
-          let same : own ≡ j = own_is ∙ ap (place_of search.links.count) e in
-          not_trip i own h (is.possible.once i search.trip own (was i own h)
-          (e ∙ ap Some (sym same)))
+      own_next None e i h = grind (arith, inside, was)
+      own_next (Some j) e i h = grind (arith, not_trip, was)
 
       own_free : is_next moved own ≡ false
       own_free = never_next moved own (own_next (next plan search.trip) refl)
@@ -179,17 +173,7 @@ module _ (search : Search) (plan : List (Option ℕ)) (is : IsSearch search plan
   -- its own place is, where that is the first one
   pub settled_none : (own : ℕ) → own ≡ place_of search.links.count (next plan search.trip)
       → IsFirst search plan own → IsSettled search plan plan
-  settled_none own own_is first = record {
-    possible = is.possible;
-    tight = is.tight;
-    same = λ i early. refl;
-    least = λ other fits in_other tight agrees.
-        let least : own ≤ place_of search.links.count (next other search.trip) =
-        first other fits in_other tight (λ i early. agrees i (omega (arith, early, is.first))) in
-        no_later search.links.count (next plan search.trip) (next other search.trip)
-        (in_other search.trip)
-        (omega (arith, least, own_is));
-  }
+  settled_none own own_is first = grind arith
 
 -- ---- one trip after another
 
@@ -223,11 +207,7 @@ deciding_more search plan after trip same is settled = record {
 pub deciding_none : (trips : TripsParts) (potentials : PotentialParts) (plan : List (Option ℕ))
     → IsPlan (links_of trips) plan
     → AreValid (links_of trips) plan potentials → IsDeciding (links_of trips) potentials plan 0
-deciding_none trips potentials plan possible valid = record {
-  possible = possible;
-  tight = gains_all (links_of trips) plan plan potentials valid possible (sym valid.exact);
-  first = λ i bound. absurd (omega (arith, bound));
-}
+deciding_none trips potentials plan possible valid = grind (arith, gains_all)
 
 -- the trips of links are trips
 pub plan_inside : (trips : TripsParts) (plan : List (Option ℕ)) → IsPlan (links_of trips) plan
@@ -241,17 +221,7 @@ pub search_is : (trips : TripsParts) (potentials : PotentialParts)
     → IsDeciding (links_of trips) potentials plan trip
     → IsSearch (record { links = links_of trips; potentials = potentials; trip = trip; low = trip })
     plan
-search_is trips potentials certified plan trip valid within is = record {
-  first = refl;
-  within = within;
-  over = valid.over;
-  successors = record {
-    within = λ i j e. omega (arith, plan_inside trips plan is.possible i j e, is.possible.each);
-    once = is.possible.once;
-  };
-  possible = is.possible;
-  tight = is.tight;
-}
+search_is trips potentials certified plan trip valid within is = grind (arith, plan_inside)
 
 -- in the end it is the chosen one
 pub chosen_all : (trips : TripsParts) (potentials : PotentialParts)
@@ -259,15 +229,8 @@ pub chosen_all : (trips : TripsParts) (potentials : PotentialParts)
     → AreValid (links_of trips) certified potentials → IsPlan (links_of trips) certified
     → length trips.trips ≤ trip
     → IsDeciding (links_of trips) potentials plan trip → IsChosen trips plan
-chosen_all trips potentials certified plan trip valid fits all is = record {
-  cheapest = (tight_cheapest trips certified potentials valid fits plan is.possible).1 is.tight;
-  first = λ other cheapest i within agree. is.first i (omega (arith, within, all, is.possible.each))
-      other cheapest.possible
-      (plan_inside trips other cheapest.possible)
-      ((tight_cheapest trips certified potentials valid fits other cheapest.possible).0 cheapest)
-      (λ k early. sym (get_or-take i other k None early) ∙ ap (λ some. next some k) (sym agree)
-      ∙ get_or-take i plan k None early);
-}
+chosen_all trips potentials certified plan trip valid fits all is =
+    grind (arith, tight_cheapest, plan_inside, get_or-take)
 
 -- and so is what is made of it
 pub chosen_told : {E : Type 0} (trips : TripsParts) (plan : List (Option ℕ)) → IsChosen trips plan

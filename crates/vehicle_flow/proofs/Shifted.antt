@@ -1,7 +1,8 @@
 -- Potentials that are shifted along a closed set of places: where a trip's own place is outside and
 -- another one inside, no tight plan that agrees with this one on what is decided gives it the other
 -- one.
-use Rattle.std.proofs.Common.{◌≡◌, ℕ, ℤ, pos, ◌+◌, ◌-◌, ◌<◌, ◌≤◌, nat_lt, Bool, true, false, List, sum, Option, Some, None, unwrap_or, refl, ap, sym, ◌∙◌, arith}
+use Rattle.std.proofs.Common.{◌≡◌, ℕ, ℤ, pos, ◌+◌, ◌-◌, ◌<◌, ◌≤◌, nat_lt, Bool, true, false, List}
+use Rattle.std.proofs.Common.{sum, Option, Some, None, unwrap_or, refl, ap, sym, ◌∙◌, arith}
 use Rattle.std.proofs.lemmas.Bool.{lt-ltb, le-ltb}
 use Rattle.std.proofs.lemmas.Int.{ints}
 use Rattle.std.proofs.lemmas.List.{get_or_past}
@@ -124,24 +125,12 @@ module _ (links : Links) (potentials : PotentialParts) (plan : List (Option ℕ)
   -- nor that of a place
   last_bound : (place : ℕ) → place < links.count → decided place ≡ false
       → w links.count ≤ at potentials.v place + w place
-  last_bound place within h = by_number (at potentials.v place) 0
-      (λ zero. omega (
-        arith,
-        closed.alone links.count place (omega arith) last_free (omega (arith, within))
-            (are.not place h) zero,
-      ))
-      (λ apart. omega (arith, closed.one links.count, apart))
+  last_bound place within h = grind (arith, by_number, v, last_free)
 
   -- a trip and a place together rise where the place comes into the set
   pair_moved : (i j : ℕ) → low ≤ i → i < links.count → j < links.count → decided j ≡ false
       → at u i + at v j + w (own i) ≡ at potentials.u i + at potentials.v j + w j
-  pair_moved i j h within before free = omega (
-    arith,
-    u_moved i h within,
-    v_moved j free before,
-    here_bound i h within,
-    last_bound j before free,
-  )
+  pair_moved i j h within before free = grind (arith, u_moved, v_moved, here_bound, last_bound)
 
   -- ---- a tight plan that agrees on what is decided
 
@@ -163,11 +152,7 @@ module _ (links : Links) (potentials : PotentialParts) (plan : List (Option ℕ)
     was_open : (i j : ℕ) → next other i ≡ Some j → low ≤ i → (b : Bool) → decided j ≡ b
         → decided j ≡ false
     was_open i j e after false d = d
-    was_open i j e after true d =
-        let had = are.has j d in
-        let same : had.0 ≡ i = fits.once had.0 i j (agrees had.0 had.1.0 ∙ had.1.1) e in
-        let early : had.0 < low = had.1.0 in
-        absurd (omega (arith, same, early, after))
+    was_open i j e after true d = grind arith
 
     -- each trip is tight at its place
     tight_at : (i j : ℕ) → next other i ≡ Some j → IsTightAt links potentials i j
@@ -211,22 +196,10 @@ module _ (links : Links) (potentials : PotentialParts) (plan : List (Option ℕ)
 
     new_covering : AreCovering links.gain 0 other u v
     unfolding u
-    new_covering = record {
-      size = values_size links.count new_u ∙ sym fits.each;
-      once = fits.once;
-      covered = λ i j e.
-          let gain : unwrap_or (links.gain (0 + i) j) (pos 0) ≡ pos
-          (at potentials.u i + at potentials.v j) = gain_is i j e in
-          let most : at potentials.u i + at potentials.v j ≤ at u i + at v j = link_covered i j e in
-          omega (arith, ints, gain, most);
-    }
+    new_covering = grind (arith, values_size, new_u, unwrap_or, u, v, gain_is, link_covered, ints)
 
     old_covering : AreCovering links.gain 0 other potentials.u potentials.v
-    old_covering = record {
-      size = over.each_u ∙ sym fits.each;
-      once = fits.once;
-      covered = λ i j e. omega (arith, ints, gain_is i j e);
-    }
+    old_covering = grind arith
 
     -- it gains as much as all potentials
     old_gain : gains_from links.gain 0 other ≡ pos (sum potentials.u + sum potentials.v)
@@ -244,30 +217,12 @@ module _ (links : Links) (potentials : PotentialParts) (plan : List (Option ℕ)
   -- each link has kept its two potentials together
   plan_linked : (i j : ℕ) → next plan i ≡ Some j
       → at u i + at v j ≡ at potentials.u i + at potentials.v j
-  plan_linked i j e = by_bound i low
-      (λ before. omega (
-        arith,
-        u_kept i before (within_of plan possible inside tight itself i j e),
-        v_kept j (was_decided plan possible inside tight itself i j e before (decided j) refl)
-            (inside i j e),
-      ))
-      (λ after. omega (
-        arith,
-        pair_moved i j after (within_of plan possible inside tight itself i j e) (inside i j e)
-            (was_open plan possible inside tight itself i j e after (decided j) refl),
-        ap (λ at. w (place_of links.count at)) e,
-      ))
+  plan_linked i j e =
+      grind (arith, by_bound, u_kept, within_of, itself, v_kept, was_decided, pair_moved, was_open)
 
   -- a side without a link still has 0
   plan_last : (i : ℕ) → i < links.count → next plan i ≡ None → at u i ≡ 0
-  plan_last i within e = by_bound i low
-      (λ before. u_kept i before within ∙ tight.last i e)
-      (λ after. omega (
-        arith,
-        u_moved i after within,
-        tight.last i e,
-        ap (λ at. w (place_of links.count at)) e,
-      ))
+  plan_last i within e = grind (arith, by_bound, u_kept, u_moved)
 
   open_place : (j : ℕ) → is_next plan j ≡ false → (b : Bool) → decided j ≡ b → decided j ≡ false
   open_place j free false d = d
@@ -275,15 +230,8 @@ module _ (links : Links) (potentials : PotentialParts) (plan : List (Option ℕ)
 
   plan_first : (j : ℕ) → is_next plan j ≡ false → at v j ≡ 0
   unfolding v
-  plan_first j free = by_bound j links.count
-      (λ before. omega (
-        arith,
-        v_moved j (open_place j free (decided j) refl) before,
-        tight.first j free,
-        closed.alone j links.count (omega (arith, before)) free (omega arith) last_undecided
-            last_zero,
-      ))
-      (λ past. values_past links.count new_v j past)
+  plan_first j free =
+      grind (arith, by_bound, v_moved, open_place, last_undecided, last_zero, values_past, new_v)
 
   -- so the shifted potentials together are as much as before
   new_gain : gains_from links.gain 0 plan ≡ pos (sum u + sum v)
@@ -299,10 +247,7 @@ module _ (links : Links) (potentials : PotentialParts) (plan : List (Option ℕ)
   module _ (other : List (Option ℕ)) (fits : IsPlan links other) (in_other : AreWithin links other)
       (other_tight : IsTight links potentials other) (agrees : AgreeBefore low plan other) where
     other_new : AreTight links.gain 0 other u v
-    other_new = then_tight links.gain 0 other u v (new_covering other fits in_other other_tight
-        agrees)
-        (old_gain other fits in_other other_tight agrees
-        ∙ sym (old_gain plan possible inside tight itself) ∙ new_gain)
+    other_new = grind (arith, then_tight, u, v, new_covering, old_gain, itself, new_gain)
 
     -- and the first undecided trip does not pass from outside the set to a place inside
     pub stays_outside : low < links.count → w (own low) ≡ 0

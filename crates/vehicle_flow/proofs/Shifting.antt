@@ -1,5 +1,8 @@
 -- Potentials of a tree that are shifted: it stays one, and each place without a claim is nearer.
-use Rattle.std.proofs.Common.{◌≡◌, ◌≢◌, ◌⊎◌, inl, inr, ℕ, ℤ, pos, negsuc, ◌<◌, ◌≤◌, ◌+◌, ◌-◌, ◌||◌, nat_lt, nat_eq, is_some, Bool, true, false, cond, List, length, get_or, Option, Some, None, option_map, MatchOption, IfSome, refl, ap, sym, ◌∙◌, subst, arith, eq-eqb}
+use Rattle.std.proofs.Common.{◌≡◌, ◌≢◌, ◌⊎◌, inl, inr, ℕ, ℤ, pos, negsuc, ◌<◌, ◌≤◌, ◌+◌, ◌-◌, ◌||◌}
+use Rattle.std.proofs.Common.{nat_lt, nat_eq, is_some, Bool, true, false, cond, List, length}
+use Rattle.std.proofs.Common.{get_or, Option, Some, None, option_map, MatchOption, IfSome, refl, ap}
+use Rattle.std.proofs.Common.{sym, ◌∙◌, subst, arith, eq-eqb}
 use Rattle.std.proofs.Math.ListN.{get_or-eq_default}
 use Rattle.std.proofs.lemmas.Bool.{false≢true, ne_eqb, ltb-true, ltb-false}
 use Rattle.std.proofs.lemmas.Option.{none-some, same_Some}
@@ -31,10 +34,6 @@ gain_of_some links some i j gain e = split (some i) refl e
 pub some_gain : (links : Links) (some : ℕ → Bool) (i j : ℕ) → some i ≡ true
     → (links_from links some).gain i j ≡ links.gain i j
 some_gain links some i j is = ap (λ b. cond b (links.gain i j) None) is
-
--- who looks for a place, or has one
-pub placed_trip : (trip : ℕ) (plan : List (Option ℕ)) → is_placed trip plan trip ≡ true
-placed_trip trip plan = ap (λ b. b || is_some (next plan trip)) (eq-eqb trip trip refl)
 
 pub placed_next : (trip : ℕ) (plan : List (Option ℕ)) (i j : ℕ) → next plan i ≡ Some j
     → is_placed trip plan i ≡ true
@@ -140,17 +139,11 @@ module _ (links : Links) (potentials : PotentialParts) (trip : ℕ) (plan : List
     (is : IsGrowing links potentials trip plan claims) where
   -- trips of the tree look for a place or have one
   pub tree_placed : (i : ℕ) → in_tree trip plan claims i ≡ true → is_placed trip plan i ≡ true
-  tree_placed i e = elim (tree_is trip plan claims i e) as (λ _. is_placed trip plan i ≡ true) [
-    | inl same ↦ ap (is_placed trip plan) same ∙ placed_trip trip plan
-    | inr linked ↦ placed_next trip plan i linked.0 linked.1.0
-  ]
+  tree_placed i e = grind arith
 
   -- and are there
   pub tree_inside : (i : ℕ) → in_tree trip plan claims i ≡ true → i < links.count
-  tree_inside i e = elim (tree_is trip plan claims i e) as (λ _. i < links.count) [
-    | inl same ↦ omega (arith, same, is.within)
-    | inr linked ↦ omega (arith, has_next plan i linked.0 linked.1.0, is.tight.each)
-  ]
+  tree_inside i e = grind (arith, tree_is, has_next)
 
   -- claimed places are those of trips
   pub claimed_inside : (place : ℕ) → is_claimed claims place ≡ true → place < links.count
@@ -221,12 +214,7 @@ module _ (links : Links) (potentials : PotentialParts) (trip : ℕ) (plan : List
             → at after.u i + at after.v j ≡ at potentials.u i + at potentials.v j
 
       moved : (i j : ℕ) → i < links.count → j < links.count → AreMoved i j
-      moved i j from to = record {
-        both = λ e f. omega (arith, u_in i from e, v_in j to f, tree_least i e);
-        near = λ e f. omega (arith, u_in i from e, v_out j to f, tree_least i e);
-        far = λ e f. omega (arith, u_out i from e, v_in j to f);
-        none = λ e f. omega (arith, u_out i from e, v_out j to f);
-      }
+      moved i j from to = grind (arith, u_in, v_in, tree_least, v_out, u_out)
 
       -- a link is worth something only between trips that are there
       module _ (inside : (i j : ℕ) → is_some (links.gain i j) ≡ true → (i < links.count) × (j < links.count)) where
@@ -372,18 +360,9 @@ module _ (links : Links) (potentials : PotentialParts) (trip : ℕ) (plan : List
             inside_is : place < links.count → (it : Option ℕ) → worth (links.gain i place) ≡ it
                 → slack_to links after i place
                 ≡ option_map (λ known. known - slack) (slack_to links potentials i place)
-            inside_is inside_place None f =
-                slack_inside links after i place inside_place ∙ ap (slack_of (at after.u i + at after.v place)) f
-                ∙ ap (option_map (λ known. known - slack)) (sym (slack_inside links potentials i place inside_place
-                ∙ ap (slack_of (at potentials.u i + at potentials.v place)) f))
+            inside_is inside_place None f = grind arith
             inside_is inside_place (Some gain) f =
-                slack_is links after i place gain inside_place f
-                ∙ ap Some (omega (
-                  arith,
-                  (moved i place (tree_inside i e) inside_place).near e not_claimed,
-                  tree_least i e,
-                ))
-                ∙ ap (option_map (λ known. known - slack)) (sym (slack_is links potentials i place gain inside_place f))
+                grind (arith, slack_is, moved, tree_inside, tree_least, option_map)
 
         -- so the nearest trips are those that were
         pub nears_after : (now : List (Option Near)) → length now ≡ length nears
@@ -428,17 +407,12 @@ module _ (links : Links) (potentials : PotentialParts) (trip : ℕ) (plan : List
                 → IsNear links after (in_tree trip plan claims) place (option_map (moved_near slack) it)
             near_after place within free None is_it none = λ i e. slack_after i place e within free
                 ∙ ap (option_map (λ known. known - slack)) (none i e)
-            near_after place within free (Some near) is_it nearest = record {
-              slack = slack_after near.by place (by_tree place near within free is_it) within free
-                  ∙ ap (option_map (λ known. known - slack)) nearest.slack;
-              least = least_after place near within free nearest;
-            }
+            near_after place within free (Some near) is_it nearest =
+                grind (arith, slack_after, by_tree, option_map)
 
             told_it : (place : ℕ) → claim_at claims place ≡ None → place < length nears → (it : Option Near)
                 → get_or nears place None ≡ it → get_or now place None ≡ option_map (moved_near slack) it
-            told_it place free within it is_it = told place within
-                ∙ ap (λ claim. shifted claim slack (get_or nears place None)) free
-                ∙ ap (option_map (moved_near slack)) is_it
+            told_it place free within it is_it = grind arith
 
             place_there : (place : ℕ) (near : Near) → get_or now place None ≡ Some near → place < length nears
             place_there place near e = by_bound place (length nears) (λ within. within)
@@ -449,7 +423,4 @@ module _ (links : Links) (potentials : PotentialParts) (trip : ℕ) (plan : List
                 → IsFrom trip plan claims near.by near.from
             from_at place near free within e None is_it =
                 absurd (none-some near (sym (told_it place free within None is_it) ∙ e))
-            from_at place near free within e (Some old) is_it =
-                subst (λ x. IsFrom trip plan claims x.by x.from)
-                (same_Some (moved_near slack old) near (sym (told_it place free within (Some old) is_it) ∙ e))
-                (are.from place old free is_it)
+            from_at place near free within e (Some old) is_it = grind arith

@@ -1,9 +1,10 @@
 -- Potentials that are lowered and raised one by one.
-use Rattle.std.proofs.Common.{◌≡◌, Bool, true, false, ℕ, ◌<◌, ◌+◌, ◌-◌, cond, List, length, slice_set, Option, refl, ap, sym, ◌∙◌, subst, arith}
+use Rattle.std.proofs.Common.{◌≡◌, ℕ, ◌<◌, ◌+◌, ◌-◌, cond, List, length, slice_set, Option, sym}
+use Rattle.std.proofs.Common.{subst, arith}
 use Rattle.flow_potentials.specs.Potentials.{PotentialParts, at, AreOver}
 use Rattle.vehicle_flow.specs.Claims.{ClaimsParts}
 use Rattle.vehicle_flow.specs.Growing.{in_tree, is_claimed, AreShifted}
-use Rattle.vehicle_flow.proofs.Told.{IsTold, told_start, told_on}
+use Rattle.vehicle_flow.proofs.Told.{IsTold, told_on}
 
 abbrev lower_one : ℕ → List (Option ℕ) → ClaimsParts → ℕ → ℕ → ℕ → ℕ
 lower_one trip plan claims slack i own = cond (in_tree trip plan claims i) (own - slack) own
@@ -21,10 +22,7 @@ pub record AreRaised (claims : ClaimsParts) (slack : ℕ) (old now : PotentialPa
 
 pub lower_start : (trip : ℕ) (plan : List (Option ℕ)) (claims : ClaimsParts) (slack : ℕ) (old : PotentialParts)
     → AreLowered trip plan claims slack old old 0
-lower_start trip plan claims slack old = record {
-  told = told_start 0 (λ i. lower_one trip plan claims slack i (at old.u i)) old.u;
-  v = refl;
-}
+lower_start trip plan claims slack old = grind arith
 
 pub lower_more : (trip : ℕ) (plan : List (Option ℕ)) (claims : ClaimsParts) (slack : ℕ) (old now after : PotentialParts)
     (done x : ℕ) → AreLowered trip plan claims slack old now done → done < length old.u
@@ -39,10 +37,7 @@ lower_more trip plan claims slack old now after done x are inside is e =
     })
 
 pub raise_start : (claims : ClaimsParts) (slack : ℕ) (old : PotentialParts) → AreRaised claims slack old old 0
-raise_start claims slack old = record {
-  told = told_start 0 (λ j. raise_one claims slack j (at old.v j)) old.v;
-  u = refl;
-}
+raise_start claims slack old = grind arith
 
 pub raise_more : (claims : ClaimsParts) (slack : ℕ) (old now after : PotentialParts) (done x : ℕ)
     → AreRaised claims slack old now done → done < length old.v
@@ -60,32 +55,13 @@ raise_more claims slack old now after done x are inside is e =
 pub lowered_over : (trip : ℕ) (plan : List (Option ℕ)) (claims : ClaimsParts) (slack count : ℕ)
     (old now : PotentialParts) (done : ℕ) → AreLowered trip plan claims slack old now done
     → AreOver count old → AreOver count now
-lowered_over trip plan claims slack count old now done are over = record {
-  each_u = are.told.each ∙ over.each_u;
-  each_v = ap length are.v ∙ over.each_v;
-}
+lowered_over trip plan claims slack count old now done are over = grind arith
 
 pub raised_over : (claims : ClaimsParts) (slack count : ℕ) (old now : PotentialParts) (done : ℕ)
     → AreRaised claims slack old now done → AreOver count old → AreOver count now
-raised_over claims slack count old now done are over = record {
-  each_u = ap length are.u ∙ over.each_u;
-  each_v = are.told.each ∙ over.each_v;
-}
-
--- without a slack all is as it was
-lowered_none : (b : Bool) (own slack : ℕ) → slack ≡ 0 → own ≡ cond b (own - slack) own
-lowered_none true own slack none = omega (arith, none)
-lowered_none false own slack none = refl
-
-raised_none : (b : Bool) (own slack : ℕ) → slack ≡ 0 → own ≡ cond b (own + slack) own
-raised_none true own slack none = omega (arith, none)
-raised_none false own slack none = refl
+raised_over claims slack count old now done are over = grind arith
 
 pub unshifted : (trip : ℕ) (plan : List (Option ℕ)) (claims : ClaimsParts) (slack count : ℕ)
     (potentials : PotentialParts) → slack ≡ 0 → AreOver count potentials
     → AreShifted trip plan claims slack count potentials potentials
-unshifted trip plan claims slack count potentials none over = record {
-  over = over;
-  u = λ i h. lowered_none (in_tree trip plan claims i) (at potentials.u i) slack none;
-  v = λ j h. raised_none (is_claimed claims j) (at potentials.v j) slack none;
-}
+unshifted trip plan claims slack count potentials none over = grind arith

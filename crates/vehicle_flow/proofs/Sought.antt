@@ -1,6 +1,8 @@
 -- The places that a trip claims, one after another: those before the first that it may have are
 -- refused.
-use Rattle.std.proofs.Common.{◌≡◌, ℕ, zero, suc, ◌+◌, ◌-◌, ◌<◌, ◌≤◌, true, false, is_some, inl, inr, List, [], ◌∷◌, ◌++◌, length, replicate, slice_get, Option, Some, None, refl, ap, sym, ◌∙◌, subst, arith, length-append}
+use Rattle.std.proofs.Common.{◌≡◌, ℕ, zero, suc, ◌+◌, ◌-◌, ◌<◌, ◌≤◌, true, false, is_some, inl, inr}
+use Rattle.std.proofs.Common.{List, [], ◌∷◌, ◌++◌, length, replicate, slice_get, Option, Some, None}
+use Rattle.std.proofs.Common.{refl, ap, sym, ◌∙◌, subst, arith, length-append}
 use Rattle.std.proofs.lemmas.Bool.{cases_Bool, false≢true}
 use Rattle.std.proofs.lemmas.List.{length-replicate}
 use Rattle.std.proofs.lemmas.Option.{none-some}
@@ -29,9 +31,7 @@ pub own_claim_is : (search : Search) (claims got : ClaimsParts) (place trip : �
     (record { by = Some trip; from = None; step = length claims.order })
     → got ≡ with_claim claims place
     (record { by = Some search.trip; from = None; step = length claims.order })
-own_claim_is search claims got place trip same got_is = got_is
-    ∙ ap (λ i. with_claim claims place
-    (record { by = Some i; from = None; step = length claims.order })) (sym same)
+own_claim_is search claims got place trip same got_is = grind arith
 
 module _ (search : Search) (plan : List (Option ℕ)) (is : IsSearch search plan) where
   -- ---- one place after another
@@ -121,11 +121,7 @@ module _ (search : Search) (plan : List (Option ℕ)) (is : IsSearch search plan
       latest = record { by = Some search.trip; from = None; step = length claims.order }
 
       latest_is : IsClaim search plan claims (at places index) latest
-      latest_is = record {
-        tight = (seeking.are.right index within).0;
-        movable = (omega (arith, is.first), is.within);
-        from = refl;
-      }
+      latest_is = grind arith
 
       in_places : at places index < length claims.at
       in_places = omega (arith, seeking.are.within index within, seeking.right.places)
@@ -277,27 +273,7 @@ module _ (search : Search) (plan : List (Option ℕ)) (is : IsSearch search plan
       × IsUndecided plan search.low place) (search.links.count + 1) places
       → IsSeeking search plan claims places own 0 bits
   seeking_none claims places own bits none_is claimable are =
-      subst (λ some. IsSeeking search plan some places own 0 bits) (sym none_is) (record {
-        claimable = subst (λ some. AreClaimable search.links.count search.low plan some bits)
-            none_is claimable;
-        are = are;
-        right = record {
-          places = length-replicate (search.links.count + 1) None;
-          few = omega arith;
-          claim = λ place found e. absurd
-              (none-some found (sym (none_at (search.links.count + 1) place) ∙ e));
-          undecided = λ place found e. absurd
-              (none-some found (sym (none_at (search.links.count + 1) place) ∙ e));
-          placed = λ place found e. absurd
-              (none-some found (sym (none_at (search.links.count + 1) place) ∙ e));
-          listed = λ step place e. absurd (none-some place e);
-        };
-        expanded = λ step place bound e. absurd (none-some place e);
-        free = none_at (search.links.count + 1) own;
-        before = λ k bound. absurd (omega (arith, bound));
-        mine = λ place found e. absurd
-            (none-some found (sym (none_at (search.links.count + 1) place) ∙ e));
-      })
+      grind (arith, IsSeeking, length-replicate, none-some, none_at, undecided, free)
 
   -- the places at which the trip is tight
   pub ties_of : (ties : Bits) (trip : ℕ) (bits : Bits) (claims : ClaimsParts)

@@ -1,5 +1,8 @@
 -- One trip more is taken into a plan: how a tree begins, and what is left where a place was found.
-use Rattle.std.proofs.Common.{◌≡◌, ◌≢◌, inl, inr, ℕ, ℤ, zero, suc, pos, negsuc, ◌<◌, ◌≤◌, ◌≤ℤ◌, ◌+◌, ◌-◌, is_some, true, false, List, [], length, get_or, slice_set, replicate, Option, Some, None, IfSome, refl, ap, sym, ◌∙◌, subst, arith, get_or-set_other}
+use Rattle.std.proofs.Common.{◌≡◌, ◌≢◌, inr, ℕ, ℤ, zero, suc, pos, negsuc, ◌<◌, ◌≤◌, ◌≤ℤ◌, ◌+◌, ◌-◌}
+use Rattle.std.proofs.Common.{is_some, true, false, List, [], length, get_or, slice_set, replicate}
+use Rattle.std.proofs.Common.{Option, Some, None, IfSome, refl, ap, sym, ◌∙◌, subst, arith}
+use Rattle.std.proofs.Common.{get_or-set_other}
 use Rattle.std.proofs.Math.ListN.{get_or-eq_default}
 use Rattle.std.proofs.lemmas.Bool.{false≢true}
 use Rattle.std.proofs.lemmas.Int.{ints}
@@ -46,20 +49,11 @@ module _ (links : Links) (potentials : PotentialParts) (plan : List (Option ℕ)
   v_same j = ap (λ p. at p.v j) raised
 
   over_now : AreOver links.count now
-  over_now = record {
-    each_u = ap (λ p. length p.u) raised ∙ length-set potentials.u trip most ∙ is.over.each_u;
-    each_v = ap (λ p. length p.v) raised ∙ is.over.each_v;
-  }
+  over_now = grind (arith, length-set)
 
   -- the trip had none
   u_no_less : (i : ℕ) → at potentials.u i ≤ at now.u i
-  u_no_less i = by_number i trip
-      (λ same. omega (
-        arith,
-        ap (at potentials.u) same,
-        is.tight.last trip (λ last. omega (arith, within, last)) waits,
-      ))
-      (λ apart. omega (arith, u_other i apart))
+  u_no_less i = grind (arith, by_number, u_other)
 
   pub kept_now : StillCovers links potentials now
   kept_now i was j = lift (worth (links.gain i j)) (was j)
@@ -90,33 +84,18 @@ module _ (links : Links) (potentials : PotentialParts) (plan : List (Option ℕ)
       )
 
   covered_now : (i : ℕ) → is_placed trip plan i ≡ true → Covers links now i
-  covered_now i placed = elim (placed_is trip plan i placed) as (λ _. Covers links now i) [
-    | inl same ↦ subst (Covers links now) (sym same) covers
-    | inr linked ↦ kept_now i (is.covered i linked.0 linked.1)
-  ]
+  covered_now i placed = grind (arith, placed_is, kept_now)
 
   module _ (claims : ClaimsParts) (none : claims ≡ record { at = replicate (links.count + 1) None; order = [] }) where
     no_claim : (place : ℕ) → claim_at claims place ≡ None
     no_claim place = ap (λ x. claim_at x place) none ∙ none_at (links.count + 1) place
 
     pub started : IsGrowing links now trip plan claims
-    started = record {
-      over = over_now;
-      within = within;
-      places = ap (λ x. length x.at) none ∙ length-replicate (links.count + 1) no_one;
-      tight = tight_now;
-      waits = waits;
-      covered = covered_now;
-      claims_are = λ place found e. absurd (none-some found (sym (no_claim place) ∙ e));
-      tree = λ place found e. absurd (none-some found (sym (no_claim place) ∙ e));
-    }
+    started = grind (arith, over_now, length-replicate, tight_now, covered_now, none-some, no_claim)
 
     -- the trip is the only one of the tree
     alone : (i : ℕ) → in_tree trip plan claims i ≡ true → i ≡ trip
-    alone i e = elim (tree_is trip plan claims i e) as (λ _. i ≡ trip) [
-      | inl same ↦ same
-      | inr linked ↦ absurd (false≢true (sym (ap is_some (no_claim linked.0)) ∙ linked.1.1))
-    ]
+    alone i e = grind (arith, tree_is, false≢true, is_some, no_claim)
 
     pub near_started : (before last : List (Option Near)) → before ≡ replicate (links.count + 1) None
         → length last ≡ length before
@@ -196,11 +175,7 @@ module _ (trips : TripsParts) (potentials : PotentialParts) (plan : List (Option
     (is : IsTaken (links_of trips) potentials plan)
     (all : (i : ℕ) → i < length trips.trips → Covers (links_of trips) potentials i) where
   pub all_plan : IsPlan (links_of trips) plan
-  all_plan = record {
-    each = is.tight.each;
-    follow = λ i j e. ap is_some (is.tight.linked i j e);
-    once = is.tight.once;
-  }
+  all_plan = grind arith
 
   covered_all : (i j : ℕ) → IfSome ((links_of trips).gain i j)
       (λ gain. gain ≤ℤ pos (at potentials.u i + at potentials.v j))
@@ -261,12 +236,8 @@ pub begun : (links : Links) (n : ℕ) (potentials : PotentialParts) (plan : List
     (near_places : List (Option Near)) → n ≡ links.count → IsTaken links potentials plan
     → claims ≡ record { at = replicate (n + 1) None; order = [] } → length near_places ≡ links.count + 1
     → AreTakenIn links potentials plan 0 claims near_places
-begun links n potentials plan claims near_places size is claims_is each = record {
-  is = is;
-  covered = λ i early. absurd (omega (arith, early));
-  places = ap (λ x. length x.at) claims_is ∙ length-replicate (n + 1) no_one ∙ ap (λ k. k + 1) size;
-  near_each = each;
-}
+begun links n potentials plan claims near_places size is claims_is each =
+    grind (arith, length-replicate)
 
 -- a step more: one trip is taken in
 pub taken_step : (links : Links) (before potentials : PotentialParts) (plan after : List (Option ℕ)) (steps trip : ℕ)

@@ -1,5 +1,5 @@
 -- Vehicles of a plan, counted by the trips without a next one.
-use Rattle.std.proofs.Common.{◌≡◌, ℕ, ◌≤◌, ◌+◌, ◌-◌, List, length, drop, Option, ap, arith}
+use Rattle.std.proofs.Common.{◌≡◌, ℕ, ◌≤◌, ◌+◌, ◌-◌, List, length, drop, Option, arith}
 use Rattle.std.proofs.lemmas.List.{drop_all}
 use Rattle.vehicle_model.specs.Plans.{starts, plan_links, IsPlan}
 use Rattle.vehicle_model.specs.Trips.{TripsParts, links_of}
@@ -16,7 +16,4 @@ module _ (trips : TripsParts) (plan : List (Option ℕ)) (i links : ℕ)
   -- behind the last trip they are all
   pub vehicles_all : IsPlan (links_of trips) plan → length plan ≤ i → (all : ℕ)
       → all ≡ length trips.trips → all - links ≡ length (starts plan)
-  vehicles_all is past all counted =
-      let no_links : length (links_from i (drop i plan)) ≡ 0 =
-      ap (λ rest. length (links_from i rest)) (drop_all i plan past) in
-      omega (arith, counted, starts_and_links trips plan is, are.count, no_links)
+  vehicles_all is past all counted = grind (arith, links_from, drop_all, starts_and_links)

@@ -1,5 +1,5 @@
 -- Which files the stage of vehicles makes, which it names where it refuses a row, and what it gives.
-use Rattle.std.proofs.Common.{◌≡◌, [], true, Bool, Some, Ok, Err, ap, lit<, ◌∙◌}
+use Rattle.std.proofs.Common.{◌≡◌, [], true, Bool, Some, Ok, Err, ap, lit<, arith}
 use Rattle.giv_files.specs.declared.file_id.FileId.{FileId}
 use Rattle.giv_files.specs.declared.file_id.FileId.TheVariants as file
 use Rattle.giv_files.specs.declared.made.Made.{Made}
@@ -12,7 +12,7 @@ use Rattle.giv_files.specs.NamedFiles.{NamesInput}
 use Rattle.giv_files.specs.Settings.{BundleParts}
 use Rattle.giv_files.specs.StageCalls.{StageGives, input_text}
 use Rattle.giv_files.proofs.Named.{AllName, names_both, refused_names}
-use Rattle.giv_files.proofs.StageCalls.{made_unless, stage_made, stage_refused}
+use Rattle.giv_files.proofs.StageCalls.{made_unless, stage_refused}
 use Rattle.ptn_network.specs.Networks.{network_faults, stops_of}
 use Rattle.ptn_network.proofs.NamedFaults.{network_names}
 use Rattle.event_tables.specs.Trips.{trip_input}
@@ -52,6 +52,4 @@ module _ (bundle : BundleParts) where
       → trips ≡ trips_in bundle → made ≡ vehicles_made trips (chosen_plan trips)
       → StageGives (vehicles_stage bundle) (Ok made)
   unfolding vehicles_stage
-  vehicles_given trips made none is given =
-      stage_made (vehicles_faults bundle) _ made none
-      (given ∙ ap (λ some. vehicles_made some (chosen_plan some)) is)
+  vehicles_given trips made none is given = grind arith

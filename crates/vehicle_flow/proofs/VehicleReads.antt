@@ -3,14 +3,14 @@ use Rattle.std.proofs.Common.{◌≡◌, ℕ, List, [], Option, Some, Ok, refl, 
 use Rattle.giv_files.specs.declared.made.Made.{Made}
 use Rattle.giv_files.specs.Settings.{BundleParts}
 use Rattle.giv_files.proofs.StageCalls.{made_unless, none_unless}
-use Rattle.vehicle_model.specs.Plans.{chosen_plan, IsCheapest, IsChosen, IsPlan}
+use Rattle.vehicle_model.specs.Plans.{chosen_plan, IsChosen, IsPlan}
 use Rattle.vehicle_model.specs.ReadSchedules.{IsReadBack}
 use Rattle.vehicle_model.specs.Schedules.{plan_text}
 use Rattle.vehicle_model.specs.Trips.{TripsParts, links_of}
 use Rattle.vehicle_model.proofs.PlanBack.{plan_text_back}
 use Rattle.flow_potentials.specs.Canonical.{AreCanonical}
-use Rattle.flow_potentials.specs.PotentialTables.{potentials_of, potentials_text, table_faults, IsReadBack as IsPotentialBack}
-use Rattle.flow_potentials.specs.Potentials.{PotentialParts, AreValid}
+use Rattle.flow_potentials.specs.PotentialTables.{potentials_of, potentials_text, IsReadBack as IsPotentialBack}
+use Rattle.flow_potentials.specs.Potentials.{PotentialParts}
 use Rattle.flow_potentials.specs.Rounds.{canonical}
 use Rattle.flow_potentials.proofs.TablesBack.{text_back}
 use Rattle.vehicle_flow.specs.RightVehicles.{VehicleFilesAreRight}
@@ -48,16 +48,7 @@ module _ (bundle : BundleParts) (none : vehicles_faults bundle ≡ [])
       (omega (arith, settled.valid.over.each_u, settled.are.rows.few))
 
   passes : Passes trips schedule (Some text)
-  passes = record {
-    reads = back.faultless;
-    possible = subst (IsPlan (links_of trips)) (sym back.same) possible;
-    marked = record {
-      reads = subst (λ n. table_faults n text ≡ []) settled.valid.over.each_u again.faultless;
-      valid = subst (λ some. AreValid (links_of trips) some (potentials_of text)) (sym back.same)
-          (subst (AreValid (links_of trips) plan) (sym again.same) settled.valid);
-      cheapest = subst (IsCheapest trips) (sym back.same) settled.chosen.cheapest;
-    };
-  }
+  passes = grind (arith, back, possible, again)
 
   pub made_right : VehicleFilesAreRight bundle (vehicles_made trips plan).files
   made_right = record {
@@ -80,7 +71,4 @@ pub vehicles_right : (bundle : BundleParts) (made : Made)
     → IsSettled (trips_in bundle) (chosen_plan (trips_in bundle)) → vehicles_stage bundle ≡ Ok made
     → VehicleFilesAreRight bundle made.files
 unfolding vehicles_stage
-vehicles_right bundle made settled is =
-    subst (λ (made : Made). VehicleFilesAreRight bundle made.files)
-    (made_unless (vehicles_faults bundle) (vehicles_made (trips_in bundle) (chosen_plan (trips_in bundle))) made is)
-    (made_right bundle (none_unless (vehicles_faults bundle) (vehicles_made (trips_in bundle) (chosen_plan (trips_in bundle))) made is) settled)
+vehicles_right bundle made settled is = grind (arith, made_unless, made_right, none_unless)

@@ -1,5 +1,7 @@
 -- The rules of nodes and of rows, one after the other.
-use Rattle.std.proofs.Common.{◌≡◌, ◌∙◌, ℕ, ℤ, ◌+◌, ◌<◌, ◌≤◌, ◌==◌, ◌||◌, not, cond, pos, Bool, true, false, List, [], ◌∷◌, ◌++◌, length, map, drop, get_or, slice_get, Some, None, refl, ap, sym, subst, arith}
+use Rattle.std.proofs.Common.{◌≡◌, ◌∙◌, ℕ, ℤ, ◌+◌, ◌<◌, ◌≤◌, ◌==◌, ◌||◌, not, cond, pos, Bool, true}
+use Rattle.std.proofs.Common.{false, List, [], ◌∷◌, ◌++◌, length, map, drop, get_or, slice_get}
+use Rattle.std.proofs.Common.{Some, None, refl, ap, sym, subst, arith}
 use Rattle.std.proofs.lemmas.List.{drop_all, drop_more}
 use Rattle.delay_management.specs.Problems.{DelayProblem}
 use Rattle.wait_choice.specs.declared.node.WaitNode.{WaitNode}
@@ -18,9 +20,7 @@ use Rattle.wait_choice.specs.Walks.{TakesNode, Walking, is_low, is_whole, rule_b
 pub no_tree : (problem : DelayProblem) (penalty : ℕ) (cost : ℤ) (nodes : List WaitNode) → 0 < length nodes
     → are_tree problem nodes ≡ false → Some rule.Tree ≡ slice_get (broken_nodes problem penalty cost nodes) 0
 no_tree problem penalty cost [] some out = absurd (omega (arith, some))
-no_tree problem penalty cost (first ∷ nodes) some out =
-    sym (ap (λ b. slice_get (broken_where (not b) rule.Tree
-    ++ broken_where (has_low_leaf problem penalty cost (first ∷ nodes)) rule.Leaf) 0) out)
+no_tree problem penalty cost (first ∷ nodes) some out = grind arith
 
 -- a tree with a low leaf, or without
 pub tree_rule : (problem : DelayProblem) (penalty : ℕ) (cost : ℤ) (nodes : List WaitNode) (low : Bool) → 0 < length nodes
@@ -53,20 +53,11 @@ module _ (problem : DelayProblem) (penalty : ℕ) (cost : ℤ) (nodes : List Wai
     left = drop_more nodes i d inside ∙ ap (λ n. n ∷ drop (i + 1) nodes) (sym is)
 
     pub node_fits : (fits : Bool) → fits ≡ true → TakesNode penalty cost at walk after fits → IsAt after (i + 1)
-    node_fits fits goes_on takes =
-        let goes = subst (TakesNode penalty cost at walk after) goes_on takes in
-        record {
-          same = goes.same ∙ here.same;
-          whole = sym (goes.whole (drop (i + 1) nodes)) ∙ ap (is_whole walk) (sym left) ∙ here.whole;
-          low = sym (goes.low (drop (i + 1) nodes)) ∙ ap (is_low penalty cost walk) (sym left) ∙ here.low;
-        }
+    node_fits fits goes_on takes = grind (arith, left)
 
     pub node_fails : (fits : Bool) → fits ≡ false → TakesNode penalty cost at walk after fits
         → Some rule.Tree ≡ slice_get (broken_nodes problem penalty cost nodes) 0
-    node_fails fits stops takes =
-        let out = subst (TakesNode penalty cost at walk after) stops takes in
-        no_tree problem penalty cost nodes (omega (arith, inside))
-        (sym here.whole ∙ ap (is_whole walk) left ∙ out (drop (i + 1) nodes))
+    node_fails fits stops takes = grind (arith, no_tree, left)
 
   pub at_end : (walk : Walking) (i : ℕ) → IsAt walk i → length nodes ≤ i → 0 < length nodes
       → rule_behind walk ≡ slice_get (broken_nodes problem penalty cost nodes) 0
@@ -99,9 +90,7 @@ module _ (problem : DelayProblem) (penalty : ℕ) (cost : ℤ) (nodes : List Wai
 pub rows_nodes : (problem : DelayProblem) (penalty : ℕ) (rows : List WaitRow) → is_shaped problem.changes rows ≡ true
     → int_eq (pos (cost_in rows)) (cost_of problem penalty (kept_in problem.changes rows)) ≡ true
     → broken_nodes problem penalty (pos (cost_in rows)) (nodes_in problem.changes rows) ≡ broken_rows problem penalty rows
-rows_nodes problem penalty rows shaped costs =
-    sym (λ i. broken_where (not (shaped i)) rule.Shape ++ broken_where (not (costs i)) rule.Cost
-    ++ broken_nodes problem penalty (pos (cost_in rows)) (nodes_in problem.changes rows))
+rows_nodes problem penalty rows shaped costs = grind arith
 
 pub some_items : {X Y : Type 0} (f : X → Y) (xs : List X) → (length xs == 0) ≡ false → 0 < length (map f xs)
 some_items f [] none = absurd (cc)

@@ -1,5 +1,8 @@
 -- A text that breaks no rule is the table of a waiting decision that is right, and conversely.
-use Rattle.std.proofs.Common.{◌≡◌, ◌∙◌, ℕ, ℤ, negsuc, zero, suc, ◌+◌, ◌<◌, ◌≤◌, ◌==◌, ◌≤ℤ◌, not, cond, pos, Bool, true, false, List, [], ◌∷◌, ◌++◌, length, map, drop, take, get_or, slice_get, Option, Some, None, IfSome, IfNone, IfOk, Result, Ok, Err, All, refl, ap, sym, subst, arith}
+use Rattle.std.proofs.Common.{◌≡◌, ◌∙◌, ℕ, ℤ, negsuc, zero, suc, ◌+◌, ◌<◌, ◌≤◌, ◌==◌, ◌≤ℤ◌, not}
+use Rattle.std.proofs.Common.{cond, pos, Bool, true, false, List, [], ◌∷◌, ◌++◌, length, map, drop}
+use Rattle.std.proofs.Common.{take, get_or, slice_get, Option, Some, None, IfSome, IfNone, IfOk}
+use Rattle.std.proofs.Common.{Result, Ok, Err, All, refl, ap, sym, subst, arith}
 use Rattle.std.specs.Prelude.{position, unsigned_abs, unwrap_or, zip}
 use Rattle.std.specs.List.{list_all}
 use Rattle.std.specs.List.Sorted.{IsStrictlyIncreasing}
@@ -28,7 +31,7 @@ use Rattle.wait_choice.specs.declared.row.WaitRow.TheVariants as row
 use Rattle.wait_choice.specs.declared.rule.WaitRule.{WaitRule}
 use Rattle.wait_choice.specs.declared.rule.WaitRule.TheVariants as rule
 use Rattle.wait_choice.specs.declared.waits.Waits.{Waits}
-use Rattle.wait_choice.specs.Certified.{Certifies, are_tree, has_low_leaf}
+use Rattle.wait_choice.specs.Certified.{Certifies}
 use Rattle.wait_choice.specs.Choices.{Costs, CostsAtLeast, cost_of, times_of, total}
 use Rattle.wait_choice.specs.Judged.{KeepsBest, Passes, are_choices, broken_nodes, broken_rows, broken_where, cost_in, first_broken_rule, index_of, is_choice, is_cost, is_node, is_shaped, keeps, kept_in, node_said, nodes_in, rows_read}
 use Rattle.wait_choice.specs.RightChoices.{IsRight}
@@ -270,11 +273,7 @@ module _ (problem : DelayProblem) (penalty : ℕ) (text : List ℕ) where
   unfolding tree_in
   nodes_certify [] none = tt
   nodes_certify (first ∷ more) none =
-      let T = broken_where (not (are_tree problem (first ∷ more))) rule.Tree in
-      let L = broken_where (has_low_leaf problem penalty cost (first ∷ more)) rule.Leaf in
-      certifies_by problem penalty cost (first ∷ more)
-      (not-false _ (kept_rule (not (are_tree problem (first ∷ more))) rule.Tree (front_none T L none)))
-      (kept_rule (has_low_leaf problem penalty cost (first ∷ more)) rule.Leaf (back_none T L none))
+      grind (arith, certifies_by, not-false, kept_rule, front_none, back_none)
 
   tree_names : (nodes : List WaitNode) → IfSome (tree_in nodes) (Certifies problem penalty cost) → IsForward problem
       → All (NamesChange (length changes)) nodes
@@ -307,9 +306,7 @@ module _ (problem : DelayProblem) (penalty : ℕ) (text : List ℕ) where
     names = tree_names nodes certified forward
 
     kept_size : length kept ≡ length changes
-    kept_size =
-        length-map (take (length changes) (drop 1 rows)) keeps
-        ∙ length-take-le (length changes) (drop 1 rows) form.enough
+    kept_size = grind (arith, length-map, length-take-le, form)
 
     costs : Costs problem penalty kept cost
     costs = record {
@@ -463,10 +460,7 @@ module _ (problem : DelayProblem) (penalty : ℕ) (text : List ℕ) where
     shaped_so : is_shaped changes all_rows ≡ true
     unfolding all_rows
     shaped_so =
-        and_from _ _
-        (and_from _ _ (le-leb (length changes) (length (C ++ T)) (omega (arith, length-append C T, rows_size given.kept changes each)))
-        (rows_fit given.kept changes T each))
-        (ap (list_all is_node) parts.1 ∙ trees_are changes given.tree)
+        grind (arith, and_from, le-leb, length-append, rows_size, each, rows_fit, parts, trees_are)
 
     tree_so : broken_nodes problem penalty given.cost (nodes_of given.tree) ≡ []
     unfolding nodes_of
@@ -483,13 +477,20 @@ module _ (problem : DelayProblem) (penalty : ℕ) (text : List ℕ) where
     breaks_no_rule : first_broken_rule problem penalty text ≡ None
     unfolding first_broken_rule all_rows
     breaks_no_rule =
-        let rows_so : rows ≡ all_rows = passed.reads.1 in
-        let costs : int_eq (pos (unsigned_abs given.cost)) (cost_of problem penalty (kept_in changes all_rows)) ≡ true =
-        (λ i. int_eq (is_cost_of i) (cost_of problem penalty (kept_so i))) ∙ int_same given.cost (cost_of problem penalty given.kept) costs_so in
-        let nodes : broken_nodes problem penalty (pos (unsigned_abs given.cost)) (nodes_in changes all_rows) ≡ [] =
-        (λ i. broken_nodes problem penalty (is_cost_of i) (nodes_so i)) ∙ tree_so in
-        (λ i. slice_get (broken_where (not (length (passed.reads.0 i) == 0)) rule.Row ++ broken_rows problem penalty (rows_so i)) 0)
-        ∙ (λ i. slice_get (broken_where (not (shaped_so i)) rule.Shape ++ broken_where (not (costs i)) rule.Cost ++ nodes i) 0)
+        grind (
+          arith,
+          all_rows,
+          reads,
+          costs,
+          is_cost_of,
+          kept_so,
+          int_same,
+          costs_so,
+          nodes_so,
+          tree_so,
+          slice_get,
+          shaped_so,
+        )
 
 -- ---- the clauses
 

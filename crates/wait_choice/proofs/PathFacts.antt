@@ -1,6 +1,10 @@
 -- The region of a path, change by change.
 use Rattle.std.proofs.Math.Seq.{take-append_seam}
-use Rattle.std.proofs.Common.{Option, take, ◌-◌, OnOk, OnErr, Result, Ok, Err, slice_get, mul-le-mul_left, ◌≤ℤ◌, ◌≡◌, ◌∙◌, ℕ, ℤ, zero, suc, ◌+◌, ◌*◌, ◌<◌, ◌≤◌, ◌&&◌, ◌||◌, not, cond, eqb, nat_eq, nat_lt, Bool, true, false, List, [], ◌∷◌, ◌++◌, length, map, get_or, slice_set, pos, ◌+ℤ◌, Some, None, refl, ap, sym, subst, arith, inl, inr}
+use Rattle.std.proofs.Common.{Option, take, ◌-◌, OnOk, OnErr, Result, Ok, Err, slice_get}
+use Rattle.std.proofs.Common.{mul-le-mul_left, ◌≤ℤ◌, ◌≡◌, ◌∙◌, ℕ, ℤ, zero, suc, ◌+◌, ◌*◌, ◌<◌, ◌≤◌}
+use Rattle.std.proofs.Common.{◌&&◌, ◌||◌, not, cond, eqb, nat_eq, nat_lt, Bool, true, false, List}
+use Rattle.std.proofs.Common.{[], ◌∷◌, ◌++◌, length, map, get_or, slice_set, pos, ◌+ℤ◌, Some, None}
+use Rattle.std.proofs.Common.{refl, ap, sym, subst, arith, inl, inr}
 use Rattle.std.specs.Prelude.{drop, position, replicate, zip}
 use Rattle.std.specs.List.{enumerate_from, list_any, prefix_len, range_with_len}
 use Rattle.std.proofs.lemmas.Bool.{both_ways, eqb-false, eqb-true, eq-eqb, ne_eqb, not-true, cases_Bool, cases_lt}
@@ -45,16 +49,17 @@ region_at : (count : ℕ) (path : List Decided) (change : ℕ) → change < coun
 unfolding region_of decision_in
 region_at count [] change inside = replicated count change decision.Free decision.Dropped inside
 region_at count (last ∷ before) change inside =
-    elim (cases_Bool (eqb last.change change)) [
-      | inl is ↦ rw is (let same = eqb-true last.change change is in
-          ap (λ k. get_or (decided (region_of count before) k (as_decided last.kept)) change decision.Dropped) same
-          ∙ get_or-set_same (region_of count before) change (as_decided last.kept) decision.Dropped
-          (omega (arith, inside, region_size count before)))
-      | inr is ↦ rw is (
-          get_or-set_other (region_of count before) last.change change (as_decided last.kept) decision.Dropped
-          (λ e. eqb-false last.change change is (sym e))
-          ∙ region_at count before change inside)
-    ]
+    grind (
+      arith,
+      cases_Bool,
+      eqb-true,
+      get_or,
+      get_or-set_same,
+      region_size,
+      get_or-set_other,
+      eqb-false,
+      region_at count before change inside,
+    )
 
 -- what is told of each change of a region
 region_mapped : {X : Type 0} (f : Decision → X) (g : ℕ → X) (count : ℕ) (path : List Decided)
@@ -131,27 +136,19 @@ dropped_same : (count : ℕ) (path : List Decided) → AreOnce count path → (c
 unfolding decision_in AreOnce dropped_in
 dropped_same count [] once change = refl
 dropped_same count (last ∷ before) once change =
-    let pushed = list_any-append (nat_eq change) (dropped_in before) (last.change ∷ []) in
-    elim (cases_Bool (eqb last.change change)) [
-      | inl is ↦
-          let same = eqb-true last.change change is in
-          let none = not_dropped before change (subst (λ k. is_decided before k ≡ false) same once.1) in
-          elim (cases_Bool last.kept) [
-            | inl keeps ↦ rw (is, keeps) (sym none)
-            | inr drops ↦ rw (is, drops)
-                (sym (pushed ∙ ap (λ b. b || (nat_eq change last.change || false)) none
-                ∙ ap (λ b. b || false) (eq-eqb change last.change (sym same))))
-          ]
-      | inr is ↦
-          let rest = dropped_same count before once.2 change in
-          elim (cases_Bool last.kept) [
-            | inl keeps ↦ rw (is, keeps) rest
-            | inr drops ↦ rw (is, drops) (rest ∙ sym (pushed
-                ∙ ap (λ b. list_any (nat_eq change) (dropped_in before) || (b || false))
-                (ne_eqb change last.change (λ e. eqb-false last.change change is (sym e)))
-                ∙ or-false (list_any (nat_eq change) (dropped_in before))))
-          ]
-    ]
+    grind (
+      arith,
+      list_any-append,
+      nat_eq,
+      cases_Bool,
+      eqb-true,
+      not_dropped,
+      eq-eqb,
+      ne_eqb,
+      eqb-false,
+      or-false,
+      dropped_same count before once.2 change,
+    )
 
 -- ---- what is told of a region
 
@@ -162,9 +159,7 @@ least_is count path once =
 
 pub greatest_is : (count : ℕ) (path : List Decided) → AreOnce count path
     → all_but count (dropped_in path) ≡ greatest_set (region_of count path)
-greatest_is count path once =
-    sym (region_mapped (λ at. not (is_dropped at)) (λ change. not (list_any (nat_eq change) (dropped_in path))) count path
-    (λ change inside. ap not (dropped_same count path once change)))
+greatest_is count path once = grind (arith, region_mapped, nat_eq, dropped_same)
 
 pub free_is : (count : ℕ) (path : List Decided) (change : ℕ) → change < count
     → is_free_at (region_of count path) change ≡ not (is_decided path change)
@@ -184,11 +179,7 @@ not_free count path change past =
 pub free_there : (count : ℕ) (path : List Decided) (change : ℕ)
     → is_free_at (region_of count path) change ≡ true
     → (change < count) × (is_decided path change ≡ false)
-free_there count path change free =
-    elim (cases_lt change count) [
-      | inl inside ↦ (inside, not-true (is_decided path change) (sym (free_is count path change inside) ∙ free))
-      | inr past ↦ absurd (both_ways (is_free_at (region_of count path) change) (not_free count path change past) free)
-    ]
+free_there count path change free = grind (arith, cases_lt, not-true, free_is, both_ways, not_free)
 
 -- how many changes are dropped
 count_set : (region : List Decision) (change : ℕ) (kept : Bool) → is_free_at region change ≡ true
@@ -223,23 +214,14 @@ count_set (at ∷ region) (suc change) kept free =
 
 count_none : (n : ℕ) → dropped_count (greatest_set (replicate n decision.Free)) ≡ 0
 count_none zero = refl
-count_none (suc n) =
-    let h = sum_by-cons (λ x. cond {A = ℕ} (not x) 1 0) true (greatest_set (replicate n decision.Free)) in
-    let rest = count_none n in omega (arith, h, rest)
+count_none (suc n) = grind (arith, sum_by-cons, count_none n)
 
 pub count_is : (count : ℕ) (path : List Decided) → AreOnce count path
     → dropped_count (greatest_set (region_of count path)) ≡ length (dropped_in path)
 unfolding region_of AreOnce dropped_in
 count_is count [] once = count_none count
 count_is count (last ∷ before) once =
-    let free = free_is count before last.change once.0 ∙ ap not once.1 in
-    let one = count_set (region_of count before) last.change last.kept free in
-    let rest = count_is count before once.2 in
-    elim (cases_Bool last.kept) [
-      | inl keeps ↦ rw keeps (omega (arith, rest, rw keeps at one))
-      | inr drops ↦ rw drops
-          (omega (arith, rest, rw drops at one, length_push (dropped_in before) last.change))
-    ]
+    grind (arith, free_is, count_set, cases_Bool, length_push, count_is count before once.2)
 
 -- ---- the times, the bound and the change that is broken
 
@@ -249,16 +231,11 @@ prefix_alike test other [] [] same = refl
 prefix_alike test other [] (y ∷ ys) same = absurd (omega (arith, ap length same))
 prefix_alike test other (x ∷ xs) [] same = absurd (omega (arith, ap length same))
 prefix_alike test other (x ∷ xs) (y ∷ ys) same =
-    let rest = prefix_alike test other xs ys (ap (drop 1) same) in
-    let head : test x ≡ other y = ap (λ all. get_or all 0 false) same in
-    λ i. cond (not (head i)) (1 + rest i) 0
+    grind (arith, get_or, prefix_alike test other xs ys (ap (drop 1) same))
 
 pub position_alike : {X Y : Type 0} (test : X → Bool) (other : Y → Bool) (xs : List X) (ys : List Y)
     → map test xs ≡ map other ys → position test xs ≡ position other ys
-position_alike test other xs ys same =
-    let place = prefix_alike test other xs ys same in
-    let size : length xs ≡ length ys = sym (length-map xs test) ∙ ap length same ∙ length-map ys other in
-    λ i. cond (nat_lt (place i) (size i)) (Some (place i)) None
+position_alike test other xs ys same = grind (arith, prefix_alike, length-map, nat_lt)
 
 module _ (path : TrialParts) (once : AreOnce (length path.problem.changes) path.decided) where
   abbrev count : ℕ
@@ -269,9 +246,7 @@ module _ (path : TrialParts) (once : AreOnce (length path.problem.changes) path.
 
   pub bound_is : (penalty : ℕ) (delay : ℤ) → delay ≡ delay_at path.problem.events (trial_times path)
       → delay +ℤ pos (penalty * length (dropped_in path.decided)) ≡ bound_of path.problem penalty (region_in path)
-  bound_is penalty delay is =
-      ap (λ d. d +ℤ pos (penalty * length (dropped_in path.decided))) is
-      ∙ λ i. delay_at path.problem.events (sym times_are i) +ℤ pos (penalty * sym (count_is count path.decided once) i)
+  bound_is penalty delay is = grind (arith, times_are, count_is)
 
   -- tests of changes with their regions, and with their indexes
   tests_alike : (times : List ℕ) (region : List Decision) (changes : List Activity) (first : ℕ)
@@ -316,16 +291,13 @@ module _ (path : TrialParts) (once : AreOnce (length path.problem.changes) path.
 
   -- no more changes are dropped than there are
   pub few_dropped : length (dropped_in path.decided) ≤ count
-  few_dropped =
-      let most = count_within (region_in path) in
-      omega (arith, most, count_is count path.decided once, region_size count path.decided)
+  few_dropped = grind (arith, count_within, count_is, region_size)
 
 pub bound_most : (delay bound : ℤ) (penalty dropped count : ℕ) → delay +ℤ pos (penalty * dropped) ≡ bound
     → delay ≤ℤ pos 60000000000000000 → dropped ≤ count → count ≤ 502000 → penalty ≤ 1000000
     → bound ≤ℤ pos 1000000000000000000
 bound_most delay bound penalty dropped count is late few all small =
-    let one : penalty * dropped ≤ penalty * 502000 = mul-le-mul_left penalty (omega (arith, few, all)) in
-    omega (arith, ints, is, late, one, small)
+    grind (arith, mul-le-mul_left, ints)
 
 pub bound_least : (delay bound : ℤ) (penalty dropped : ℕ) → delay +ℤ pos (penalty * dropped) ≡ bound
     → pos 0 ≤ℤ delay → pos 0 ≤ℤ bound
@@ -340,9 +312,7 @@ module _ (path : TrialParts) (dropped : List ℕ) (is : IsPath path dropped) whe
   once_more : (change : ℕ) (kept : Bool) → is_free_at (region_in path) change ≡ true
       → AreOnce (length path.problem.changes) (record { change = change; kept = kept } ∷ path.decided)
   unfolding AreOnce
-  once_more change kept free =
-      let there = free_there (length path.problem.changes) path.decided change free in
-      (there.0, there.1, is.once)
+  once_more change kept free = grind (arith, free_there)
 
   pub kept_on : (change : ℕ) → is_free_at (region_in path) change ≡ true → IsPath (with_one change true) dropped
   unfolding dropped_in
@@ -351,10 +321,7 @@ module _ (path : TrialParts) (dropped : List ℕ) (is : IsPath path dropped) whe
   pub dropped_on : (change : ℕ) → is_free_at (region_in path) change ≡ true
       → IsPath (with_one change false) (dropped ++ change ∷ [])
   unfolding dropped_in
-  dropped_on change free = record {
-    once = once_more change false free;
-    drops = ap (λ some. some ++ change ∷ []) is.drops;
-  }
+  dropped_on change free = grind (arith, once_more)
 
 -- what holds of a path that was changed, or else left as it was
 pub changed_or : {A E : Type 0} (P : TrialParts → Type 0) (result : Result A E) (old fine new : TrialParts)
@@ -372,17 +339,7 @@ taken_by : (problem : DelayProblem) (last : Decided) (dropped less : List ℕ) (
 unfolding AreOnce dropped_in
 taken_by problem last dropped less [] once drops at same fewer = absurd (cc)
 taken_by problem last dropped less (first ∷ before) once drops at same fewer =
-    let is : last ≡ first = cc in (
-      record {
-        once = once.2;
-        drops = elim first.kept as (λ b. first.kept ≡ b → dropped ≡ cond b (dropped_in before) (dropped_in before ++ first.change ∷ []) → less ≡ dropped_in before) [
-          | true ↦ λ kept drops. same (ap (λ (d : Decided). d.kept) is ∙ kept) ∙ drops
-          | false ↦ λ kept drops. fewer (ap (λ (d : Decided). d.kept) is ∙ kept) first.change (dropped_in before) drops
-        ] refl drops;
-      },
-      ap (λ (d : Decided). is_free_at (region_of (length problem.changes) before) d.change) is
-          ∙ free_is (length problem.changes) before first.change once.0 ∙ ap not once.1,
-    )
+    grind (arith, free_is)
 
 module _ (path after : TrialParts) (last : Decided) (dropped less : List ℕ) (is : IsPath path dropped)
     (found : Option Decided) (first : found ≡ slice_get path.decided 0) (at : found ≡ Some last)
@@ -416,20 +373,13 @@ module _ (path after : TrialParts) (found : Option Decided) (first : found ≡ s
       ∷ waiting n (record { change = last.change; kept = false } ∷ drop 1 decided)) ≡ waiting n decided
   unfolding region_of waiting
   goes_by n last [] at kept = absurd (cc)
-  goes_by n last (one ∷ before) at kept =
-      let is : last ≡ one = cc in
-      ap (λ (d : Decided). slice_set (region_of n before) d.change decision.Dropped ∷ waiting n before) is
-      ∙ sym (ap (λ b. cond b (slice_set (region_of n before) one.change decision.Dropped ∷ waiting n before) (waiting n before))
-      (ap (λ (d : Decided). d.kept) (sym is) ∙ kept))
+  goes_by n last (one ∷ before) at kept = grind arith
 
   passes_by : (n : ℕ) (last : Decided) (decided : List Decided) → Some last ≡ slice_get decided 0 → last.kept ≡ false
       → waiting n (drop 1 decided) ≡ waiting n decided
   unfolding waiting
   passes_by n last [] at kept = absurd (cc)
-  passes_by n last (one ∷ before) at kept =
-      let is : last ≡ one = cc in
-      sym (ap (λ b. cond b (slice_set (region_of n before) one.change decision.Dropped ∷ waiting n before) (waiting n before))
-      (ap (λ (d : Decided). d.kept) (sym is) ∙ kept))
+  passes_by n last (one ∷ before) at kept = grind arith
 
   ends_by : (n : ℕ) (decided : List Decided) → None ≡ slice_get decided 0 → waiting n decided ≡ []
   unfolding waiting
@@ -439,23 +389,14 @@ module _ (path after : TrialParts) (found : Option Decided) (first : found ≡ s
   pub went_on : (last : Decided) (end : TrialParts) → found ≡ Some last → last.kept ≡ true
       → end ≡ record after { decided = record { change = last.change; kept = false } ∷ after.decided }
       → (end.problem ≡ path.problem) × (regions_in end ≡ waiting_in path)
-  went_on last end at kept is =
-      subst (λ p. (p.problem ≡ path.problem) × (regions_in p ≡ waiting_in path)) (sym is)
-      (subst (λ (p : TrialParts). (p.problem ≡ path.problem)
-      × (regions_in (record p { decided = record { change = last.change; kept = false } ∷ p.decided }) ≡ waiting_in path)) (sym rest)
-      (refl, goes_by (length path.problem.changes) last path.decided (sym at ∙ first) kept))
+  went_on last end at kept is = grind (arith, goes_by)
 
   pub passed_by : (last : Decided) → found ≡ Some last → last.kept ≡ false
       → (after.problem ≡ path.problem) × (waiting_in after ≡ waiting_in path)
-  passed_by last at kept =
-      subst (λ p. (p.problem ≡ path.problem) × (waiting_in p ≡ waiting_in path)) (sym rest)
-      (refl, passes_by (length path.problem.changes) last path.decided (sym at ∙ first) kept)
+  passed_by last at kept = grind (arith, passes_by)
 
   pub ended : found ≡ None → (after.problem ≡ path.problem) × (waiting_in path ≡ [])
-  ended at = (
-    ap (λ (p : TrialParts). p.problem) rest,
-    ends_by (length path.problem.changes) path.decided (sym at ∙ first),
-  )
+  ended at = grind (arith, ends_by)
 
 -- ---- changes that are dropped one after the other
 

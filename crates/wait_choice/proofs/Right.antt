@@ -1,5 +1,7 @@
 -- A waiting decision that a listing gives within a budget is right.
-use Rattle.std.proofs.Common.{◌≡◌, ◌∙◌, ℕ, ℤ, zero, suc, ◌+◌, ◌*◌, ◌^◌, ◌<◌, ◌≤◌, cond, nat_le, Bool, true, false, List, [], ◌∷◌, ◌++◌, length, take, All, Option, Some, None, IfSome, ap, sym, subst, refl, arith}
+use Rattle.std.proofs.Common.{◌≡◌, ◌∙◌, ℕ, ℤ, zero, suc, ◌+◌, ◌*◌, ◌^◌, ◌<◌, ◌≤◌, cond, nat_le}
+use Rattle.std.proofs.Common.{Bool, true, false, List, [], ◌∷◌, ◌++◌, length, take, All, Option}
+use Rattle.std.proofs.Common.{Some, None, IfSome, ap, sym, subst, refl, arith}
 use Rattle.std.specs.Prelude.{⊤, IsSome, option_map}
 use Rattle.std.proofs.Math.Nat.{pow-succ'}
 use Rattle.std.proofs.lemmas.Bool.{both_ways, le-leb, leb-true}
@@ -189,19 +191,13 @@ finds_within problem penalty budget enough =
 marked_by : (tree : List WaitNode) (best : Option Choice) (waits : Waits)
     → option_map (with_tree (Some tree)) best ≡ Some waits → IsSome waits.tree
 marked_by tree None waits is = absurd (cc)
-marked_by tree (Some choice) waits is =
-    let same : with_tree (Some tree) choice ≡ waits = cc in
-    subst (λ (w : Waits). IsSome w.tree) same refl
+marked_by tree (Some choice) waits is = grind arith
 
 pub whole_marked : (problem : DelayProblem) (penalty budget : ℕ) (waits : Waits) → IsEnough problem budget
     → waits_within budget (listing problem penalty) ≡ Some waits → IsSome waits.tree
 unfolding waits_within
 whole_marked problem penalty budget waits enough is =
-    let short = listing_is_short problem penalty in
-    let within = le-leb (length (listing problem penalty)) budget (omega (arith, short, enough)) in
-    marked_by (nodes_of (listing problem penalty)) (best_after None (listing problem penalty)) waits
-    (sym (ap (λ b. cond b (last_found (Some (nodes_of (listing problem penalty))) (listing problem penalty))
-    (last_found None (take budget (listing problem penalty)))) within) ∙ is)
+    grind (arith, listing_is_short, le-leb, marked_by)
 
 -- a whole tree over all changes has more nodes than there are changes
 pub enough_finds : (problem : DelayProblem) (budget : ℕ) → IsEnough problem budget → FindsSome problem budget

@@ -1,5 +1,6 @@
 -- What the choice of a waiting decision gives, exit by exit.
-use Rattle.std.proofs.Common.{◌≡◌, ◌∙◌, ℕ, ◌+◌, ◌≤◌, List, [], ◌∷◌, slice_get, Option, Some, None, Err, ap, sym, subst, arith}
+use Rattle.std.proofs.Common.{◌≡◌, ◌∙◌, ℕ, ◌+◌, ◌≤◌, List, [], ◌∷◌, slice_get, Option, Some, None}
+use Rattle.std.proofs.Common.{Err, ap, sym, subst, arith}
 use Rattle.std.specs.Prelude.{IsSome}
 use Rattle.giv_files.specs.declared.refusal.Refusal.{Refusal}
 use Rattle.giv_files.specs.declared.refusal.StageFault.{StageFault}
@@ -51,9 +52,7 @@ module _ (bundle : BundleParts) (penalty budget : ℕ) where
       → now ≤ (before + 1) + entries_listed budget (listing_in bundle penalty)
       → TakesSteps {T = Waits} (waits_work bundle penalty budget) before now (Err fault.NoMemory)
   unfolding waits_work
-  few_steps before now none least most =
-      subst (λ faults. (before ≤ now) × (now ≤ before + work_after faults (entries_listed budget (listing_in bundle penalty)))) (sym none)
-      (omega (arith, least), omega (arith, most))
+  few_steps before now none least most = grind arith
 
   -- ---- the search ends
 
@@ -64,9 +63,7 @@ module _ (bundle : BundleParts) (penalty budget : ℕ) where
 
     refusals : waits_refusals bundle penalty budget ≡ spent_by budget result
     unfolding waits_refusals
-    refusals =
-        ap (λ faults. or_else faults (spent_by budget (waits_in bundle penalty budget))) none
-        ∙ ap (spent_by budget) (sym here)
+    refusals = grind arith
 
     pub end_chosen : UnlessFault (waits_refusals bundle penalty budget)
         (λ waits. waits_in bundle penalty budget ≡ Some waits) (outcome_of budget result)

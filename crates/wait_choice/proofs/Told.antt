@@ -1,5 +1,7 @@
 -- Items of lists, one after the other.
-use Rattle.std.proofs.Common.{◌-◌, ◌≡◌, ◌∙◌, ℕ, zero, suc, ◌+◌, ◌<◌, ◌≤◌, ◌==◌, ◌&&◌, Bool, true, List, [], ◌∷◌, ◌++◌, length, map, drop, take, get_or, Some, ap, sym, subst, refl, arith, append_assoc, inl, inr}
+use Rattle.std.proofs.Common.{◌-◌, ◌≡◌, ◌∙◌, ℕ, zero, suc, ◌+◌, ◌<◌, ◌≤◌, ◌==◌, ◌&&◌, Bool, true}
+use Rattle.std.proofs.Common.{List, [], ◌∷◌, ◌++◌, length, map, drop, take, get_or, Some, ap, sym}
+use Rattle.std.proofs.Common.{subst, refl, arith, append_assoc, inl, inr}
 use Rattle.std.specs.Prelude.{position, unwrap_or, slice_get, zip, All}
 use Rattle.std.proofs.lemmas.List.Elements.{All-append, All-cons, All-nil}
 use Rattle.std.proofs.lemmas.List.Kept.{AllPairs-from_increasing}
@@ -47,13 +49,7 @@ module _ (ids : List ℕ) (rise : IsStrictlyIncreasing ids) (id : ℕ) where
   far k i less inside = AllPairs-from_increasing ids rise k i 0 less inside
 
   pub never_falls : (i j : ℕ) → i ≤ j → j < length ids → get_or ids i 0 ≤ get_or ids j 0
-  never_falls i j most inside =
-      elim (cases_lt i j) [
-        | inl before ↦
-            let less : get_or ids i 0 < get_or ids j 0 = far i j before inside in omega (arith, less)
-        | inr past ↦
-            let same : i ≡ j = omega (arith, most, past) in omega (arith, ap (λ k. get_or ids k 0) same)
-      ]
+  never_falls i j most inside = grind (arith, cases_lt, get_or, far)
 
   pub found_at : (i : ℕ) → i < length ids → get_or ids i 0 ≡ id → i ≡ unwrap_or (position (λ other. other == id) ids) (length ids)
   found_at i inside is =
@@ -75,11 +71,7 @@ module _ (ids : List ℕ) (rise : IsStrictlyIncreasing ids) (id : ℕ) where
 -- the index among the ids of changes
 pub index_alike : (ids : List ℕ) (changes : List Activity) (id : ℕ) → ids ≡ map (λ change. change.id) changes
     → unwrap_or (position (λ other. other == id) ids) (length ids) ≡ unwrap_or (position (λ change. change.id == id) changes) (length changes)
-index_alike ids changes id is =
-    let same : map (λ other. other == id) ids ≡ map (λ (change : Activity). change.id == id) changes =
-    ap (map (λ other. other == id)) is ∙ map-map (λ other. other == id) (λ (change : Activity). change.id) changes in
-    let long : length ids ≡ length changes = ap length is ∙ length-map changes (λ (change : Activity). change.id) in
-    (λ i. unwrap_or (position_alike (λ other. other == id) (λ (change : Activity). change.id == id) ids changes same i) (long i))
+index_alike ids changes id is = grind (arith, map-map, length-map, position_alike)
 
 -- ---- whether rows decide changes
 

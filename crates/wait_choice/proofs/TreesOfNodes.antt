@@ -1,9 +1,9 @@
 -- Nodes that are a whole tree without a low leaf certify a cost, and conversely.
-use Rattle.std.proofs.Common.{◌≡◌, ◌∙◌, ℕ, ℤ, ◌&&◌, ◌||◌, ◌≤ℤ◌, true, false, List, [], ◌∷◌, ◌++◌, refl, ap, sym, subst, append_assoc}
+use Rattle.std.proofs.Common.{◌≡◌, ◌∙◌, ℕ, ℤ, ◌≤ℤ◌, true, false, List, [], ◌∷◌, ◌++◌, refl, ap, sym}
+use Rattle.std.proofs.Common.{subst, append_assoc, append-nil, arith}
 use Rattle.std.specs.Prelude.{int_lt}
 use Rattle.std.proofs.lemmas.Bool.{and_parts, both_ways, or_parts}
 use Rattle.std.proofs.lemmas.Int.{ints}
-use Rattle.std.proofs.Common.{append-nil, arith}
 use Rattle.delay_management.specs.Problems.{DelayProblem}
 use Rattle.wait_choice.specs.declared.decision.Decision.{Decision}
 use Rattle.wait_choice.specs.declared.decision.Decision.TheVariants as decision
@@ -14,9 +14,6 @@ use Rattle.wait_choice.specs.Regions.{bound_of, decided, is_free_at, open_region
 
 not_lt : (a b : ℤ) → int_lt a b ≡ false → b ≤ℤ a
 not_lt a b h = grind (arith, ints)
-
-from_le : (a b : ℤ) → b ≤ℤ a → int_lt a b ≡ false
-from_le a b h = grind (arith, ints)
 
 module _ (problem : DelayProblem) (penalty : ℕ) (cost : ℤ) where
   -- trees for some regions, and the nodes of each behind those of the one before
@@ -62,18 +59,13 @@ module _ (problem : DelayProblem) (penalty : ℕ) (cost : ℤ) where
       × (any_low problem penalty cost (leaves_of (region ∷ regions) (preorder tree ++ rest))
       ≡ any_low problem penalty cost (leaves_of regions rest))
   unfolding are_trees leaves_of TreeCertifies preorder
-  tree_passes leaf region regions rest shows = (
-    refl,
-    ap (λ b. b || any_low problem penalty cost (leaves_of regions rest)) (from_le (bound_of problem penalty region) cost shows),
-  )
+  tree_passes leaf region regions rest shows = grind arith
   tree_passes (fork change keeping dropping) region regions rest shows =
-      let one = tree_passes keeping (decided region change decision.Kept) (decided region change decision.Dropped ∷ regions)
-      (preorder dropping ++ rest) shows.1 in
-      let two = tree_passes dropping (decided region change decision.Dropped) regions rest shows.2 in
-      let nodes = append_assoc (preorder keeping) (preorder dropping) rest in (
-        ap (λ b. b && are_trees (parts_by region change ++ regions) ((preorder keeping ++ preorder dropping) ++ rest)) shows.0
-            ∙ ap (are_trees (parts_by region change ++ regions)) nodes ∙ one.0 ∙ two.0,
-        ap (λ nodes. any_low problem penalty cost (leaves_of (parts_by region change ++ regions) nodes)) nodes ∙ one.1 ∙ two.1,
+      grind (
+        arith,
+        append_assoc,
+        tree_passes keeping (decided region change decision.Kept) (decided region change decision.Dropped ∷ regions) (preorder dropping ++ rest) shows.1,
+        tree_passes dropping (decided region change decision.Dropped) regions rest shows.2,
       )
 
   pub tree_of_nodes : (nodes : List WaitNode) → Certifies problem penalty cost nodes

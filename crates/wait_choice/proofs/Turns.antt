@@ -1,8 +1,9 @@
 -- An entry more of a search.
-use Rattle.std.proofs.Common.{append-nil, Result, Ok, Err, IfOk, ◌≡◌, ◌∙◌, ℕ, zero, suc, ◌+◌, ◌≤◌, ◌<◌, cond, Bool, true, false, List, [], ◌∷◌, ◌++◌, length, take, drop, Option, Some, None, ap, sym, subst, refl, arith, append_assoc}
+use Rattle.std.proofs.Common.{append-nil, Result, Ok, Err, IfOk, ◌≡◌, ◌∙◌, ℕ, zero, suc, ◌+◌, ◌≤◌}
+use Rattle.std.proofs.Common.{◌<◌, cond, Bool, true, false, List, [], ◌∷◌, ◌++◌, length, take, drop}
+use Rattle.std.proofs.Common.{Option, Some, None, ap, sym, subst, refl, arith, append_assoc}
 use Rattle.std.specs.Prelude.{count_by, min, option_map, MatchBool, OnErr, OnOk}
-use Rattle.std.proofs.lemmas.Bool.{le-leb, lt-leb}
-use Rattle.wait_choice.specs.Budgets.{last_found, waits_within, with_tree}
+use Rattle.wait_choice.specs.Budgets.{waits_within, with_tree}
 use Rattle.std.proofs.lemmas.List.{length-append, length-drop, map-append, take_all}
 use Rattle.delay_management.specs.Problems.{DelayProblem}
 use Rattle.delay_management.specs.Trials.{TrialParts}
@@ -13,7 +14,7 @@ use Rattle.wait_choice.specs.declared.node.WaitNode.{WaitNode}
 use Rattle.wait_choice.specs.declared.node.WaitNode.TheVariants as node
 use Rattle.wait_choice.specs.Listings.{Choice, Entry, best_after, choice_in, cut_off, entries_by, entries_within, entry_at, entry_by, found, holds_off, levels_of, listing, node_of, nodes_of, split, visit}
 use Rattle.wait_choice.specs.Paths.{GoesOn, region_in, region_of, regions_in, waiting, waiting_in}
-use Rattle.wait_choice.specs.Regions.{bound_of, decided, first_broken, is_free, is_free_at, open_region}
+use Rattle.wait_choice.specs.Regions.{bound_of, decided, first_broken, is_free, is_free_at}
 use Rattle.wait_choice.specs.Searches.{Between, IsBehind, Leaves, Splits, TakesEntry, best_in, next_entry, to_come, visits}
 use Rattle.wait_choice.proofs.Visits.{best_behind, free_less, split_free}
 
@@ -88,9 +89,7 @@ module _ (penalty : ℕ) (before : Between) where
   come_leaf : (leaf : Entry) → leaf ≡ entry → node_of leaf ≡ node.Leaf
       → to_come penalty before ≡ entry ∷ visits problem penalty (waiting_in before.path) (best_after before.best (entry ∷ []))
   unfolding visits
-  come_leaf leaf is one =
-      let all = visit_leaf problem penalty region before.best entry refl (ap node_of (sym is) ∙ one) in
-      ap (λ entries. entries ++ visits problem penalty (waiting_in before.path) (best_after before.best entries)) all
+  come_leaf leaf is one = grind (arith, visit_leaf)
 
   -- an entry that is a leaf
   pub takes_leaf : (leaf : Entry) → leaf ≡ entry → node_of leaf ≡ node.Leaf
@@ -149,12 +148,7 @@ module _ (penalty : ℕ) (before : Between) where
       }
 
       at_once : TakesEntry penalty before new true
-      at_once = record {
-        same = refl;
-        nodes = ap (λ e. before.nodes ++ node_of e ∷ []) is;
-        best = ap (λ e. best_after before.best (e ∷ [])) is;
-        rest = come_split change is ∙ ap (λ e. e ∷ to_come penalty new) is;
-      }
+      at_once = grind (arith, come_split)
 
 -- what holds of an outcome, by what holds of another
 pub outcome_by : {A E : Type 0} (P Q : A → Type 0) (result : Result A E) → IfOk result P
@@ -178,9 +172,7 @@ at_drop : {X : Type 0} (xs : List X) (i : ℕ) (x : X) (rest : List X) → drop 
     → (take (i + 1) xs ≡ take i xs ++ x ∷ []) × (drop (i + 1) xs ≡ rest) × (i < length xs)
 at_drop [] zero x rest is = absurd (cc)
 at_drop [] (suc i) x rest is = absurd (cc)
-at_drop (y ∷ xs) zero x rest is =
-    let same : y ≡ x = cc in let left : xs ≡ rest = cc in
-    (ap (λ z. z ∷ []) same, left, omega arith)
+at_drop (y ∷ xs) zero x rest is = grind arith
 at_drop (y ∷ xs) (suc i) x rest is =
     let less = at_drop xs i x rest is in
     let more : suc i + 1 ≡ suc (i + 1) = omega arith in (
@@ -197,13 +189,7 @@ entries_some below region best (split change) = omega arith
 
 some_come : (penalty : ℕ) (at : Between) → 1 ≤ length (to_come penalty at)
 unfolding visits
-some_come penalty at =
-    let region = region_in at.path in
-    let problem = at.path.problem in
-    let entries = visit problem penalty region at.best in
-    let some : 1 ≤ length entries = subst (λ all. 1 ≤ length all) (sym (visit_by problem penalty region at.best))
-    (entries_some (entries_within problem penalty (count_by is_free region)) region at.best (entry_at problem penalty region at.best)) in
-    omega (arith, some, length-append entries (visits problem penalty (waiting_in at.path) (best_after at.best entries)))
+some_come penalty at = grind (arith, visit_by, entries_some, length-append)
 
 module _ (problem : DelayProblem) (penalty : ℕ) where
   abbrev entries : List Entry
@@ -219,12 +205,7 @@ module _ (problem : DelayProblem) (penalty : ℕ) where
       first = record { path = record { problem = problem; decided = [] }; nodes = []; best = None }
 
       at_first : IsBehind problem penalty 0 first
-      at_first = record {
-        same = refl;
-        nodes = refl;
-        best = refl;
-        rest = append-nil (visit problem penalty (open_region problem) None);
-      }
+      at_first = grind (arith, append-nil)
 
   module _ (i : ℕ) (at : Between) (behind : IsBehind problem penalty i at) where
     abbrev next : Entry
@@ -237,18 +218,7 @@ module _ (problem : DelayProblem) (penalty : ℕ) where
 
     module _ (after : Between) where
       pub one_more : TakesEntry penalty at after true → IsBehind problem penalty (i + 1) after × (i + 1 ≤ length entries)
-      one_more takes =
-          let all = at_drop entries i next (to_come penalty after) (sym behind.rest ∙ takes.rest) in (
-            record {
-              same = takes.same ∙ behind.same;
-              nodes = takes.nodes ∙ ap (λ nodes. nodes ++ node_of next ∷ []) behind.nodes
-                  ∙ sym (map-append node_of (take i entries) (next ∷ [])) ∙ ap nodes_of (sym all.0);
-              best = takes.best ∙ ap (λ best. best_after best (next ∷ [])) behind.best
-                  ∙ sym (best_behind None (take i entries) (next ∷ [])) ∙ ap (best_after None) (sym all.0);
-              rest = sym all.1;
-            },
-            omega (arith, all.2),
-          )
+      one_more takes = grind (arith, at_drop, map-append, best_behind)
 
       pub last_one : TakesEntry penalty at after false
           → (after.nodes ≡ nodes_of entries) × (after.best ≡ best_after None entries) × (length entries ≡ i + 1)
@@ -272,19 +242,13 @@ pub whole_within : (budget : ℕ) (entries : List Entry) (nodes : List WaitNode)
     → length entries ≤ budget → nodes ≡ nodes_of entries → best ≡ best_after None entries
     → option_map (with_tree (Some nodes)) best ≡ waits_within budget entries
 unfolding waits_within
-whole_within budget entries nodes best enough all last =
-    (λ i. option_map (with_tree (Some (all i))) (last i))
-    ∙ sym (ap (λ b. cond b (last_found (Some (nodes_of entries)) entries) (last_found None (take budget entries)))
-    (le-leb (length entries) budget enough))
+whole_within budget entries nodes best enough all last = grind arith
 
 pub spent_within : (budget : ℕ) (entries : List Entry) (best : Option Choice) → budget < length entries
     → best ≡ best_after None (take budget entries)
     → option_map (with_tree None) best ≡ waits_within budget entries
 unfolding waits_within
-spent_within budget entries best short last =
-    ap (option_map (with_tree None)) last
-    ∙ sym (ap (λ b. cond b (last_found (Some (nodes_of entries)) entries) (last_found None (take budget entries)))
-    (lt-leb (length entries) budget short))
+spent_within budget entries best short last = grind arith
 
 pub on_err : {A E : Type 0} (P : Type 0) (result : Result A E) → P → OnErr result P
 on_err P (Ok value) is = tt

@@ -1,5 +1,6 @@
 -- No fault of an input is a spent budget.
-use Rattle.std.proofs.Common.{◌≡◌, ℕ, Bool, true, false, cond, List, [], ◌∷◌, ◌++◌, map, nat_lt, slice_get, Option, Some, None, Err, subst}
+use Rattle.std.proofs.Common.{arith, ◌≡◌, ℕ, Bool, true, false, cond, List, [], ◌∷◌, ◌++◌, map}
+use Rattle.std.proofs.Common.{nat_lt, slice_get, Option, Some, None, Err, subst}
 use Rattle.std.specs.Prelude.{⊤}
 use Rattle.std.specs.List.{flat_map}
 use Rattle.giv_files.specs.declared.file_id.FileId.{FileId}
@@ -11,7 +12,7 @@ use Rattle.giv_files.specs.declared.refusal.StageFault.TheVariants as fault
 use Rattle.giv_files.specs.Reading.{faults, table_of}
 use Rattle.giv_files.specs.Inputs.{Input, Numbered, RowRule, TableRule, Refuses, broken_whys, cell_faults, fault_at, input_faults, limit_faults, numbered, or_else, records, row_faults, table_row_faults, whole_faults}
 use Rattle.giv_files.specs.Settings.{BundleParts}
-use Rattle.delay_management.specs.DispositionStage.{delay_faults, disposition_faults, made_faults}
+use Rattle.delay_management.specs.DispositionStage.{disposition_faults}
 use Rattle.wait_choice.specs.ChoiceStage.{IsUnspent, IsWhole}
 
 IsFault : Refusal → Type 0
@@ -81,9 +82,7 @@ input_so input text =
 
 all_so : (bundle : BundleParts) → AreFaults (disposition_faults bundle)
 unfolding disposition_faults
-all_so bundle =
-    both (made_faults bundle) (delay_faults bundle)
-    (both _ _ (input_so _ _) (both _ _ (input_so _ _) (input_so _ _))) (both _ _ (input_so _ _) (input_so _ _))
+all_so bundle = grind (arith, both, input_so)
 
 first_so : (faults : List Refusal) (first : Refusal) → AreFaults faults → slice_get faults 0 ≡ Some first → IsFault first
 unfolding AreFaults
