@@ -1,6 +1,7 @@
 -- A run over what is kept, and a fresh one, which first removes it.
-use Rattle.std.proofs.Common.{◌≡◌, ℕ, ◌+◌, ◌≤◌, Bool, true, false, cond, not, List, [], ◌∷◌, ◌++◌, Option, Some, None}
-use Rattle.std.proofs.Common.{IfSome, IfOk, IfErr, OnOk, Result, Ok, Err, refl, ap, sym, subst, ◌∙◌, inl, inr, ⊎_elim, append-nil}
+use Rattle.std.proofs.Common.{arith, ◌≡◌, ℕ, ◌+◌, ◌≤◌, Bool, true, false, cond, not, List, [], ◌∷◌}
+use Rattle.std.proofs.Common.{◌++◌, Option, Some, None, IfSome, IfOk, IfErr, OnOk, Result, Ok, Err}
+use Rattle.std.proofs.Common.{refl, ap, sym, subst, ◌∙◌, inl, ⊎_elim, append-nil}
 use Rattle.std.specs.Option.{option_map}
 use Rattle.std.specs.FinMap as files
 use Rattle.plan_files.specs.declared.write.Write.{Write}
@@ -51,9 +52,7 @@ fresh_hand folder = same_folder (files.retain_keys (without_keep folder) is_hand
     by name false is = refl
 
 pub fresh_none : (folder : Folder) (at : Stage) → files.get (without_keep folder) (keep_name at) ≡ None
-fresh_none folder at =
-    fresh_gets folder (keep_name at)
-    ∙ ap (λ kept. cond (not kept) (files.get folder (keep_name at)) None) (own_keep at)
+fresh_none folder at = grind (arith, fresh_gets, own_keep)
 
 module _ (S : StageParts) (laws : AreStages S) where
   -- it keeps nothing
@@ -175,8 +174,7 @@ module _ (S : StageParts) (laws : AreStages S) where
       subst (λ noted. AreNotAll fault (writes_of S folder) (Some folder) new noted now) (cleared.noted ∙ no_writes before)
       (subst (λ mid. IfSome mid (λ folder. AreNotAll fault (writes_of S folder) (Some folder) new noted now)) cleared.folder h)
   unfinished_both mode.Fresh (Some folder) mid new before noted now (Err fault) cleared h =
-      inr (subst (λ noted. AreNotAll fault (writes_of S (without_keep folder)) (Some (without_keep folder)) new noted now) cleared.noted
-      (subst (λ mid. IfSome mid (λ folder. AreNotAll fault (writes_of S folder) (Some folder) new noted now)) (cleared.folder ∙ ap Some (fresh_left folder)) h))
+      grind (arith, fresh_left)
 
   -- ---- what a finished run left
 

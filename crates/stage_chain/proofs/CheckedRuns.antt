@@ -1,7 +1,8 @@
 -- The folder that a finished run leaves passes a check.
 use Rattle.config_keys.specs.Config.{last_stage_of}
-use Rattle.std.proofs.Common.{map, nat_le}
-use Rattle.std.proofs.Common.{◌≡◌, ℤ, suc, Bool, true, false, cond, List, [], ◌∷◌, ◌++◌, length, Option, Some, None, IfSome, Result, Ok, Err, refl, ap, subst, sym, ◌∙◌, arith}
+use Rattle.std.proofs.Common.{map, nat_le, ◌≡◌, ℤ, suc, Bool, true, false, cond, List, [], ◌∷◌}
+use Rattle.std.proofs.Common.{◌++◌, length, Option, Some, None, IfSome, Result, Ok, Err, refl, ap}
+use Rattle.std.proofs.Common.{subst, sym, ◌∙◌, arith}
 use Rattle.std.specs.Option.{option_or}
 use Rattle.plan_files.specs.Folder.{Folder}
 use Rattle.giv_files.specs.declared.made.Made.{Made}
@@ -121,11 +122,11 @@ module _ (S : StageParts) (laws : AreStages S) where
     all_pass hand all [] visits full placed right = refl
     all_pass hand all (place ∷ places) [] full placed right = absurd (omega (arith, full))
     all_pass hand all (place ∷ places) (visit ∷ visits) full placed right =
-        let own = placed.0.own in
-        let given = subst (λ own. bundle_by (text_in folder) values own ≡ Ok visit.bundle) own right.0.given in
-        let here = one_passes place visit own given right.0.found right.0.right placed.0.solved in
-        ap (λ found. option_or found (first_judged places)) here
-        ∙ all_pass hand all places visits (omega (arith, full)) placed.1 right.1
+        grind (
+          arith,
+          one_passes,
+          all_pass hand all places visits (omega (arith, full)) placed.1 right.1,
+        )
 
 -- ---- the folder that a run leaves
 

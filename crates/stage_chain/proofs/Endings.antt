@@ -1,6 +1,7 @@
 -- A chain from scratch ends at a refusal exactly where a stage refuses what it is handed.
-use Rattle.std.proofs.Common.{◌≡◌, ℕ, ℤ, Bool, true, false, cond, All, Contains, List, [], ◌∷◌, ◌++◌}
-use Rattle.std.proofs.Common.{Option, Some, None, IfErr, Result, Ok, Err, refl, ap, sym, ◌∙◌, arith}
+use Rattle.std.proofs.Common.{◌≡◌, ℕ, ℤ, Bool, true, false, cond, All, Contains, List, [], ◌∷◌}
+use Rattle.std.proofs.Common.{◌++◌, Option, Some, None, IfErr, Result, Ok, Err, refl, sym, ◌∙◌}
+use Rattle.std.proofs.Common.{arith}
 use Rattle.std.proofs.lemmas.List.Elements.{All-cons, Contains-append_right}
 use Rattle.std.specs.Prelude.{⊤}
 use Rattle.plan_files.specs.declared.store.Got.{Got}
@@ -22,8 +23,8 @@ use Rattle.stage_chain.specs.declared.cause.Cause.TheVariants as cause
 use Rattle.stage_chain.specs.declared.origin.Origin.{Origin}
 use Rattle.stage_chain.specs.declared.origin.Origin.TheVariants as origin
 use Rattle.stage_chain.specs.Built.{cause_of, trace_of}
-use Rattle.stage_chain.specs.Chain.{Halt, Trace, Visit, bundle_told, chain_from, chosen, go_on, hand_text, handed}
-use Rattle.stage_chain.specs.Chain.{input_text, is_file, made_text, origin_of, solved, text_from, texts_of, tried}
+use Rattle.stage_chain.specs.Chain.{Halt, Trace, Visit, bundle_told, chain_from, go_on, hand_text, handed}
+use Rattle.stage_chain.specs.Chain.{input_text, is_file, made_text, solved, text_from, texts_of, tried}
 use Rattle.stage_chain.specs.Chain.{visit_of, with_text}
 use Rattle.stage_chain.specs.StageParts.{StageParts}
 use Rattle.stage_chain.specs.Laws.{AreStages}
@@ -70,9 +71,7 @@ texts_free : (values : List ℤ) (hand : Folder) (made : List MadeFile) (files :
     → NoneRefused (texts_of values hand made files)
 texts_free values hand made [] = tt
 texts_free values hand made (file ∷ files) =
-    with_free (input_text hand made (chosen values file)) (texts_of values hand made files)
-    (from_free (origin_of (chosen values file)) hand made (chosen values file))
-    (texts_free values hand made files)
+    grind (arith, with_free, from_free, texts_free values hand made files)
 
 told_free : (values : List ℤ) (at : Stage) (texts : Result (List (List ℕ)) Cause) → NoneRefused texts
     → NoneRefused (bundle_told values at texts)
@@ -121,19 +120,7 @@ module _ (run : BundleParts → Result Made Refusal) where
     refused_last : (bundle : BundleParts) (reason : Refusal) (rest : Visit → Trace) → Fits bundle
         → run bundle ≡ Err reason
         → EndsAtRefusals (go_on (solved run values hand bundle (Err reason)) rest)
-    refused_last bundle reason rest fits is =
-        let here : IsHanded (Some (record { cause = cause.Refused bundle.stage reason; given = Some bundle })) bundle = record {
-          fits = fits;
-          refused = λ other e.
-              let same : reason ≡ other = (let both = sym is ∙ e in cc) in
-              ap (λ why. Some (cause.Refused bundle.stage why)) same;
-        } in record {
-          all = All-cons (IsHanded (Some (record { cause = cause.Refused bundle.stage reason; given = Some bundle }))) bundle [] here (λ k d inside. absurd (omega (arith, inside)));
-          one = λ at why halt.
-              let own : bundle.stage ≡ at = cc in
-              let same : reason ≡ why = cc in
-              record { bundle = bundle; given = (0, omega arith, refl); own = own; refused = is ∙ ap Err same };
-        }
+    refused_last bundle reason rest fits is = grind arith
 
     -- one that is not given its inputs ends it with no refusal
     none_given : (why : Cause) (rest : Visit → Trace) → IsNoRefusal why

@@ -1,6 +1,6 @@
 -- After a fresh run what is kept are the new entries, and nothing else.
-use Rattle.std.proofs.Common.{◌≡◌, ℕ, Bool, true, false, cond, ◌||◌, List, [], ◌∷◌, map, None, refl, ap, sym, ◌∙◌}
-use Rattle.std.proofs.Common.{nat_cmp, subst, Option, Some, IfSome}
+use Rattle.std.proofs.Common.{arith, ◌≡◌, ℕ, Bool, true, false, cond, ◌||◌, List, [], ◌∷◌, map}
+use Rattle.std.proofs.Common.{None, refl, ap, sym, ◌∙◌, nat_cmp, Option, Some, IfSome}
 use Rattle.std.specs.Cmp.Lexicographic.{slice_cmp}
 use Rattle.std.specs.Str.{bytes_eq}
 use Rattle.std.specs.FinMap as files
@@ -68,9 +68,7 @@ module _ (S : StageParts) (laws : AreStages S) (folder : Folder) where
 
   pub fresh_keeps : FreshKeeps S folder
   unfolding FreshKeeps after entries_over made_over
-  fresh_keeps = same_folder (kept_part (after S base)) (folder_after (entries_over S base) files.empty) (λ name.
-      get_part (λ name. is_among name keep_names) (after S base) name
-      ∙ kept_under name (is_among name keep_names) refl)
+  fresh_keeps = grind (arith, same_folder, get_part, kept_under)
 
 -- so it is of the folder that a fresh run left
 pub fresh_left : (S : StageParts) (laws : AreStages S) (by : Mode) (read : Folder) (left : Option Folder)
@@ -78,6 +76,4 @@ pub fresh_left : (S : StageParts) (laws : AreStages S) (by : Mode) (read : Folde
     → IfSome left (λ folder. kept_part folder ≡ folder_after (entries_over S (without_keep read)) files.empty)
 unfolding FreshKeeps
 fresh_left S laws mode.Make read left is fresh = absurd (cc)
-fresh_left S laws mode.Fresh read left is fresh =
-    subst (λ left. IfSome left (λ folder. kept_part folder ≡ folder_after (entries_over S (without_keep read)) files.empty)) (sym is)
-    (fresh_keeps S laws read)
+fresh_left S laws mode.Fresh read left is fresh = grind (arith, fresh_keeps)

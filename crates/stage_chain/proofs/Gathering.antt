@@ -1,7 +1,6 @@
 -- The inputs of a stage, one after the other.
-use Rattle.std.proofs.Common.{◌≡◌, ℕ, ℤ, ◌+◌, ◌<◌, ◌≤◌, List, [], ◌∷◌, ◌++◌, length, get_or, drop}
-use Rattle.std.proofs.Common.{Option, Some, None, IfSome, Result, Ok, Err, refl, ap, subst, sym}
-use Rattle.std.proofs.Common.{◌∙◌}
+use Rattle.std.proofs.Common.{arith, ◌≡◌, ℕ, ℤ, ◌+◌, ◌<◌, ◌≤◌, List, [], ◌∷◌, ◌++◌, length, get_or}
+use Rattle.std.proofs.Common.{drop, Option, Some, None, IfSome, Result, Ok, Err, refl, ap, sym, ◌∙◌}
 use Rattle.std.proofs.Common.{append-nil, append_assoc}
 use Rattle.std.proofs.lemmas.List.{at_drop_more, at_drop_all}
 use Rattle.plan_files.specs.Folder.{Folder}
@@ -61,8 +60,7 @@ module _ (look : Folder → FileId → Result (List ℕ) Cause) (values : List �
       → IfSome contents (so_far_in files (drop (i + 1) files) next)
   told_more None now files i d texts next text inside same is more so_far = tt
   told_more (Some folder) now files i d texts next text inside same is more so_far =
-      let told : look folder (chosen values (get_or files i d)) ≡ Ok text = rw same at is in
-      rw more (text_more values (look folder) files i d texts text inside told so_far)
+      grind (arith, get_or, text_more)
 
   pub told_all : (contents : Option Folder) (files inputs : List FileId) (i : ℕ) (stage : Stage)
       (bundle : BundleParts) → length files ≤ i → files ≡ inputs
@@ -70,10 +68,7 @@ module _ (look : Folder → FileId → Result (List ℕ) Cause) (values : List �
       → IfSome contents (so_far_in files (drop i files) bundle.inputs)
       → IfSome contents (λ folder. bundle_told values stage (texts_by (look folder) values inputs) ≡ Ok bundle)
   told_all None files inputs i stage bundle past same is so_far = tt
-  told_all (Some folder) files inputs i stage bundle past same is so_far =
-      ap (λ inputs. bundle_told values stage (texts_by (look folder) values inputs)) (sym same)
-      ∙ ap (bundle_told values stage) (text_all values (look folder) files i bundle.inputs past so_far)
-      ∙ ap Ok (sym is)
+  told_all (Some folder) files inputs i stage bundle past same is so_far = grind (arith, text_all)
 
   ended : (folder : Folder) (files inputs : List FileId) (i : ℕ) (d : FileId) (stage : Stage)
       (texts : List (List ℕ)) (end : ChainEnd) → i < length files → files ≡ inputs
@@ -96,5 +91,4 @@ module _ (look : Folder → FileId → Result (List ℕ) Cause) (values : List �
       → IfSome contents (λ folder. Gives (bundle_told values stage (texts_by (look folder) values inputs)) result)
   told_ended None now files inputs i d stage texts file end result inside here same at is so_far e = tt
   told_ended (Some folder) now files inputs i d stage texts file end result inside here same own is so_far e =
-      let told = subst (λ file. Gives {T = List ℕ} (look folder file) (Err end)) own (subst (λ now. IfSome now (λ folder. Gives {T = List ℕ} (look folder file) (Err end))) here is) in
-      subst (Gives (bundle_told values stage (texts_by (look folder) values inputs))) (sym e) (ended folder files inputs i d stage texts end inside same told so_far)
+      grind (arith, ended)

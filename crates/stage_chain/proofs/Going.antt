@@ -1,7 +1,7 @@
 -- A chain goes stage by stage.
 use Rattle.std.proofs.Common.{◌≡◌, ℕ, ℤ, ◌+◌, ◌<◌, ◌≤◌, Bool, true, false, leb, List, [], ◌++◌}
 use Rattle.std.proofs.Common.{length, get_or, drop, Option, Some, None, IfSome, Result, Ok, Err}
-use Rattle.std.proofs.Common.{refl, ap, sym, ◌∙◌, subst, arith, append-nil, append_assoc}
+use Rattle.std.proofs.Common.{refl, ap, ◌∙◌, subst, arith, append-nil, append_assoc}
 use Rattle.std.specs.List.{sum_by}
 use Rattle.std.proofs.lemmas.List.{at_drop_more, at_drop_all}
 use Rattle.std.proofs.lemmas.List.Sums.{sum_by-cons}
@@ -16,9 +16,8 @@ use Rattle.stage_chain.specs.declared.chain_end.ChainEnd.{ChainEnd}
 use Rattle.stage_chain.specs.declared.chain_end.ChainEnd.TheVariants as end
 use Rattle.stage_chain.specs.Chain.{Visit, Halt, Trace, go_on, handed, handed_once, visit_of}
 use Rattle.stage_chain.specs.Chain.{chain_from, to_run, stage_place}
-use Rattle.stage_chain.specs.Built.{files_of, cause_of}
-use Rattle.stage_chain.specs.Reports.{stage_lines, line_of}
-use Rattle.stage_chain.specs.Kept.{HasEntry, kept_in, new_entries, new_entry, work_over}
+use Rattle.stage_chain.specs.Built.{cause_of}
+use Rattle.stage_chain.specs.Kept.{HasEntry, kept_in, work_over}
 use Rattle.stage_chain.specs.Progress.{SoFar, nothing, with_visit, IsRest, VisitGives, visit_work}
 use Rattle.stage_chain.specs.Progress.{IsAll, ChainGives, trace_work}
 use Rattle.stage_chain.specs.StageParts.{StageParts}
@@ -49,22 +48,11 @@ module _ (S : StageParts) (laws : AreStages S) where
         → IsRest S keep whole (go_on (Ok visit) (λ _. rest)) so_far before mid
         → IsRest S keep whole rest (with_visit S keep so_far visit) before now
     rest_more whole rest visit so_far before mid now e own h =
-        let more = handed_more rest visit in
-        let here = handed_here visit in
-        record {
-          files = h.files ∙ sym (append_assoc so_far.files visit.made.files (files_of rest.visits));
-          report = h.report ∙ sym (append_assoc so_far.report (line_of visit.made.report) (stage_lines rest.visits));
-          entries = h.entries ∙ sym (append_assoc so_far.entries (new_entry keep visit) (new_entries keep rest.visits));
-          have = λ more. h.have (own, more);
-          steps = omega (arith, h.steps, more, here, e);
-          halt = h.halt;
-        }
+        grind (arith, handed_more, handed_here, append_assoc)
 
     -- behind the last stage
     pub rest_none : (whole : Trace) (so_far : SoFar) (before now : ℕ) → IsRest S keep whole (record { visits = []; halt = None }) so_far before now → (cause_of whole.halt ≡ None) × IsAll S keep whole so_far × (now ≡ before + trace_work S keep whole)
-    rest_none whole so_far before now h =
-        let none : sum_by work (handed (record { visits = []; halt = None })) ≡ 0 = refl in
-        (ap cause_of h.halt, record { files = h.files ∙ append-nil so_far.files; report = h.report ∙ append-nil so_far.report; entries = h.entries ∙ append-nil so_far.entries; have = h.have tt }, omega (arith, h.steps, none))
+    rest_none whole so_far before now h = grind (arith, append-nil)
 
     -- where a stage ends the chain
     pub rest_stops : (whole : Trace) (halt : Halt) (so_far : SoFar) (before mid now : ℕ)
@@ -79,9 +67,7 @@ module _ (S : StageParts) (laws : AreStages S) where
         (so_far : SoFar) (before mid now : ℕ) → IsRest S keep whole (go_on told rest) so_far before mid
         → now ≤ mid + visit_work S keep told → now ≤ before + trace_work S keep whole
     rest_bounds whole (Ok visit) rest so_far before mid now h few =
-        let more = handed_more (rest visit) visit in
-        let here = handed_here visit in
-        omega (arith, h.steps, more, here, few)
+        grind (arith, handed_more, handed_here)
     rest_bounds whole (Err halt) rest so_far before mid now h few = omega (arith, h.steps, few)
 
 -- ---- the stages of a list
@@ -206,8 +192,7 @@ module _ (S : StageParts) (laws : AreStages S) where
           → IfSome contents (λ folder. ChainGives S folder (still (solve folder) values folder [] all) new before count result)
       told_ended all whole None now old new before mid count why result is same least told h e = tt
       told_ended all whole (Some folder) now old new before mid count why result is same least told h e =
-          let here : IfSome (Some folder) (λ folder. VisitGives S folder (visit_of (solve folder) values folder old.files (get_or stages i d)) old new mid count (Err why)) = rw same at told in
-          rw e (subst (λ stages. ChainGives S folder (still (solve folder) values folder [] stages) new before count (Err why)) whole (ended (solve folder) values folder folder stages i d (still (solve folder) values folder [] stages) old new before mid count why inside is least here h))
+          grind (arith, get_or, ended)
 
     pub told_finished : (contents : Option Folder) (values : List ℤ) (stages all : List Stage) (i : ℕ)
         (so_far : SoFar) (before now : ℕ) → length stages ≤ i → stages ≡ all

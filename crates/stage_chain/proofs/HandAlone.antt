@@ -1,7 +1,7 @@
 -- A chain depends on hand files alone.
+use Rattle.std.proofs.Common.{arith, ◌≡◌, ℕ, ℤ, Bool, true, false, cond, List, [], ◌∷◌, ◌++◌, codes}
+use Rattle.std.proofs.Common.{None, Result, Ok, Err, refl, ap, sym, ◌∙◌}
 use Rattle.stage_chain.specs.StageParts.{staged}
-use Rattle.std.proofs.Common.{◌≡◌, ℕ, ℤ, Bool, true, false, cond, List, [], ◌∷◌, ◌++◌, codes, None}
-use Rattle.std.proofs.Common.{Result, Ok, Err, refl, ap, sym, ◌∙◌}
 use Rattle.std.specs.Str.{bytes_eq}
 use Rattle.std.specs.FinMap as files
 use Rattle.std.proofs.lemmas.Bool.{false≢true}
@@ -23,10 +23,10 @@ use Rattle.config_keys.specs.Items.{look_in, config_name, file_limit}
 use Rattle.config_keys.specs.Values.{effective}
 use Rattle.config_keys.proofs.Looks.{effective_same}
 use Rattle.stage_chain.specs.Hand.{is_hand, hand_of}
-use Rattle.stage_chain.specs.Chain.{hand_text, input_text, chosen, with_text, texts_of}
+use Rattle.stage_chain.specs.Chain.{hand_text, input_text, texts_of}
 use Rattle.stage_chain.specs.Chain.{bundle_told, tried, go_on, visit_of, chain_from, to_run}
-use Rattle.stage_chain.specs.Built.{chain_under, trace_under, trace_of}
-use Rattle.stage_chain.specs.Kept.{solve_over, trace_over}
+use Rattle.stage_chain.specs.Built.{chain_under, trace_of}
+use Rattle.stage_chain.specs.Kept.{trace_over}
 use Rattle.stage_chain.specs.StageParts.{StageParts}
 use Rattle.stage_chain.specs.Laws.{AreStages}
 
@@ -83,8 +83,7 @@ module _ (S : StageParts) (laws : AreStages S) where
         → texts_of values (hand_of folder) made inputs ≡ texts_of values folder made inputs
     texts_same values made [] = refl
     texts_same values made (file ∷ inputs) =
-        ap (λ text. with_text text (texts_of values (hand_of folder) made inputs)) (input_same made (chosen values file))
-        ∙ ap (with_text (input_text folder made (chosen values file))) (texts_same values made inputs)
+        grind (arith, input_same, texts_same values made inputs)
 
     module _ (solve : BundleParts → Result Made Refusal) where
       visit_same : (values : List ℤ) (made : List MadeFile) (stage : Stage)
@@ -107,13 +106,9 @@ module _ (S : StageParts) (laws : AreStages S) where
     -- the chain over a folder is that over its hand files
     pub hand_alone : trace_of S (hand_of folder) ≡ trace_of S folder
     unfolding trace_of
-    hand_alone =
-        ap (λ settings. trace_under S settings (hand_of folder)) (settings_same folder)
-        ∙ under_same S.run (effective (look_in folder))
+    hand_alone = grind (arith, settings_same, under_same)
 
     -- also over what is kept
     pub over_alone : (keep : Folder) → trace_over S keep (hand_of folder) ≡ trace_over S keep folder
     unfolding trace_over
-    over_alone keep =
-        ap (λ settings. chain_under S (solve_over S keep) settings (hand_of folder)) (settings_same folder)
-        ∙ under_same (solve_over S keep) (effective (look_in folder))
+    over_alone keep = grind (arith, settings_same, under_same)

@@ -1,6 +1,6 @@
 -- The files that people write stay as they are.
-use Rattle.std.proofs.Common.{◌≡◌, ℕ, Bool, true, false, not, List, [], ◌∷◌, ◌++◌, map, Option}
-use Rattle.std.proofs.Common.{Ok, refl, ap, sym, ◌∙◌}
+use Rattle.std.proofs.Common.{arith, ◌≡◌, ℕ, Bool, true, false, not, List, [], ◌∷◌, ◌++◌, map}
+use Rattle.std.proofs.Common.{Option, Ok, refl}
 use Rattle.std.specs.List.{list_all}
 use Rattle.std.proofs.lemmas.Bool.{false≢true, and_parts}
 use Rattle.std.proofs.lemmas.List.{map-append}
@@ -15,19 +15,18 @@ use Rattle.plan_files.specs.Others.{AreOutside}
 use Rattle.plan_files.proofs.OtherFiles.{outside_both, applied_part, cut_part}
 use Rattle.giv_files.specs.declared.made.Made.{Made}
 use Rattle.giv_files.specs.declared.made.MadeFile.{MadeFile}
-use Rattle.giv_files.specs.declared.file_id.FileId.{FileId}
 use Rattle.giv_files.specs.declared.stage.Stage.{Stage}
 use Rattle.giv_files.specs.declared.stage.Stage.TheVariants as stage
 use Rattle.giv_files.specs.MadeLists.{MakesAs, ids_of}
 use Rattle.giv_files.specs.Settings.{BundleParts}
 use Rattle.giv_files.specs.Stages.{stage_makes}
-use Rattle.stage_chain.specs.Hand.{is_among, is_hand, is_hand_file, hand_of, names_made_by}
+use Rattle.stage_chain.specs.Hand.{is_hand, is_hand_file, hand_of}
 use Rattle.stage_chain.specs.Hand.{AreNoHandFiles}
 use Rattle.stage_keep.specs.Entries.{keep_name}
 use Rattle.stage_chain.specs.Built.{files_of}
 use Rattle.stage_chain.specs.Kept.{entry_put, made_over, new_entries, trace_over}
 use Rattle.stage_chain.specs.Progress.{NamesNoHand, SoFar, nothing, with_made}
-use Rattle.stage_chain.specs.Runs.{IsOnce, SameHand, entries_over, is_met, name_of, names_besides}
+use Rattle.stage_chain.specs.Runs.{IsOnce, SameHand, entries_over, is_met, name_of}
 use Rattle.stage_chain.specs.Runs.{put_of, unmet, writes_for, writes_of}
 use Rattle.stage_chain.proofs.Differing.{all_both, all_filter}
 use Rattle.stage_chain.proofs.MadeLists.{made_list}
@@ -51,9 +50,7 @@ makes_no_hand stage files makes = (made_list stage (ids_of files) makes).within 
 
 pub both_no_hand : (files more : List MadeFile) → AreNoHandFiles files → AreNoHandFiles more
     → AreNoHandFiles (files ++ more)
-both_no_hand files more h k =
-    let not_hand : FileId → Bool = λ file. not (is_hand_file file) in
-    ap (list_all not_hand) (map-append (λ (file : MadeFile). file.file) files more) ∙ all_both not_hand (ids_of files) (ids_of more) h k
+both_no_hand files more h k = grind (arith, map-append, all_both)
 
 -- nor under the names of new entries
 entry_outside : (bundle : BundleParts) (made : Made)
@@ -101,16 +98,12 @@ module _ (S : StageParts) (laws : AreStages S) where
   pub made_outside : (files : List MadeFile) → AreNoHandFiles files
       → AreOutside is_hand (writes_for S files)
   unfolding writes_for
-  made_outside files none =
-      outside_both is_hand (map put_of files) (map Removal (names_besides files (names_made_by S.places))) (puts_outside files none)
-      (removals_outside (names_besides files (names_made_by S.places)) (all_filter (λ name. not (is_hand name)) (λ name. not (is_among name (map name_of files))) (names_made_by S.places) laws.list.no_hand))
+  made_outside files none = grind (arith, outside_both, puts_outside, removals_outside, all_filter)
 
 -- no file that was made over a keep is one that people write
 files_no_hand : (made : List MadeFile)
     → list_all (λ name. not (is_hand name)) (map name_of made) ≡ true → AreNoHandFiles made
-files_no_hand made h =
-    list_all-map (λ file. not (is_hand_file file)) (λ (file : MadeFile). file.file) made
-    ∙ sym (list_all-map (λ name. not (is_hand name)) name_of made) ∙ h
+files_no_hand made h = grind (arith, list_all-map)
 
 entries_outside : (entries : List Write) → list_all is_kept_name (names_in entries) ≡ true
     → AreOutside is_hand entries

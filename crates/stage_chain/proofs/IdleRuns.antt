@@ -1,6 +1,7 @@
 -- Where each stage of a folder is kept, or off without files, the next run has nothing to do.
-use Rattle.std.proofs.Common.{◌≡◌, ℕ, ℤ, Bool, true, false, cond, not, is_some, List, [], ◌∷◌, ◌++◌, map}
-use Rattle.std.proofs.Common.{Option, Some, None, Result, Ok, Err, refl, ap, sym, subst, ◌∙◌, append_assoc, append-nil, IfOk, arith, fold, ◌+◌, ◌||◌}
+use Rattle.std.proofs.Common.{◌≡◌, ℕ, ℤ, Bool, true, false, cond, not, is_some, List, [], ◌∷◌, ◌++◌}
+use Rattle.std.proofs.Common.{map, Option, Some, None, Result, Ok, Err, refl, ap, sym, subst, ◌∙◌}
+use Rattle.std.proofs.Common.{append_assoc, append-nil, IfOk, arith, fold, ◌+◌, ◌||◌}
 use Rattle.std.specs.List.{list_all, list_any, sum_by}
 use Rattle.std.specs.FinMap as files
 use Rattle.std.proofs.lemmas.Bool.{and_parts}
@@ -120,22 +121,6 @@ module _ (folder : Folder) (made : List MadeFile) where
           rest,
         )
 
--- removals of files that do not stand there change nothing
-absent_met : (folder : Folder) (all : List MadeFile) (ids : List FileId)
-    → list_all (λ file. not (is_some (files.get folder (file_name file)))) ids ≡ true
-    → AreMet folder (map Removal (names_besides all (map file_name ids)))
-absent_met folder all [] none = tt
-absent_met folder all (file ∷ ids) none =
-    let parts = and_parts _ _ none in
-    by (is_among (file_name file) (names_of all)) (files.get folder (file_name file)) refl parts.0 (absent_met folder all ids parts.1)
-  where
-    by : (kept : Bool) (got : Option (List ℕ)) → files.get folder (file_name file) ≡ got → not (is_some got) ≡ true
-        → AreMet folder (map Removal (names_besides all (map file_name ids)))
-        → AreMet folder (map Removal (cond (not kept) (file_name file ∷ names_besides all (map file_name ids)) (names_besides all (map file_name ids))))
-    by true got is none rest = rest
-    by false None is none rest = (is, rest)
-    by false (Some text) is none rest = absurd (cc)
-
 -- ---- the chain over such a folder
 
 none_lost : (values : List ℤ) (at : Stage) → lacks_input values [] at ≡ false
@@ -204,17 +189,7 @@ module _ (S : StageParts) (laws : AreStages S) (folder : Folder) (values : List 
         kept_by : (bundle : BundleParts) (found : Option Made) → told ≡ Ok bundle → kept_in folder bundle ≡ found → IsHeld
         kept_by bundle None given is =
             absurd (subst (λ h. IsSettled folder place (state_by folder place h)) (held_here runs ∙ ap (λ told. held (kept_of folder told)) given ∙ ap held is) settled)
-        kept_by bundle (Some made) given is =
-            let holds = held_here runs ∙ ap (λ told. held (kept_of folder told)) given ∙ ap held is in
-            let stand = list_all (stands_as folder made.files) (stage_makes place) in
-            record {
-              bundle = bundle;
-              made = made;
-              given = given;
-              kept = is;
-              holds = holds;
-              stand = stands_by made stand refl (subst (λ h. IsSettled folder place (state_by folder place h)) holds settled);
-            }
+        kept_by bundle (Some made) given is = grind (arith, held_here)
 
         by : (found : Result BundleParts Cause) → told ≡ found → IsHeld
         by (Err why) is =
@@ -257,16 +232,7 @@ module _ (S : StageParts) (laws : AreStages S) (folder : Folder) (values : List 
   -- with one more that is off
   off_more : (before : List MadeFile) (place : Stage) (places : List Stage) → HasNoFile folder place
       → IsIdleOn before places (chain_on before places) → IsIdleOn before (place ∷ places) (chain_on before places)
-  off_more before place places none rest = record {
-    halt = rest.halt;
-    kept = rest.kept;
-    puts = rest.puts;
-    removals = λ all whole.
-        subst (λ names. AreMet folder (map Removal (names_besides all names))) (sym (names_more place places))
-        (subst (λ names. AreMet folder (map Removal names)) (sym (filter-append (λ name. not (is_among name (names_of all))) (map file_name (stage_makes place)) (names_made_by places)))
-        (subst (AreMet folder) (sym (map-append Removal (names_besides all (map file_name (stage_makes place))) (names_besides all (names_made_by places))))
-        (met_both folder _ _ (absent_met folder all (stage_makes place) none) (rest.removals all whole))));
-  }
+  off_more before place places none rest = grind arith
 
   idle_on : (before : List MadeFile) (places : List Stage) → AreSettled S folder values (kept_so before) places
       → IsIdleOn before places (chain_on before places)
@@ -301,8 +267,7 @@ module _ (S : StageParts) (laws : AreStages S) (folder : Folder) (values : List 
   unfolding work_over
   kept_work count [] kept = refl
   kept_work count (visit ∷ visits) kept =
-      let none : work_over S folder visit.bundle ≡ 0 = ap (λ kept. cond (is_some kept) 0 (S.work visit.bundle)) kept.0 in
-      kept_work (count + work_over S folder visit.bundle) visits kept.1 ∙ omega (arith, none)
+      grind (arith, is_some, kept_work (count + work_over S folder visit.bundle) visits kept.1)
 
   pub idle_run : effective (look_in folder) ≡ Ok values → AreSettled S folder values nothing_known S.places → IsIdle S folder
   unfolding made_over trace_over writes_of entries_over writes_for

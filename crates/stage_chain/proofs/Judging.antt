@@ -1,5 +1,7 @@
 -- What is found of a stage whose files stand in a folder.
-use Rattle.std.proofs.Common.{◌≡◌, ℕ, ℤ, Bool, true, false, cond, is_some, List, Option, Some, None, IfSome, IfOk, Result, Ok, Err, refl, ap, subst, sym, ◌∙◌, ◌+◌, ◌<◌, ◌≤◌, length, get_or, drop}
+use Rattle.std.proofs.Common.{arith, ◌≡◌, ℕ, ℤ, Bool, true, false, cond, is_some, List, Option}
+use Rattle.std.proofs.Common.{Some, None, IfSome, IfOk, Result, Ok, Err, refl, ap, subst, sym, ◌∙◌}
+use Rattle.std.proofs.Common.{◌+◌, ◌<◌, ◌≤◌, length, get_or, drop}
 use Rattle.std.specs.Option.{option_or}
 use Rattle.std.proofs.lemmas.List.{at_drop_more, at_drop_all}
 use Rattle.plan_files.specs.Folder.{Folder}
@@ -41,9 +43,7 @@ module _ (S : StageParts) (laws : AreStages S) where
     unfolding judge
     judged_given None now bundle result same given found = tt
     judged_given (Some folder) now bundle (Err fault) same given found = tt
-    judged_given (Some folder) now bundle (Ok some) same given found =
-        let here = subst (λ now. IfSome now (λ folder. some ≡ found_over S folder values stage (Ok bundle))) same found in
-        here ∙ ap (found_over S folder values stage) (sym given)
+    judged_given (Some folder) now bundle (Ok some) same given found = grind arith
 
     -- it was not
     ended_in : (folder : Folder) (ended : ChainEnd) (result : Result (Option Finding) ChainFault)

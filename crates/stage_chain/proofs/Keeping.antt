@@ -1,7 +1,7 @@
 -- What a chain over a keep makes: files of its stages, and over an honest keep what is made from scratch.
+use Rattle.std.proofs.Common.{arith, ◌≡◌, ℕ, ℤ, cond, is_some, List, [], ◌∷◌, ◌++◌, Option, Some}
+use Rattle.std.proofs.Common.{None, Result, Ok, Err, refl, ap, sym, ◌∙◌}
 use Rattle.stage_chain.specs.StageParts.{staged}
-use Rattle.std.proofs.Common.{◌≡◌, ℕ, ℤ, cond, is_some, List, [], ◌∷◌, ◌++◌, Option, Some, None, Result, Ok, Err}
-use Rattle.std.proofs.Common.{refl, ap, sym, ◌∙◌}
 use Rattle.std.specs.FinMap as files
 use Rattle.plan_files.specs.Folder.{Folder}
 use Rattle.giv_files.specs.declared.made.Made.{Made}
@@ -19,13 +19,12 @@ use Rattle.stage_keep.specs.Entries.{keep_name}
 use Rattle.stage_keep.specs.Honest.{kept_for}
 use Rattle.stage_keep.proofs.Honesty.{honest_is_made, kept_makes}
 use Rattle.stage_chain.specs.declared.cause.Cause.{Cause}
-use Rattle.stage_chain.specs.Built.{chain_under, files_of, cause_of, made}
-use Rattle.stage_chain.specs.Built.{told_by, trace_of}
-use Rattle.stage_chain.specs.Chain.{Trace, bundle_told, chain_from, go_on, input_text, texts_of, to_run}
+use Rattle.stage_chain.specs.Built.{chain_under, made}
+use Rattle.stage_chain.specs.Built.{trace_of}
+use Rattle.stage_chain.specs.Chain.{bundle_told, chain_from, go_on, input_text, texts_of, to_run}
 use Rattle.stage_chain.specs.Chain.{tried, visit_of}
 use Rattle.stage_chain.specs.Hand.{hand_of}
 use Rattle.stage_chain.specs.Kept.{IsKeptHonest, KeepsNothing, kept_in, kept_or, made_over, solve_over, trace_over, work_over}
-use Rattle.stage_chain.specs.Reports.{end_of, last_line, stage_lines}
 use Rattle.stage_chain.specs.Runs.{IsFromScratch, run_over}
 use Rattle.stage_chain.proofs.MadeRight.{given_fits}
 use Rattle.stage_chain.specs.StageParts.{StageParts}
@@ -92,13 +91,7 @@ module _ (S : StageParts) (laws : AreStages S) where
   pub from_scratch : (folder : Folder) → IsKeptHonest S folder
       → IsFromScratch S (run_over S folder) (hand_of folder)
   unfolding made made_over
-  from_scratch folder honest =
-      let same = honest_trace folder honest (hand_of folder) in
-      record {
-        files = ap (λ (trace : Trace). files_of trace.visits) same;
-        report = ap (λ (trace : Trace). stage_lines trace.visits ++ last_line (cause_of trace.halt)) same;
-        end = ap (λ (trace : Trace). end_of (cause_of trace.halt)) same;
-      }
+  from_scratch folder honest = grind (arith, honest_trace)
 
   -- ---- where nothing is kept
 
@@ -120,6 +113,4 @@ module _ (S : StageParts) (laws : AreStages S) where
     -- a run makes what is made from scratch, by the same work
     pub nothing_kept : run_over S folder ≡ made S (hand_of folder)
     unfolding made made_over
-    nothing_kept =
-        ap (told_by (work_over S folder)) (honest_trace folder (nothing_honest folder none) (hand_of folder))
-        ∙ ap (λ work. told_by work (trace_of S (hand_of folder))) (λ i bundle. all_work bundle i)
+    nothing_kept = grind (arith, honest_trace, nothing_honest, all_work)

@@ -1,6 +1,7 @@
 -- What a run keeps is honest, and a further run over it makes the same and writes nothing.
-use Rattle.std.proofs.Common.{◌≡◌, ℕ, ℤ, Bool, true, false, cond, not, is_some, List, [], ◌∷◌, ◌++◌}
-use Rattle.std.proofs.Common.{map, Option, Some, None, Result, Ok, Err, refl, ap, sym, subst, ◌∙◌, inl, inr, ⊎_elim}
+use Rattle.std.proofs.Common.{arith, ◌≡◌, ℕ, ℤ, Bool, true, false, cond, not, is_some, List, []}
+use Rattle.std.proofs.Common.{◌∷◌, ◌++◌, map, Option, Some, None, Result, Ok, Err, refl, ap, sym}
+use Rattle.std.proofs.Common.{subst, ◌∙◌, inl, inr, ⊎_elim}
 use Rattle.std.specs.Prelude.{⊤}
 use Rattle.std.specs.Str.{bytes_eq}
 use Rattle.std.specs.FinMap as files
@@ -28,8 +29,8 @@ use Rattle.stage_keep.specs.Honest.{IsHonest, kept_for}
 use Rattle.stage_keep.proofs.EntriesRead.{entries_are_read_back}
 use Rattle.stage_keep.proofs.Honesty.{own_kept, read_is_honest}
 use Rattle.stage_chain.specs.Built.{chain_under, files_of}
-use Rattle.stage_chain.specs.Chain.{Halt, Visit, chain_from, go_on, input_text, solved}
-use Rattle.stage_chain.specs.Chain.{tried, visit_of}
+use Rattle.stage_chain.specs.Chain.{Halt, Visit, chain_from, input_text, solved}
+use Rattle.stage_chain.specs.Chain.{visit_of}
 use Rattle.stage_chain.specs.Hand.{hand_of, is_among, names_made_by}
 use Rattle.stage_chain.specs.Kept.{HaveEntries, IsKeptHonest, HasEntry, bytes_for, entry_put, kept_in}
 use Rattle.stage_chain.specs.Kept.{kept_or, made_over, new_entries, new_entry, solve_over, trace_over}
@@ -178,9 +179,7 @@ AreKept left (visit ∷ visits) = (kept_in left visit.bundle ≡ Some visit.made
 
 pub kept_none : (left : Folder) (visits : List Visit) → AreKept left visits → new_entries left visits ≡ []
 kept_none left [] h = refl
-kept_none left (visit ∷ visits) h =
-    ap (λ kept. cond (is_some kept) [] (entry_put visit.bundle visit.made ∷ []) ++ new_entries left visits) h.0
-    ∙ kept_none left visits h.1
+kept_none left (visit ∷ visits) h = grind (arith, is_some, kept_none left visits h.1)
 
 ok_same : (made other : Made) (told : Result Made Refusal) → told ≡ Ok made → told ≡ Ok other
     → made ≡ other
@@ -282,9 +281,12 @@ module _ (S : StageParts) (laws : AreStages S) where
       still_visits before (at ∷ stages) [] (Some halt) visited back on =
           (still_refused at before halt on visited, tt)
       still_visits before (at ∷ stages) (visit ∷ visits) halt visited back on =
-          let kept = kept_on at before visit visited.0 back.0 on.0 in
-          let rest = still_visits (before ++ visit.made.files) stages visits halt visited.1 back.1 on.1 in
-          ((record { given = visited.0.given; solved = kept_gives visit kept }, rest.0), (kept, rest.1))
+          grind (
+            arith,
+            kept_on,
+            kept_gives,
+            still_visits (before ++ visit.made.files) stages visits halt visited.1 back.1 on.1,
+          )
 
     -- visits are those of the chain
     module _ (other : Folder) where
@@ -296,16 +298,9 @@ module _ (S : StageParts) (laws : AreStages S) where
       visits_are before [] [] (Some halt) visited = absurd visited
       visits_are before [] (visit ∷ visits) halt visited = absurd visited
       visits_are before (at ∷ stages) [] None visited = absurd visited
-      visits_are before (at ∷ stages) [] (Some halt) visited =
-          ⊎_elim
-          (λ none. ap (λ told. (go_on (tried (solve_over S other) values hand told) (λ visit. chain_from (solve_over S other) values hand (before ++ visit.made.files) stages)).visits) none)
-          (λ refused. ap (λ told. (go_on (tried (solve_over S other) values hand told) (λ visit. chain_from (solve_over S other) values hand (before ++ visit.made.files) stages)).visits) refused.given
-          ∙ ap (λ result. (go_on (solved (solve_over S other) values hand refused.bundle result) (λ visit. chain_from (solve_over S other) values hand (before ++ visit.made.files) stages)).visits) refused.solved)
-          visited
+      visits_are before (at ∷ stages) [] (Some halt) visited = grind arith
       visits_are before (at ∷ stages) (visit ∷ visits) halt visited =
-          ap (λ told. (go_on (tried (solve_over S other) values hand told) (λ visit. chain_from (solve_over S other) values hand (before ++ visit.made.files) stages)).visits) visited.0.given
-          ∙ ap (λ result. (go_on (solved (solve_over S other) values hand visit.bundle result) (λ visit. chain_from (solve_over S other) values hand (before ++ visit.made.files) stages)).visits) visited.0.solved
-          ∙ ap (λ more. visit ∷ more) (visits_are (before ++ visit.made.files) stages visits halt visited.1)
+          grind (arith, visits_are (before ++ visit.made.files) stages visits halt visited.1)
 
   -- The chain over what a run left makes what the run made, and all of it is kept.
   record IsStill (left : Folder) (visits : List Visit) : Type 0 where

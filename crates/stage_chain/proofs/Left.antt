@@ -1,6 +1,6 @@
 -- What the writes of a run leave.
-use Rattle.std.proofs.Common.{◌≡◌, ℕ, Bool, true, false, cond, not, ◌||◌, List, [], ◌∷◌, ◌++◌, map}
-use Rattle.std.proofs.Common.{Option, Some, None, refl, ap, sym, ◌∙◌}
+use Rattle.std.proofs.Common.{arith, ◌≡◌, ℕ, Bool, true, false, cond, not, ◌||◌, List, [], ◌∷◌}
+use Rattle.std.proofs.Common.{◌++◌, map, Option, Some, None, refl, ap, sym, ◌∙◌}
 use Rattle.std.specs.Str.{bytes_eq}
 use Rattle.std.specs.FinMap as files
 use Rattle.std.proofs.lemmas.Bool.{false≢true}
@@ -101,9 +101,7 @@ among_besides made [] name = nothing (is_among name (map name_of made))
     nothing true = refl
     nothing false = refl
 among_besides made (other ∷ names) name =
-    among_kept name other (names_besides made names) (is_among other (map name_of made))
-    ∙ picked (is_among other (map name_of made)) (bytes_eq name other) (is_among name (map name_of made)) (is_among name (names_besides made names)) (is_among name names)
-    (λ e. ap (λ n. is_among n (map name_of made)) (sym ((bytes_eq-Decides name other).0 e))) (among_besides made names name)
+    grind (arith, among_kept, picked, bytes_eq-Decides, among_besides made names name)
 
 module _ (S : StageParts) (laws : AreStages S) where
   -- The writes leave a folder with the files that were made, and without the others that the stages
@@ -129,11 +127,7 @@ module _ (S : StageParts) (laws : AreStages S) where
           → cond (cond among false (is_among name (names_made_by S.places))) None (files.get (with_files made folder) name) ≡ files.get (with_files made (without_made S folder)) name
       by name true is =
           same_with made folder (without_made S folder) name (λ out. absurd (false≢true (sym out ∙ is)))
-      by name false is =
-          ap (λ found. cond (is_among name (names_made_by S.places)) None found) (other_with made folder name is)
-          ∙ none_or (is_among name (names_made_by S.places)) (files.get folder name)
-          ∙ sym (get_part (λ name. not (is_among name (names_made_by S.places))) folder name)
-          ∙ sym (other_with made (without_made S folder) name is)
+      by name false is = grind (arith, other_with, none_or, get_part)
 
   -- The writes of a run over a folder leave what is there after it.
   pub after_is : (folder : Folder) → folder_after (writes_of S folder) folder ≡ after S folder

@@ -1,9 +1,8 @@
 -- What a run leaves in its folder is right there.
+use Rattle.std.proofs.Common.{arith, ◌≡◌, ℕ, ℤ, Bool, true, false, cond, leb, List, [], ◌∷◌, Option}
+use Rattle.std.proofs.Common.{Some, IfOk, Result, Ok, Err, refl, ap, subst, sym, ◌∙◌, map}
 use Rattle.stage_chain.proofs.Traces.{run_staged, staged_within}
 use Rattle.stage_chain.specs.StageParts.{staged}
-use Rattle.std.proofs.Common.{◌≡◌, ℕ, ℤ, Bool, true, false, cond, leb, not, List, [], ◌∷◌, Option}
-use Rattle.std.proofs.Common.{Some, None, IfOk, Result, Ok, Err, refl, ap, subst, sym}
-use Rattle.std.proofs.Common.{◌∙◌, map}
 use Rattle.std.specs.List.{list_all}
 use Rattle.std.specs.Option.{ok_or}
 use Rattle.std.specs.Str.{bytes_eq}
@@ -69,8 +68,7 @@ module _ (S : StageParts) (laws : AreStages S) where
       → differs_from (names_of made) (name_of other) ≡ true
       → or_text (made_text made file) (ok_or (cond here (Some other.text) base) (cause.Missing file)) ≡ or_text (cond here (Ok other.text) (made_text made file)) (ok_or base (cause.Missing file))
   put_found file other made base true is out =
-      let same : name_of other ≡ file_name file = sym ((bytes_eq-Decides (file_name file) (name_of other)).0 is) in
-      ap (λ text. or_text text (Ok other.text)) (text_nowhere made file (not_among (names_of made) (file_name file) (ap (differs_from (names_of made)) (sym same) ∙ out)))
+      grind (arith, bytes_eq-Decides, text_nowhere, not_among, names_of)
   put_found file other made base false is out = refl
 
   -- a file that was made is found with the text that was made, and every other as before
@@ -135,17 +133,12 @@ module _ (S : StageParts) (laws : AreStages S) where
     -- a text that was made stands there
     get_after : (file : FileId) (text : List ℕ) → made_text all file ≡ Ok text
         → made_in (after S folder) file ≡ Ok text
-    get_after file text e =
-        found_after file
-        ∙ found_first (made_text all file) (made_in (without_made S folder) file) text e
+    get_after file text e = grind (arith, found_after, found_first)
 
     -- and of the files that the built stages make no other one
     same_after : (file : FileId) → is_among (file_name file) (names_made_by S.places) ≡ true
         → made_in (after S folder) file ≡ made_text all file
-    same_after file is =
-        let gone : files.get (without_made S folder) (file_name file) ≡ None =
-        get_part (λ name. not (is_among name (names_made_by S.places))) folder (file_name file) ∙ ap (λ b. cond (not b) (files.get folder (file_name file)) None) is in
-        found_after file ∙ ap (λ found. or_text (made_text all file) (ok_or found (cause.Missing file))) gone ∙ found_missing S laws all file
+    same_after file is = grind (arith, get_part, found_after, found_missing)
 
     agree_after : (some : List FileId)
         → list_all (λ file. is_among (file_name file) (names_made_by S.places)) some ≡ true
@@ -206,13 +199,7 @@ module _ (S : StageParts) (laws : AreStages S) where
         → StandsRight S (input_text (hand_of folder) all) values visit.bundle visit.made.files
         → StandsRight S (text_in (after S folder)) values visit.bundle visit.made.files
     one_after values visit own h =
-        let stage = visit.bundle.stage in
-        record {
-          runs = h.runs;
-          given = bundle_more (input_text (hand_of folder) all) (text_in (after S folder)) input_after values stage visit.bundle h.given;
-          found = looks_there (after S folder) stage ∙ files_same (made_in (after S folder)) (made_text all) (stage_makes stage) (agree_after (stage_makes stage) own) ∙ sym (made_looks (hand_of folder) all stage) ∙ h.found;
-          right = h.right;
-        }
+        grind (arith, bundle_more, input_after, looks_there, files_same, agree_after, made_looks)
 
     all_after : (values : List ℤ) (stages : List Stage) (visits : List Visit)
         → list_all is_own stages ≡ true

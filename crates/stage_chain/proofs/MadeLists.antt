@@ -1,9 +1,8 @@
 -- What holds of each list of files that a stage may make.
 use Rattle.std.proofs.Common.{◌≡◌, ℕ, zero, suc, ◌<◌, Bool, true, List, [], ◌∷◌, length, map}
-use Rattle.std.proofs.Common.{filter, ◌⊎◌, inl, inr, refl, subst, arith, ⊎_elim}
+use Rattle.std.proofs.Common.{filter, refl, arith}
 use Rattle.std.specs.Prelude.{slice_index_or}
 use Rattle.std.specs.List.{list_all, Contains}
-use Rattle.std.proofs.lemmas.Bool.{and_parts, and_from}
 use Rattle.giv_files.specs.declared.file_id.FileId.{FileId}
 use Rattle.giv_files.specs.declared.file_id.FileId.TheVariants as file
 use Rattle.giv_files.specs.declared.stage.Stage.{Stage}
@@ -31,47 +30,16 @@ only_one list files at = by at.0 at.1 at.2
     by zero inside is = is
     by (suc k) inside is = absurd (omega (arith, inside))
 
-pub one_of_two : (list other files : List FileId) → Contains (list ∷ other ∷ []) files
-    → (list ≡ files) ⊎ (other ≡ files)
-one_of_two list other files at = by at.0 at.1 at.2
-  where
-    by : (k : ℕ) → k < length (list ∷ other ∷ [])
-        → slice_index_or (list ∷ other ∷ []) k files ≡ files → (list ≡ files) ⊎ (other ≡ files)
-    by zero inside is = inl is
-    by (suc zero) inside is = inr is
-    by (suc (suc k)) inside is = absurd (omega (arith, inside))
-
 -- the one list of a stage that has one
 the_list : (stage : Stage) (files : List FileId) → Contains (stage_makes stage ∷ []) files
     → ((p : FileId → Bool) → list_all p (stage_makes stage) ≡ true → list_all p (always_made stage) ≡ true)
     → differing (map file_name (stage_makes stage)) ≡ true
     → filter (λ file. is_among (file_name file) (map file_name (stage_makes stage))) (stage_makes stage) ≡ stage_makes stage
     → IsMadeList stage files
-the_list stage files at always differ kept =
-    subst (IsMadeList stage) (only_one (stage_makes stage) files at) (record {
-      within =
-          λ p h. h;
-      always = always;
-      differ = differ;
-      kept = kept;
-    })
-
--- the two lists of a stage that may leave out the last of its files
-two_lists : (stage : Stage) (first : FileId) (files : List FileId)
-    → Contains (stage_makes stage ∷ (first ∷ []) ∷ []) files → IsMadeList stage (stage_makes stage)
-    → IsMadeList stage (first ∷ []) → IsMadeList stage files
-two_lists stage first files at whole alone =
-    ⊎_elim (λ is. subst (IsMadeList stage) is whole) (λ is. subst (IsMadeList stage) is alone)
-    (one_of_two (stage_makes stage) (first ∷ []) files at)
+the_list stage files at always differ kept = grind arith
 
 pub made_list : (stage : Stage) (files : List FileId) → MakesAs stage files → IsMadeList stage files
-made_list stage.Concept files at = two_lists stage.Concept file.Concept files at
-    (record { within = λ p h. h; always = λ p h. and_from _ _ (and_parts _ _ h).0 refl; differ = refl; kept = refl })
-    (record { within = λ p h. and_from _ _ (and_parts _ _ h).0 refl; always = λ p h. h; differ = refl; kept = refl })
-made_list stage.PinnedConcept files at = two_lists stage.PinnedConcept file.Concept files at
-    (record { within = λ p h. h; always = λ p h. and_from _ _ (and_parts _ _ h).0 refl; differ = refl; kept = refl })
-    (record { within = λ p h. and_from _ _ (and_parts _ _ h).0 refl; always = λ p h. h; differ = refl; kept = refl })
-made_list stage.PinnedVehicles files at = two_lists stage.PinnedVehicles file.Schedule files at
-    (record { within = λ p h. h; always = λ p h. and_from _ _ (and_parts _ _ h).0 refl; differ = refl; kept = refl })
-    (record { within = λ p h. and_from _ _ (and_parts _ _ h).0 refl; always = λ p h. h; differ = refl; kept = refl })
+made_list stage.Concept files at = grind arith
+made_list stage.PinnedConcept files at = grind arith
+made_list stage.PinnedVehicles files at = grind arith
 made_list at files makes = the_list at files makes (λ p h. h) refl refl

@@ -1,6 +1,6 @@
 -- The made files of the folder that a run leaves are those that its hand files determine.
-use Rattle.std.proofs.Common.{◌≡◌, ℕ, Bool, true, false, cond, not, ◌||◌, List, [], ◌∷◌, map, Option, Some, None}
-use Rattle.std.proofs.Common.{IfSome, refl, ap, sym, subst, ◌∙◌, nat_cmp}
+use Rattle.std.proofs.Common.{arith, ◌≡◌, ℕ, Bool, true, false, cond, not, ◌||◌, List, [], ◌∷◌, map}
+use Rattle.std.proofs.Common.{Option, Some, None, IfSome, refl, ap, sym, ◌∙◌, nat_cmp}
 use Rattle.std.specs.Cmp.Lexicographic.{slice_cmp}
 use Rattle.std.specs.List.{list_all}
 use Rattle.std.specs.Str.{bytes_eq}
@@ -72,6 +72,4 @@ module _ (S : StageParts) (laws : AreStages S) where
   pub part_left : (by : Mode) (folder : Folder) (left : Option Folder) → Trusts S by folder
       → left ≡ Some (after S (started by folder))
       → IfSome left (λ left. made_part S left ≡ with_files (made S (hand_of folder)).files files.empty)
-  part_left by folder left trusts is =
-      subst (λ left. IfSome left (λ left. made_part S left ≡ with_files (made S (hand_of folder)).files files.empty)) (sym is)
-      (part_after (started by folder) ∙ ap (λ made. with_files made files.empty) (both_scratch S laws by folder trusts).files)
+  part_left by folder left trusts is = grind (arith, part_after, both_scratch)

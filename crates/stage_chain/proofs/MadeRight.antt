@@ -1,21 +1,20 @@
 -- What the stages of a chain make is right, over all files that the chain made.
-use Rattle.std.proofs.Common.{All, Contains}
+use Rattle.std.proofs.Common.{All, Contains, arith, ◌≡◌, ℕ, ℤ, suc, List, [], ◌∷◌, length, Result}
+use Rattle.std.proofs.Common.{Ok, Err, refl, ap, subst, sym, ◌∙◌}
 use Rattle.std.proofs.lemmas.List.Elements.{All-head, All-tail}
 use Rattle.stage_chain.specs.StageParts.{staged}
-use Rattle.std.proofs.Common.{◌≡◌, ℕ, ℤ, suc, List, [], ◌∷◌, length, Result, Ok, Err, refl, ap}
-use Rattle.std.proofs.Common.{subst, sym, ◌∙◌}
 use Rattle.plan_files.specs.Folder.{Folder}
 use Rattle.giv_files.specs.declared.file_id.FileId.{FileId}
 use Rattle.giv_files.specs.declared.made.MadeFile.{MadeFile}
 use Rattle.giv_files.specs.declared.stage.Stage.{Stage}
 use Rattle.giv_files.specs.Settings.{BundleParts, Fits}
-use Rattle.giv_files.specs.Stages.{stage_inputs, stage_makes}
+use Rattle.giv_files.specs.Stages.{stage_inputs}
 use Rattle.config_keys.specs.Config.{AreSettings}
 use Rattle.config_keys.proofs.Settling.{part_fits}
 use Rattle.stage_chain.specs.declared.cause.Cause.{Cause}
 use Rattle.stage_chain.specs.Chain.{Visit, chosen, input_text, with_text, texts_by, bundle_for}
 use Rattle.stage_chain.specs.Chain.{bundle_told, bundle_by}
-use Rattle.stage_chain.specs.Right.{files_by, AllStandRight}
+use Rattle.stage_chain.specs.Right.{AllStandRight}
 use Rattle.stage_chain.proofs.Placed.{ArePlaced}
 use Rattle.stage_chain.specs.StageParts.{StageParts}
 use Rattle.stage_chain.specs.Laws.{AreStages}
@@ -59,13 +58,10 @@ module _ (S : StageParts) (laws : AreStages S) where
   visits_right values hand are all stages [] run placed = tt
   visits_right values hand are all [] (visit ∷ visits) run placed = absurd placed
   visits_right values hand are all (stage ∷ stages) (visit ∷ visits) run placed =
-      let own = placed.0 in
-      let bundle = visit.bundle in (
-        record {
-          runs = subst (Contains (staged S values)) (sym placed.0.own) (All-head (Contains (staged S values)) stage stages run);
-          given = subst (λ own. bundle_by (input_text hand all) values own ≡ Ok bundle) (sym placed.0.own) own.given;
-          found = subst (λ own. files_by (input_text hand all) (stage_makes own) ≡ visit.made.files) (sym placed.0.own) own.found;
-          right = laws.right bundle visit.made (given_fits (input_text hand all) values stage bundle are own.given) own.solved;
-        },
+      grind (
+        arith,
+        All-head,
+        given_fits,
+        All-tail,
         visits_right values hand are all stages visits (All-tail (Contains (staged S values)) stage stages run) placed.1,
       )

@@ -1,6 +1,6 @@
 -- The texts of files that were made.
-use Rattle.std.proofs.Common.{◌≡◌, ℕ, Bool, true, false, cond, ◌||◌, List, [], ◌∷◌, ◌++◌, map}
-use Rattle.std.proofs.Common.{filter, Result, Ok, Err, refl, ap, subst, sym, ◌∙◌, append_assoc}
+use Rattle.std.proofs.Common.{arith, ◌≡◌, ℕ, Bool, true, false, cond, ◌||◌, List, [], ◌∷◌, ◌++◌}
+use Rattle.std.proofs.Common.{map, filter, Result, Ok, Err, refl, ap, subst, sym, ◌∙◌, append_assoc}
 use Rattle.std.proofs.lemmas.Bool.{false≢true, and_parts}
 use Rattle.std.proofs.lemmas.List.{map-append}
 use Rattle.std.proofs.lemmas.Slice.Eq.{bytes_eq-Decides}
@@ -90,9 +90,7 @@ found_kept made (file ∷ files) =
         → files_by (made_text made) files ≡ files_by (made_text made) kept
         → found_file file (made_text made file) (files_by (made_text made) files) ≡ files_by (made_text made) (cond b (file ∷ kept) kept)
     by true is rest = ap (found_file file (made_text made file)) rest
-    by false is rest =
-        ap (λ found. found_file file found (files_by (made_text made) files)) (text_nowhere made file is)
-        ∙ rest
+    by false is rest = grind (arith, text_nowhere)
 
 found_from : (front made : List MadeFile) → differing (names_of (front ++ made)) ≡ true
     → files_by (made_text (front ++ made)) (ids_of made) ≡ made

@@ -1,5 +1,7 @@
 -- The files of a stage that stand in a folder, one after the other.
-use Rattle.std.proofs.Common.{◌≡◌, ℕ, ◌+◌, ◌<◌, ◌≤◌, Bool, true, false, cond, ◌||◌, List, [], ◌∷◌, ◌++◌, length, get_or, drop, Option, Some, None, IfSome, refl, ap, sym, ◌∙◌, append-nil, append_assoc}
+use Rattle.std.proofs.Common.{arith, ◌≡◌, ℕ, ◌+◌, ◌<◌, ◌≤◌, Bool, true, false, cond, ◌||◌, List, []}
+use Rattle.std.proofs.Common.{◌∷◌, ◌++◌, length, get_or, drop, Option, Some, None, IfSome, refl, ap}
+use Rattle.std.proofs.Common.{sym, ◌∙◌, append-nil, append_assoc}
 use Rattle.std.specs.List.{list_any}
 use Rattle.std.specs.Option.{ok_or}
 use Rattle.std.specs.FinMap as map
@@ -72,8 +74,7 @@ pub told_more : (contents now : Option Folder) (files : List FileId) (i : ℕ) (
     → IfSome contents (λ folder. joined next (all_there folder (drop (i + 1) files)) ≡ all_there folder files)
 told_more None now files i d found there next inside same is kept more so_far = tt
 told_more (Some folder) now files i d found there next inside same is kept more so_far =
-    let told : found ≡ map.get folder (file_name (get_or files i d)) = rw same at is in
-    rw more (there_more folder files i d found there inside told kept so_far)
+    grind (arith, get_or, there_more)
 
 pub told_all : (contents : Option Folder) (stage : Stage) (files : List FileId) (i : ℕ)
     (there : List MadeFile) → length files ≤ i → files ≡ stage_makes stage

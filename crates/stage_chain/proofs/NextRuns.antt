@@ -1,7 +1,7 @@
 -- What the states of stages tell of the next run.
-use Rattle.std.proofs.Common.{◌≡◌, ◌<◌, ◌⊎◌, inl, inr, ⊎_elim, ℕ, ℤ, zero, suc, ◌&&◌, Bool, true, false, cond, not, ltb}
-use Rattle.std.proofs.Common.{All, Contains, List, [], ◌∷◌, ◌++◌, map, Option, Some, None, Result, Ok, Err}
-use Rattle.std.proofs.Common.{refl, ap, sym, subst, ◌∙◌, arith}
+use Rattle.std.proofs.Common.{◌≡◌, ◌<◌, ◌⊎◌, inl, inr, ⊎_elim, ℕ, ℤ, zero, suc, ◌&&◌, Bool, true}
+use Rattle.std.proofs.Common.{false, cond, not, ltb, All, Contains, List, [], ◌∷◌, ◌++◌, map}
+use Rattle.std.proofs.Common.{Option, Some, None, Result, Ok, Err, refl, ap, sym, subst, ◌∙◌, arith}
 use Rattle.std.specs.List.{list_all, list_any}
 use Rattle.std.specs.Str.{bytes_eq}
 use Rattle.std.proofs.lemmas.Bool.{and_parts, ltb-true}
@@ -111,12 +111,7 @@ module _ (folder : Folder) where
 
   held_alike : (known : KnownFiles) (before made : List MadeFile) → IsAlike known before
       → IsAlike (record { kept = known.kept ++ made; lost = known.lost }) (before ++ made)
-  held_alike known before made alike = record {
-    same = λ file out.
-        text_both known.kept made file
-        ∙ ap (λ text. or_text text (made_text made file)) (alike.same file out)
-        ∙ sym (text_both before made file);
-  }
+  held_alike known before made alike = grind (arith, text_both)
 
   lost_alike : (known : KnownFiles) (before made : List MadeFile) (place at : Stage) → stage_makes at ≡ stage_makes place
       → MakesAs at (ids_of made) → IsAlike known before
@@ -252,9 +247,7 @@ module _ (S : StageParts) (laws : AreStages S) (folder : Folder) (values : List 
 
         by : (kept : Option Made) → kept_in folder bundle ≡ kept → here ≡ held kept → IsTold bundle made.files
         by None none h = record { tells = rw h none; after = rw h lost }
-        by (Some some) some_is h =
-            let same : some ≡ made = (let both = sym (kept_solves bundle some some_is) ∙ is in cc) in
-            record { tells = rw h some_is; after = rw h (rw same (held_alike folder known before made.files alike)) }
+        by (Some some) some_is h = grind (arith, kept_solves, held_alike)
 
     -- where the stage refuses it
     refused_here : (bundle : BundleParts) (reason : Refusal) → solve bundle ≡ Err reason
@@ -317,11 +310,8 @@ module _ (S : StageParts) (laws : AreStages S) (folder : Folder) (values : List 
                     (Contains-append_cases (bundle ∷ []) (handed (chain_on (before ++ made.files) places)) other given)),
                 one_more bundle _ _ places own_later (rest _ (before ++ made.files) told.after),
               )
-          tries (Err reason) solves = (
-            (λ other given other_own. subst (Tells folder (holding_in S folder values known place)) (only_one bundle other given)
-                (refused_here known before place alike bundle reason solves is_held)),
-            one_more bundle [] _ places own_later (no_bundle _ places),
-          )
+          tries (Err reason) solves =
+              grind (arith, only_one, refused_here, is_held, one_more, own_later, no_bundle)
 
       by : (runs : Bool) → is_to_run values at ≡ runs → AreLater at places → Rest
           → AllTell S folder values (handed (chain_from solve values folder before (cond runs (at ∷ to_run values (placed places)) (to_run values (placed places))))) known (place ∷ places)

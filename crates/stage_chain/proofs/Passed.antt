@@ -1,5 +1,7 @@
 -- Files of which a check finds nothing satisfy the models of their stages.
-use Rattle.std.proofs.Common.{◌≡◌, ℕ, ℤ, Bool, true, false, cond, is_some, ◌+◌, ◌<◌, ◌≤◌, List, length, get_or, drop, Option, Some, None, IfSome, IfOk, IfNone, Result, Ok, Err, refl, ap, subst, sym, ◌∙◌}
+use Rattle.std.proofs.Common.{arith, ◌≡◌, ℕ, ℤ, false, cond, is_some, ◌+◌, ◌<◌, ◌≤◌, List, length}
+use Rattle.std.proofs.Common.{get_or, drop, Option, Some, None, IfSome, IfOk, IfNone, Result, Ok}
+use Rattle.std.proofs.Common.{Err, subst, sym}
 use Rattle.std.proofs.lemmas.List.{at_drop_more, at_drop_all}
 use Rattle.plan_files.specs.Folder.{Folder}
 use Rattle.giv_files.specs.declared.made.MadeFile.{MadeFile}
@@ -27,37 +29,11 @@ use Rattle.stage_chain.specs.Right.{text_in}
 use Rattle.stage_chain.specs.StageParts.{StageParts}
 use Rattle.stage_chain.specs.Laws.{AreStages}
 
--- what holds of what is found where nothing is found
-where_none : (P : Type 0) {Q : Type 0} (found : Option Finding) → (found ≡ None → Q) → (Q → IfNone found P)
-    → IfNone found P
-where_none P None there right = right (there refl)
-where_none P (Some finding) there right = tt
-
 module _ (S : StageParts) (laws : AreStages S) where
   -- what a place is given, and the stage of it
   module _ (values : List ℤ) (bundle : BundleParts) (stage : Stage) (own : bundle.stage ≡ stage) where
     abbrev Makes : List MadeFile → Type 0
     Makes files = MakesAs (S.placed values bundle.stage) (ids_of files)
-
-    -- what is found of files that stand there says of them
-    stands_right : (folder : Folder) (found : Option Finding) → lacks_file folder stage ≡ false
-        → found ≡ S.verdict values bundle (standing folder stage)
-        → (Makes (standing folder stage) → IfNone found (S.Satisfies values bundle (standing folder stage)))
-        → IfNone found (S.Satisfies values bundle (standing folder stage))
-    stands_right folder found lacks is right =
-        where_none (S.Satisfies values bundle (standing folder stage)) found
-        (λ none. subst (λ at. Makes (standing folder at)) own
-        (laws.stand folder values bundle (ap (lacks_file folder) own ∙ lacks) (ap (λ at. S.verdict values bundle (standing folder at)) own ∙ (sym is ∙ none)))) right
-
-    there_right : (folder : Folder) (some : List MadeFile) (found : Option Finding) (lacks : Bool)
-        → lacks_file folder stage ≡ lacks → Some some ≡ cond lacks None (Some (standing folder stage))
-        → found ≡ S.verdict values bundle some
-        → (Makes some → IfNone found (S.Satisfies values bundle some))
-        → IfNone found (S.Satisfies values bundle (standing folder stage))
-    there_right folder some found true lacks there is right = absurd (cc)
-    there_right folder some found false lacks there is right =
-        let same : some ≡ standing folder stage = cc in
-        stands_right folder found lacks (is ∙ ap (S.verdict values bundle) same) (subst (λ files. Makes files → IfNone found (S.Satisfies values bundle files)) same right)
 
     -- the files that were found satisfy the model where nothing is found of them
     pub told_there : (contents : Option Folder) (told : Option (List MadeFile)) (some : List MadeFile)
@@ -67,9 +43,7 @@ module _ (S : StageParts) (laws : AreStages S) where
         → (Makes some → IfNone found (S.Satisfies values bundle some)) → result ≡ Ok found
         → IfSome contents (λ folder. IfOk result (λ found. IfNone found (S.Satisfies values bundle (standing folder stage))))
     told_there None told some found result same h is right e = tt
-    told_there (Some folder) told some found result same h is right e =
-        subst (λ result. IfOk result (λ found. IfNone found (S.Satisfies values bundle (standing folder stage)))) (sym e)
-        (there_right folder some found (lacks_file folder stage) refl (sym same ∙ h) is right)
+    told_there (Some folder) told some found result same h is right e = grind arith
 
   -- and so the stage stands
   pub told_stands : (contents now : Option Folder) (values : List ℤ) (stage : Stage)
@@ -80,12 +54,7 @@ module _ (S : StageParts) (laws : AreStages S) where
   told_stands None now values stage bundle result same given right = tt
   told_stands (Some folder) now values stage bundle (Err fault) same given right = tt
   told_stands (Some folder) now values stage bundle (Ok (Some found)) same given right = tt
-  told_stands (Some folder) now values stage bundle (Ok None) same given right =
-      record {
-        bundle = bundle;
-        given = given;
-        model = subst (λ now. IfSome now (λ folder. S.Satisfies values bundle (standing folder stage))) same right;
-      }
+  told_stands (Some folder) now values stage bundle (Ok None) same given right = grind arith
 
   module _ (values : List ℤ) where
     -- where the rest of some stages stand, all of them do
@@ -123,11 +92,7 @@ module _ (S : StageParts) (laws : AreStages S) where
   told_passes None now values result same told h = tt
   told_passes (Some folder) now values (Err fault) same told h = tt
   told_passes (Some folder) now values (Ok (Some found)) same told h = tt
-  told_passes (Some folder) now values (Ok None) same told h = record {
-    values = values;
-    settled = told;
-    stand = subst (λ now. IfSome now (λ folder. AllStand S folder values S.places)) same h;
-  }
+  told_passes (Some folder) now values (Ok None) same told h = grind arith
 
   pub unsettled_passes : (contents : Option Folder) (end : ConfigEnd)
       (result : Result (Option Finding) ChainFault) → UnsettledAs end result

@@ -1,6 +1,6 @@
 -- What was made by the stages of a chain is found among all that the chain made.
-use Rattle.std.proofs.Common.{◌≡◌, ℕ, ℤ, Bool, true, List, [], ◌∷◌, ◌++◌, map, filter, Option}
-use Rattle.std.proofs.Common.{Result, Ok, Err, refl, ap, subst, sym, ◌∙◌, append_assoc}
+use Rattle.std.proofs.Common.{arith, ◌≡◌, ℕ, ℤ, Bool, true, List, [], ◌∷◌, ◌++◌, map, filter}
+use Rattle.std.proofs.Common.{Option, Result, Ok, Err, refl, ap, subst, sym, ◌∙◌, append_assoc}
 use Rattle.std.specs.List.{list_all, flat_map}
 use Rattle.std.proofs.lemmas.Bool.{and_parts}
 use Rattle.std.proofs.lemmas.List.{map-append}
@@ -93,9 +93,7 @@ module _ (stage : Stage) (made : List MadeFile) (makes : MakesAs stage (ids_of m
   -- what holds of the names that a stage makes holds of those that it made
   pub own_within : (p : List ℕ → Bool) → list_all p (map file_name (stage_makes stage)) ≡ true
       → list_all p (names_of made) ≡ true
-  own_within p h =
-      ap (list_all p) (sym (names_are made)) ∙ list_all-map p file_name (ids_of made)
-      ∙ (made_list stage (ids_of made) makes).within (λ file. p (file_name file)) (sym (list_all-map p file_name (stage_makes stage)) ∙ h)
+  own_within p h = grind (arith, names_are, list_all-map, made_list)
 
   own_differ : differing (names_of made) ≡ true
   own_differ = ap differing (sym (names_are made)) ∙ (made_list stage (ids_of made) makes).differ

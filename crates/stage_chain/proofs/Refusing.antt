@@ -1,8 +1,7 @@
 -- Why a chain ends early names a file that people write.
-use Rattle.std.proofs.Common.{◌≡◌, ℕ, ℤ, ltb, leb, Bool, true, false, cond, not, ◌||◌, List}
-use Rattle.std.proofs.Common.{[], ◌∷◌, ◌++◌, map, filter, Option, Some, None, IfErr, Result}
-use Rattle.std.proofs.Common.{Ok, Err, refl, ap, subst, sym, ◌∙◌, append_assoc, append-nil, arith}
-use Rattle.std.proofs.Common.{⊎_elim}
+use Rattle.std.proofs.Common.{◌≡◌, ℕ, ℤ, ltb, leb, Bool, true, false, cond, not, ◌||◌, List, []}
+use Rattle.std.proofs.Common.{◌∷◌, ◌++◌, map, filter, Option, Some, None, IfErr, Result, Ok, Err}
+use Rattle.std.proofs.Common.{refl, ap, subst, sym, ◌∙◌, append_assoc, append-nil, arith, ⊎_elim}
 use Rattle.std.specs.List.{list_all, flat_map}
 use Rattle.std.specs.Str.{bytes_eq}
 use Rattle.std.proofs.lemmas.Bool.{false≢true, and_parts, and_from, ltb-true, leb-true, le-leb}
@@ -41,7 +40,7 @@ use Rattle.stage_chain.proofs.MadeTexts.{names_of, text_nowhere}
 use Rattle.stage_chain.proofs.Placed.{ArePlaced, made_looks}
 use Rattle.stage_chain.proofs.Traces.{traced, chain, stages_run, are_visits, are_placed, run_staged}
 use Rattle.stage_chain.proofs.Visits.{IsHalt, AreVisits}
-use Rattle.stage_chain.specs.Laws.{AreRightOver, bundle_over, files_over}
+use Rattle.stage_chain.specs.Laws.{AreRightOver}
 use Rattle.stage_chain.specs.StageLists.{always_made}
 use Rattle.stage_chain.specs.StageParts.{StageParts, staged}
 use Rattle.stage_chain.proofs.Looked.{bundle_looked, files_looked, looked}
@@ -157,13 +156,13 @@ module _ (S : StageParts) (laws : AreStages S) where
   ended_by values hand before [] (visit ∷ visits) halt are = absurd are
   ended_by values hand before (stage ∷ stages) [] halt are = record { stage = stage; rest = stages; split = refl; halts = subst (λ made. IsHalt S.run values hand made stage halt) (sym (append-nil before)) are }
   ended_by values hand before (stage ∷ stages) (visit ∷ visits) halt are =
-      let more = ended_by values hand (before ++ visit.made.files) stages visits halt are.1 in
-      record {
-        stage = more.stage;
-        rest = more.rest;
-        split = ap (λ some. stage ∷ some) more.split;
-        halts = subst (λ made. IsHalt S.run values hand made more.stage halt) (append_assoc before visit.made.files (files_of visits)) more.halts;
-      }
+      grind (
+        arith,
+        before,
+        IsHalt,
+        append_assoc,
+        ended_by values hand (before ++ visit.made.files) stages visits halt are.1,
+      )
 
 none_before : (stage : Stage) (stages : List Stage)
     → list_all (λ other. ltb (stage_place stage) (stage_place other)) stages ≡ true
@@ -228,14 +227,8 @@ module _ (values : List ℤ) where
           → cond (ltb (stage_place first) (stage_place stage)) (first ∷ before) before ≡ done
       by false is above done e more =
           absurd (false≢true (sym is ∙ (not_late first stages done stage rest above e).1))
-      by true is above [] e more =
-          let same : first ≡ stage = cc in
-          let not : ltb (stage_place first) (stage_place stage) ≡ false = ap (λ s. ltb (stage_place first) (stage_place s)) (sym same) ∙ le-ltb (stage_place first) (stage_place first) (omega arith) in
-          ap (λ b. cond b (first ∷ before) before) not ∙ ap (λ s. filter (λ other. ltb (stage_place other) (stage_place s)) stages) (sym same) ∙ none_before first stages above
-      by true is above (other ∷ done) e more =
-          let same : first ≡ other = cc in
-          let later : kept ≡ done ++ stage ∷ rest = cc in
-          ap (λ b. cond b (first ∷ before) before) (not_late first stages done stage rest above later).0 ∙ ap (λ s. s ∷ before) same ∙ ap (λ some. other ∷ some) (more done later)
+      by true is above [] e more = grind (arith, le-ltb, before, none_before)
+      by true is above (other ∷ done) e more = grind (arith, before, not_late)
 
 module _ (S : StageParts) (laws : AreStages S) where
   -- ---- what the stages before one made
@@ -252,12 +245,11 @@ module _ (S : StageParts) (laws : AreStages S) where
     done_right [] (visit ∷ visits) placed right = tt
     done_right (stage ∷ stages) [] placed right = tt
     done_right (stage ∷ stages) (visit ∷ visits) placed right =
-        let look = input_text hand all in
-        let own = placed.0 in
-        let here : S.IsRight stage visit.bundle visit.made.files = subst (λ own. S.IsRight own visit.bundle visit.made.files) own.own right.0.right in
-        let over : S.IsRight stage (bundle_over values (looked look) stage) visit.made.files = subst (λ bundle. S.IsRight stage bundle visit.made.files) (sym (bundle_looked look values stage visit.bundle own.given)) here in
-        let same : visit.made.files ≡ files_over (looked look) (ids_of visit.made.files) = sym own.found ∙ sym (files_looked look (stage_makes stage)) ∙ ap (λ some. files_over (looked look) (ids_of some)) own.found in (
-          record { ids = ids_of visit.made.files; makes = own.made_as; right = subst (S.IsRight stage (bundle_over values (looked look) stage)) same over },
+        grind (
+          arith,
+          looked,
+          bundle_looked,
+          files_looked,
           done_right stages visits placed.1 right.1,
         )
 

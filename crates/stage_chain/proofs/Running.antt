@@ -1,7 +1,6 @@
 -- A run is what its hand files and what is kept determine.
-use Rattle.std.proofs.Common.{◌≡◌, ℕ, ◌+◌, ◌≤◌, List, ◌++◌, Option, Some, None, IfSome}
-use Rattle.std.proofs.Common.{IfOk, IfErr, OnOk, Result, Ok, Err, refl, ap, sym, subst}
-use Rattle.std.proofs.Common.{◌∙◌, append_assoc, arith, inl}
+use Rattle.std.proofs.Common.{◌≡◌, ℕ, ◌+◌, ◌≤◌, List, ◌++◌, Option, Some, None, IfSome, IfOk, IfErr}
+use Rattle.std.proofs.Common.{OnOk, Result, Ok, Err, refl, ap, sym, ◌∙◌, append_assoc, arith, inl}
 use Rattle.std.specs.Option.{option_map}
 use Rattle.plan_files.specs.declared.write.Write.{Write}
 use Rattle.plan_files.specs.Applied.{AreApplied}
@@ -12,10 +11,9 @@ use Rattle.stage_chain.specs.declared.outcome.Outcome.{Outcome}
 use Rattle.stage_chain.specs.declared.cause.Cause.{Cause}
 use Rattle.stage_chain.specs.Built.{RunParts, cause_of, told_by}
 use Rattle.stage_chain.specs.Chain.{Trace}
-use Rattle.stage_chain.specs.Hand.{is_hand}
 use Rattle.stage_chain.specs.Kept.{HaveEntries, made_over, new_entries, trace_over, work_over}
 use Rattle.stage_chain.specs.Progress.{SoFar, IsAll, EndGives, trace_work}
-use Rattle.stage_chain.specs.Reports.{last_line, end_of, stage_lines}
+use Rattle.stage_chain.specs.Reports.{last_line, end_of}
 use Rattle.stage_chain.specs.Runs.{AddsNoHandFile, AreNotAll, IsOutcome, entries_over}
 use Rattle.stage_chain.specs.Runs.{run_over, unmet, writes_for, writes_of}
 use Rattle.stage_chain.proofs.HandAlone.{over_alone}
@@ -57,10 +55,7 @@ module _ (S : StageParts) (laws : AreStages S) where
       → cause_of (trace_over S folder folder).halt ≡ why → IsAll S folder (trace_over S folder folder) so_far
       → outcome.report ≡ so_far.report ++ last_line why → outcome.end ≡ end_of why
       → IsOutcome (run_over S folder) outcome
-  outcome_in folder so_far why outcome ends all report end = record {
-    report = report ∙ ap (λ lines. lines ++ last_line why) (sym all.report) ∙ ap (λ why. stage_lines (trace_over S folder folder).visits ++ last_line why) (sym ends) ∙ sym (ap (λ (run : RunParts). run.report) (made_is folder));
-    end = end ∙ ap end_of (sym ends) ∙ sym (ap (λ (run : RunParts). run.end) (made_is folder));
-  }
+  outcome_in folder so_far why outcome ends all report end = grind (arith, made_is)
 
   pub outcome_is : (contents : Option Folder) (so_far : SoFar) (why : Option Cause) (before now : ℕ)
       (result : Result Outcome ChainFault)
@@ -84,8 +79,7 @@ module _ (S : StageParts) (laws : AreStages S) where
   left_is (Some folder) told new noted_old noted now so_far why before count (Err fault) same kept ends h =
       tt
   left_is (Some folder) told new noted_old noted now so_far why before count (Ok outcome) same kept ends h =
-      let here : AreApplied (writes_told folder so_far) (Some folder) new noted now = subst (λ told. IfSome told (λ folder. AreApplied (writes_told folder so_far) (Some folder) new noted now)) same h in
-      subst (λ noted. AreApplied (writes_of S folder) (Some folder) new noted now) kept (subst (λ writes. AreApplied writes (Some folder) new noted now) (writes_are folder so_far ends.1) here)
+      grind (arith, writes_are)
 
   -- what is written of the stages that were made are entries
   pub have_is : (contents : Option Folder) (so_far : SoFar) (why : Option Cause) (before count : ℕ)
@@ -107,8 +101,7 @@ module _ (S : StageParts) (laws : AreStages S) where
   unfinished_is (Some folder) told new noted_old noted now so_far why before count (Ok outcome) same kept ends h =
       tt
   unfinished_is (Some folder) told new noted_old noted now so_far why before count (Err fault) same kept ends h =
-      let here : AreNotAll fault (writes_told folder so_far) (Some folder) new noted now = subst (λ told. IfSome told (λ folder. AreNotAll fault (writes_told folder so_far) (Some folder) new noted now)) same h in
-      subst (λ noted. AreNotAll fault (writes_of S folder) (Some folder) new noted now) kept (subst (λ writes. AreNotAll fault writes (Some folder) new noted now) (writes_are folder so_far ends.1) here)
+      grind (arith, writes_are)
 
   pub untouched : {T : Type 0} (contents told : Option Folder) (noted_old noted : Option (List Write)) (result : Result T ChainFault)
       → told ≡ contents → noted ≡ noted_old
@@ -145,8 +138,4 @@ noted_both (Some noted) writes more = ap Some (append_assoc noted writes more)
 
 pub adds_both : (before mid now : Option (List Write)) → AddsNoHandFile before mid
     → AddsNoHandFile mid now → AddsNoHandFile before now
-adds_both before mid now first more = record {
-  added = first.added ++ more.added;
-  noted = more.noted ∙ ap (option_map (λ noted. noted ++ more.added)) first.noted ∙ noted_both before first.added more.added;
-  apart = outside_both is_hand first.added more.added first.apart more.apart;
-}
+adds_both before mid now first more = grind (arith, noted_both, outside_both)

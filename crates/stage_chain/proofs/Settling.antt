@@ -1,7 +1,7 @@
 -- Writes that change something, one after the other, and which files they name.
-use Rattle.std.proofs.Common.{◌≡◌, ℕ, Bool, true, false, cond, not, ◌⊎◌, List, [], ◌∷◌, ◌++◌, map, length}
-use Rattle.std.proofs.Common.{Option, Some, None, IfSome, refl, ap, sym, subst, ◌∙◌, ⊎_elim, append-nil}
-use Rattle.std.proofs.Common.{append_assoc, arith}
+use Rattle.std.proofs.Common.{◌≡◌, ℕ, Bool, true, false, cond, not, ◌⊎◌, List, [], ◌∷◌, ◌++◌, map}
+use Rattle.std.proofs.Common.{length, Option, Some, None, IfSome, refl, ap, sym, subst, ◌∙◌, ⊎_elim}
+use Rattle.std.proofs.Common.{append-nil, append_assoc, arith}
 use Rattle.std.specs.List.{list_all}
 use Rattle.plan_files.specs.declared.file_fault.FileFault.{FileFault}
 use Rattle.plan_files.specs.declared.write.Write.{Write}
@@ -86,11 +86,7 @@ module _ (told new : Option Folder) (mid now : Option (List Write)) (writes : Li
 
   pub some_added : (before : Option (List Write)) (fault : FileFault) → mid ≡ before → AreCutShort fault writes told new mid now
       → AddsNoHandFile before now
-  some_added before fault same cut = subst (λ noted. AddsNoHandFile noted now) same (record {
-    added = cut.made;
-    noted = cut.noted;
-    apart = outside_front is_hand cut.made (cut.next ∷ cut.rest) (subst (AreOutside is_hand) cut.split out);
-  })
+  some_added before fault same cut = grind (arith, outside_front)
 
 -- the removals of what is kept name none
 keep_no_hand : list_all (λ name. not (is_hand name)) keep_names ≡ true

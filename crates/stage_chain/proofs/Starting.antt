@@ -1,7 +1,7 @@
 -- A chain starts with the settings of its dataset.
 use Rattle.stage_chain.specs.StageParts.{staged}
 use Rattle.std.proofs.Common.{◌≡◌, ℕ, ℤ, List, [], Option, Some, None, IfSome, Result, Ok, Err}
-use Rattle.std.proofs.Common.{refl, sym, subst, arith}
+use Rattle.std.proofs.Common.{arith}
 use Rattle.plan_files.specs.Folder.{Folder}
 use Rattle.config_keys.specs.declared.config_end.ConfigEnd.{ConfigEnd}
 use Rattle.config_keys.specs.declared.config_end.ConfigEnd.TheVariants as config
@@ -10,7 +10,6 @@ use Rattle.config_keys.specs.Items.{look_in}
 use Rattle.config_keys.specs.Values.{effective}
 use Rattle.stage_chain.specs.declared.chain_end.ChainEnd.{ChainEnd}
 use Rattle.stage_chain.specs.Chain.{chain_from, to_run}
-use Rattle.stage_chain.specs.Built.{chain_under}
 use Rattle.stage_chain.specs.Kept.{solve_over, trace_over}
 use Rattle.stage_chain.specs.Ends.{end_of_config}
 use Rattle.stage_chain.specs.Progress.{SoFar, nothing, ChainGives}
@@ -22,12 +21,7 @@ module _ (S : StageParts) (laws : AreStages S) where
       → ConfigGives (effective (look_in folder)) (Err end)
       → ChainGives S folder (trace_over S folder folder) nothing count count (Err (end_of_config end))
   unfolding trace_over
-  refused_in folder (config.Refused reason) count told =
-      subst (λ settings. ChainGives S folder (chain_under S (solve_over S folder) settings folder) nothing count count (Err (end_of_config (config.Refused reason)))) (sym told) (
-        refl,
-        record { files = refl; report = refl; entries = refl; have = tt },
-        omega arith,
-      )
+  refused_in folder (config.Refused reason) count told = grind arith
   refused_in folder config.FileFault count told = (omega arith, omega arith)
   refused_in folder config.NoMemory count told = (omega arith, omega arith)
 
@@ -49,6 +43,4 @@ module _ (S : StageParts) (laws : AreStages S) where
       → IfSome contents (λ folder. ChainGives S folder (trace_over S folder folder) new before count result)
   unfolding trace_over
   settled None now values new before count result same told h = tt
-  settled (Some folder) now values new before count result same told h =
-      let here : IfSome (Some folder) (λ folder. ChainGives S folder (chain_from (solve_over S folder) values folder [] (to_run values (staged S values))) new before count result) = rw same at h in
-      subst (λ settings. ChainGives S folder (chain_under S (solve_over S folder) settings folder) new before count result) (sym told) here
+  settled (Some folder) now values new before count result same told h = grind arith

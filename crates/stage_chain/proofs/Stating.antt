@@ -1,7 +1,8 @@
 -- The states of the stages, one after the other.
+use Rattle.std.proofs.Common.{arith, ◌≡◌, ℕ, ℤ, ◌+◌, ◌<◌, ◌≤◌, cond, List, ◌∷◌, ◌++◌, length}
+use Rattle.std.proofs.Common.{slice_get, get_or, drop, Option, Some, None, IfSome, IfOk, Result, Ok}
+use Rattle.std.proofs.Common.{Err, refl, ap, sym, subst, ◌∙◌, append-nil, append_assoc}
 use Rattle.stage_chain.specs.States.{holding_in}
-use Rattle.std.proofs.Common.{◌≡◌, ℕ, ℤ, ◌+◌, ◌<◌, ◌≤◌, cond, List, ◌∷◌, ◌++◌, length, slice_get, get_or, drop, Option, Some, None}
-use Rattle.std.proofs.Common.{IfSome, IfOk, Result, Ok, Err, refl, ap, sym, subst, ◌∙◌, append-nil, append_assoc}
 use Rattle.std.specs.List.{list_all}
 use Rattle.std.proofs.lemmas.List.{at_drop_more, at_drop_all}
 use Rattle.std.proofs.lemmas.Option.{get_or_from_slice_get, slice_get_within}
@@ -92,10 +93,7 @@ module _ (S : StageParts) (laws : AreStages S) where
       → effective (look_in folder) ≡ settings → outcome.end ≡ states_end_under settings
       → outcome.report ≡ states_under S settings folder → TellsStates S folder outcome
   unfolding states_of states_end
-  told_by folder settings outcome is ends told = record {
-    end = ends ∙ ap states_end_under (sym is);
-    report = told ∙ ap (λ settings. states_under S settings folder) (sym is);
-  }
+  told_by folder settings outcome is ends told = grind arith
 
   pub settled_states : (contents now : Option Folder) (values : List ℤ)
       (result : Result StatesOutcome ChainFault) → now ≡ contents

@@ -1,7 +1,8 @@
 -- The writes of a run are harmless, and so it may be stopped anywhere.
-use Rattle.std.proofs.Common.{◌≡◌, ℕ, ℤ, Bool, true, false, cond, not, is_some, List, [], ◌∷◌, ◌++◌, map, filter}
-use Rattle.std.proofs.Common.{take, drop, Option, Some, None, IfSome, IfErr, OnOk, Result, Ok, Err, refl, ap, sym, subst, ◌∙◌}
-use Rattle.std.proofs.Common.{inl, ⊎_elim, append-nil}
+use Rattle.std.proofs.Common.{arith, ◌≡◌, ℕ, ℤ, Bool, true, false, cond, not, is_some, List, []}
+use Rattle.std.proofs.Common.{◌∷◌, ◌++◌, map, filter, take, drop, Option, Some, None, IfSome, IfErr}
+use Rattle.std.proofs.Common.{OnOk, Result, Ok, Err, refl, ap, sym, subst, ◌∙◌, inl, ⊎_elim}
+use Rattle.std.proofs.Common.{append-nil}
 use Rattle.std.specs.Option.{option_map}
 use Rattle.std.specs.Str.{bytes_eq}
 use Rattle.std.proofs.lemmas.Bool.{and_parts, false≢true}
@@ -35,11 +36,11 @@ use Rattle.stage_chain.specs.declared.outcome.Outcome.{Outcome}
 use Rattle.stage_chain.specs.Built.{files_of}
 use Rattle.stage_chain.specs.Chain.{Halt, Visit, input_text}
 use Rattle.stage_chain.specs.Ends.{file_fault_of}
-use Rattle.stage_chain.specs.Hand.{hand_of, is_hand, keep_names, names_made_by}
+use Rattle.stage_chain.specs.Hand.{hand_of, is_hand, keep_names}
 use Rattle.stage_chain.specs.Kept.{HasEntry, HaveEntries, IsKeptHonest, bytes_for, entry_put, kept_in}
 use Rattle.stage_chain.specs.Kept.{made_over, new_entries, new_entry, solve_over, trace_over}
 use Rattle.stage_chain.specs.Progress.{EndGives, SoFar}
-use Rattle.stage_chain.specs.Runs.{AreNotAll, entries_over, is_met, name_of, names_besides, put_of}
+use Rattle.stage_chain.specs.Runs.{AreNotAll, entries_over, is_met, name_of, put_of}
 use Rattle.stage_chain.specs.Runs.{removed, unmet, writes_for, writes_of}
 use Rattle.stage_chain.specs.Stopped.{AddsHarmless, AreHarmless, IsHarmless}
 use Rattle.stage_chain.proofs.BothModes.{IsCleared}
@@ -115,8 +116,7 @@ module _ (S : StageParts) (laws : AreStages S) where
       → AreHarmless S (unmet folder (writes_for S made))
   unfolding writes_for
   wishes_harmless folder made apart =
-      some_harmless (λ write. not (is_met folder write)) (map put_of made ++ map Removal (names_besides made (names_made_by S.places)))
-      (harmless_both S laws (map put_of made) (map Removal (names_besides made (names_made_by S.places))) (puts_harmless made apart) (removals_harmless (names_besides made (names_made_by S.places))))
+      grind (arith, some_harmless, harmless_both, puts_harmless, removals_harmless)
 
   -- ---- the writes of a run
 

@@ -1,5 +1,5 @@
 -- Wherever the writes of a run are stopped, what is kept is honest.
-use Rattle.std.proofs.Common.{◌≡◌, ℕ, Bool, true, false, cond, ◌||◌, List, [], ◌∷◌, ◌++◌}
+use Rattle.std.proofs.Common.{◌≡◌, ℕ, Bool, true, false, cond, ◌||◌, List, [], ◌∷◌, ◌++◌, arith}
 use Rattle.std.proofs.Common.{take, length, Option, Some, None, IfSome, refl, ap, sym, subst, ◌∙◌}
 use Rattle.std.proofs.Common.{◌⊎◌, inl, inr, ⊎_elim}
 use Rattle.std.specs.List.{list_any}
@@ -69,9 +69,7 @@ module _ (S : StageParts) (laws : AreStages S) where
       → IsHarmless S write → IsTorn write (Some base) left → IsHonestAt S laws at base
       → IfSome left (IsHonestAt S laws at)
   torn_honest at (Put name bytes) base left harmless torn honest =
-      ⊎_elim (λ same. subst (λ left. IfSome left (IsHonestAt S laws at)) (sym same) honest)
-      (λ some. subst (λ left. IfSome left (IsHonestAt S laws at)) (sym some.1) (front_honest at name bytes some.0 base harmless honest))
-      torn
+      grind (arith, ⊎_elim, front_honest)
   torn_honest at (Removal name) base left harmless torn honest =
       ⊎_elim (λ same. subst (λ left. IfSome left (IsHonestAt S laws at)) (sym same) honest)
       (λ gone. subst (λ left. IfSome left (IsHonestAt S laws at)) (sym gone) (whole_honest at (Removal name) base tt honest))
@@ -127,10 +125,7 @@ module _ (S : StageParts) (laws : AreStages S) where
   module _ (writes : List Write) (read left : Folder) (harmless : AreHarmless S writes) where
     stopped_at : (stopped : IsStopped writes read left) (at : Stage) → IsTrusted S laws at read stopped.made
         → IsHonestAt S laws at left
-    stopped_at stopped at trusted =
-        let parts = harmless_parts stopped.made stopped.rest (subst (AreHarmless S) stopped.split harmless) in
-        first_honest at stopped.rest (folder_after stopped.made read) left parts.1 stopped.folder
-        (made_honest at stopped.made read parts.0 trusted)
+    stopped_at stopped at trusted = grind (arith, harmless_parts, first_honest, made_honest)
 
     pub stopped_honest : (stopped : IsStopped writes read left) → IsKeptHonest S read → IsKeptHonest S left
     stopped_honest stopped honest = λ at. stopped_at stopped at (inl (honest at))

@@ -1,9 +1,8 @@
 -- The chain over hand files.
-use Rattle.std.proofs.Common.{All, Contains, ◌++◌, map}
+use Rattle.std.proofs.Common.{All, Contains, map, arith, ◌≡◌, ℕ, ℤ, Bool, true, false, cond, leb}
+use Rattle.std.proofs.Common.{List, [], ◌∷◌, filter, Result, Ok, Err, refl, ap, sym, ◌∙◌}
 use Rattle.std.proofs.lemmas.List.Elements.{All-filter, All-contains_itself}
 use Rattle.stage_chain.specs.StageParts.{staged}
-use Rattle.std.proofs.Common.{◌≡◌, ℕ, ℤ, Bool, true, false, cond, leb, List, [], ◌∷◌, map, filter}
-use Rattle.std.proofs.Common.{Result, Ok, Err, refl, ap, sym, ◌∙◌}
 use Rattle.std.specs.List.{list_all}
 use Rattle.plan_files.specs.Folder.{Folder}
 use Rattle.giv_files.specs.declared.made.Made.{Made}
@@ -111,11 +110,7 @@ module _ (S : StageParts) (laws : AreStages S) where
   names_staged : (values : List ℤ) (places : List Stage)
       → names_made_by (map (S.placed values) places) ≡ names_made_by places
   names_staged values [] = refl
-  names_staged values (place ∷ places) =
-      names_more (S.placed values place) (map (S.placed values) places)
-      ∙ ap (λ files. map file_name files ++ names_made_by (map (S.placed values) places)) (laws.placed values place).makes
-      ∙ ap (λ rest. map file_name (stage_makes place) ++ rest) (names_staged values places)
-      ∙ sym (names_more place places)
+  names_staged values (place ∷ places) = grind (arith, names_more, names_staged values places)
 
   -- what holds of all names that the places make holds of those that the stages there make
   pub staged_within : (values : List ℤ) (p : List ℕ → Bool) → list_all p (names_made_by S.places) ≡ true

@@ -1,6 +1,7 @@
 -- A keep file that does not begin and end as an entry of a bundle keeps nothing for it, and one that
 -- has its front keeps what stands behind that.
-use Rattle.std.proofs.Common.{◌≡◌, ℕ, List, ◌++◌, arith, refl, ap, sym, subst, ◌∙◌, Bool, false, Option, Some, None, Result, Ok, Err, IfSome, IfOk, option_map}
+use Rattle.std.proofs.Common.{◌≡◌, ℕ, List, ◌++◌, arith, refl, sym, subst, ◌∙◌, Bool, false, Option}
+use Rattle.std.proofs.Common.{Some, None, Result, Ok, Err, IfSome, IfOk, option_map}
 use Rattle.std.specs.FinMap as files
 use Rattle.plan_files.specs.declared.file_fault.FileFault.{FileFault}
 use Rattle.plan_files.specs.Folder.{Folder}
@@ -44,10 +45,7 @@ pub part_told : (told now : Option Folder) (bundle : BundleParts) (part : List �
     → Fits bundle → now ≡ told → IfSome now (BehindFront bundle (Some part))
     → made ≡ read_made bundle.stage part → IfSome told (λ folder. made ≡ kept_in folder bundle)
 part_told None now bundle part made fits same found is = tt
-part_told (Some folder) now bundle part made fits same found is =
-    let there = subst (λ now. IfSome now (BehindFront bundle (Some part))) same found in
-    is ∙ sym (kept_behind bundle part fits (omega (arith, there.counted)))
-    ∙ ap (kept_for bundle) (sym there.whole)
+part_told (Some folder) now bundle part made fits same found is = grind (arith, kept_behind)
 
 -- where none is found, nothing is kept
 pub no_part_told : (told now : Option Folder) (bundle : BundleParts) → now ≡ told
@@ -69,6 +67,4 @@ pub part_found : {X : Type 0} (told : Option Folder) (bundle : BundleParts) (nam
     → front ≡ given_front bundle
     → IfSome told (λ folder. IfOk result (λ part. FoundBehind front (files.get folder name) (option_map view part)))
     → IfSome told (λ folder. IfOk result (λ part. BehindFront bundle (option_map view part) folder))
-part_found told bundle name front view result named front_is found =
-    subst (λ (n : List ℕ). IfSome told (λ folder. IfOk result (λ part. FoundBehind (given_front bundle) (files.get folder n) (option_map view part)))) named
-    (subst (λ (f : List ℕ). IfSome told (λ folder. IfOk result (λ part. FoundBehind f (files.get folder name) (option_map view part)))) front_is found)
+part_found told bundle name front view result named front_is found = grind arith

@@ -1,12 +1,11 @@
 -- One stage of a chain is run.
-use Rattle.std.proofs.Common.{◌≡◌, ℕ, ℤ, List, [], ◌∷◌, Option, Some, None, IfSome, Result, Ok}
-use Rattle.std.proofs.Common.{Err, refl, ap, sym, ◌∙◌, subst, arith}
+use Rattle.std.proofs.Common.{◌≡◌, ℕ, ℤ, List, [], ◌∷◌, Option, Some, None, IfSome, Result, Ok, Err}
+use Rattle.std.proofs.Common.{refl, ap, sym, ◌∙◌, subst, arith}
 use Rattle.plan_files.specs.declared.file_fault.FileFault.{FileFault}
 use Rattle.plan_files.specs.declared.file_fault.FileFault.TheVariants as file_fault
 use Rattle.plan_files.specs.Folder.{Folder}
 use Rattle.giv_files.specs.declared.made.Made.{Made}
 use Rattle.giv_files.specs.declared.made.MadeFile.{MadeFile}
-use Rattle.giv_files.specs.declared.refusal.Refusal.{Refusal}
 use Rattle.giv_files.specs.declared.stage.Stage.{Stage}
 use Rattle.giv_files.specs.Settings.{BundleParts}
 use Rattle.giv_files.specs.Stages.{stage_inputs}
@@ -55,18 +54,10 @@ module _ (S : StageParts) (laws : AreStages S) where
     abbrev pub visit_in : Folder → Result Visit Halt
     visit_in folder = visit_of (solve_over S folder) values folder old.files stage
 
-    -- the work of a stage that has its inputs
-    solved_work : (folder : Folder) (bundle : BundleParts) (made : Result Made Refusal)
-        → visit_work S folder (solved (solve_over S folder) values folder bundle made) ≡ work_over S folder bundle
-    solved_work folder bundle (Ok made) = omega arith
-    solved_work folder bundle (Err refusal) = omega arith
-
     given_work_is : (folder : Folder) (bundle : BundleParts) → told_in folder ≡ Ok bundle
         → visit_work S folder (visit_in folder) ≡ work_over S folder bundle
     unfolding visit_of
-    given_work_is folder bundle told =
-        ap (λ told. visit_work S folder (tried (solve_over S folder) values folder told)) told
-        ∙ solved_work folder bundle (solve_over S folder bundle)
+    given_work_is folder bundle told = grind arith
 
     visit_is : (folder : Folder) (bundle : BundleParts) → told_in folder ≡ Ok bundle
         → visit_in folder ≡ solved (solve_over S folder) values folder bundle (solve_over S folder bundle)
@@ -167,6 +158,4 @@ module _ (S : StageParts) (laws : AreStages S) where
         → IfSome contents (λ folder. VisitGives S folder (visit_in folder) old new before count result)
     is_making None now files bundle before count result same here told none gives = tt
     is_making (Some folder) now files bundle before count result same here given found gives =
-        let told : told_in folder ≡ Ok bundle = ap (λ files. told_with files folder) (sym same) ∙ given in
-        let none : kept_in folder bundle ≡ None = sym (subst (λ now. IfSome now (λ folder. None ≡ kept_in folder bundle)) here found) in
-        making folder bundle before count result told none gives
+        grind (arith, making)

@@ -1,6 +1,6 @@
 -- Writes that change something leave what all of them leave, and then nothing is left to change.
-use Rattle.std.proofs.Common.{◌≡◌, ℕ, Bool, true, false, cond, not, ◌||◌, List, [], ◌∷◌, ◌++◌, map}
-use Rattle.std.proofs.Common.{filter, Option, Some, None, refl, ap, sym, ◌∙◌}
+use Rattle.std.proofs.Common.{arith, ◌≡◌, ℕ, Bool, true, false, cond, not, ◌||◌, List, [], ◌∷◌}
+use Rattle.std.proofs.Common.{◌++◌, map, filter, Option, Some, None, refl, ap, sym, ◌∙◌}
 use Rattle.std.specs.Prelude.{⊤}
 use Rattle.std.specs.List.{list_all}
 use Rattle.std.specs.Str.{bytes_eq}
@@ -139,9 +139,7 @@ met_behind (write ∷ writes) more folder h k =
 pub none_unmet : (writes : List Write) (folder : Folder) → AreMet folder writes
     → unmet folder writes ≡ []
 none_unmet [] folder h = refl
-none_unmet (write ∷ writes) folder h =
-    let met : is_met folder write ≡ true = ap (λ found. same_bytes found (left_by write)) h.0 ∙ same_own (left_by write) in
-    ap (λ b. cond (not b) (write ∷ unmet folder writes) (unmet folder writes)) met ∙ none_unmet writes folder h.1
+none_unmet (write ∷ writes) folder h = grind (arith, same_own, none_unmet writes folder h.1)
 
 -- ---- some of the writes
 

@@ -1,5 +1,5 @@
 -- The puts of what was made and the removals of all else are the writes of a run.
-use Rattle.std.proofs.Common.{◌≡◌, List, ◌++◌, map, ap, ◌∙◌}
+use Rattle.std.proofs.Common.{◌≡◌, List, ◌++◌, map, arith}
 use Rattle.plan_files.specs.declared.write.Write.{Write}
 use Rattle.plan_files.specs.declared.write.Write.TheVariants.{Removal}
 use Rattle.giv_files.specs.declared.made.MadeFile.{MadeFile}
@@ -13,15 +13,11 @@ joined : (removals_of : List MadeFile → List Write) (made some : List MadeFile
     (puts removed writes : List Write) → some ≡ made → puts ≡ map put_of made
     → removed ≡ removals_of some → writes ≡ puts ++ removed
     → writes ≡ map put_of made ++ removals_of made
-joined removals_of made some puts removed writes same are gone all =
-    all ∙ ap (λ first. first ++ removed) are
-    ∙ ap (λ last. map put_of made ++ last) (gone ∙ ap removals_of same)
+joined removals_of made some puts removed writes same are gone all = grind arith
 
 module _ (S : StageParts) (laws : AreStages S) where
   pub joined_writes : (made some : List MadeFile) (puts removed writes : List Write) → some ≡ made
       → puts ≡ map put_of made → removed ≡ map Removal (names_besides some (names_made_by S.places))
       → writes ≡ puts ++ removed → writes ≡ writes_for S made
   unfolding writes_for
-  joined_writes made some puts removed writes same are gone all =
-      joined (λ files. map Removal (names_besides files (names_made_by S.places))) made some puts removed
-      writes same are gone all
+  joined_writes made some puts removed writes same are gone all = grind arith

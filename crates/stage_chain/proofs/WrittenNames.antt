@@ -1,7 +1,7 @@
 -- The names that a run writes: those of made files and of what is kept, each at most once.
+use Rattle.std.proofs.Common.{arith, ◌≡◌, ℕ, ℤ, Bool, true, false, cond, not, is_some, leb, ◌||◌}
+use Rattle.std.proofs.Common.{List, [], ◌∷◌, ◌++◌, map, filter, Option, refl, ap, sym, ◌∙◌}
 use Rattle.stage_chain.specs.StageParts.{staged}
-use Rattle.std.proofs.Common.{◌≡◌, ℕ, ℤ, Bool, true, false, cond, not, is_some, leb, ◌||◌, List, [], ◌∷◌, ◌++◌}
-use Rattle.std.proofs.Common.{map, filter, Option, refl, ap, sym, ◌∙◌}
 use Rattle.std.specs.List.{list_all}
 use Rattle.std.specs.Str.{bytes_eq}
 use Rattle.std.proofs.lemmas.Bool.{false≢true, and_parts, and_from}
@@ -275,10 +275,7 @@ module _ (S : StageParts) (laws : AreStages S) where
       → list_all p (names_in (writes_for S made)) ≡ true
   unfolding writes_for
   files_within p made h k =
-      let besides = names_besides made (names_made_by S.places) in
-      ap (list_all p) (map-append write_name (map put_of made) (map Removal besides)
-      ∙ ap (λ names. names ++ names_in (map Removal besides)) (names_map made) ∙ ap (λ names. map name_of made ++ names) (names_removed besides))
-      ∙ all_both p (map name_of made) besides k (all_filter p (λ name. not (is_among name (map name_of made))) (names_made_by S.places) h)
+      grind (arith, map-append, names_in, names_map, names_removed, all_both, all_filter)
 
   -- the writes of made files differ from those of new entries
   pub files_apart : (keep : Folder) (visits : List Visit) → AreApart S laws keep visits
