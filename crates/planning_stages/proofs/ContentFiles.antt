@@ -1,6 +1,8 @@
 -- Files of a stage, where they stand in a folder: which are there, where none lacks; and those that
 -- are to be what their stage makes of its inputs.
-use Rattle.std.proofs.Common.{◌≡◌, ℕ, Bool, true, false, cond, not, is_some, ◌&&◌, ◌||◌, List, [], ◌∷◌, Option, Some, None, Result, Ok, Err, refl, ap, subst, sym, ◌∙◌, arith}
+use Rattle.std.proofs.Common.{◌≡◌, ℕ, Bool, true, false, cond, not, is_some, ◌&&◌, ◌||◌, List, []}
+use Rattle.std.proofs.Common.{◌∷◌, Option, Some, None, Result, Ok, Err, refl, ap, subst, sym, ◌∙◌}
+use Rattle.std.proofs.Common.{arith}
 use Rattle.std.specs.List.{Contains, list_all, list_any}
 use Rattle.std.specs.Option.{ok_or}
 use Rattle.std.specs.FinMap as map
@@ -130,9 +132,7 @@ all_own at folder makes =
 pub all_there : (at : Stage) (folder : Folder) (files : List FileId) → stage_makes at ≡ files
     → MakesAs at (ids_of (files_by (made_in folder) files))
     → list_any (λ file. is_lacking file (map.get folder (file_name file))) files ≡ false
-all_there at folder files is =
-    subst (λ files. MakesAs at (ids_of (files_by (made_in folder) files)) → list_any (λ file. is_lacking file (map.get folder (file_name file))) files ≡ false)
-    is (all_own at folder)
+all_there at folder files is = grind arith
 
 -- ---- a stage whose files are judged by their contents
 
@@ -140,9 +140,7 @@ all_there at folder files is =
 pub content_stands : (at : Stage) → made_lists at ≡ stage_makes at ∷ []
     → list_any is_certificate (stage_makes at) ≡ false → (folder : Folder) → lacks_file folder at ≡ false
     → MakesAs at (ids_of (standing folder at))
-content_stands at lists needed folder none =
-    subst (λ lists. Contains lists (ids_of (standing folder at))) (sym lists)
-    (0, omega arith, sym (all_found folder (stage_makes at) needed none))
+content_stands at lists needed folder none = grind arith
 
 -- nothing is found of those that it made
 pub content_none : (at : Stage) (told : Result Made Refusal) (made : Made) → told ≡ Ok made

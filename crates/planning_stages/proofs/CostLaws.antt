@@ -1,5 +1,5 @@
 -- What the stage of costs owes to the chain, and what later stages take of it.
-use Rattle.std.proofs.Common.{◌≡◌, ℕ, ℤ, List, [], inr, refl, subst}
+use Rattle.std.proofs.Common.{◌≡◌, ℕ, ℤ, List, [], inr, refl, arith}
 use Rattle.giv_files.specs.declared.file_id.FileId.{FileId}
 use Rattle.giv_files.specs.declared.file_id.FileId.TheVariants as file
 use Rattle.giv_files.specs.declared.stage.Stage.TheVariants as stage
@@ -8,15 +8,13 @@ use Rattle.giv_files.proofs.Named.{names_only}
 use Rattle.ptn_network.specs.Networks.{network_of}
 use Rattle.line_pool.specs.PoolCosts.{pool_cost_input}
 use Rattle.line_pool.specs.Pools.{pool_of}
-use Rattle.line_pool.specs.RightCosts.{CostFilesAreRight}
 use Rattle.line_pool.proofs.CostMakes.{cost_stage_makes}
 use Rattle.line_pool.proofs.CostNames.{cost_stage_names}
 use Rattle.line_pool.proofs.CostReads.{costs_are_right}
 use Rattle.stage_chain.specs.Hand.{is_hand, is_hand_file}
-use Rattle.stage_chain.specs.Laws.{IsRightOver, bundle_over, files_over}
+use Rattle.stage_chain.specs.Laws.{IsRightOver, bundle_over}
 use Rattle.planning_stages.specs.Planning.{planning, stage_model}
 use Rattle.planning_stages.proofs.ContentFiles.{content_none, content_stands}
-use Rattle.planning_stages.proofs.OneLook.{first_own}
 use Rattle.planning_stages.proofs.StageLaws.{StageLaws, any}
 
 pub cost_laws : StageLaws stage.Cost
@@ -34,7 +32,4 @@ module _ (values : List ℤ) (look : FileId → List ℕ) where
   pub costs_accepted : IsRightOver planning values look stage.Cost
       → input_faults (pool_cost_input (pool_of (network_of (look file.Stop) (look file.Edge)) (look file.Pool))) (look file.PoolCost) ≡ []
   unfolding planning stage_model
-  costs_accepted costs =
-      let right : CostFilesAreRight (bundle_over values look stage.Cost) (files_over look costs.ids) = costs.right in
-      subst (λ text. input_faults (pool_cost_input (pool_of (network_of (look file.Stop) (look file.Edge)) (look file.Pool))) text ≡ [])
-      (first_own look file.PoolCost costs.ids right.text [] right.one) right.accepted
+  costs_accepted costs = grind arith

@@ -1,5 +1,5 @@
 -- What the stage of dispositions owes to the chain, and what the statistic takes of it.
-use Rattle.std.proofs.Common.{◌≡◌, ℕ, ℤ, inr, List, [], ◌∷◌, None, Some, refl, subst}
+use Rattle.std.proofs.Common.{◌≡◌, ℕ, ℤ, inr, List, [], ◌∷◌, None, Some, refl, arith}
 use Rattle.giv_files.specs.declared.file_id.FileId.{FileId}
 use Rattle.giv_files.specs.declared.file_id.FileId.TheVariants as file
 use Rattle.giv_files.specs.declared.made.MadeFile.{MadeFile}
@@ -18,12 +18,11 @@ use Rattle.delay_management.proofs.DispositionMakes.{disposition_names_delays, d
 use Rattle.delay_management.proofs.DispositionReads.{disposition_is_right}
 use Rattle.stage_chain.specs.declared.rule.Rule.{Rule}
 use Rattle.stage_chain.specs.Hand.{is_hand, is_hand_file}
-use Rattle.stage_chain.specs.Laws.{IsRightOver, bundle_over, files_over}
+use Rattle.stage_chain.specs.Laws.{IsRightOver, bundle_over}
 use Rattle.planning_stages.specs.Places.{in_place}
 use Rattle.planning_stages.specs.Planning.{planning, stage_model}
 use Rattle.planning_stages.specs.Verdicts.{disposition_verdict, judged_found}
 use Rattle.planning_stages.proofs.ContentFiles.{both_stand}
-use Rattle.planning_stages.proofs.OneLook.{both_own}
 use Rattle.planning_stages.proofs.RolloutLaws.{day_made}
 use Rattle.planning_stages.proofs.StageLaws.{StageLaws, any, fine}
 use Rattle.planning_stages.proofs.VehicleLaws.{schedule_accepted}
@@ -58,11 +57,7 @@ module _ (values : List ℤ) (look : FileId → List ℕ) where
   pub disposition_accepted : IsRightOver planning values look stage.Disposition
       → input_faults (disposed_time_input (expanded_event_ids (records_of expanded_event_input (look file.EventsX)))) (look file.Disposed) ≡ []
   unfolding events_in planning stage_model
-  disposition_accepted disposition =
-      let right : DispositionFilesAreRight (bundle_over values look stage.Disposition) (files_over look disposition.ids) = disposition.right in
-      let own = both_own look file.Disposed file.Reasons disposition.ids right.times_text right.reasons_text right.both in
-      subst (λ text. input_faults (disposed_time_input (expanded_event_ids (records_of expanded_event_input (look file.EventsX)))) text ≡ []) own.0
-      right.accepted
+  disposition_accepted disposition = grind arith
 
 pub disposition_laws : StageLaws stage.Disposition
 unfolding planning stage_model is_hand

@@ -1,15 +1,13 @@
 -- What the stage of the periodic network owes to the chain, and what later stages take of it.
-use Rattle.std.proofs.Common.{◌≡◌, ℕ, ℤ, List, [], Some, inr, refl, subst, sym}
+use Rattle.std.proofs.Common.{◌≡◌, ℕ, ℤ, List, [], Some, inr, refl, arith}
 use Rattle.giv_files.specs.declared.file_id.FileId.{FileId}
 use Rattle.giv_files.specs.declared.file_id.FileId.TheVariants as file
 use Rattle.giv_files.specs.declared.stage.Stage.TheVariants as stage
-use Rattle.giv_files.specs.Inputs.{input_faults}
 use Rattle.giv_files.specs.StageCalls.{input_text}
 use Rattle.giv_files.proofs.Named.{names_only}
 use Rattle.giv_files.proofs.Ranges.{front_none}
-use Rattle.ptn_network.specs.Inputs.{stop_input}
 use Rattle.ptn_network.specs.Networks.{network_faults, network_of, stops_of}
-use Rattle.event_activity.specs.EanStage.{events_in, network_in}
+use Rattle.event_activity.specs.EanStage.{network_in}
 use Rattle.event_activity.specs.RightEan.{EanFilesAreRight, EanIsAccepted}
 use Rattle.event_activity.proofs.EanMakes.{ean_stage_makes}
 use Rattle.event_activity.proofs.EanNames.{concept_names, ean_stage_names}
@@ -44,10 +42,7 @@ module _ (values : List ℤ) (look : FileId → List ℕ) (ean : IsRightOver pla
 
   -- its two files have no fault
   pub network_accepted : EanIsAccepted (look file.EventsP) (look file.ActivitiesP)
-  network_accepted =
-      let right = made_right in
-      let both = both_own look file.EventsP file.ActivitiesP ean.ids right.events right.activities right.both in
-      subst (λ text. EanIsAccepted text (look file.ActivitiesP)) both.0 (subst (EanIsAccepted right.events) both.1 right.accepted)
+  network_accepted = grind (arith, made_right, both_own)
 
   pub periodic_accepted : timetable_faults (bundle_over values look stage.Timetable) ≡ []
   unfolding problem_faults events_of
@@ -56,12 +51,4 @@ module _ (values : List ℤ) (look : FileId → List ℕ) (ean : IsRightOver pla
   -- the periodic events are at stops
   pub at_stops : AtStops (Some (stops_of (look file.Stop))) (events_of (look file.EventsP))
   unfolding network_of network_faults events_of
-  at_stops =
-      let bundle = bundle_over values look stage.Ean in
-      let right = made_right in
-      let both = both_own look file.EventsP file.ActivitiesP ean.ids right.events right.activities right.both in
-      let network_none : network_faults (look file.Stop) (look file.Edge) ≡ [] = front_none _ _ right.inputs in
-      let none : input_faults stop_input (look file.Stop) ≡ [] = front_none _ _ network_none in
-      subst (λ text. AtStops (Some (stops_of (look file.Stop))) (events_of text)) both.0
-      (subst (AtStops (Some (stops_of (look file.Stop)))) (sym right.reads_events.1)
-      (rows_at_stops (events_in bundle) (λ event. event.row) (look file.Stop) none right.network.at_stops))
+  at_stops = grind (arith, made_right, both_own, front_none, rows_at_stops)

@@ -1,5 +1,6 @@
 -- The planning stages owe to the chain what its laws say.
-use Rattle.std.proofs.Common.{◌≡◌, ℤ, List, [], ◌∷◌, Option, Some, None, IfOk, IfNone, Result, Ok, Err, refl, ap, subst, sym, ◌∙◌}
+use Rattle.std.proofs.Common.{arith, ◌≡◌, ℤ, List, [], ◌∷◌, Option, Some, None, IfOk, IfNone}
+use Rattle.std.proofs.Common.{Result, Ok, Err, refl, ap, subst, sym, ◌∙◌}
 use Rattle.giv_files.specs.declared.made.MadeFile.{MadeFile}
 use Rattle.giv_files.specs.declared.stage.Stage.{Stage}
 use Rattle.giv_files.specs.declared.stage.Stage.TheVariants as stage
@@ -83,6 +84,4 @@ pub passes_at : {E : Type 0} (values : List ℤ) (bundle : BundleParts) (others 
     → MakesAs (planning.placed values bundle.stage) (ids_of others)
     → IfOk result (λ found. IfNone found (planning.Satisfies values bundle others))
 unfolding planning
-passes_at values bundle others at own result same passes =
-    subst (λ at. MakesAs (planning.placed values at) (ids_of others) → IfOk result (λ found. IfNone found (((stage_model at).judged values).Satisfies bundle others)))
-    own (λ makes. passes (same makes))
+passes_at values bundle others at own result same passes = grind arith

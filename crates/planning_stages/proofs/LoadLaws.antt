@@ -1,5 +1,5 @@
 -- What the stage of loads owes to the chain, and what later stages take of it.
-use Rattle.std.proofs.Common.{◌≡◌, ℕ, ℤ, List, [], inr, refl, subst}
+use Rattle.std.proofs.Common.{◌≡◌, ℕ, ℤ, List, [], inr, refl, arith}
 use Rattle.giv_files.specs.declared.file_id.FileId.{FileId}
 use Rattle.giv_files.specs.declared.file_id.FileId.TheVariants as file
 use Rattle.giv_files.specs.declared.stage.Stage.TheVariants as stage
@@ -7,15 +7,13 @@ use Rattle.giv_files.specs.Inputs.{input_faults}
 use Rattle.giv_files.proofs.Named.{names_only}
 use Rattle.ptn_network.specs.Loads.{load_input}
 use Rattle.ptn_network.specs.Networks.{network_of}
-use Rattle.demand_load.specs.RightLoads.{LoadFilesAreRight}
 use Rattle.demand_load.proofs.LoadMakes.{load_stage_makes}
 use Rattle.demand_load.proofs.LoadNames.{load_stage_names}
 use Rattle.demand_load.proofs.LoadReads.{loads_are_right}
 use Rattle.stage_chain.specs.Hand.{is_hand, is_hand_file}
-use Rattle.stage_chain.specs.Laws.{IsRightOver, bundle_over, files_over}
+use Rattle.stage_chain.specs.Laws.{IsRightOver, bundle_over}
 use Rattle.planning_stages.specs.Planning.{planning, stage_model}
 use Rattle.planning_stages.proofs.ContentFiles.{content_none, content_stands}
-use Rattle.planning_stages.proofs.OneLook.{first_own}
 use Rattle.planning_stages.proofs.StageLaws.{StageLaws, any}
 
 pub load_laws : StageLaws stage.Load
@@ -33,7 +31,4 @@ module _ (values : List ℤ) (look : FileId → List ℕ) where
   pub loads_accepted : IsRightOver planning values look stage.Load
       → input_faults (load_input file.Load (network_of (look file.Stop) (look file.Edge)).edges) (look file.Load) ≡ []
   unfolding planning stage_model
-  loads_accepted loads =
-      let right : LoadFilesAreRight (bundle_over values look stage.Load) (files_over look loads.ids) = loads.right in
-      subst (λ text. input_faults (load_input file.Load (network_of (look file.Stop) (look file.Edge)).edges) text ≡ [])
-      (first_own look file.Load loads.ids right.text [] right.one) right.accepted
+  loads_accepted loads = grind arith

@@ -1,5 +1,5 @@
 -- What the stage of the roll-out owes to the chain, and what later stages take of it.
-use Rattle.std.proofs.Common.{◌≡◌, ℕ, ℤ, List, [], ◌++◌, map, Some, inr, refl, subst}
+use Rattle.std.proofs.Common.{◌≡◌, ℕ, ℤ, List, [], ◌++◌, map, Some, inr, refl, arith}
 use Rattle.giv_files.specs.declared.file_id.FileId.{FileId}
 use Rattle.giv_files.specs.declared.file_id.FileId.TheVariants as file
 use Rattle.giv_files.specs.declared.key.Key.TheVariants as key
@@ -17,17 +17,16 @@ use Rattle.event_tables.specs.RunRules.{broken_events, stray_activities, unjoine
 use Rattle.event_tables.specs.Trips.{trip_input}
 use Rattle.pesp_model.specs.PespTexts.{activities_of, events_of}
 use Rattle.pesp_search.proofs.TimetableMakes.{timetable_faults_name}
-use Rattle.roll_out.specs.RightRollout.{RolloutFilesAreRight, RolloutIsAccepted}
+use Rattle.roll_out.specs.RightRollout.{RolloutIsAccepted}
 use Rattle.roll_out.specs.RolloutStage.{faults_at, file_faults, network_in, rollout_faults, run_faults, times_in}
 use Rattle.roll_out.proofs.RolloutMakes.{rollout_stage_makes, rollout_stage_names, rows_name}
 use Rattle.roll_out.proofs.RolloutReads.{rollout_is_right}
 use Rattle.stage_chain.specs.Hand.{is_hand, is_hand_file}
-use Rattle.stage_chain.specs.Laws.{IsRightOver, bundle_over, files_over}
+use Rattle.stage_chain.specs.Laws.{IsRightOver, bundle_over}
 use Rattle.planning_stages.specs.Places.{in_place}
 use Rattle.planning_stages.specs.Planning.{planning, stage_model}
 use Rattle.planning_stages.proofs.ContentFiles.{content_none, content_stands}
 use Rattle.planning_stages.proofs.EanLaws.{at_stops, network_accepted, periodic_accepted}
-use Rattle.planning_stages.proofs.OneLook.{three_own}
 use Rattle.planning_stages.proofs.StageLaws.{StageLaws, any, fine}
 use Rattle.planning_stages.proofs.TimetableLaws.{times_accepted}
 
@@ -82,13 +81,7 @@ module _ (values : List ℤ) (look : FileId → List ℕ) (day : IsRightOver pla
   -- what it made is accepted
   pub day_made : RolloutIsAccepted (events_of (look file.EventsP)) (look file.EventsX) (look file.ActivitiesX) (look file.Trips)
   unfolding planning stage_model
-  day_made =
-      let right : RolloutFilesAreRight (bundle_over values look stage.Rollout) (files_over look day.ids) = day.right in
-      let own = three_own look file.EventsX file.ActivitiesX file.Trips day.ids right.events right.activities right.trips right.three in
-      let periodic = events_of (look file.EventsP) in
-      subst (RolloutIsAccepted periodic (look file.EventsX) (look file.ActivitiesX)) own.2
-      (subst (λ text. RolloutIsAccepted periodic (look file.EventsX) text right.trips) own.1
-      (subst (λ text. RolloutIsAccepted periodic text right.activities right.trips) own.0 right.accepted))
+  day_made = grind arith
 
   pub trips_accepted : IsRightOver planning values look stage.Ean
       → input_faults (trip_input (Some (stops_of (look file.Stop)))) (look file.Trips) ≡ []

@@ -36,6 +36,4 @@ each_same (file ∷ made) (other ∷ others) long same ids =
 pub same_files : (made others : List MadeFile) → same_texts made others ≡ true
     → ids_of made ≡ ids_of others → made ≡ others
 unfolding same_texts
-same_files made others same ids =
-    let parts = and_parts _ _ same in
-    each_same made others ((Decides-eqb (length made) (length others)).0 parts.0) parts.1 ids
+same_files made others same ids = grind (arith, and_parts, each_same, Decides-eqb)

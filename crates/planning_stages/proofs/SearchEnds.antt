@@ -1,5 +1,7 @@
 -- How a search ends that has a solution or none, within its budget or beyond it.
-use Rattle.std.proofs.Common.{◌≡◌, ◌<◌, ◌⊎◌, inl, inr, ⊎_elim, ℕ, Bool, true, false, cond, nat_le, nat_lt, List, [], ◌∷◌, length, take, Option, Some, None, Result, Ok, Err, refl, ap, sym, subst, ◌∙◌, arith, option_map}
+use Rattle.std.proofs.Common.{◌≡◌, ◌<◌, ◌⊎◌, inl, inr, ⊎_elim, ℕ, Bool, true, false, cond, nat_le}
+use Rattle.std.proofs.Common.{nat_lt, List, [], ◌∷◌, length, take, Option, Some, None, Result, Ok}
+use Rattle.std.proofs.Common.{Err, refl, ap, sym, subst, ◌∙◌, arith, option_map}
 use Rattle.std.specs.Prelude.{ok_or}
 use Rattle.std.proofs.lemmas.Bool.{leb-false, leb-true, lt-ltb, ltb-true}
 use Rattle.giv_files.specs.declared.made.Made.{Made}
@@ -205,14 +207,6 @@ module _ (bundle : BundleParts) where
     -- neither is so where a solution exists and the budget suffices
     pub can_end : (at : Stage) → bundle.stage ≡ at → CanBeFound at bundle
         → (¬ HasNoSolution at bundle) × (¬ IsSpent at bundle)
-    can_end stage.Concept own can = (
-      (λ none. none.1.none can.0.0 can.0.1),
-      (λ spent. absurd (omega (arith, spent.1, can.1, listing_bound (problem_of bundle)))),
-    )
-    can_end stage.Timetable own can = (
-      (λ none. none.1.none can.0.0 can.0.1),
-      (λ spent.
-          let right = listing_right (problem_in bundle) (is_problem bundle own fits spent.0) in
-          absurd (omega (arith, spent.1, can.1, right.short))),
-    )
+    can_end stage.Concept own can = grind (arith, listing_bound)
+    can_end stage.Timetable own can = grind (arith, listing_right, is_problem)
     can_end at own can = ((λ none. none), (λ spent. spent))

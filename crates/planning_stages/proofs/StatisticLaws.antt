@@ -1,6 +1,6 @@
 -- What the stage of the statistic owes to the chain: all plans that earlier stages made have no fault
 -- as it reads them.
-use Rattle.std.proofs.Common.{◌≡◌, ℕ, ℤ, inr, List, [], None, refl, subst}
+use Rattle.std.proofs.Common.{◌≡◌, ℕ, ℤ, inr, List, [], None, refl, subst, arith}
 use Rattle.giv_files.specs.declared.file_id.FileId.{FileId}
 use Rattle.giv_files.specs.declared.file_id.FileId.TheVariants as file
 use Rattle.giv_files.specs.declared.key.Key.TheVariants as key
@@ -23,14 +23,9 @@ use Rattle.line_pool.proofs.WholeLines.{whole_lines}
 use Rattle.line_search.specs.ConceptTables.{concept_rows}
 use Rattle.line_search.specs.GivenProblems.{problem_of}
 use Rattle.line_search.specs.RightConcepts.{mark_files}
-use Rattle.event_tables.specs.DisposedTimes.{disposed_time_input}
-use Rattle.event_tables.specs.ExpandedFiles.{expanded_activity_input, expanded_event_ids, expanded_event_input}
-use Rattle.event_tables.specs.PeriodicFiles.{periodic_activity_input, periodic_event_ids, periodic_event_input, periodic_time_input}
-use Rattle.event_tables.specs.Schedules.{schedule_input}
-use Rattle.event_tables.specs.Trips.{trip_input}
 use Rattle.pesp_model.specs.PespTexts.{events_of as periodic_rows, problem_faults}
 use Rattle.evaluators.specs.StatisticInputs.{concept_input, cost_input}
-use Rattle.evaluators.specs.StatisticStage.{costs_of, day_part, events_of, line_part, period_in, periodic_events_of, periodic_part, statistic_faults, trip_part}
+use Rattle.evaluators.specs.StatisticStage.{costs_of, day_part, line_part, periodic_part, statistic_faults}
 use Rattle.evaluators.proofs.StatisticMakes.{statistic_stage_makes, statistic_stage_names}
 use Rattle.evaluators.proofs.StatisticReads.{statistic_is_right}
 use Rattle.stage_chain.specs.Hand.{is_hand, is_hand_file}
@@ -59,24 +54,14 @@ module _ (bundle : BundleParts) where
   lines_named = names_both any _ _ (of_input cost_input 0) (of_input (concept_input (costs_of (input_text bundle 0))) 1)
 
   periodic_named : AllName any (periodic_part bundle)
-  periodic_named =
-      let ids = periodic_event_ids (periodic_events_of (input_text bundle 2)) in
-      names_both any _ _ (of_input periodic_event_input 2)
-      (names_both any _ _ (of_input (periodic_activity_input ids) 3) (of_input (periodic_time_input file.TimesP (period_in bundle) ids) 4))
+  periodic_named = grind (arith, names_both, any, of_input)
 
   day_named : AllName any (day_part bundle)
-  day_named =
-      let events = events_of (input_text bundle 6) in
-      names_both any _ _ (of_input expanded_event_input 6)
-      (names_both any _ _ (of_input (expanded_activity_input events) 7)
-      (names_both any _ _ (of_input (schedule_input events) 8) (of_input (disposed_time_input (expanded_event_ids events)) 9)))
+  day_named = grind (arith, names_both, any, of_input)
 
   statistic_named : AllName any (statistic_faults bundle)
   unfolding statistic_faults
-  statistic_named =
-      names_both any (line_part bundle) _ lines_named
-      (names_both any (periodic_part bundle) _ periodic_named
-      (names_both any (trip_part bundle) (day_part bundle) (of_input (trip_input None) 5) day_named))
+  statistic_named = grind (arith, names_both, any, lines_named, periodic_named, of_input, day_named)
 
 -- ---- what earlier stages made has no fault
 

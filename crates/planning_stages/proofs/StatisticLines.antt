@@ -1,6 +1,8 @@
 -- The files of costs and of a line concept that were made have no fault as the statistic reads them.
-use Rattle.std.proofs.Common.{◌≡◌, ◌≢◌, ℕ, ℤ, suc, pos, ◌≤◌, Bool, true, false, not, ◌||◌, cond, is_some, List, [], ◌∷◌, ◌++◌, length, map, filter, zip, get_or, unsigned_abs, Some, refl, ap, subst, sym, ◌∙◌, arith}
-use Rattle.std.specs.List.{All, AllByRecursion, AllPairs, enumerate_from, find, flat_map, list_any}
+use Rattle.std.proofs.Common.{◌≡◌, ◌≢◌, ℕ, ℤ, suc, pos, ◌≤◌, Bool, true, false, not, ◌||◌, cond}
+use Rattle.std.proofs.Common.{is_some, List, [], ◌∷◌, ◌++◌, length, map, filter, zip, get_or}
+use Rattle.std.proofs.Common.{unsigned_abs, Some, refl, ap, subst, sym, ◌∙◌, arith}
+use Rattle.std.specs.List.{All, AllByRecursion, AllPairs, find, flat_map, list_any}
 use Rattle.std.specs.Ordering.{int_eq}
 use Rattle.std.specs.Set.{is_member}
 use Rattle.std.proofs.lemmas.Bool.{eq-eqb, true≢false}
@@ -14,7 +16,7 @@ use Rattle.giv_files.specs.declared.file_id.FileId.{FileId}
 use Rattle.giv_files.specs.declared.file_id.FileId.TheVariants as file
 use Rattle.giv_files.specs.declared.row_why.RowWhy.TheVariants as why
 use Rattle.giv_files.specs.Columns.{concept_columns, pool_cost_columns}
-use Rattle.giv_files.specs.Inputs.{Input, Numbered, RowRule, broken_whys, input_faults, own_id, row_faults}
+use Rattle.giv_files.specs.Inputs.{Input, Numbered, RowRule, broken_whys, input_faults, row_faults}
 use Rattle.giv_files.specs.Reading.{table_of}
 use Rattle.giv_files.specs.Tables.{TableRow}
 use Rattle.giv_files.specs.Writing.{ReadsBack}
@@ -23,15 +25,13 @@ use Rattle.giv_files.proofs.Found.{any_mapped}
 use Rattle.giv_files.proofs.Inputs.{faults_of_table, limit_kept, no_faults, parts_sound, rule_kept, rules_sound, table_sound, whole_rule_sound}
 use Rattle.giv_files.proofs.Ranges.{back_none, front_none, unmapped}
 use Rattle.ptn_network.specs.declared.edge.Edge.{Edge}
-use Rattle.ptn_network.specs.Ids.{known_edge}
-use Rattle.line_pool.specs.PoolCosts.{cost_row_of, known_line as of_pool, pool_cost_input}
-use Rattle.line_pool.specs.Pools.{LineParts, differs as differs_first, first_frequency, joined_edges, line_limit as pool_limit, line_row as pool_row, line_rules, new_edge, next_place, one_frequency as same_frequency, rows_of}
+use Rattle.line_pool.specs.PoolCosts.{cost_row_of, pool_cost_input}
+use Rattle.line_pool.specs.Pools.{LineParts, differs as differs_first, first_frequency, line_limit as pool_limit, line_row as pool_row, line_rules, rows_of}
 use Rattle.line_search.specs.ConceptTables.{concept_rows, line_rows, row_at}
 use Rattle.line_search.specs.GivenProblems.{costed_by, problem_of}
-use Rattle.evaluators.specs.declared.rows.CostRow.{CostRow}
 use Rattle.evaluators.specs.declared.rows.LineRow.{LineRow}
 use Rattle.evaluators.specs.FirstRows.{firsts}
-use Rattle.evaluators.specs.StatisticInputs.{concept_input, cost_input, cost_row, cost_with, differs, first_row, known_line, line_limit, line_row, one_frequency}
+use Rattle.evaluators.specs.StatisticInputs.{concept_input, cost_input, cost_row, cost_with, differs, first_row, line_limit, line_row}
 use Rattle.evaluators.specs.StatisticStage.{costs_of}
 
 -- what a function gives: a line with its cost, and a line problem
@@ -160,9 +160,7 @@ module _ (P : ℤ → Type 0) where
   lines_good problem [] frequencies good = tt
   lines_good problem (line ∷ lines) [] good = tt
   lines_good problem (line ∷ lines) (frequency ∷ frequencies) good =
-      good_both (line_rows problem line frequency) _
-      (line_good problem line.id frequency (enumerate_from 1 line.edges) good.0)
-      (lines_good problem lines frequencies good.1)
+      grind (arith, good_both, line_good, lines_good problem lines frequencies good.1)
 
   costed_good : (lines : List LineParts) (costs : List ℤ) → AllByRecursion P (map (λ line. line.id) lines)
       → AllByRecursion P (map (λ (line : CostedLine). line.id) (map (λ at. costed_by at.0 at.1) (zip lines costs)))
@@ -249,13 +247,7 @@ module _ (lines : List LineParts) (costs : List ℕ)
   costs_keep : (before : List TableRow) (row : TableRow) → Unit {0}
       → broken_whys (pool_cost_input lines).row_rules (map (λ row. cost_row_of row.cells) before) (cost_row_of row.cells) ≡ []
       → broken_whys cost_input.row_rules (map (λ row. cost_row row.cells) before) (cost_row row.cells) ≡ []
-  costs_keep before row good none =
-      let more = (rules_sound (of_pool lines) (own_id (λ (row : PoolCost). row.line) ∷ []) (map (λ row. cost_row_of row.cells) before) (cost_row_of row.cells) none).1 in
-      let new = (rules_sound (own_id (λ (row : PoolCost). row.line)) [] (map (λ row. cost_row_of row.cells) before) (cost_row_of row.cells) more).0 in
-      rule_kept (own_id (λ (row : CostRow). row.line)) [] (map (λ row. cost_row row.cells) before) (cost_row row.cells)
-      (any_mapped (λ (other : CostRow). int_eq (line_in row.cells) other.line) (λ (row : TableRow). cost_row row.cells) before
-      ∙ sym (any_mapped (λ (other : PoolCost). int_eq (line_in row.cells) other.line) (λ (row : TableRow). cost_row_of row.cells) before)
-      ∙ new)
+  costs_keep before row good none = grind (arith, rules_sound, rule_kept, any_mapped)
 
   each_unit : (rows : List (List ℤ)) → AllByRecursion (λ cells. Unit {0}) rows
   each_unit [] = tt
@@ -279,13 +271,7 @@ module _ (lines : List LineParts) (costs : List ℕ)
 
   costs_there : (ids : List ℤ) → AllByRecursion (λ id. has_row id ≡ true) ids → AllByRecursion HasCost ids
   costs_there [] each = tt
-  costs_there (id ∷ ids) each = (
-    found_is (λ (row : CostRow). int_eq id row.line) (costs_of costs)
-        ∙ any_mapped (λ (row : CostRow). int_eq id row.line) (λ (row : TableRow). cost_row row.cells) table
-        ∙ sym (any_mapped (λ (row : PoolCost). int_eq id row.line) (λ (row : TableRow). cost_row_of row.cells) table)
-        ∙ each.0,
-    costs_there ids each.1,
-  )
+  costs_there (id ∷ ids) each = grind (arith, found_is, any_mapped, costs_there ids each.1)
 
   all_cost : AllByRecursion HasCost (map (λ line. line.id) lines)
   all_cost =
@@ -300,17 +286,7 @@ module _ (lines : List LineParts) (costs : List ℕ)
     concept_keep : (before : List TableRow) (row : TableRow) → HasCost (line_in row.cells)
         → broken_whys (line_rules edges) (map (λ row. pool_row row.cells) before) (pool_row row.cells) ≡ []
         → broken_whys (concept_input (costs_of costs)).row_rules (map (λ row. line_row row.cells) before) (line_row row.cells) ≡ []
-    concept_keep before row good none =
-        let given : List PoolRow = map (λ row. pool_row row.cells) before in
-        let own : PoolRow = pool_row row.cells in
-        let one = (rules_sound (known_edge (λ (row : PoolRow). row.edge) edges) (next_place ∷ new_edge ∷ joined_edges edges ∷ same_frequency ∷ []) given own none).1 in
-        let two = (rules_sound next_place (new_edge ∷ joined_edges edges ∷ same_frequency ∷ []) given own one).1 in
-        let three = (rules_sound new_edge (joined_edges edges ∷ same_frequency ∷ []) given own two).1 in
-        let four = (rules_sound (joined_edges edges) (same_frequency ∷ []) given own three).1 in
-        let same = (rules_sound same_frequency [] given own four).0 in
-        let read : List LineRow = map (λ row. line_row row.cells) before in
-        rule_kept (known_line (costs_of costs)) (one_frequency ∷ []) read (line_row row.cells) (ap not good)
-        ∙ rule_kept one_frequency [] read (line_row row.cells) (same_first before (line_in row.cells) row.cells same)
+    concept_keep before row good none = grind (arith, rules_sound, rule_kept, same_first)
 
     pub concept_read : (problem : ProblemParts) (given : List ℤ) (frequencies text : List ℕ)
         → problem.lines ≡ map (λ at. costed_by at.0 at.1) (zip lines given)

@@ -1,5 +1,6 @@
 -- What the stages of vehicles owe to the chain, and what later stages take of the schedule.
-use Rattle.std.proofs.Common.{◌≡◌, ℕ, ℤ, Bool, true, false, cond, inr, List, [], ◌∷◌, map, slice_get, Option, Some, None, option_to_list, refl, subst, sym}
+use Rattle.std.proofs.Common.{arith, ◌≡◌, ℕ, ℤ, Bool, true, false, cond, inr, List, [], ◌∷◌, map}
+use Rattle.std.proofs.Common.{slice_get, Option, Some, None, option_to_list, refl, subst, sym}
 use Rattle.std.proofs.lemmas.List.Elements.{All-weaker}
 use Rattle.plan_files.specs.Folder.{Folder}
 use Rattle.giv_files.specs.declared.file_id.FileId.{FileId}
@@ -92,10 +93,7 @@ schedule_none bundle there right = rw (right.right.both, right.right.inputs, rig
 -- a trip over the events of a day is one that was rolled out
 rolled_out : (events : List ExpandedEvent) (trip : Trip) → IsTripOver events trip
     → IsRolledOut events trip
-rolled_out events trip over = record {
-  start = record { event = over.start.event; there = over.start.there; is = over.start.is; time = over.start.time };
-  end = record { event = over.end.event; there = over.end.there; is = over.end.is; time = over.end.time };
-}
+rolled_out events trip over = grind arith
 
 module _ (values : List ℤ) (look : FileId → List ℕ) where
   same_given : HaveSameTrips (bundle_over values look stage.PinnedVehicles) (bundle_over values look stage.Vehicles)
