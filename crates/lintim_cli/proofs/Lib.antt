@@ -1,4 +1,5 @@
 pub mod AllFolders
+mod Asked
 pub mod Demos
 mod Forged
 pub mod Steady
