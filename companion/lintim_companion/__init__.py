@@ -1,0 +1,1 @@
+"""What planners want around `lintim`: datasets as tables, and commands over well-kept solvers."""

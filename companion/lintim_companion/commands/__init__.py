@@ -1,0 +1,1 @@
+"""The commands that `registry` names: each module has a function `run(words, talk)`."""

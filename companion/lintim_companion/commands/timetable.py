@@ -1,0 +1,28 @@
+"""`lintim-timetable`: a periodic timetable that keeps all bounds, by CaDiCaL."""
+
+from argparse import Namespace
+
+from .. import dataset, files, program
+from ..faults import Refused
+from ..formats import PERIODIC_ACTIVITIES, PERIODIC_EVENTS, PINNED_TIMETABLE
+from ..manners import Deadline, Talk
+from ..timetables.problem import periodic_problem, timetable_rows
+from ..timetables.solve import feasible
+
+
+def run(words: Namespace, talk: Talk) -> int:
+    """Finds times that keep all bounds, and writes them."""
+    data = dataset.read(words.folder)
+    program.see_kept(words.folder, PERIODIC_EVENTS, PERIODIC_ACTIVITIES)
+    files.see_writable(words.folder, PINNED_TIMETABLE.name)
+    deadline = Deadline(words.seconds)
+    problem = periodic_problem(data, words.changes)
+    talk.say(f"timetable: {problem.events} events, {len(problem.spans)} activities")
+    times = feasible(problem, deadline, talk.progress)
+    if times is None:
+        raise Refused("no timetable keeps all bounds, CaDiCaL says")
+    talk.write(words.folder, PINNED_TIMETABLE, timetable_rows(times))
+    talk.say(f"timetable: found in {deadline.spent():.1f} s, written to {PINNED_TIMETABLE.name}")
+    if data.settings.pin_timetable == "no":
+        talk.say("timetable: to use it, add the row `pin_timetable; yes` to basis/Config.cnf")
+    return 0

@@ -1,0 +1,92 @@
+"""Bytes of the files of a dataset, under the rules of `lintim`: a file is a regular file, and no
+link is followed on the way to it."""
+
+import os
+import signal
+import stat
+import tempfile
+from collections.abc import Iterator
+from contextlib import contextmanager
+from pathlib import Path
+
+from .faults import Refused
+
+
+def read_bytes(folder: Path, name: str, most: int | None = None) -> bytes | None:
+    """The bytes of a file, which has at most so many; none where it is not there."""
+    path = folder / name
+    try:
+        see_no_link(path)
+        there = path.stat()
+        if not stat.S_ISREG(there.st_mode):
+            raise Refused(f"{name} is no regular file")
+        if most is not None and there.st_size > most:
+            raise Refused(f"{name} is too long")
+        return path.read_bytes()
+    except FileNotFoundError:
+        return None
+    except OSError as why:
+        raise Refused(f"{name} cannot be read: {why.strerror}") from None
+
+
+def write_bytes(folder: Path, name: str, data: bytes) -> None:
+    """Writes a file. The old one stays until the new one is whole."""
+    path = folder / name
+    try:
+        see_no_link(path)
+        path.parent.mkdir(parents=True, exist_ok=True)
+        with undisturbed():
+            _replace(path, data)
+    except OSError as why:
+        raise Refused(f"{name} cannot be written: {why.strerror}") from None
+
+
+def _replace(path: Path, data: bytes) -> None:
+    handle, beside = tempfile.mkstemp(dir=path.parent, prefix=f".{path.name}.")
+    try:
+        with open(handle, "wb") as file:
+            file.write(data)
+        mask = os.umask(0)
+        os.umask(mask)
+        os.chmod(beside, 0o666 & ~mask)
+        os.replace(beside, path)
+    except BaseException:
+        os.unlink(beside)
+        raise
+
+
+def remove(folder: Path, name: str) -> None:
+    """Takes a file away, where it is there."""
+    try:
+        (folder / name).unlink(missing_ok=True)
+    except OSError as why:
+        raise Refused(f"{name} cannot be removed: {why.strerror}") from None
+
+
+def see_writable(folder: Path, name: str) -> None:
+    """Sees, before a long search, that its result can be written."""
+    path = folder / name
+    see_no_link(path)
+    there = path.parent
+    while not os.path.lexists(there):
+        there = there.parent
+    if not there.is_dir() or not os.access(there, os.W_OK | os.X_OK) or path.is_dir():
+        raise Refused(f"{name} cannot be written: {there} does not allow it")
+
+
+def see_no_link(path: Path) -> None:
+    """Sees that no link stands in the place of a file or of its folder."""
+    for there in (path, path.parent):
+        if there.is_symlink():
+            raise Refused(f"{there} is a link, which lintim does not follow")
+
+
+@contextmanager
+def undisturbed() -> Iterator[None]:
+    """Puts off signals that would end the command until what is done here is done."""
+    ends = {signal.SIGINT, signal.SIGTERM}
+    before = signal.pthread_sigmask(signal.SIG_BLOCK, ends)
+    try:
+        yield
+    finally:
+        signal.pthread_sigmask(signal.SIG_SETMASK, before)

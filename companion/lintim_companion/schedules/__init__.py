@@ -1,0 +1,1 @@
+"""Vehicle schedules of least cost by SciPy, and potentials which prove that none costs less."""

@@ -1,0 +1,1 @@
+"""Periodic timetables that keep all bounds, found by CaDiCaL."""
