@@ -2,16 +2,16 @@
 use Rattle.std.proofs.Common.{arith, ◌≡◌, ◌∙◌, ℕ, ◌+◌, List, Option, Some, None, IfSome, subst}
 use Rattle.plan_files.specs.Folder.{Folder}
 use Rattle.plan_queries.specs.declared.answer.Answer.{Answer}
-use Rattle.plan_queries.specs.declared.answer.QueryEnd.{QueryEnd}
-use Rattle.plan_queries.specs.declared.answer.QueryEnd.TheVariants as query
-use Rattle.plan_queries.specs.declared.form.Form.{Form}
+use Rattle.command_line.specs.declared.ends.QueryEnd.{QueryEnd}
+use Rattle.command_line.specs.declared.ends.QueryEnd.TheVariants as query
+use Rattle.command_line.specs.declared.form.Form.{Form}
 use Rattle.plan_queries.specs.Queries.{AnswersIn, steps_of}
-use Rattle.lintim_cli.specs.declared.answers.Status.{Status}
-use Rattle.lintim_cli.specs.declared.answers.Status.TheVariants.{Done, Usage, BadInput, NoSolution}
-use Rattle.lintim_cli.specs.declared.answers.Status.TheVariants.{Spent, FileFault, SinkFault}
-use Rattle.lintim_cli.specs.declared.answers.Status.TheVariants.{NoMemory, Uncertified}
-use Rattle.lintim_cli.specs.Answers.{status_of_query}
-use Rattle.lintim_cli.specs.Reports.{Reported}
+use Rattle.command_line.specs.declared.status.Status.{Status}
+use Rattle.command_line.specs.declared.status.Status.TheVariants.{Done, Usage, BadInput, NoSolution}
+use Rattle.command_line.specs.declared.status.Status.TheVariants.{Spent, FileFault, SinkFault}
+use Rattle.command_line.specs.declared.status.Status.TheVariants.{NoMemory, Uncertified}
+use Rattle.command_line.specs.Statuses.{status_of_query}
+use Rattle.command_line.specs.Reports.{Reported}
 use Rattle.lintim_cli.specs.Top.{FormTells}
 
 -- no answer ends with a file fault

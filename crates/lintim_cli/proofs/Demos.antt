@@ -11,18 +11,19 @@ use Rattle.giv_files.specs.declared.stage.Stage.{Stage}
 use Rattle.giv_files.specs.declared.stage.Stage.TheVariants as stage
 use Rattle.stage_keep.specs.Entries.{keep_name}
 use Rattle.demo_dataset.specs.Demo.{demo_folder, demo_writes}
-use Rattle.stage_chain.specs.declared.outcome.Mode.TheVariants as mode
+use Rattle.command_line.specs.declared.mode.Mode.TheVariants as mode
 use Rattle.stage_chain.proofs.Wishes.{get_behind, names_in}
 use Rattle.stage_chain.specs.Built.{RunParts}
 use Rattle.stage_chain.specs.Hand.{hand_of, is_among}
 use Rattle.stage_driver.proofs.Planned.{nothing_kept}
 use Rattle.stage_driver.specs.PlanningChain.{made, run_over}
-use Rattle.lintim_cli.specs.declared.answers.Status.{Status}
-use Rattle.lintim_cli.specs.declared.answers.Status.TheVariants.{Done, Usage, BadInput, NoSolution}
-use Rattle.lintim_cli.specs.declared.answers.Status.TheVariants.{Spent, FileFault, SinkFault}
-use Rattle.lintim_cli.specs.declared.answers.Status.TheVariants.{NoMemory, Uncertified}
-use Rattle.lintim_cli.specs.declared.command.Command.TheVariants as command
-use Rattle.lintim_cli.specs.Answers.{AnswersTo, status_of}
+use Rattle.command_line.specs.declared.status.Status.{Status}
+use Rattle.command_line.specs.declared.status.Status.TheVariants.{Done, Usage, BadInput, NoSolution}
+use Rattle.command_line.specs.declared.status.Status.TheVariants.{Spent, FileFault, SinkFault}
+use Rattle.command_line.specs.declared.status.Status.TheVariants.{NoMemory, Uncertified}
+use Rattle.command_line.specs.declared.command.Command.TheVariants as command
+use Rattle.command_line.specs.Statuses.{status_of}
+use Rattle.lintim_cli.specs.Answers.{AnswersTo}
 use Rattle.lintim_cli.specs.Top.{DemoTells, FileBroke, Leaves, Seen, demo_run}
 
 -- no file of a demo dataset is one in which a stage keeps what it made

@@ -1,6 +1,4 @@
 pub mod AllFolders
 mod Asked
 pub mod Demos
-mod Forged
-pub mod Steady
 pub mod Telling

@@ -5,10 +5,10 @@ use Rattle.std.specs.Option.{option_map}
 use Rattle.plan_files.specs.declared.write.Write.{Write}
 use Rattle.plan_files.specs.Counts.{Rose}
 use Rattle.plan_files.specs.Folder.{Folder}
-use Rattle.stage_chain.specs.declared.outcome.Mode.{Mode}
+use Rattle.command_line.specs.declared.mode.Mode.{Mode}
 use Rattle.stage_chain.specs.declared.outcome.Outcome.{Outcome}
-use Rattle.stage_chain.specs.declared.outcome.RunEnd.{RunEnd}
-use Rattle.stage_chain.specs.declared.outcome.RunEnd.TheVariants as end
+use Rattle.command_line.specs.declared.ends.RunEnd.{RunEnd}
+use Rattle.command_line.specs.declared.ends.RunEnd.TheVariants as end
 use Rattle.stage_chain.specs.Hand.{hand_of}
 use Rattle.stage_chain.specs.Runs.{IsOutcome, started}
 use Rattle.stage_driver.proofs.AlwaysMarked.{always_marked}
@@ -17,12 +17,12 @@ use Rattle.stage_driver.proofs.SolvedEnds.{ends_as_solved}
 use Rattle.stage_driver.specs.SolvedEnds.{CanBeDone}
 use Rattle.stage_driver.specs.PlanningChain.{IsKeptHonest, IsLeftRight, IsLeft, Trusts, run_over}
 use Rattle.stage_driver.specs.PlanningChain.{made, writes_of}
-use Rattle.lintim_cli.specs.declared.answers.Status.{Status}
-use Rattle.lintim_cli.specs.declared.answers.Status.TheVariants.{Done, Usage, BadInput, NoSolution}
-use Rattle.lintim_cli.specs.declared.answers.Status.TheVariants.{Spent, FileFault, SinkFault}
-use Rattle.lintim_cli.specs.declared.answers.Status.TheVariants.{NoMemory, Uncertified}
-use Rattle.lintim_cli.specs.Answers.{status_of}
-use Rattle.lintim_cli.specs.Reports.{Reported, Whole}
+use Rattle.command_line.specs.declared.status.Status.{Status}
+use Rattle.command_line.specs.declared.status.Status.TheVariants.{Done, Usage, BadInput, NoSolution}
+use Rattle.command_line.specs.declared.status.Status.TheVariants.{Spent, FileFault, SinkFault}
+use Rattle.command_line.specs.declared.status.Status.TheVariants.{NoMemory, Uncertified}
+use Rattle.command_line.specs.Statuses.{status_of}
+use Rattle.command_line.specs.Reports.{Reported, Whole}
 use Rattle.lintim_cli.specs.Top.{AllOut, AsFromScratch, FileBroke, Finished, Headline, IsDone, Leaves, Seen}
 
 module _ (by : Mode) (folder : Folder) (new : Option Folder) (before now : Option (List Write)) (outcome : Outcome) (old out : Option (List ℕ)) (faults_before faults_now : ℕ) (status : Status) (told : IsOutcome (run_over (started by folder)) outcome) (left : IsLeft by folder new before now) (right : Trusts by folder → IsLeftRight folder new) (ends : status ≡ status_of outcome.end) (trusts : Trusts by folder) where

@@ -2,39 +2,20 @@
 use Rattle.std.specs.Prelude.{ℕ, Option, Some, None}
 use Rattle.stage_chain.specs.declared.checked.CheckEnd.{CheckEnd}
 use Rattle.stage_chain.specs.declared.checked.CheckEnd.TheVariants as check
-use Rattle.stage_chain.specs.declared.outcome.RunEnd.{RunEnd}
-use Rattle.stage_chain.specs.declared.outcome.RunEnd.TheVariants as end
+use Rattle.command_line.specs.declared.ends.RunEnd.{RunEnd}
+use Rattle.command_line.specs.declared.ends.RunEnd.TheVariants as end
 use Rattle.stage_chain.specs.declared.state.StatesEnd.{StatesEnd}
 use Rattle.stage_chain.specs.declared.state.StatesEnd.TheVariants as states
-use Rattle.plan_queries.specs.declared.answer.QueryEnd.{QueryEnd}
-use Rattle.plan_queries.specs.declared.answer.QueryEnd.TheVariants as query
-use Rattle.plan_queries.specs.declared.form.Form.{Form}
-use Rattle.plan_queries.specs.declared.form.Form.TheVariants as forms
-use Rattle.lintim_cli.specs.declared.answers.Status.{Status}
-use Rattle.lintim_cli.specs.declared.command.Command.{Command}
-use Rattle.lintim_cli.specs.declared.command.Command.TheVariants as command
-use Rattle.lintim_cli.specs.declared.answers.Status.TheVariants.{Done, Usage, BadInput, NoSolution}
-use Rattle.lintim_cli.specs.declared.answers.Status.TheVariants.{Spent, FileFault, SinkFault}
-use Rattle.lintim_cli.specs.declared.answers.Status.TheVariants.{NoMemory, Uncertified}
-
--- the exit status of the program
-abbrev pub number_of : Status → ℕ
-number_of Done = 0
-number_of Usage = 2
-number_of BadInput = 3
-number_of NoSolution = 4
-number_of Spent = 5
-number_of FileFault = 6
-number_of SinkFault = 7
-number_of NoMemory = 8
-number_of Uncertified = 9
-
--- the answer to a run of the chain
-abbrev pub status_of : RunEnd → Status
-status_of end.Done = Done
-status_of end.BadInput = BadInput
-status_of end.NoSolution = NoSolution
-status_of end.Spent = Spent
+use Rattle.command_line.specs.declared.ends.QueryEnd.{QueryEnd}
+use Rattle.command_line.specs.declared.ends.QueryEnd.TheVariants as query
+use Rattle.command_line.specs.declared.form.Form.{Form}
+use Rattle.command_line.specs.declared.form.Form.TheVariants as forms
+use Rattle.command_line.specs.declared.status.Status.{Status}
+use Rattle.command_line.specs.declared.command.Command.{Command}
+use Rattle.command_line.specs.declared.command.Command.TheVariants as command
+use Rattle.command_line.specs.declared.status.Status.TheVariants.{Done, Usage, BadInput, NoSolution}
+use Rattle.command_line.specs.declared.status.Status.TheVariants.{Spent, FileFault, SinkFault}
+use Rattle.command_line.specs.declared.status.Status.TheVariants.{NoMemory, Uncertified}
 
 -- the answer to a check
 abbrev pub status_of_check : CheckEnd → Status
@@ -46,13 +27,6 @@ status_of_check (check.Failed stage rule) = Uncertified
 abbrev pub status_of_states : StatesEnd → Status
 status_of_states states.Told = Done
 status_of_states states.BadInput = BadInput
-
--- the answer to a question
-abbrev pub status_of_query : QueryEnd → Status
-status_of_query query.Done = Done
-status_of_query query.BadInput = BadInput
-status_of_query query.Spent = Spent
-status_of_query query.Uncertified = Uncertified
 
 -- the answers that a question has: only waiting decisions spend a budget, and only one that was saved
 -- breaks a rule
@@ -101,9 +75,3 @@ AnswersTo None Usage = Unit {0}
 AnswersTo None SinkFault = Unit {0}
 AnswersTo None NoMemory = Unit {0}
 AnswersTo None _ = ⊥
-
--- a status that a report which was written whole can end with
-abbrev pub IsReport : Status → Type 0
-IsReport SinkFault = ⊥
-IsReport NoMemory = ⊥
-IsReport _ = Unit {0}

@@ -1,4 +1,3 @@
 pub mod Answers
-pub mod Reports
 pub mod Says
 pub mod Top

@@ -3,7 +3,7 @@ use Rattle.std.specs.Prelude.{◌≡◌, ◌≤◌, ◌<◌, ◌+◌, ◌⊎◌,
 use Rattle.plan_files.specs.Counts.{Rose}
 use Rattle.plan_files.specs.Folder.{Folder}
 use Rattle.plan_files.specs.Others.{AreOutside}
-use Rattle.stage_chain.specs.declared.outcome.Mode.{Mode}
+use Rattle.command_line.specs.declared.mode.Mode.{Mode}
 use Rattle.stage_chain.specs.Hand.{hand_of, is_hand}
 use Rattle.stage_chain.specs.Kept.{KeepsNothing}
 use Rattle.stage_chain.specs.Runs.{AddsNoHandFile, IsOnce, SameHand, started}
@@ -11,13 +11,13 @@ use Rattle.stage_driver.specs.PlanningChain.{FreshKeeps, IsKeptHonest, MadeFiles
 use Rattle.stage_driver.specs.PlanningChain.{RefusesHand, RunsPass, StopsSafely, TellsNext, Trusts}
 use Rattle.stage_driver.specs.PlanningChain.{run_over, writes_of}
 use Rattle.stage_driver.specs.SolvedEnds.{CanBeDone, EndsAsSolved}
-use Rattle.plan_queries.specs.declared.form.Form.{Form}
+use Rattle.command_line.specs.declared.form.Form.{Form}
 use Rattle.plan_queries.specs.Queries.{TakesNone}
-use Rattle.lintim_cli.specs.declared.answers.Status.{Status}
-use Rattle.lintim_cli.specs.declared.answers.Status.TheVariants as status
-use Rattle.lintim_cli.specs.declared.command.Command.{Command}
-use Rattle.lintim_cli.specs.declared.command.Command.TheVariants as command
-use Rattle.lintim_cli.specs.Reports.{Reported, usage_report}
+use Rattle.command_line.specs.declared.status.Status.{Status}
+use Rattle.command_line.specs.declared.status.Status.TheVariants as status
+use Rattle.command_line.specs.declared.command.Command.{Command}
+use Rattle.command_line.specs.declared.command.Command.TheVariants as command
+use Rattle.command_line.specs.Reports.{Reported, usage_report}
 use Rattle.lintim_cli.specs.Top.{ChangesNothing, CheckTells, DemoTells, FileBroke, FormProves, FormTells}
 use Rattle.lintim_cli.specs.Top.{IsDone, Leaves, Seen, StatusTells}
 

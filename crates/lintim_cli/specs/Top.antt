@@ -11,9 +11,9 @@ use Rattle.plan_files.specs.Counts.{Raised, Rose}
 use Rattle.plan_files.specs.Folder.{Folder}
 use Rattle.std.specs.FinMap as folders
 use Rattle.stage_chain.specs.declared.outcome.ChainFault.TheVariants as faults
-use Rattle.stage_chain.specs.declared.outcome.Mode.{Mode}
-use Rattle.stage_chain.specs.declared.outcome.Mode.TheVariants as mode
-use Rattle.stage_chain.specs.declared.outcome.RunEnd.TheVariants as end
+use Rattle.command_line.specs.declared.mode.Mode.{Mode}
+use Rattle.command_line.specs.declared.mode.Mode.TheVariants as mode
+use Rattle.command_line.specs.declared.ends.RunEnd.TheVariants as end
 use Rattle.demo_dataset.specs.Demo.{demo_folder}
 use Rattle.stage_chain.specs.Built.{RunParts}
 use Rattle.stage_chain.specs.Checks.{check_end, check_report}
@@ -24,59 +24,17 @@ use Rattle.stage_driver.specs.Marked.{IsAlwaysMarked}
 use Rattle.stage_driver.specs.PlanningChain.{made, check_of, entries_over, IsLeftRight, IsKeptHonest, IsLeft}
 use Rattle.stage_driver.specs.PlanningChain.{IsUnfinished, Trusts, made_part, run_over, writes_of}
 use Rattle.stage_driver.specs.PlanningChain.{states_of}
-use Rattle.lintim_cli.specs.declared.answers.Status.{Status}
-use Rattle.lintim_cli.specs.declared.answers.Status.TheVariants.{Done, FileFault, SinkFault, NoMemory}
-use Rattle.lintim_cli.specs.declared.command.Command.{Command}
-use Rattle.lintim_cli.specs.declared.command.Command.TheVariants as command
+use Rattle.command_line.specs.declared.status.Status.{Status}
+use Rattle.command_line.specs.declared.status.Status.TheVariants.{Done, FileFault, SinkFault, NoMemory}
+use Rattle.command_line.specs.declared.command.Command.{Command}
+use Rattle.command_line.specs.declared.command.Command.TheVariants as command
 use Rattle.plan_queries.specs.declared.answer.Answer.{Answer}
-use Rattle.plan_queries.specs.declared.form.Form.{Form}
-use Rattle.plan_queries.specs.FormWords.{IsInRange, form_of}
+use Rattle.command_line.specs.declared.form.Form.{Form}
+use Rattle.command_line.specs.FormWords.{IsInRange, form_of}
 use Rattle.plan_queries.specs.Queries.{AnswersIn, IsRightIn, steps_of}
-use Rattle.lintim_cli.specs.Answers.{status_of, status_of_check, status_of_query, status_of_states}
-use Rattle.lintim_cli.specs.Reports.{Whole, Broken, fault_report}
-
--- the command of a word
-abbrev pub command_word : List ℕ → Option Command
-command_word word =
-    if bytes_eq word (codes "make") then Some (command.Run mode.Make)
-    else (if bytes_eq word (codes "fresh") then Some (command.Run mode.Fresh)
-    else (if bytes_eq word (codes "check") then Some command.Check
-    else (if bytes_eq word (codes "status") then Some command.Status else None)))
-
--- the number of a demo dataset: one digit from 1 to 8
-abbrev pub demo_number : List ℕ → Option ℕ
-demo_number (digit ∷ []) = if nat_le 49 digit && nat_le digit 56 then Some (digit - 48) else None
-demo_number _ = None
-
--- the command of two words: the first one is that of the demo
-abbrev pub command_words : List ℕ → List ℕ → Option Command
-command_words word number =
-    if bytes_eq word (codes "demo") then option_map command.Demo (demo_number number) else None
-
--- the command that words ask for which is about the stages: they are one word, which is a command's, or
--- that of the demo with its number
-abbrev pub plain_command : List (String Global) → Option Command
-plain_command (word ∷ []) = command_word (string_bytes word)
-plain_command (word ∷ number ∷ []) = command_words (string_bytes word) (string_bytes number)
-plain_command _ = None
-
--- the command that words ask for: one about the stages, or a question beside them
-abbrev pub command_of : List (String Global) → Option Command
-command_of words =
-    option_or (plain_command words) (option_map command.Ask (form_of (map string_bytes words)))
-
--- a demo has a number from 1 to 8
-abbrev pub HasDemo : Command → Type 0
-HasDemo (command.Demo number) = (1 ≤ number) × (number ≤ 8)
-HasDemo _ = ⊤
-
--- the numbers of a question lie in their ranges
-abbrev pub HasRanges : Command → Type 0
-HasRanges (command.Ask form) = IsInRange form
-HasRanges _ = ⊤
-
-abbrev pub Asks : Command → List (String Global) → Type 0
-Asks command words = command_of words ≡ Some command
+use Rattle.command_line.specs.Statuses.{status_of, status_of_query}
+use Rattle.lintim_cli.specs.Answers.{status_of_check, status_of_states}
+use Rattle.command_line.specs.Reports.{Whole, Broken, fault_report}
 
 -- What an observer sees: the files and the writes that were made, where they are told, and the count of the
 -- faults of files; the bytes that are out, where they are told, and the count of the faults of the sink; the

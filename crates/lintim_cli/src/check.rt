@@ -2,16 +2,15 @@
 ghost use Rattle.std.specs.Prelude.{◌≡◌, ◌<◌, ◌⊎◌, IfSome, Some};
 ghost use Rattle.plan_files.specs.Counts.{Rose};
 ghost use Rattle.plan_files.specs.Folder.{Folder};
-ghost use Rattle.stage_chain.specs.declared.outcome.Mode.{Mode};
+ghost use Rattle.command_line.specs.declared.mode.Mode.{Mode};
 ghost use Rattle.stage_driver.specs.PlanningChain.{PassesIn, RunsPass};
-ghost use Rattle.lintim_cli.specs.declared.command.Command.TheVariants as commands;
-ghost use Rattle.lintim_cli.specs.Answers.{AnswersTo};
+ghost use Rattle.command_line.specs.declared.command.Command.TheVariants as commands;
+ghost use Rattle.lintim_cli.specs.Answers.{AnswersTo, status_of_check};
 ghost use Rattle.lintim_cli.specs.Top.{CheckTells, FileBroke};
 
-use crate::answers::Status;
-use crate::report;
+use command_line::{Status, tell, tell_fault};
 use plan_files::{Files, Sink};
-use stage_driver::{ChainFault, check_chain};
+use stage_driver::{ChainFault, CheckEnd, check_chain};
 use std::alloc::Global;
 
 // Judges the files of a dataset, and reports.
@@ -35,8 +34,19 @@ pub(crate) fn check<F: Files, K: Sink>(alloc: Global, files: &mut F, out: &mut K
     ensures no_memory { result ≡ Status.NoMemory → K.written out.new ≡ K.written out.old }
 {
     match check_chain(alloc, files) {
-        Ok(outcome) => report::tell(out, outcome.report.as_bytes(), Status::from(outcome.end)),
+        Ok(outcome) => tell(out, outcome.report.as_bytes(), status_of_check(outcome.end)),
         Err(ChainFault::NoMemory) => Status::NoMemory,
-        Err(ChainFault::FileFault) => report::tell_fault(out),
+        Err(ChainFault::FileFault) => tell_fault(out),
+    }
+}
+
+// The answer to a check.
+fn status_of_check(end: CheckEnd) -> Status
+    ensures { result ≡ status_of_check end }
+{
+    match end {
+        CheckEnd::Passed => Status::Done,
+        CheckEnd::BadInput => Status::BadInput,
+        CheckEnd::Failed { .. } => Status::Uncertified,
     }
 }

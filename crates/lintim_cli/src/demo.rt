@@ -1,16 +1,15 @@
 // The command that runs the planning stages over a dataset made from a number.
 ghost use Rattle.std.specs.Prelude.{◌≡◌, ◌≤◌, ◌<◌, ◌⊎◌, Some};
 ghost use Rattle.plan_files.specs.Counts.{Rose};
-ghost use Rattle.lintim_cli.specs.declared.command.Command.TheVariants as commands;
+ghost use Rattle.command_line.specs.declared.command.Command.TheVariants as commands;
 ghost use Rattle.lintim_cli.specs.Answers.{AnswersTo};
 ghost use Rattle.lintim_cli.specs.Top.{DemoTells};
 
-use crate::answers::Status;
 use crate::run::run;
+use command_line::{Mode, Status};
 use demo_dataset::demo_files;
 use plan_files::Sink;
 use plan_num::{Ledger, Steps};
-use stage_driver::Mode;
 use std::alloc::Global;
 
 // Makes the demo dataset of a number in memory, runs the planning stages over it, and reports.

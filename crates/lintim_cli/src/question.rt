@@ -1,17 +1,16 @@
 // The commands that answer a question beside the stages.
 ghost use Rattle.std.specs.Prelude.{◌≡◌, ◌≤◌, ◌<◌, ◌⊎◌, IfSome, Some};
 ghost use Rattle.plan_files.specs.Counts.{Rose};
-ghost use Rattle.plan_queries.specs.FormWords.{IsInRange};
+ghost use Rattle.command_line.specs.FormWords.{IsInRange};
 ghost use Rattle.plan_queries.specs.Queries.{TakesNone};
-ghost use Rattle.lintim_cli.specs.declared.command.Command.TheVariants as commands;
+ghost use Rattle.command_line.specs.declared.command.Command.TheVariants as commands;
 ghost use Rattle.lintim_cli.specs.Answers.{AnswersTo};
 ghost use Rattle.lintim_cli.specs.Top.{FileBroke, FormProves, FormTells};
 
-use crate::answers::Status;
-use crate::report;
+use command_line::{Form, Status, tell, tell_fault};
 use plan_files::{Files, Sink};
 use plan_num::{Ledger, Steps};
-use plan_queries::{Form, ask};
+use plan_queries::ask;
 use stage_driver::ChainFault;
 use std::alloc::Global;
 
@@ -44,8 +43,8 @@ pub(crate) fn question<F: Files, K: Sink, L: Ledger>(
     ensures no_less_steps { steps.old ≤ steps.new }
 {
     match ask(alloc, form, files, steps) {
-        Ok(answer) => report::tell(out, answer.report.as_bytes(), Status::from(answer.end)),
+        Ok(answer) => tell(out, answer.report.as_bytes(), Status::from(answer.end)),
         Err(ChainFault::NoMemory) => Status::NoMemory,
-        Err(ChainFault::FileFault) => report::tell_fault(out),
+        Err(ChainFault::FileFault) => tell_fault(out),
     }
 }

@@ -7,15 +7,14 @@ ghost use Rattle.stage_chain.specs.Hand.{hand_of, is_hand};
 ghost use Rattle.stage_chain.specs.Runs.{AddsNoHandFile, IsOnce, SameHand, started};
 ghost use Rattle.stage_driver.specs.PlanningChain.{IsKeptHonest, MadeFilesAreRight, RefusesHand};
 ghost use Rattle.stage_driver.specs.PlanningChain.{Trusts, run_over, writes_of, StopsSafely};
-ghost use Rattle.lintim_cli.specs.declared.command.Command.TheVariants as commands;
+ghost use Rattle.command_line.specs.declared.command.Command.TheVariants as commands;
 ghost use Rattle.lintim_cli.specs.Answers.{AnswersTo};
 ghost use Rattle.lintim_cli.specs.Top.{FileBroke, Headline, Leaves, seen};
 
-use crate::answers::Status;
-use crate::report;
+use command_line::{Mode, Status, tell, tell_fault};
 use plan_files::{Files, Sink};
 use plan_num::{Ledger, Steps};
-use stage_driver::{ChainFault, Mode, run_chain};
+use stage_driver::{ChainFault, run_chain};
 use std::alloc::Global;
 
 // Runs the planning stages over a dataset, and reports.
@@ -59,8 +58,8 @@ pub(crate) fn run<F: Files, K: Sink, L: Ledger>(
         steps.new ≤ steps.old + (run_over (started mode folder)).work) }
 {
     match run_chain(alloc, files, mode, steps) {
-        Ok(outcome) => report::tell(out, outcome.report.as_bytes(), Status::from(outcome.end)),
+        Ok(outcome) => tell(out, outcome.report.as_bytes(), Status::from(outcome.end)),
         Err(ChainFault::NoMemory) => Status::NoMemory,
-        Err(ChainFault::FileFault) => report::tell_fault(out),
+        Err(ChainFault::FileFault) => tell_fault(out),
     }
 }

@@ -1,14 +1,13 @@
 // The command that tells what is kept of a dataset.
 ghost use Rattle.std.specs.Prelude.{◌≡◌, ◌<◌, ◌⊎◌, IfSome, Some};
 ghost use Rattle.plan_files.specs.Counts.{Rose};
-ghost use Rattle.lintim_cli.specs.declared.command.Command.TheVariants as commands;
-ghost use Rattle.lintim_cli.specs.Answers.{AnswersTo};
+ghost use Rattle.command_line.specs.declared.command.Command.TheVariants as commands;
+ghost use Rattle.lintim_cli.specs.Answers.{AnswersTo, status_of_states};
 ghost use Rattle.lintim_cli.specs.Top.{FileBroke, StatusTells};
 
-use crate::answers::Status;
-use crate::report;
+use command_line::{Status, tell, tell_fault};
 use plan_files::{Files, Sink};
-use stage_driver::{ChainFault, stage_states};
+use stage_driver::{ChainFault, StatesEnd, stage_states};
 use std::alloc::Global;
 
 // Tells of each stage what is kept of it, and whether its files stand as they were made.
@@ -29,8 +28,22 @@ pub(crate) fn status<F: Files, K: Sink>(alloc: Global, files: &mut F, out: &mut 
     ensures no_memory { result ≡ Status.NoMemory → K.written out.new ≡ K.written out.old }
 {
     match stage_states(alloc, files) {
-        Ok(outcome) => report::tell(out, outcome.report.as_bytes(), Status::from(outcome.end)),
+        Ok(outcome) => tell(
+            out,
+            outcome.report.as_bytes(),
+            status_of_states(outcome.end),
+        ),
         Err(ChainFault::NoMemory) => Status::NoMemory,
-        Err(ChainFault::FileFault) => report::tell_fault(out),
+        Err(ChainFault::FileFault) => tell_fault(out),
+    }
+}
+
+// The answer where the states of stages are asked for.
+fn status_of_states(end: StatesEnd) -> Status
+    ensures { result ≡ status_of_states end }
+{
+    match end {
+        StatesEnd::Told => Status::Done,
+        StatesEnd::BadInput => Status::BadInput,
     }
 }

@@ -1,20 +1,19 @@
 // The top call.
 ghost use Rattle.std.specs.Prelude.{◌≡◌, ◌⊎◌, IfSome, None};
-ghost use Rattle.stage_chain.specs.declared.outcome.Mode.{Mode};
+ghost use Rattle.command_line.specs.declared.mode.Mode.{Mode};
 ghost use Rattle.stage_driver.specs.PlanningChain.{Trusts};
-ghost use Rattle.lintim_cli.specs.declared.command.Command.TheVariants as commands;
+ghost use Rattle.command_line.specs.declared.command.Command.TheVariants as commands;
 ghost use Rattle.lintim_cli.specs.Answers.{AnswersTo};
 ghost use Rattle.lintim_cli.specs.Says.{CallsNothing, Laws, Says, SaysAlways};
-ghost use Rattle.lintim_cli.specs.Top.{Asks, Headline, command_of, seen};
+ghost use Rattle.command_line.specs.CommandWords.{Asks, command_of};
+ghost use Rattle.lintim_cli.specs.Top.{Headline, seen};
 
-use crate::answers::Status;
 use crate::check::check;
-use crate::command::{Command, command_of};
 use crate::demo::demo;
 use crate::question::question;
-use crate::report;
 use crate::run::run;
 use crate::status::status;
+use command_line::{Command, Status, command_of, tell};
 use plan_files::{Files, Sink};
 use plan_num::{Ledger, Steps};
 use std::alloc::Global;
@@ -76,7 +75,7 @@ pub fn lintim<F: Files, K: Sink, L: Ledger>(
         Some(Command::Status) => status(alloc, files, out),
         Some(Command::Demo(number)) => demo(alloc, number, out, steps),
         Some(Command::Ask(form)) => question(alloc, &form, files, out, steps),
-        None => report::tell(
+        None => tell(
             out,
             b"usage: lintim make | fresh | check | status | demo N | waits P B | check-waits P | \
               journey A B T planned | journey A B T disposed | pool S1 S2 ..\n",

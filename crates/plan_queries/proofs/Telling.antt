@@ -15,7 +15,7 @@ use Rattle.stage_chain.specs.declared.chain_end.ChainEnd.{ChainEnd}
 use Rattle.stage_chain.specs.Ends.{Gives}
 use Rattle.wait_choice.specs.ChoiceStage.{waits_refusals}
 use Rattle.plan_queries.specs.declared.answer.Answer.{Answer}
-use Rattle.plan_queries.specs.declared.answer.QueryEnd.TheVariants as end
+use Rattle.command_line.specs.declared.ends.QueryEnd.TheVariants as end
 use Rattle.plan_queries.specs.Queries.{AnswersRight, SavedRightOver, bad_input, end_of_fault, saved_over, waits_name}
 use Rattle.stage_chain.specs.Reports.{line_of}
 

@@ -1,2 +1,1 @@
-pub mod FormWords
 pub mod Queries

@@ -38,11 +38,11 @@ use Rattle.journeys.specs.JourneyNets.{journey_faults, net_of}
 use Rattle.journeys.specs.JourneyTexts.{journey_text}
 use Rattle.pool_maker.specs.PoolTexts.{pool_text, terminal_faults}
 use Rattle.pool_maker.specs.RightPools.{IsRightPool}
-use Rattle.plan_queries.specs.declared.form.Form.{Form}
-use Rattle.plan_queries.specs.declared.form.Form.TheVariants as form
+use Rattle.command_line.specs.declared.form.Form.{Form}
+use Rattle.command_line.specs.declared.form.Form.TheVariants as form
 use Rattle.plan_queries.specs.declared.answer.Answer.{Answer}
-use Rattle.plan_queries.specs.declared.answer.QueryEnd.{QueryEnd}
-use Rattle.plan_queries.specs.declared.answer.QueryEnd.TheVariants as end
+use Rattle.command_line.specs.declared.ends.QueryEnd.{QueryEnd}
+use Rattle.command_line.specs.declared.ends.QueryEnd.TheVariants as end
 
 -- what is told where a report is made
 abbrev pub done : List ℕ → Answer

@@ -2,17 +2,17 @@
 ghost use Rattle.std.specs.Prelude.{◌≡◌, ◌≤◌, IfOk, IfSome};
 ghost use Rattle.plan_files.specs.Reads.{OnlyReads};
 ghost use Rattle.stage_chain.specs.Ends.{has_failed, is_broken};
-ghost use Rattle.plan_queries.specs.FormWords.{IsInRange};
-ghost use Rattle.plan_queries.specs.declared.answer.QueryEnd.TheVariants as ends;
+ghost use Rattle.command_line.specs.FormWords.{IsInRange};
+ghost use Rattle.command_line.specs.declared.ends.QueryEnd.TheVariants as ends;
 ghost use Rattle.plan_queries.specs.Queries.{AnswersIn, AnswersRight, EndsAs, IsRightIn, IsTold};
 ghost use Rattle.plan_queries.specs.Queries.{TakesNone, TakesSteps, TakesUpTo, Tells, steps_of};
 
-use crate::answer::{Answer, QueryEnd};
+use crate::answer::Answer;
 use crate::check::check;
-use crate::form::Form;
 use crate::journey::journey;
 use crate::pool::pool;
 use crate::waits::waits;
+use command_line::{Form, QueryEnd};
 use plan_files::Files;
 use plan_num::{Ledger, Steps};
 use stage_chain::{ChainEnd, ChainFault, cause_line};

@@ -5,14 +5,15 @@ ghost use Rattle.giv_files.specs.Settings.{Fits};
 ghost use Rattle.plan_files.specs.Reads.{OnlyReads};
 ghost use Rattle.config_keys.specs.Items.{look_in};
 ghost use Rattle.stage_chain.specs.Ends.{is_broken, Gives};
-ghost use Rattle.plan_queries.specs.declared.answer.QueryEnd.TheVariants as ends;
-ghost use Rattle.plan_queries.specs.declared.form.Form.TheVariants as forms;
+ghost use Rattle.command_line.specs.declared.ends.QueryEnd.TheVariants as ends;
+ghost use Rattle.command_line.specs.declared.form.Form.TheVariants as forms;
 ghost use Rattle.plan_queries.specs.Queries.{AnswersRight, EndsAs, IsRightIn, SavedIsRight};
 ghost use Rattle.plan_queries.specs.Queries.{SavedRightOver, broken_line, check_told, judged_over};
 ghost use Rattle.plan_queries.specs.Queries.{rule_word, saved_over, waits_name};
 
-use crate::answer::{Answer, QueryEnd};
+use crate::answer::Answer;
 use crate::fault::end_of_fault;
+use command_line::QueryEnd;
 use config_keys::FILE_LIMIT;
 use giv_files::{Bundle, Stage};
 use plan_files::{Files, Got};

@@ -2,13 +2,14 @@
 ghost use Rattle.std.specs.Prelude.{◌≡◌, false, IfOk, IfSome};
 ghost use Rattle.plan_files.specs.Reads.{OnlyReads};
 ghost use Rattle.stage_chain.specs.Ends.{is_broken, Gives};
-ghost use Rattle.plan_queries.specs.declared.answer.QueryEnd.TheVariants as ends;
-ghost use Rattle.plan_queries.specs.declared.form.Form.TheVariants as forms;
+ghost use Rattle.command_line.specs.declared.ends.QueryEnd.TheVariants as ends;
+ghost use Rattle.command_line.specs.declared.form.Form.TheVariants as forms;
 ghost use Rattle.plan_queries.specs.Queries.{AnswersRight, IsRightIn, JourneyIsRight, JourneyTells};
 ghost use Rattle.plan_queries.specs.Queries.{Tells, TellsJourney, times_in};
 
-use crate::answer::{Answer, QueryEnd};
+use crate::answer::Answer;
 use crate::fault::end_of_fault;
+use command_line::QueryEnd;
 use giv_files::{FileId, Stage};
 use journeys::{JourneyNet, print_journey};
 use plan_files::Files;

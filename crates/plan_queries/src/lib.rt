@@ -5,16 +5,10 @@ mod answer;
 mod asking;
 mod check;
 mod fault;
-mod form;
 mod journey;
-mod parse;
 mod pool;
-mod terminals;
 mod waits;
-mod words;
 
-pub use answer::{Answer, QueryEnd};
+pub use answer::Answer;
 pub use asking::ask;
-pub use form::Form;
-pub use parse::form_of;
-pub use terminals::Terminals;
+pub use command_line::{Form, QueryEnd, Terminals, form_of};

@@ -2,14 +2,16 @@
 ghost use Rattle.std.specs.Prelude.{◌≡◌, false, IfOk, IfSome, Ok};
 ghost use Rattle.plan_files.specs.Reads.{OnlyReads};
 ghost use Rattle.ptn_network.specs.Networks.{network_of};
-ghost use Rattle.pool_maker.specs.RightPools.{AreTerminals, IsRightPool};
+ghost use Rattle.plan_num.specs.Terminals.{AreTerminals};
+ghost use Rattle.pool_maker.specs.RightPools.{IsRightPool};
 ghost use Rattle.stage_chain.specs.Ends.{is_broken, Gives};
-ghost use Rattle.plan_queries.specs.declared.answer.QueryEnd.TheVariants as ends;
-ghost use Rattle.plan_queries.specs.declared.form.Form.TheVariants as forms;
+ghost use Rattle.command_line.specs.declared.ends.QueryEnd.TheVariants as ends;
+ghost use Rattle.command_line.specs.declared.form.Form.TheVariants as forms;
 ghost use Rattle.plan_queries.specs.Queries.{AnswersRight, IsRightIn, pool_over, pool_told};
 
-use crate::answer::{Answer, QueryEnd};
+use crate::answer::Answer;
 use crate::fault::end_of_fault;
+use command_line::QueryEnd;
 use giv_files::{FileId, Stage};
 use plan_files::Files;
 use plan_num::Text;

@@ -5,13 +5,14 @@ ghost use Rattle.giv_files.specs.Settings.{Fits};
 ghost use Rattle.plan_files.specs.Reads.{OnlyReads};
 ghost use Rattle.stage_chain.specs.Ends.{is_broken, Gives};
 ghost use Rattle.wait_choice.specs.ChoiceStage.{waits_work};
-ghost use Rattle.plan_queries.specs.declared.form.Form.TheVariants as forms;
+ghost use Rattle.command_line.specs.declared.form.Form.TheVariants as forms;
 ghost use Rattle.plan_queries.specs.Queries.{AnswersRight, EndsAs, IsRightIn, TakesUpTo};
 ghost use Rattle.plan_queries.specs.Queries.{WaitsAreRight, spent_line, waits_over, waits_steps};
 ghost use Rattle.plan_queries.specs.Queries.{waits_told};
 
-use crate::answer::{Answer, QueryEnd};
+use crate::answer::Answer;
 use crate::fault::end_of_fault;
+use command_line::QueryEnd;
 use giv_files::{Bundle, Refusal, Stage, StageFault};
 use plan_files::Files;
 use plan_num::{Ledger, NoMemory, Steps, Text};

@@ -11,8 +11,8 @@ use Rattle.plan_files.proofs.OtherFiles.{get_part, same_folder}
 use Rattle.giv_files.specs.declared.stage.Stage.{Stage}
 use Rattle.stage_keep.specs.Entries.{keep_name}
 use Rattle.stage_chain.specs.declared.outcome.ChainFault.{ChainFault}
-use Rattle.stage_chain.specs.declared.outcome.Mode.{Mode}
-use Rattle.stage_chain.specs.declared.outcome.Mode.TheVariants as mode
+use Rattle.command_line.specs.declared.mode.Mode.{Mode}
+use Rattle.command_line.specs.declared.mode.Mode.TheVariants as mode
 use Rattle.stage_chain.specs.declared.outcome.Outcome.{Outcome}
 use Rattle.stage_chain.specs.Hand.{hand_of, is_among, is_hand, keep_names}
 use Rattle.stage_chain.specs.Kept.{HaveEntries, IsKeptHonest, trace_over}

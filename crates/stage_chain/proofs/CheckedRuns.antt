@@ -18,7 +18,7 @@ use Rattle.config_keys.specs.Values.{effective}
 use Rattle.stage_chain.specs.declared.cause.Cause.{Cause}
 use Rattle.stage_chain.specs.declared.cause.Cause.TheVariants as cause
 use Rattle.stage_chain.specs.declared.finding.Finding.{Finding}
-use Rattle.stage_chain.specs.declared.outcome.RunEnd.TheVariants as end
+use Rattle.command_line.specs.declared.ends.RunEnd.TheVariants as end
 use Rattle.stage_chain.specs.Built.{cause_of, files_of, made, trace_of, trace_under}
 use Rattle.stage_chain.specs.Chain.{Halt, Trace, Visit, bundle_by, chain_from, go_on, is_to_run, stage_place, to_run, visit_of}
 use Rattle.stage_chain.specs.Checks.{check_of, first_found, found_under, judge, lacks_file, standing}
@@ -28,7 +28,7 @@ use Rattle.stage_chain.specs.Reports.{end_of, end_of_refusal}
 use Rattle.stage_chain.specs.Right.{AllStandRight, files_by, text_in}
 use Rattle.stage_chain.specs.Kept.{IsKeptHonest}
 use Rattle.stage_chain.specs.Runs.{Trusts, after, run_over, started}
-use Rattle.stage_chain.specs.declared.outcome.Mode.{Mode}
+use Rattle.command_line.specs.declared.mode.Mode.{Mode}
 use Rattle.stage_chain.proofs.BothModes.{honest_start}
 use Rattle.stage_chain.proofs.Keeping.{from_scratch}
 use Rattle.stage_chain.proofs.LeftRight.{left_by, run_files, settings_after}

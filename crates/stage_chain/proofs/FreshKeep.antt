@@ -14,8 +14,8 @@ use Rattle.plan_files.proofs.Writes.{get_written}
 use Rattle.giv_files.specs.declared.stage.Stage.{Stage}
 use Rattle.giv_files.specs.Stages.{all_stages}
 use Rattle.stage_keep.specs.Entries.{keep_name}
-use Rattle.stage_chain.specs.declared.outcome.Mode.{Mode}
-use Rattle.stage_chain.specs.declared.outcome.Mode.TheVariants as mode
+use Rattle.command_line.specs.declared.mode.Mode.{Mode}
+use Rattle.command_line.specs.declared.mode.Mode.TheVariants as mode
 use Rattle.stage_chain.specs.Hand.{hand_of, is_among, keep_names}
 use Rattle.stage_chain.specs.Kept.{made_over, new_entries}
 use Rattle.stage_chain.specs.Runs.{FreshKeeps, after, entries_over, kept_part, started, without_keep}

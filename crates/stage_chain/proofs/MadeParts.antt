@@ -9,7 +9,7 @@ use Rattle.std.proofs.lemmas.Bool.{false≢true, and_parts}
 use Rattle.std.proofs.lemmas.Slice.Eq.{bytes_eq-Decides}
 use Rattle.plan_files.specs.Folder.{Folder}
 use Rattle.plan_files.proofs.OtherFiles.{get_part, same_folder}
-use Rattle.stage_chain.specs.declared.outcome.Mode.{Mode}
+use Rattle.command_line.specs.declared.mode.Mode.{Mode}
 use Rattle.stage_chain.specs.Built.{files_of, made}
 use Rattle.stage_chain.specs.Hand.{hand_of, is_among, names_made_by}
 use Rattle.stage_chain.specs.Kept.{made_over, new_entries, trace_over}

@@ -7,8 +7,8 @@ use Rattle.plan_files.specs.Changes.{folder_after}
 use Rattle.plan_files.specs.Folder.{Folder}
 use Rattle.plan_files.specs.Others.{AreOutside}
 use Rattle.plan_files.proofs.OtherFiles.{outside_front}
-use Rattle.stage_chain.specs.declared.outcome.Mode.{Mode}
-use Rattle.stage_chain.specs.declared.outcome.Mode.TheVariants as mode
+use Rattle.command_line.specs.declared.mode.Mode.{Mode}
+use Rattle.command_line.specs.declared.mode.Mode.TheVariants as mode
 use Rattle.stage_chain.specs.Hand.{hand_of, is_hand}
 use Rattle.stage_chain.specs.Kept.{IsKeptHonest}
 use Rattle.stage_chain.specs.Stopped.{AddsHarmless, IsFirstTorn, IsSafeFrom, IsStopped, StopsSafely}

@@ -30,8 +30,8 @@ use Rattle.stage_keep.proofs.Honesty.{fronts_are_honest, read_is_honest}
 use Rattle.stage_chain.specs.declared.cause.Cause.{Cause}
 use Rattle.stage_chain.specs.declared.outcome.ChainFault.{ChainFault}
 use Rattle.stage_chain.specs.declared.outcome.ChainFault.TheVariants as fault
-use Rattle.stage_chain.specs.declared.outcome.Mode.{Mode}
-use Rattle.stage_chain.specs.declared.outcome.Mode.TheVariants as mode
+use Rattle.command_line.specs.declared.mode.Mode.{Mode}
+use Rattle.command_line.specs.declared.mode.Mode.TheVariants as mode
 use Rattle.stage_chain.specs.declared.outcome.Outcome.{Outcome}
 use Rattle.stage_chain.specs.Built.{files_of}
 use Rattle.stage_chain.specs.Chain.{Halt, Visit, input_text}

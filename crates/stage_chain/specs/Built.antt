@@ -10,7 +10,7 @@ use Rattle.giv_files.specs.Settings.{BundleParts}
 use Rattle.config_keys.specs.declared.config_fault.ConfigFault.{ConfigFault}
 use Rattle.config_keys.specs.Items.{look_in}
 use Rattle.config_keys.specs.Values.{effective}
-use Rattle.stage_chain.specs.declared.outcome.RunEnd.{RunEnd}
+use Rattle.command_line.specs.declared.ends.RunEnd.{RunEnd}
 use Rattle.stage_chain.specs.declared.cause.Cause.{Cause}
 use Rattle.stage_chain.specs.declared.cause.Cause.TheVariants as cause
 use Rattle.stage_chain.specs.Chain.{Visit, Halt, Trace, chain_from, handed, to_run}

@@ -11,7 +11,7 @@ use Rattle.config_keys.specs.Items.{look_in}
 use Rattle.config_keys.specs.Values.{effective}
 use Rattle.stage_chain.specs.declared.holding.Holding.{Holding}
 use Rattle.stage_chain.specs.declared.holding.Holding.TheVariants as holding
-use Rattle.stage_chain.specs.declared.outcome.RunEnd.TheVariants as end
+use Rattle.command_line.specs.declared.ends.RunEnd.TheVariants as end
 use Rattle.stage_chain.specs.declared.state.StageState.{StageState}
 use Rattle.stage_chain.specs.declared.state.StageState.TheVariants as state
 use Rattle.stage_chain.specs.Chain.{handed}

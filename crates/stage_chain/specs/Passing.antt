@@ -5,8 +5,8 @@ use Rattle.giv_files.specs.declared.stage.Stage.{Stage}
 use Rattle.giv_files.specs.Settings.{BundleParts}
 use Rattle.config_keys.specs.Items.{look_in}
 use Rattle.config_keys.specs.Values.{effective}
-use Rattle.stage_chain.specs.declared.outcome.Mode.{Mode}
-use Rattle.stage_chain.specs.declared.outcome.RunEnd.TheVariants as end
+use Rattle.command_line.specs.declared.mode.Mode.{Mode}
+use Rattle.command_line.specs.declared.ends.RunEnd.TheVariants as end
 use Rattle.stage_chain.specs.Chain.{bundle_by, is_to_run}
 use Rattle.stage_chain.specs.Checks.{check_of, standing}
 use Rattle.stage_chain.specs.Right.{text_in}

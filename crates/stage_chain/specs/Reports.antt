@@ -11,8 +11,8 @@ use Rattle.giv_files.specs.StageNames.{stage_name}
 use Rattle.giv_files.specs.WhyTexts.{why_text}
 use Rattle.config_keys.specs.declared.config_fault.ConfigFault.{ConfigFault}
 use Rattle.config_keys.specs.declared.config_fault.ConfigFault.TheVariants as fault
-use Rattle.stage_chain.specs.declared.outcome.RunEnd.{RunEnd}
-use Rattle.stage_chain.specs.declared.outcome.RunEnd.TheVariants as end
+use Rattle.command_line.specs.declared.ends.RunEnd.{RunEnd}
+use Rattle.command_line.specs.declared.ends.RunEnd.TheVariants as end
 use Rattle.stage_chain.specs.declared.cause.Cause.{Cause}
 use Rattle.stage_chain.specs.declared.cause.Cause.TheVariants as cause
 use Rattle.stage_chain.specs.Chain.{Visit}

@@ -13,8 +13,8 @@ use Rattle.plan_files.specs.Others.{AreOutside}
 use Rattle.giv_files.specs.declared.made.MadeFile.{MadeFile}
 use Rattle.giv_files.specs.FileNames.{file_name}
 use Rattle.stage_chain.specs.declared.outcome.ChainFault.{ChainFault}
-use Rattle.stage_chain.specs.declared.outcome.Mode.{Mode}
-use Rattle.stage_chain.specs.declared.outcome.Mode.TheVariants as mode
+use Rattle.command_line.specs.declared.mode.Mode.{Mode}
+use Rattle.command_line.specs.declared.mode.Mode.TheVariants as mode
 use Rattle.stage_chain.specs.declared.outcome.Outcome.{Outcome}
 use Rattle.stage_chain.specs.Ends.{file_fault_of}
 use Rattle.stage_chain.specs.Hand.{is_among, is_hand, keep_names, names_made_by, hand_of}

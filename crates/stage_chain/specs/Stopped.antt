@@ -14,8 +14,8 @@ use Rattle.plan_files.specs.Others.{AreOutside}
 use Rattle.giv_files.specs.declared.stage.Stage.{Stage}
 use Rattle.stage_keep.specs.Entries.{keep_name}
 use Rattle.stage_keep.specs.Honest.{IsHonest}
-use Rattle.stage_chain.specs.declared.outcome.Mode.{Mode}
-use Rattle.stage_chain.specs.declared.outcome.Mode.TheVariants as mode
+use Rattle.command_line.specs.declared.mode.Mode.{Mode}
+use Rattle.command_line.specs.declared.mode.Mode.TheVariants as mode
 use Rattle.stage_chain.specs.Hand.{hand_of, is_hand}
 use Rattle.stage_chain.specs.Kept.{IsKeptHonest}
 use Rattle.stage_chain.specs.StageParts.{StageParts}

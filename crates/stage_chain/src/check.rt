@@ -1,7 +1,7 @@
 // A check of the files of a dataset.
 ghost use Rattle.std.specs.Prelude.{◌≡◌, IfSome, IfOk, IfNone};
 ghost use Rattle.stage_chain.specs.declared.checked.CheckEnd.TheVariants as ends;
-ghost use Rattle.stage_chain.specs.declared.outcome.Mode.{Mode};
+ghost use Rattle.command_line.specs.declared.mode.Mode.{Mode};
 ghost use Rattle.stage_chain.specs.Passing.{AllStand, PassesIn, RunsPass, RunsStand};
 ghost use Rattle.plan_files.specs.Folder.{Folder};
 ghost use Rattle.plan_files.specs.Reads.{OnlyReads};

@@ -8,8 +8,9 @@ ghost use Rattle.stage_chain.specs.Hand.{keep_names};
 ghost use Rattle.stage_chain.specs.Runs.{AddsNoHandFile, AreNotAll, SameHand, removed};
 
 use crate::keep::keep_name;
-use crate::outcome::{ChainFault, Mode};
+use crate::outcome::ChainFault;
 use crate::settle::settle;
+use command_line::Mode;
 use giv_files::Stage;
 use plan_files::{Files, Name, Write};
 use plan_num::NoMemory;

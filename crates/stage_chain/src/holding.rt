@@ -5,7 +5,7 @@ ghost use Rattle.stage_chain.specs.States.{held};
 use giv_files::Made;
 
 /// What is held of a stage, over what is held of those before it.
-#[derive(Debug, Drop)]
+#[derive(Drop)]
 pub(crate) enum Holding {
     /// The stage comes after the last one that is to run.
     Off,

@@ -12,10 +12,15 @@ use std::marker::Model;
 
 /// The files that are kept of the stages so far, and the files of those of which nothing is kept
 /// that fits. Contracts see it as these two lists.
-#[derive(Drop)]
 pub(crate) struct Known {
     kept: Vec<MadeFile>,
     lost: Vec<FileId>,
+}
+
+impl Drop for Known {
+    fn drop(self) {
+        let Known { kept: _, lost: _ } = self;
+    }
 }
 
 impl Model for Known {

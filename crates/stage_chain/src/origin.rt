@@ -6,7 +6,7 @@ use config_keys::Config;
 use giv_files::{FileId, Key};
 
 /// Where an input of a stage comes from.
-#[derive(Clone, Copy, Debug, PartialEq, Eq)]
+#[derive(Clone, Copy)]
 pub(crate) enum Origin {
     /// People write the file, and it has to be there.
     Needed,

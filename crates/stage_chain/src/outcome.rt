@@ -3,32 +3,11 @@ ghost use Rattle.std.specs.Prelude.{◌≡◌};
 ghost use Rattle.stage_chain.specs.declared.outcome.ChainFault.TheVariants as faults;
 ghost use Rattle.stage_chain.specs.Ends.{chain_fault_of};
 
+use command_line::RunEnd;
 use plan_files::FileFault;
 use plan_num::{NoMemory, Text};
 use std::alloc::AllocFailed;
 use thiserror::Error;
-
-/// Whether a run may take what earlier runs kept, or has to make all of it afresh.
-#[derive(Clone, Copy, Debug, PartialEq, Eq)]
-pub enum Mode {
-    /// A stage that was given the same before is taken from what is kept.
-    Make,
-    /// What is kept is removed first.
-    Fresh,
-}
-
-/// How a run ended.
-#[derive(Clone, Copy, Debug, PartialEq, Eq)]
-pub enum RunEnd {
-    /// All stages that were to run were made.
-    Done,
-    /// An input is refused.
-    BadInput,
-    /// A stage has no solution.
-    NoSolution,
-    /// The budget of a search ended before it had a solution.
-    Spent,
-}
 
 /// How a run ended, and its report.
 #[derive(Debug, Drop)]

@@ -11,11 +11,20 @@ use std::marker::Model;
 
 /// The files that the stages of a chain made so far, their lines of the report, and the writes of
 /// their new entries. Contracts see it as these three.
-#[derive(Drop)]
 pub(crate) struct Progress {
     files: Vec<MadeFile>,
     report: Vec<u8>,
     entries: Vec<Write>,
+}
+
+impl Drop for Progress {
+    fn drop(self) {
+        let Progress {
+            files: _,
+            report: _,
+            entries: _,
+        } = self;
+    }
 }
 
 impl Model for Progress {
@@ -67,7 +76,12 @@ impl Progress {
         ensures report { result.1.items ≡ self.report }
         ensures entries { result.2.items ≡ self.entries }
     {
-        (self.files, self.report, self.entries)
+        let Progress {
+            files,
+            report,
+            entries,
+        } = self;
+        (files, report, entries)
     }
 }
 

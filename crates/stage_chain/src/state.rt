@@ -5,7 +5,7 @@ ghost use Rattle.stage_chain.specs.States.{state_name};
 use plan_num::Text;
 
 /// How a stage stands to what is kept of it.
-#[derive(Clone, Copy, Debug, PartialEq, Eq)]
+#[derive(Clone, Copy)]
 pub(crate) enum StageState {
     /// The stage comes after the last one that is to run.
     Off,

@@ -6,11 +6,11 @@ use Rattle.plan_files.specs.Folder.{Folder}
 use Rattle.plan_files.specs.Others.{AreOutside}
 use Rattle.giv_files.specs.declared.stage.Stage.{Stage}
 use Rattle.stage_keep.specs.Entries.{keep_name}
-use Rattle.stage_chain.specs.declared.outcome.Mode.{Mode}
+use Rattle.command_line.specs.declared.mode.Mode.{Mode}
 use Rattle.stage_chain.specs.Hand.{hand_of, is_hand}
 use Rattle.stage_chain.specs.Kept.{KeepsNothing}
-use Rattle.stage_chain.specs.declared.outcome.Mode.TheVariants as mode
-use Rattle.stage_chain.specs.declared.outcome.RunEnd.TheVariants as end
+use Rattle.command_line.specs.declared.mode.Mode.TheVariants as mode
+use Rattle.command_line.specs.declared.ends.RunEnd.TheVariants as end
 use Rattle.stage_chain.specs.Runs.{IsOnce, after, kept_part, started, with_files, without_keep}
 use Rattle.stage_chain.proofs.BothModes as both_modes
 use Rattle.stage_chain.proofs.CheckedRuns as checked_runs

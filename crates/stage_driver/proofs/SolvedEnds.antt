@@ -8,7 +8,7 @@ use Rattle.giv_files.specs.declared.stage.Stage.{Stage}
 use Rattle.giv_files.specs.Settings.{BundleParts}
 use Rattle.stage_chain.specs.declared.cause.Cause.{Cause}
 use Rattle.stage_chain.specs.declared.cause.Cause.TheVariants as cause
-use Rattle.stage_chain.specs.declared.outcome.RunEnd.TheVariants as end
+use Rattle.command_line.specs.declared.ends.RunEnd.TheVariants as end
 use Rattle.stage_chain.specs.Built.{cause_of, made as made_by, trace_of}
 use Rattle.stage_chain.specs.Reports.{end_of}
 use Rattle.stage_chain.proofs.Endings.{EndsAtRefusals, IsHanded, ends_at_refusals}

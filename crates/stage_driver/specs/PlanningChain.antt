@@ -6,7 +6,7 @@ use Rattle.plan_files.specs.Folder.{Folder}
 use Rattle.stage_chain.specs.declared.checked.CheckOutcome.{CheckOutcome}
 use Rattle.stage_chain.specs.declared.finding.Finding.{Finding}
 use Rattle.stage_chain.specs.declared.outcome.ChainFault.{ChainFault}
-use Rattle.stage_chain.specs.declared.outcome.Mode.{Mode}
+use Rattle.command_line.specs.declared.mode.Mode.{Mode}
 use Rattle.stage_chain.specs.declared.state.StatesOutcome.{StatesOutcome}
 use Rattle.stage_chain.specs.Built.{RunParts}
 use Rattle.stage_chain.specs.Built as built_by

@@ -3,7 +3,7 @@ use Rattle.std.specs.Prelude.{◌≡◌, ◌≢◌, List, Contains}
 use Rattle.plan_files.specs.Folder.{Folder}
 use Rattle.giv_files.specs.declared.stage.Stage.{Stage}
 use Rattle.giv_files.specs.Settings.{BundleParts}
-use Rattle.stage_chain.specs.declared.outcome.RunEnd.TheVariants as end
+use Rattle.command_line.specs.declared.ends.RunEnd.TheVariants as end
 use Rattle.stage_chain.specs.Built.{trace_of}
 use Rattle.stage_chain.specs.Chain.{handed}
 use Rattle.planning_stages.specs.Planning.{planning}

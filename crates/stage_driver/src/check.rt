@@ -3,7 +3,7 @@ ghost use Rattle.std.specs.Prelude.{◌≡◌, IfSome, IfOk};
 ghost use Rattle.plan_files.specs.Folder.{Folder};
 ghost use Rattle.plan_files.specs.Reads.{OnlyReads};
 ghost use Rattle.stage_chain.specs.declared.checked.CheckEnd.TheVariants as ends;
-ghost use Rattle.stage_chain.specs.declared.outcome.Mode.{Mode};
+ghost use Rattle.command_line.specs.declared.mode.Mode.{Mode};
 ghost use Rattle.stage_chain.specs.Ends.{has_failed};
 ghost use Rattle.stage_driver.specs.PlanningChain.{IsCheck, PassesIn, RunsPass};
 

@@ -1,0 +1,4 @@
+pub mod CommandWords
+pub mod FormWords
+pub mod Reports
+pub mod Statuses

@@ -1,6 +1,0 @@
-use Rattle.std.proofs.Common.{length}
-use Rattle.plan_queries.proofs.parse.+are_apart.Given as goal
-
--- proposed from what the function passes where it calls itself
-abbrev pub decreases-are_apart : goal.decreases-are_apart
-decreases-are_apart l = length l.ids.now
