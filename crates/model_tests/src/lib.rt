@@ -1,5 +1,5 @@
 //! Tests of the calls from which the stages are made: what is read and refused of texts, line
-//! problems and their trees, timetables, plans of vehicles, and how delays go on.
+//! problems and their trees, timetables, and plans of vehicles.
 #![tactic(auto)]
 
 #[cfg(test)]
@@ -22,8 +22,6 @@ mod plans;
 mod pools;
 #[cfg(test)]
 mod problems;
-#[cfg(test)]
-mod propagated;
 #[cfg(test)]
 mod refused_texts;
 #[cfg(test)]

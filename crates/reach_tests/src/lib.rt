@@ -1,5 +1,5 @@
 //! Tests of the calls that answer questions beside the stages: journeys and how they are judged, pools
-//! of shortest lines, and waiting decisions.
+//! of shortest lines, and waiting decisions; and of how delays go on.
 #![tactic(auto)]
 
 #[cfg(test)]
@@ -16,6 +16,8 @@ mod journey_told;
 mod pool_large;
 #[cfg(test)]
 mod pool_rows;
+#[cfg(test)]
+mod propagated;
 #[cfg(test)]
 mod wait_choices;
 #[cfg(test)]
