@@ -11,7 +11,7 @@ use line_cost_model::SummedRegion;
 use plan_num::NoMemory;
 
 /// The first places, so far, of each kind of fault of a leaf.
-#[derive(Clone, Copy, Debug)]
+#[derive(Clone, Copy)]
 pub(crate) struct FirstFaults {
     empty: Option<usize>,
     multiplier: Option<usize>,

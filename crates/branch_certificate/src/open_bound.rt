@@ -9,7 +9,7 @@ use std::alloc::Global;
 
 /// A bound with the multipliers read so far: an edge below `next` does not rise over theirs, and so
 /// many are due.
-#[derive(Debug, Drop)]
+#[derive(Drop)]
 pub(crate) struct OpenBound {
     pub(crate) multipliers: Multipliers,
     pub(crate) next: usize,

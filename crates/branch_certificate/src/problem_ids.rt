@@ -11,7 +11,7 @@ use std::alloc::Global;
 use std::marker::Model;
 
 /// The ids of the lines and of the edges of a line problem, rising. Contracts see it as these.
-#[derive(Debug, Drop)]
+#[derive(Drop)]
 pub(crate) struct ProblemIds {
     lines: Vec<i64>,
     edges: Vec<i64>,

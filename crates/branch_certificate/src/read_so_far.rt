@@ -13,10 +13,15 @@ use plan_num::NoMemory;
 use std::alloc::Global;
 
 /// The nodes that were read whole, and the bound behind them whose multipliers may still come.
-#[derive(Debug, Drop)]
 pub(crate) struct ReadSoFar {
     pub(crate) nodes: Tree,
     pub(crate) bound: Option<OpenBound>,
+}
+
+impl Drop for ReadSoFar {
+    fn drop(self) {
+        let ReadSoFar { nodes: _, bound: _ } = self;
+    }
 }
 
 impl ReadSoFar {
@@ -60,7 +65,8 @@ impl ReadSoFar {
         ensures { IfOk result (λ tree. tree ≡ closed self.nodes self.bound) }
     {
         self.close()?;
-        Ok(self.nodes)
+        let ReadSoFar { nodes, bound: _ } = self;
+        Ok(nodes)
     }
 
     // A bound that is open has no further multiplier.

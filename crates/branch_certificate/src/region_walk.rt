@@ -15,7 +15,7 @@ use std::alloc::Global;
 use std::marker::Model;
 
 /// A split of the range of a line, one of whose parts is walked.
-#[derive(Clone, Copy, Debug)]
+#[derive(Clone, Copy)]
 pub(crate) struct OpenSplit {
     line: usize,
     lo: u32,
@@ -26,10 +26,18 @@ pub(crate) struct OpenSplit {
 
 /// The region at which a node of a tree stands, and the splits above it. Contracts see it as the
 /// line problem, that region and those of the upper parts that wait.
-#[derive(Drop)]
 pub struct RegionWalk<'a> {
     region: SummedRegion<'a>,
     splits: Vec<OpenSplit>,
+}
+
+impl Drop for RegionWalk<'_> {
+    fn drop(self) {
+        let RegionWalk {
+            region: _,
+            splits: _,
+        } = self;
+    }
 }
 
 impl<'a> Model for RegionWalk<'a> {

@@ -2,7 +2,7 @@
 use crate::node::Node;
 
 /// What a row of the file of a tree says.
-#[derive(Debug, Drop)]
+#[derive(Drop)]
 pub(crate) enum RowSays {
     /// A node that has no further rows.
     Whole(Node),

@@ -4,7 +4,7 @@ use plan_num::Text;
 
 /// Why settings are refused. The name is that of the file in which the fault stands, as a path below the
 /// dataset's folder. A missing or too long file is named itself.
-#[derive(Debug, Drop)]
+#[derive(Debug)]
 pub enum ConfigFault {
     /// A row has not two fields, or the file begins with a byte order mark.
     BadRow { name: Text, row: u64, why: RowWhy },
@@ -20,4 +20,21 @@ pub enum ConfigFault {
     TooLong { name: Text },
     /// The value of a key is not allowed.
     BadValue { key: Key },
+}
+
+impl Drop for ConfigFault {
+    fn drop(self) {
+        match self {
+            ConfigFault::BadRow {
+                name: _,
+                row: _,
+                why: _,
+            } => {}
+            ConfigFault::MissingInclude { name: _ } | ConfigFault::TooLong { name: _ } => {}
+            ConfigFault::IncludeOutside { name: _, row: _ }
+            | ConfigFault::TooDeep { name: _, row: _ }
+            | ConfigFault::TooManyIncludes { name: _, row: _ } => {}
+            ConfigFault::BadValue { key: _ } => {}
+        }
+    }
 }

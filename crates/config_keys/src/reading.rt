@@ -10,10 +10,18 @@ use plan_num::{NoMemory, Text};
 use std::alloc::Global;
 
 /// How many include rows were read, and what was said last of each key, by the places of keys.
-#[derive(Drop)]
 pub(crate) struct Reading {
     pub includes: u64,
     said: IndexMap<usize, Text>,
+}
+
+impl Drop for Reading {
+    fn drop(self) {
+        let Reading {
+            includes: _,
+            said: _,
+        } = self;
+    }
 }
 
 impl Reading {

@@ -14,7 +14,7 @@ use std::alloc::Global;
 
 /// A step with the rank of its first event in the forward order, and the index of its change,
 /// where it is the step of one.
-#[derive(Clone, Copy, Debug, PartialEq, Eq)]
+#[derive(Clone, Copy, Debug)]
 pub(crate) struct Link {
     pub(crate) rank: u64,
     pub(crate) step: Step,

@@ -29,7 +29,6 @@ use std::marker::Model;
 /// changes they break, which events were made later and when these were before, and which links
 /// wait to be looked at. Contracts see it as the day with its links, the times, which changes are
 /// open, the events that were made later, the last one first, and the links that wait.
-#[derive(Drop)]
 pub(crate) struct TimesOnTrial<'a> {
     problem: &'a Propagation,
     links: &'a [Link],
@@ -40,6 +39,22 @@ pub(crate) struct TimesOnTrial<'a> {
     broken: Marking,
     trail: Vec<Moved>,
     waiting: Marking,
+}
+
+impl Drop for TimesOnTrial<'_> {
+    fn drop(self) {
+        let TimesOnTrial {
+            problem: _,
+            links: _,
+            ends: _,
+            times: _,
+            delay: _,
+            undecided: _,
+            broken: _,
+            trail: _,
+            waiting: _,
+        } = self;
+    }
 }
 
 impl<'a> Model for TimesOnTrial<'a> {

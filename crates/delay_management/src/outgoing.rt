@@ -8,10 +8,18 @@ use std::alloc::Global;
 
 /// The first link out of each event, and for each link the next one out of the same event, told by
 /// their indexes. The number of links stands for none.
-#[derive(Drop)]
 pub(crate) struct Outgoing {
     firsts: Vec<usize>,
     nexts: Vec<usize>,
+}
+
+impl Drop for Outgoing {
+    fn drop(self) {
+        let Outgoing {
+            firsts: _,
+            nexts: _,
+        } = self;
+    }
 }
 
 impl Outgoing {

@@ -29,7 +29,7 @@ use std::marker::Model;
 
 /// The events of a day with their earliest times, and the steps by which delays go on. Contracts
 /// see it as these.
-#[derive(Debug, Drop)]
+#[derive(Debug)]
 pub struct Propagation {
     events: Vec<ExpandedEvent>,
     earliest: Vec<u64>,
@@ -37,6 +37,19 @@ pub struct Propagation {
     changes: Vec<Activity>,
     turns: Vec<Step>,
     links: Vec<Link>,
+}
+
+impl Drop for Propagation {
+    fn drop(self) {
+        let Propagation {
+            events: _,
+            earliest: _,
+            rides: _,
+            changes: _,
+            turns: _,
+            links: _,
+        } = self;
+    }
 }
 
 impl Model for Propagation {

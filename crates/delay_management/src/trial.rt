@@ -15,11 +15,20 @@ use std::marker::Model;
 /// Changes of a day that are decided one after the other and taken back again, the last one first,
 /// with the least times of what is kept. Contracts see it as the day and what is decided, the last
 /// decision first.
-#[derive(Drop)]
 pub struct Trial<'a> {
     times: TimesOnTrial<'a>,
     taken: Vec<Taken>,
     kept: Vec<bool>,
+}
+
+impl Drop for Trial<'_> {
+    fn drop(self) {
+        let Trial {
+            times: _,
+            taken: _,
+            kept: _,
+        } = self;
+    }
 }
 
 impl<'a> Model for Trial<'a> {

@@ -6,7 +6,7 @@ ghost use Rattle.demand_load.specs.Demand.{demand_row};
 use giv_files::Table;
 
 /// Customers, in millionths, who go from the stop of one id to that of another.
-#[derive(Clone, Copy, Debug, PartialEq, Eq)]
+#[derive(Clone, Copy)]
 pub(crate) struct DemandRow {
     pub left: i64,
     pub right: i64,

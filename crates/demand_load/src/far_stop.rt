@@ -9,7 +9,7 @@ use ptn_network::{Network, Paths};
 use std::alloc::Global;
 
 /// A stop with its distance from another, in millionths.
-#[derive(Clone, Copy, Debug, PartialEq, Eq)]
+#[derive(Clone, Copy)]
 pub(crate) struct FarStop {
     pub distance: u64,
     pub stop: usize,

@@ -8,7 +8,7 @@ use plan_num::NoMemory;
 use std::alloc::Global;
 
 /// An edge by its id and the ids of its stops.
-#[derive(Clone, Copy, Debug)]
+#[derive(Clone, Copy)]
 pub(crate) struct Edge {
     pub(crate) id: u32,
     pub(crate) left: u32,

@@ -5,7 +5,7 @@ ghost use Rattle.evaluators.specs.CostedLines.{broken_by, runs_cost};
 use giv_files::RowWhy;
 
 /// A line with how often it runs, and its cost in millionths, where it has one.
-#[derive(Clone, Copy, Debug, PartialEq, Eq)]
+#[derive(Clone, Copy)]
 pub(crate) struct CostedLine {
     pub(crate) line: i64,
     pub(crate) frequency: u64,

@@ -12,7 +12,7 @@ use giv_files::{Key, Settings};
 use ptn_network::Edge;
 
 /// The least and the greatest minutes of an activity.
-#[derive(Clone, Copy, Debug, PartialEq, Eq)]
+#[derive(Clone, Copy)]
 pub(crate) struct Bounds {
     pub(crate) lower: u32,
     pub(crate) upper: u32,

@@ -8,7 +8,7 @@ use event_tables::PeriodicKind;
 use giv_files::{Key, Settings};
 
 /// What joins two events of a line concept.
-#[derive(Clone, Copy, Debug, PartialEq, Eq)]
+#[derive(Clone, Copy)]
 pub(crate) enum Joining {
     /// One comes next after the other in its run: a drive or a wait.
     Run,

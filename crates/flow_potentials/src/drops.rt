@@ -14,11 +14,20 @@ use std::marker::Model;
 
 /// For the root, and for the left and the right node of each trip, how much less than nothing some
 /// walk costs that ends there.
-#[derive(Drop)]
 pub(crate) struct Drops {
     root: u64,
     left: Vec<u64>,
     right: Vec<u64>,
+}
+
+impl Drop for Drops {
+    fn drop(self) {
+        let Drops {
+            root: _,
+            left: _,
+            right: _,
+        } = self;
+    }
 }
 
 impl Model for Drops {

@@ -9,10 +9,15 @@ use std::marker::Model;
 use vehicle_model::Plan;
 
 /// A plan, and for each trip the one before it. Contracts see it as the plan.
-#[derive(Drop)]
 pub(crate) struct LinkedPlan<'a> {
     plan: &'a Plan,
     before: Vec<Option<usize>>,
+}
+
+impl Drop for LinkedPlan<'_> {
+    fn drop(self) {
+        let LinkedPlan { plan: _, before: _ } = self;
+    }
 }
 
 impl<'a> Model for LinkedPlan<'a> {

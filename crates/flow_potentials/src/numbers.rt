@@ -8,10 +8,16 @@ use std::marker::Model;
 
 /// Two numbers for each trip, in millionths from 0 to 10^18: one is for its link to the next trip, and
 /// one for that from the trip before it. Contracts see them as two lists.
-#[derive(Debug, Drop)]
+#[derive(Debug)]
 pub struct Potentials {
     pub(crate) u: Vec<u64>,
     pub(crate) v: Vec<u64>,
+}
+
+impl Drop for Potentials {
+    fn drop(self) {
+        let Potentials { u: _, v: _ } = self;
+    }
 }
 
 impl Model for Potentials {

@@ -10,12 +10,23 @@ use std::alloc::Global;
 use std::marker::Model;
 
 /// A stage with its settings and its input texts. Contracts see it as these three.
-#[derive(Debug, Drop)]
+#[derive(Debug)]
 pub struct Bundle {
     alloc: Global,
     stage: Stage,
     settings: Settings,
     inputs: Vec<Text>,
+}
+
+impl Drop for Bundle {
+    fn drop(self) {
+        let Bundle {
+            alloc: _,
+            stage: _,
+            settings: _,
+            inputs: _,
+        } = self;
+    }
 }
 
 impl Model for Bundle {

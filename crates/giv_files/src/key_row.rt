@@ -9,7 +9,7 @@ use crate::stage::Stage;
 
 /// What is known of a key: its name in config files, what its value may be, its value where no file
 /// gives one, and the stages that have it.
-#[derive(Clone, Copy, Debug)]
+#[derive(Clone, Copy)]
 pub(crate) struct KeyRow {
     pub name: &'static str,
     pub kind: KeyKind,

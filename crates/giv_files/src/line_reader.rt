@@ -22,12 +22,22 @@ enum Source {
 
 /// The lines of a text that have a byte. Contracts see those that csv has read since one was last
 /// looked up, and those that are left. After want of memory each further read answers that too.
-#[derive(Drop)]
 pub(crate) struct LineReader<'a> {
     lines: TextLines<'a>,
     passed: u64,
     reader: Reader<Handed<'a>>,
     source: Source,
+}
+
+impl Drop for LineReader<'_> {
+    fn drop(self) {
+        let LineReader {
+            lines: _,
+            passed: _,
+            reader: _,
+            source: _,
+        } = self;
+    }
 }
 
 impl<'a> Model for LineReader<'a> {

@@ -13,10 +13,19 @@ use std::alloc::Global;
 use std::marker::Model;
 
 /// Rows of whole cells, each with a row number. Contracts see it as the list of its rows.
-#[derive(Debug, Drop)]
+#[derive(Debug)]
 pub struct Table<const C: usize> {
     numbers: Vec<u64>,
     cells: Vec<i64>,
+}
+
+impl<const C: usize> Drop for Table<C> {
+    fn drop(self) {
+        let Table {
+            numbers: _,
+            cells: _,
+        } = self;
+    }
 }
 
 impl<const C: usize> Model for Table<C> {

@@ -17,11 +17,20 @@ use std::marker::Model;
 
 /// A row of a text, which is read in the place of the row before it. Contracts see it as its number
 /// and the list of its fields. A line with a comment, and a long one, is looked up where it stands.
-#[derive(Drop)]
 pub struct TextRow<'a> {
     number: u64,
     stands: Stands<'a>,
     pieces: ByteRecord,
+}
+
+impl Drop for TextRow<'_> {
+    fn drop(self) {
+        let TextRow {
+            number: _,
+            stands: _,
+            pieces: _,
+        } = self;
+    }
 }
 
 // Where the pieces of a row stand: as csv gives them, the last one perhaps with a carriage return at

@@ -5,7 +5,7 @@ ghost use Rattle.journeys.specs.JourneyNets.{connection_of};
 use event_tables::ExpandedActivity;
 
 /// An activity that can be used, from one event to another, told by their indexes.
-#[derive(Clone, Copy, Debug, PartialEq, Eq)]
+#[derive(Clone, Copy, Debug)]
 pub(crate) struct Connection {
     pub(crate) from: u32,
     pub(crate) to: u32,

@@ -9,7 +9,7 @@ use plan_num::NoMemory;
 use std::alloc::Global;
 
 /// A connection with its index, and the rank of its tail in the forward order.
-#[derive(Clone, Copy, Debug, PartialEq, Eq)]
+#[derive(Clone, Copy, Debug)]
 pub(crate) struct Link {
     pub(crate) rank: u64,
     pub(crate) from: u32,

@@ -32,11 +32,21 @@ use std::marker::Model;
 
 /// The events of a day at their planned or disposed times, and the connections between them.
 /// Contracts see it as these two lists.
-#[derive(Debug, Drop)]
+#[derive(Debug)]
 pub struct JourneyNet {
     events: Vec<TimedEvent>,
     connections: Vec<Connection>,
     links: Vec<Link>,
+}
+
+impl Drop for JourneyNet {
+    fn drop(self) {
+        let JourneyNet {
+            events: _,
+            connections: _,
+            links: _,
+        } = self;
+    }
 }
 
 impl Model for JourneyNet {

@@ -8,7 +8,7 @@ use crate::query::Query;
 use event_tables::EventKind;
 
 /// An event of a day: its kind, its stop, and its planned or disposed time in minutes.
-#[derive(Clone, Copy, Debug, PartialEq, Eq)]
+#[derive(Clone, Copy, Debug)]
 pub(crate) struct TimedEvent {
     pub(crate) kind: EventKind,
     pub(crate) stop: u32,

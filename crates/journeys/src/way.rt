@@ -6,7 +6,7 @@ use crate::query::Query;
 use crate::timed_event::TimedEvent;
 
 /// How an event is reached.
-#[derive(Clone, Copy, Debug, PartialEq, Eq)]
+#[derive(Clone, Copy, Debug)]
 pub(crate) enum Way {
     /// By no ride from a start.
     Unreached,

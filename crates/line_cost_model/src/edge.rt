@@ -6,7 +6,7 @@ use std::alloc::Global;
 use std::marker::Model;
 
 /// An edge with its minimal and its maximal frequency, in drives a period.
-#[derive(Clone, Copy, Debug, PartialEq, Eq)]
+#[derive(Clone, Copy, Debug)]
 pub(crate) struct BoundedEdge {
     pub(crate) id: i64,
     pub(crate) least: u32,

@@ -16,11 +16,21 @@ use std::marker::Model;
 
 /// Edges with bounds of frequency, and lines over them with costs, both by id rising. Contracts see
 /// it as these two lists.
-#[derive(Debug, Drop)]
+#[derive(Debug)]
 pub struct LineProblem {
     alloc: Global,
     edges: Vec<CrossedEdge>,
     lines: Vec<Line>,
+}
+
+impl Drop for LineProblem {
+    fn drop(self) {
+        let LineProblem {
+            alloc: _,
+            edges: _,
+            lines: _,
+        } = self;
+    }
 }
 
 impl Model for LineProblem {
@@ -181,7 +191,7 @@ impl LineProblem {
 }
 
 /// The lines over the edge of an index.
-#[derive(Debug, Drop)]
+#[derive(Drop)]
 struct Longer {
     edge: usize,
     lines: Vec<usize>,

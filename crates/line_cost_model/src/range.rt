@@ -3,7 +3,7 @@ ghost use Rattle.std.specs.Prelude.{◌≡◌};
 ghost use Rattle.line_cost_model.specs.Regions.{has_several};
 
 /// The frequencies that a line may have: from a least to a greatest one.
-#[derive(Clone, Copy, Debug, PartialEq, Eq)]
+#[derive(Clone, Copy, Debug)]
 pub(crate) struct LineRange {
     pub(crate) lo: u32,
     pub(crate) hi: u32,

@@ -27,7 +27,6 @@ use std::marker::Model;
 /// of these ranges. It keeps how often each edge is driven at least and at most, how many edges
 /// show that there is no feasible concept, and what the least frequencies cost, so that another
 /// range for a line takes some steps for each of its edges alone.
-#[derive(Drop)]
 pub struct SummedRegion<'a> {
     problem: &'a LineProblem,
     ranges: Vec<LineRange>,
@@ -35,6 +34,19 @@ pub struct SummedRegion<'a> {
     greatest: Vec<u64>,
     least_cost: u128,
     empty: usize,
+}
+
+impl Drop for SummedRegion<'_> {
+    fn drop(self) {
+        let SummedRegion {
+            problem: _,
+            ranges: _,
+            least: _,
+            greatest: _,
+            least_cost: _,
+            empty: _,
+        } = self;
+    }
 }
 
 impl<'a> Model for SummedRegion<'a> {

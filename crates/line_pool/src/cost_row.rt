@@ -5,7 +5,7 @@ ghost use Rattle.line_pool.specs.PoolCosts.{cost_row_of};
 use giv_files::{Record, Table};
 
 /// A line with its length and its cost, each in millionths.
-#[derive(Clone, Copy, Debug, PartialEq, Eq)]
+#[derive(Clone, Copy)]
 pub(crate) struct CostRow {
     pub line: i64,
     pub length: i64,

@@ -6,7 +6,7 @@ use giv_files::FileId;
 
 /// A file that has lines, row by row: the pool, or a line concept, which has the frequency of each
 /// line too.
-#[derive(Clone, Copy, Debug, PartialEq, Eq)]
+#[derive(Clone, Copy)]
 pub(crate) enum LineFile {
     Pool,
     Concept,

@@ -7,7 +7,7 @@ use giv_files::Table;
 
 /// A row of a file of lines: a line, a place in it from 1, the id of the edge there, and the
 /// frequency of the line, which is 0 in a pool.
-#[derive(Clone, Copy, Debug, PartialEq, Eq)]
+#[derive(Clone, Copy)]
 pub(crate) struct LineRow {
     pub line: i64,
     pub order: i64,

@@ -8,7 +8,7 @@ use plan_num::NoMemory;
 use std::alloc::Global;
 
 /// A concept, with what it costs in millionths.
-#[derive(Debug, Drop)]
+#[derive(Drop)]
 pub(crate) struct BestConcept {
     pub(crate) frequencies: Vec<u32>,
     pub(crate) cost: i128,

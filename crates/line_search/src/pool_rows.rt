@@ -14,7 +14,7 @@ use plan_num::NoMemory;
 use std::alloc::Global;
 
 /// The id of a line, a place in it, and the id of the edge there.
-#[derive(Clone, Copy, Debug, PartialEq, Eq)]
+#[derive(Clone, Copy)]
 pub(crate) struct PlacedEdge {
     line: i64,
     order: i64,

@@ -15,7 +15,6 @@ use std::alloc::Global;
 
 /// A search between two entries: the regions that wait, the nodes of the entries so far, and the
 /// best concept that these found. The room for a bound is kept.
-#[derive(Drop)]
 pub(crate) struct Search<'a> {
     walk: RegionWalk<'a>,
     tree: Tree,
@@ -23,9 +22,20 @@ pub(crate) struct Search<'a> {
     bound: KeptBound,
 }
 
+impl Drop for Search<'_> {
+    fn drop(self) {
+        let Search {
+            walk: _,
+            tree: _,
+            best: _,
+            bound: _,
+        } = self;
+    }
+}
+
 /// What a search within a budget found: the best concept, the nodes of all entries where the
 /// budget was enough, and how many entries were listed.
-#[derive(Debug, Drop)]
+#[derive(Drop)]
 pub(crate) struct Searched {
     pub(crate) best: Option<BestConcept>,
     pub(crate) tree: Option<Tree>,
@@ -84,14 +94,29 @@ impl<'a> Search<'a> {
         Ok(more)
     }
 
+    // The best concept, where there is one, and the tree of all entries.
+    fn into_parts(self) -> (Option<BestConcept>, Tree)
+        ensures best { result.0 ≡ self.entry.best }
+        ensures tree { result.1 ≡ self.entry.tree }
+    {
+        let Search {
+            walk: _,
+            tree,
+            best,
+            bound: _,
+        } = self;
+        (best, tree)
+    }
+
     // What it found, where no region waits.
     fn whole(self, entries: u64) -> Searched
         ensures { result
             ≡ record { best = self.entry.best; tree = Some self.entry.tree; entries = entries } }
     {
+        let (best, tree) = self.into_parts();
         Searched {
-            best: self.best,
-            tree: Some(self.tree),
+            best,
+            tree: Some(tree),
             entries,
         }
     }
@@ -101,8 +126,9 @@ impl<'a> Search<'a> {
         ensures { result
             ≡ record { best = self.entry.best; tree = None; entries = entries } }
     {
+        let (best, _tree) = self.into_parts();
         Searched {
-            best: self.best,
+            best,
             tree: None,
             entries,
         }

@@ -11,11 +11,20 @@ use std::marker::Model;
 
 /// A flag for each event, as a row of bits. Outside of a range of words no flag is set. Contracts
 /// see it as a list of flags.
-#[derive(Debug, Drop)]
 pub(crate) struct EventFlags {
     bits: BitRows,
     low: usize,
     high: usize,
+}
+
+impl Drop for EventFlags {
+    fn drop(self) {
+        let EventFlags {
+            bits: _,
+            low: _,
+            high: _,
+        } = self;
+    }
 }
 
 impl Model for EventFlags {

@@ -13,7 +13,7 @@ use std::marker::Model;
 
 /// Of each event the indexes of the activities at it which not all times keep. Contracts see it as
 /// a list for each event.
-#[derive(Debug, Drop)]
+#[derive(Drop)]
 pub(crate) struct Links {
     rows: Vec<Vec<usize>>,
 }

@@ -13,7 +13,7 @@ use std::marker::Model;
 
 /// A row of bits for each event, with a column for each time of a period, set where the time is
 /// left to the event.
-#[derive(Debug, Drop)]
+#[derive(Drop)]
 pub(crate) struct TimeMarks {
     bits: BitRows,
 }

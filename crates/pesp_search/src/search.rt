@@ -20,7 +20,7 @@ use plan_num::{Ledger, NoMemory, Steps};
 use std::alloc::Global;
 
 /// A timetable that was found, and how many entries were listed.
-#[derive(Debug, Drop)]
+#[derive(Drop)]
 pub(crate) struct FoundTimes {
     pub(crate) times: Vec<u32>,
     pub(crate) entries: u64,
@@ -28,7 +28,7 @@ pub(crate) struct FoundTimes {
 
 /// What an entry comes to: the times of a timetable, or none where it is the last one or another
 /// one is to come, with the event of its branch.
-#[derive(Debug, Drop)]
+#[derive(Drop)]
 pub(crate) enum Entry {
     Found(Vec<u32>),
     Last,

@@ -9,7 +9,7 @@ use std::alloc::Global;
 use std::marker::Model;
 
 /// A branch on the times of an event: those from one on are still to be visited.
-#[derive(Clone, Copy, Debug, PartialEq, Eq)]
+#[derive(Clone, Copy)]
 pub(crate) struct Branch {
     pub(crate) event: usize,
     pub(crate) from: usize,
@@ -17,7 +17,7 @@ pub(crate) struct Branch {
 
 /// A change of sets: the word at a place was another one before, or the sets were saved at a
 /// branch.
-#[derive(Clone, Copy, Debug, PartialEq, Eq)]
+#[derive(Clone, Copy)]
 pub(crate) enum Change {
     Replaced(usize, u64),
     Branched(Branch),
@@ -25,10 +25,18 @@ pub(crate) enum Change {
 
 /// The times that are left to each event, and the changes by which earlier sets are restored.
 /// Contracts see it as these sets and all that were saved.
-#[derive(Debug, Drop)]
 pub(crate) struct TimeSets {
     sets: TimeMarks,
     changes: Vec<Change>,
+}
+
+impl Drop for TimeSets {
+    fn drop(self) {
+        let TimeSets {
+            sets: _,
+            changes: _,
+        } = self;
+    }
 }
 
 impl Model for TimeSets {

@@ -28,7 +28,7 @@ use std::marker::Model;
 ///
 /// A put that is listed fails also where memory for the bytes that it is to keep is refused. Then
 /// the old file stays, and `unkept` counts it.
-#[derive(Debug, Drop)]
+#[derive(Debug)]
 pub struct MemoryFiles {
     alloc: Global,
     // all that changed a file, what failed puts left too
@@ -36,6 +36,17 @@ pub struct MemoryFiles {
     // the writes that answered Ok, alone
     told: SteadyFiles,
     plan: FaultPlan,
+}
+
+impl Drop for MemoryFiles {
+    fn drop(self) {
+        let MemoryFiles {
+            alloc: _,
+            left: _,
+            told: _,
+            plan: _,
+        } = self;
+    }
 }
 
 impl Model for MemoryFiles {

@@ -7,12 +7,20 @@ use crate::name::Name;
 use plan_num::Text;
 
 /// A write that was made.
-#[derive(Debug, Drop)]
+#[derive(Debug)]
 pub enum Write {
     /// The name has these bytes from then on.
     Put(Name, Text),
     /// The name is absent from then on.
     Removal(Name),
+}
+
+impl Drop for Write {
+    fn drop(self) {
+        match self {
+            Write::Put(_, _) | Write::Removal(_) => {}
+        }
+    }
 }
 
 impl Write {

@@ -1,3 +1,4 @@
 pub mod Number
 pub mod Print
+pub mod Terminals
 pub mod Written

@@ -7,7 +7,7 @@ use Rattle.giv_files.proofs.RowsLeft.{first_stays}
 use Rattle.ptn_network.specs.Networks.{NetworkParts, network_faults, network_of, rising}
 use Rattle.pool_maker.specs.declared.terminals.Terminal.{Terminal}
 use Rattle.pool_maker.specs.PoolTexts.{pool_text, terminal_faults, text_of, unknown_terminals}
-use Rattle.pool_maker.specs.RightPools.{AreTerminals}
+use Rattle.plan_num.specs.Terminals.{AreTerminals}
 use Rattle.pool_maker.specs.Tellable.{AreTellable}
 use Rattle.pool_maker.specs.TerminalPaths.{lines_between, paths_of, uncontained}
 use Rattle.pool_maker.specs.Terminals.{AreStops, paths_over, terminal_of}

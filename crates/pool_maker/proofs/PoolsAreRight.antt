@@ -22,7 +22,8 @@ use Rattle.line_pool.specs.Pools.{LineParts, pool_of}
 use Rattle.line_pool.proofs.EdgesOfTexts.{HasId, edge_ids}
 use Rattle.pool_maker.specs.PoolTexts.{edge_id, pool_header, pool_rows, pool_text, terminal_faults}
 use Rattle.pool_maker.specs.PoolTexts.{text_of, uncovered_line, unknown_terminals}
-use Rattle.pool_maker.specs.RightPools.{AreTerminals, IsRightPool, IsShortestLine}
+use Rattle.plan_num.specs.Terminals.{AreTerminals}
+use Rattle.pool_maker.specs.RightPools.{IsRightPool, IsShortestLine}
 use Rattle.pool_maker.specs.Tellable.{AreTellable, IsRowId, IsShort}
 use Rattle.pool_maker.specs.TerminalPaths.{is_covered, lies_in, lines_between, paths_of}
 use Rattle.pool_maker.specs.TerminalPaths.{uncontained, uncovered}

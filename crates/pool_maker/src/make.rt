@@ -3,7 +3,8 @@ ghost use Rattle.std.specs.Prelude.{◌≡◌, IfOk};
 ghost use Rattle.giv_files.specs.Inputs.{UnlessFault};
 ghost use Rattle.ptn_network.specs.Networks.{network_of};
 ghost use Rattle.pool_maker.specs.PoolTexts.{pool_text, terminal_faults};
-ghost use Rattle.pool_maker.specs.RightPools.{AreTerminals, IsRightPool};
+ghost use Rattle.plan_num.specs.Terminals.{AreTerminals};
+ghost use Rattle.pool_maker.specs.RightPools.{IsRightPool};
 
 use crate::lines::keep_lines;
 use crate::paths::paths_between;

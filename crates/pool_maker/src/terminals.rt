@@ -5,7 +5,7 @@ ghost use Rattle.std.specs.Ordering.{int_eq};
 ghost use Rattle.giv_files.specs.Inputs.{UnlessFault};
 ghost use Rattle.ptn_network.specs.Networks.{rising};
 ghost use Rattle.pool_maker.specs.PoolTexts.{unknown_terminals};
-ghost use Rattle.pool_maker.specs.RightPools.{AreTerminals};
+ghost use Rattle.plan_num.specs.Terminals.{AreTerminals};
 ghost use Rattle.pool_maker.specs.Terminals.{terminal_of};
 
 use giv_files::{FileId, Refusal, RowWhy, StageFault};

@@ -5,7 +5,7 @@ ghost use Rattle.ptn_network.specs.Labels.{sum_of, is_nearer, is_reached_with};
 
 /// What is known of a stop: nothing, the least sum of the walks so far, or the least sum of all
 /// walks.
-#[derive(Clone, Copy, Debug, PartialEq, Eq)]
+#[derive(Clone, Copy)]
 pub(crate) enum Label {
     Unseen,
     Reached(u64),

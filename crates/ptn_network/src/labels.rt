@@ -11,10 +11,18 @@ use std::alloc::Global;
 use std::marker::Model;
 
 /// The label of each stop, and the walks that go on. Contracts see it as the list of labels.
-#[derive(Drop)]
 pub(crate) struct Labels {
     labels: Vec<Label>,
     frontier: Frontier,
+}
+
+impl Drop for Labels {
+    fn drop(self) {
+        let Labels {
+            labels: _,
+            frontier: _,
+        } = self;
+    }
 }
 
 impl Model for Labels {

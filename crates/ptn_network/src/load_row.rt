@@ -7,7 +7,7 @@ use crate::edge_load::EdgeLoad;
 use giv_files::Table;
 
 /// The load of the edge of an id.
-#[derive(Clone, Copy, Debug, PartialEq, Eq)]
+#[derive(Clone, Copy)]
 pub(crate) struct LoadRow {
     pub edge: i64,
     pub load: EdgeLoad,

@@ -15,11 +15,20 @@ use std::alloc::Global;
 use std::marker::Model;
 
 /// Stops and edges, each by id rising. An index of a stop or of an edge is its place in that order.
-#[derive(Drop)]
 pub struct Network {
     stops: IndexSet<i64>,
     edges: IndexMap<i64, Edge>,
     at_stops: StopEdges,
+}
+
+impl Drop for Network {
+    fn drop(self) {
+        let Network {
+            stops: _,
+            edges: _,
+            at_stops: _,
+        } = self;
+    }
 }
 
 impl Model for Network {

@@ -14,10 +14,15 @@ use std::marker::Model;
 
 /// The paths from one stop: the least length to each stop, and the index of the last edge of the
 /// path to it. Contracts see it as these two lists.
-#[derive(Drop)]
 pub struct Paths {
     reach: Reach,
     last: Vec<Option<usize>>,
+}
+
+impl Drop for Paths {
+    fn drop(self) {
+        let Paths { reach: _, last: _ } = self;
+    }
 }
 
 impl Model for Paths {

@@ -6,7 +6,7 @@ ghost use Rattle.ptn_network.specs.Networks.{IsEdge};
 use crate::edge::Edge;
 
 /// The length of an edge, or the least time of a drive.
-#[derive(Clone, Copy, Debug, PartialEq, Eq)]
+#[derive(Clone, Copy)]
 pub(crate) enum Weight {
     Length,
     Time,

@@ -11,7 +11,7 @@ use std::alloc::Global;
 /// The copies of a periodic event, which is at one place in each trip of its run: the id and the
 /// time of the first one, how many ids lie between two of them, and how many there are. A period
 /// lies between their times.
-#[derive(Clone, Copy, Debug, PartialEq, Eq)]
+#[derive(Clone, Copy)]
 pub(crate) struct Copies {
     pub(crate) first: u32,
     pub(crate) step: u32,

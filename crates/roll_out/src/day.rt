@@ -8,7 +8,7 @@ ghost use Rattle.roll_out.specs.RolloutStage.{day_in};
 use giv_files::{Bundle, Key};
 
 /// The first and the last minute at which a trip may start.
-#[derive(Clone, Copy, Debug, PartialEq, Eq)]
+#[derive(Clone, Copy)]
 pub(crate) struct Day {
     pub(crate) earliest: u32,
     pub(crate) latest: u32,

@@ -12,7 +12,7 @@ use std::marker::Model;
 
 /// Of each event the drives and waits that leave it, in the order of the activities. Contracts see
 /// it as a list for each event.
-#[derive(Debug, Drop)]
+#[derive(Drop)]
 pub(crate) struct EventWays {
     rows: Vec<Vec<PeriodicActivity>>,
 }

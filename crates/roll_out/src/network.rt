@@ -21,13 +21,24 @@ use std::marker::Model;
 
 /// A period, the events and activities of a periodic network, and a time in the period for each
 /// event. Contracts see it as these four.
-#[derive(Debug, Drop)]
 pub(crate) struct TimedNetwork {
     period: u32,
     events: Vec<PeriodicEvent>,
     activities: Vec<PeriodicActivity>,
     times: Vec<PeriodicTime>,
     ways: EventWays,
+}
+
+impl Drop for TimedNetwork {
+    fn drop(self) {
+        let TimedNetwork {
+            period: _,
+            events: _,
+            activities: _,
+            times: _,
+            ways: _,
+        } = self;
+    }
 }
 
 impl Model for TimedNetwork {

@@ -17,7 +17,7 @@ use std::marker::Model;
 
 /// The events of a run with their minutes, the time of its first start in a day, and how many
 /// starts there are. Contracts see it as these three.
-#[derive(Debug, Drop)]
+#[derive(Drop)]
 pub(crate) struct RunPlan {
     events: Vec<TimedEvent>,
     start: u32,

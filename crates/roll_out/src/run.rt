@@ -9,7 +9,7 @@ use std::marker::Model;
 
 /// Events one after the other that agree in line, direction and repetition. Contracts see it as the
 /// list of them.
-#[derive(Debug, Drop)]
+#[derive(Drop)]
 pub(crate) struct Run {
     events: Vec<PeriodicEvent>,
 }

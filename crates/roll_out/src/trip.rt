@@ -13,7 +13,7 @@ use std::marker::Model;
 
 /// A trip: the id of its first event of the day, its start, and the events of its run. Contracts
 /// see it as these three.
-#[derive(Debug, Drop)]
+#[derive(Drop)]
 pub(crate) struct DayTrip {
     first: u32,
     start: u32,

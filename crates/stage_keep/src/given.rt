@@ -9,11 +9,20 @@ use std::marker::Model;
 
 /// A stage with its settings and its input texts, of which some may be lent. Contracts see it as
 /// these three, as a bundle.
-#[derive(Drop)]
 pub struct Given<'a> {
     stage: Stage,
     settings: Settings,
     inputs: Vec<LentText<'a>>,
+}
+
+impl Drop for Given<'_> {
+    fn drop(self) {
+        let Given {
+            stage: _,
+            settings: _,
+            inputs: _,
+        } = self;
+    }
 }
 
 impl<'a> Model for Given<'a> {
@@ -76,8 +85,13 @@ impl<'a> Given<'a> {
     pub fn into_bundle(self, alloc: Global) -> Result<Bundle, NoMemory>
         ensures { IfOk result (λ bundle. bundle ≡ self.entry) }
     {
-        let mut bundle = Bundle::new(alloc, self.stage, self.settings);
-        for text in self.inputs {
+        let Given {
+            stage,
+            settings,
+            inputs,
+        } = self;
+        let mut bundle = Bundle::new(alloc, stage, settings);
+        for text in inputs {
             bundle.push_text(text.into_text(alloc)?)?;
         }
         Ok(bundle)

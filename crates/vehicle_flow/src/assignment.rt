@@ -11,10 +11,15 @@ use vehicle_model::Plan;
 /// For each trip the one that comes next, or none, and the one before it. Contracts see it as the list
 /// of the next ones. No trip comes after two. A place is the number of a trip; the one behind them all
 /// stands for no trip.
-#[derive(Drop)]
 pub(crate) struct Assignment {
     next: Vec<Option<usize>>,
     before: Vec<Option<usize>>,
+}
+
+impl Drop for Assignment {
+    fn drop(self) {
+        let Assignment { next: _, before: _ } = self;
+    }
 }
 
 impl Model for Assignment {

@@ -7,7 +7,7 @@ use std::alloc::Global;
 use std::marker::Model;
 
 /// A trip would take a place, and leave another one for whoever comes from there.
-#[derive(Clone, Copy, Debug)]
+#[derive(Clone, Copy)]
 pub(crate) struct Claim {
     /// The trip; none where the place would be left without one.
     pub by: Option<usize>,
@@ -18,12 +18,21 @@ pub(crate) struct Claim {
 }
 
 /// The claim on each place, and the places in the order in which they were claimed.
-#[derive(Drop)]
 pub(crate) struct Claims {
     claims: Vec<Option<Claim>>,
     order: Vec<usize>,
     // Whether each place is claimed, which is asked most.
     flags: Vec<bool>,
+}
+
+impl Drop for Claims {
+    fn drop(self) {
+        let Claims {
+            claims: _,
+            order: _,
+            flags: _,
+        } = self;
+    }
 }
 
 impl Model for Claims {

@@ -6,7 +6,6 @@ use std::alloc::Global;
 
 /// The components so far. The number of one is no less than those of the components to which its
 /// nodes lead. Nothing is promised of them: who takes them looks whether they serve.
-#[derive(Drop)]
 pub(crate) struct Components {
     // The number of the component of each node, from 1; 0 where it has none so far.
     numbers: Vec<usize>,
@@ -20,6 +19,21 @@ pub(crate) struct Components {
     walk: Vec<usize>,
     steps: usize,
     count: usize,
+}
+
+impl Drop for Components {
+    fn drop(self) {
+        let Components {
+            numbers: _,
+            reached: _,
+            least: _,
+            arcs: _,
+            open: _,
+            walk: _,
+            steps: _,
+            count: _,
+        } = self;
+    }
 }
 
 impl Components {

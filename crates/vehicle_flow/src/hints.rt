@@ -11,7 +11,6 @@ const ALIKE: usize = 64;
 /// Places that were as near as can be when they were put here. One of those whose trips have the
 /// most links comes first, since such a trip finds a place without one soonest, and among these the
 /// last one. The list promises nothing: who takes a place looks whether it still is the nearest.
-#[derive(Drop)]
 pub(crate) struct Hints {
     // The group of each trip, by how many links it has.
     groups: Vec<usize>,
@@ -21,6 +20,17 @@ pub(crate) struct Hints {
     before: Vec<usize>,
     // No greater group has a place.
     most: usize,
+}
+
+impl Drop for Hints {
+    fn drop(self) {
+        let Hints {
+            groups: _,
+            last: _,
+            before: _,
+            most: _,
+        } = self;
+    }
 }
 
 impl Hints {

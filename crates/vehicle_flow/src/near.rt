@@ -19,7 +19,7 @@ use std::marker::Model;
 
 /// How near a place is: the least slack at it of the trips of the tree, the trip that has it, and
 /// the place that this would leave.
-#[derive(Clone, Copy, Debug)]
+#[derive(Clone, Copy)]
 pub(crate) struct Near {
     /// The slack.
     pub slack: u64,
@@ -30,11 +30,19 @@ pub(crate) struct Near {
 }
 
 /// How near each place is. Contracts see it as the list of what is nearest to each.
-#[derive(Drop)]
 pub(crate) struct Nears {
     nears: Vec<Option<Near>>,
     // The slack at each place, which is asked most; more than any where nothing is near.
     slacks: Vec<u64>,
+}
+
+impl Drop for Nears {
+    fn drop(self) {
+        let Nears {
+            nears: _,
+            slacks: _,
+        } = self;
+    }
 }
 
 impl Model for Nears {

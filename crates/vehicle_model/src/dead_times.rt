@@ -15,11 +15,20 @@ use std::marker::Model;
 
 /// The stops where trips start and end, by their indexes, and the least times from each stop where a
 /// trip ends.
-#[derive(Drop)]
 pub(crate) struct DeadTimes {
     starts: Vec<usize>,
     ends: Vec<usize>,
     times: Vec<Option<Reach>>,
+}
+
+impl Drop for DeadTimes {
+    fn drop(self) {
+        let DeadTimes {
+            starts: _,
+            ends: _,
+            times: _,
+        } = self;
+    }
 }
 
 impl Model for DeadTimes {

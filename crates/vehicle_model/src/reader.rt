@@ -15,13 +15,24 @@ use std::marker::Model;
 
 /// A reader of the rows of a schedule: the last row, the last trip, which trips have come, the links
 /// so far as a plan, and the second trip of the first link that may not follow.
-#[derive(Drop)]
 pub(crate) struct Reader {
     before: Option<ScheduleRow>,
     last: Option<usize>,
     come: Vec<bool>,
     plan: Plan,
     late: Option<usize>,
+}
+
+impl Drop for Reader {
+    fn drop(self) {
+        let Reader {
+            before: _,
+            last: _,
+            come: _,
+            plan: _,
+            late: _,
+        } = self;
+    }
 }
 
 impl Model for Reader {
@@ -145,9 +156,16 @@ impl Reader {
             return Err(PlanFault::Trips { row: 0 });
         }
         let _ = trips;
-        match self.late {
+        let Reader {
+            before: _,
+            last: _,
+            come: _,
+            plan,
+            late,
+        } = self;
+        match late {
             Some(trip) => Err(PlanFault::Follow { trip }),
-            None => Ok(self.plan),
+            None => Ok(plan),
         }
     }
 

@@ -19,7 +19,6 @@ use std::marker::Model;
 
 /// Trips over a network, the minutes of a turnover, and what a vehicle and a dead minute cost, in
 /// millionths. Contracts see it as these. A trip is its number from 0.
-#[derive(Drop)]
 pub struct Trips {
     network: Network,
     rows: Vec<Trip>,
@@ -27,6 +26,19 @@ pub struct Trips {
     turnover: u64,
     vehicle: u64,
     empty: u64,
+}
+
+impl Drop for Trips {
+    fn drop(self) {
+        let Trips {
+            network: _,
+            rows: _,
+            dead: _,
+            turnover: _,
+            vehicle: _,
+            empty: _,
+        } = self;
+    }
 }
 
 impl Model for Trips {

@@ -10,10 +10,18 @@ use std::marker::Model;
 
 /// The region that a search has come to: what is decided of its changes, and which of them are
 /// dropped. Contracts see it as the day and the decisions, the last one first.
-#[derive(Drop)]
 pub(crate) struct Path<'a> {
     trial: Trial<'a>,
     dropped: Vec<usize>,
+}
+
+impl Drop for Path<'_> {
+    fn drop(self) {
+        let Path {
+            trial: _,
+            dropped: _,
+        } = self;
+    }
 }
 
 impl<'a> Model for Path<'a> {

@@ -22,11 +22,20 @@ use std::marker::Model;
 
 /// A search between two entries: the region that it has come to, the nodes of the entries so far,
 /// and the best choice that these found.
-#[derive(Drop)]
 pub(crate) struct Search<'a> {
     path: Path<'a>,
     tree: WaitTree,
     best: Option<Best>,
+}
+
+impl Drop for Search<'_> {
+    fn drop(self) {
+        let Search {
+            path: _,
+            tree: _,
+            best: _,
+        } = self;
+    }
 }
 
 impl<'a> Model for Search<'a> {
@@ -181,7 +190,12 @@ impl<'a> Search<'a> {
             (λ found. found ≡ option_map (with_tree (Some self.entry.nodes)) self.entry.best) }
     {
         let count = self.path.change_count();
-        found_waits(alloc, count, self.best, Some(self.tree))
+        let Search {
+            path: _,
+            tree,
+            best,
+        } = self;
+        found_waits(alloc, count, best, Some(tree))
     }
 
     // What was found, where the budget is spent.
@@ -189,7 +203,12 @@ impl<'a> Search<'a> {
         ensures { IfOk result (λ found. found ≡ option_map (with_tree None) self.entry.best) }
     {
         let count = self.path.change_count();
-        found_waits(alloc, count, self.best, None)
+        let Search {
+            path: _,
+            tree: _unproved,
+            best,
+        } = self;
+        found_waits(alloc, count, best, None)
     }
 }
 

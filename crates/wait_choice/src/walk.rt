@@ -15,11 +15,20 @@ use std::marker::Model;
 
 /// A walk between two nodes: the region that it has come to, whether one waits, and whether a leaf
 /// had a bound below the cost.
-#[derive(Drop)]
 pub(crate) struct Walk<'a> {
     path: Path<'a>,
     is_waiting: bool,
     is_low: bool,
+}
+
+impl Drop for Walk<'_> {
+    fn drop(self) {
+        let Walk {
+            path: _,
+            is_waiting: _,
+            is_low: _,
+        } = self;
+    }
 }
 
 impl<'a> Model for Walk<'a> {

@@ -41,7 +41,7 @@ push_line-requires c =
     c.in_ok-read_row.ensures.1
     ∙ ap (λ (rows : List TableRow). rows ++ table_row tree_columns c.next_row.new.row ∷ [])
     c.clear.ensures in
-    subst (InColumns tree_columns) (sym (c.row-in-rows.ensures
+    subst (InColumns tree_columns) (sym (c.row.ensures
     ∙ ap (λ (rows : List TableRow). (slice_index_or rows 0 no_row).cells) one))
     (row_in_columns tree_columns c.next_row.new.row c.in_ok-read_row.ensures.0)
 
@@ -56,9 +56,9 @@ rows-preserved c =
     record {
       cells = ap (λ faults. faults ++ flat_map (row_faults tree_columns) c.next_row.new.self)
           (sym c.in_ok-read_row.ensures.0) ∙ cells;
-      whole = lines_next c.rows.lines.items c.push_line.new.bytes.items _ c.row-in-rows.result.now
+      whole = lines_next c.rows.lines.items c.push_line.new.bytes.items _ c.row.result.now
           c.next_row.new.row c.rows.rows c.next_row.new.self c.in_ok-push_line.ensures
-          (c.row-in-rows.ensures
+          (c.row.ensures
           ∙ ap (λ (rows : List TableRow). (slice_index_or rows 0 no_row).cells) one)
           next c.rows.invariant.whole;
     }

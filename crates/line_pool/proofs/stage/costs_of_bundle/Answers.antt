@@ -1,6 +1,7 @@
 use Rattle.std.proofs.Common.{subst, sym}
 use Rattle.std.proofs.lemmas.Result.{err_from_is_err_and}
 use Rattle.ptn_network.specs.Networks.{IsNetwork}
+use Rattle.ptn_network.proofs.Sound.{network_sound}
 use Rattle.line_pool.specs.declared.line_file.LineFile.TheVariants as kind
 use Rattle.line_pool.specs.LineCosts.{AreModest}
 use Rattle.line_pool.proofs.CostCalls.{settings_modest, network_refused, pool_refused, costs_given}
@@ -24,10 +25,11 @@ costs_of_pool-requires-clause-settings c = subst AreModest (sym c.settings.ensur
 
 pub costs_of_pool-requires-clause-lines : goal.costs_of_pool-requires-clause-lines
 costs_of_pool-requires-clause-lines c =
-    let network = c.in_ok-network.network in
-    let sound = subst IsNetwork c.network.view_is c.network.invariant.1 in
+    let network = c.in_ok-network.ensures in
+    let sound = subst IsNetwork (sym network.1)
+        (network_sound c.input.result.now c.input-2.result.now network.0) in
     let read = c.in_ok-pool.ensures.made in
-    rw read.1 (pool_sound kind.Pool network c.input-3.result.now sound read.0)
+    rw read.1 (pool_sound kind.Pool c.in_ok-network.network c.input-3.result.now sound read.0)
 
 pub returns : goal.returns
 returns c =

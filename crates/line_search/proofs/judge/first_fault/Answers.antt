@@ -38,7 +38,7 @@ returns-then-not-have_same_cells-clause-first c =
     (sym c.in-Some.is ∙ c.in_ok-table.ensures.read) c.in_ok-frequencies.frequencies.items
     c.in_ok-frequencies.ensures.read c.in_ok-rows_of_concept.field-0
     (c.in_ok-rows_of_concept.ensures ∙ ap (concept_rows problem) c.deref.ensures.value)
-    (sym c.if-not-have_same_cells.true ∙ c.have_same_cells-2.ensures)
+    (sym c.if-not-have_same_cells.true ∙ c.have_same_cells.ensures)
 
 pub returns-then-not-is_feasible-clause-first : goal.returns-then-not-is_feasible-clause-first
 returns-then-not-is_feasible-clause-first c =
@@ -47,7 +47,7 @@ returns-then-not-is_feasible-clause-first c =
     (sym c.in-Some.is ∙ c.in_ok-table.ensures.read) c.in_ok-frequencies.frequencies.items
     c.in_ok-frequencies.ensures.read c.in_ok-rows_of_concept.field-0
     (c.in_ok-rows_of_concept.ensures ∙ ap (concept_rows problem) c.deref.ensures.value)
-    (sym c.if-not-have_same_cells.false ∙ c.have_same_cells-2.ensures)
+    (sym c.if-not-have_same_cells.false ∙ c.have_same_cells.ensures)
     (sym c.if-not-is_feasible.true ∙ c.is_feasible.ensures.test
     ∙ ap (is_feasible problem) c.deref-2.ensures.value)
 
@@ -68,7 +68,7 @@ returns-in-Some-tree-clause-first c =
     (sym c.in-Some.is ∙ c.in_ok-table.ensures.read) c.in_ok-frequencies.frequencies.items
     c.in_ok-frequencies.ensures.read c.in_ok-rows_of_concept.field-0
     (c.in_ok-rows_of_concept.ensures ∙ ap (concept_rows problem) c.deref.ensures.value)
-    (sym c.if-not-have_same_cells.false ∙ c.have_same_cells-2.ensures)
+    (sym c.if-not-have_same_cells.false ∙ c.have_same_cells.ensures)
     (sym c.if-not-is_feasible.false ∙ c.is_feasible.ensures.test
     ∙ ap (is_feasible problem) c.deref-2.ensures.value)) c.tree_fault.ensures.first
 
@@ -84,7 +84,7 @@ returns-in-Some-tree-clause-passes c =
     (sym c.in-Some.is ∙ c.in_ok-table.ensures.read) c.in_ok-frequencies.frequencies.items
     c.in_ok-frequencies.ensures.read c.in_ok-rows_of_concept.field-0
     (c.in_ok-rows_of_concept.ensures ∙ ap (concept_rows problem) c.deref.ensures.value)
-    (sym c.if-not-have_same_cells.false ∙ c.have_same_cells-2.ensures)
+    (sym c.if-not-have_same_cells.false ∙ c.have_same_cells.ensures)
     (subst (IsFeasible problem) c.deref-2.ensures.value (c.if-not-is_feasible.ensures.means.0 refl))
     (subst (λ tree. IfSome (option_copied tree) (λ tree. Marks problem fs tree))
     (sym c.in-Some-tree.is)
@@ -100,7 +100,7 @@ returns-clause-first c =
     (sym c.in-Some.is ∙ c.in_ok-table.ensures.read) c.in_ok-frequencies.frequencies.items
     c.in_ok-frequencies.ensures.read c.in_ok-rows_of_concept.field-0
     (c.in_ok-rows_of_concept.ensures ∙ ap (concept_rows problem) c.deref.ensures.value)
-    (sym c.if-not-have_same_cells.false ∙ c.have_same_cells-2.ensures)
+    (sym c.if-not-have_same_cells.false ∙ c.have_same_cells.ensures)
     (sym c.if-not-is_feasible.false ∙ c.is_feasible.ensures.test
     ∙ ap (is_feasible problem) c.deref-2.ensures.value)
 
@@ -112,7 +112,7 @@ returns-clause-passes c =
     (sym c.in-Some.is ∙ c.in_ok-table.ensures.read) c.in_ok-frequencies.frequencies.items
     c.in_ok-frequencies.ensures.read c.in_ok-rows_of_concept.field-0
     (c.in_ok-rows_of_concept.ensures ∙ ap (concept_rows problem) c.deref.ensures.value)
-    (sym c.if-not-have_same_cells.false ∙ c.have_same_cells-2.ensures)
+    (sym c.if-not-have_same_cells.false ∙ c.have_same_cells.ensures)
     (subst (IsFeasible problem) c.deref-2.ensures.value (c.if-not-is_feasible.ensures.means.0 refl))
     (subst (λ tree. IfSome (option_copied tree) (λ tree. Marks problem fs tree))
     (sym c.in-None.is) tt)
