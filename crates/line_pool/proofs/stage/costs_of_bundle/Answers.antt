@@ -27,7 +27,7 @@ pub costs_of_pool-requires-clause-lines : goal.costs_of_pool-requires-clause-lin
 costs_of_pool-requires-clause-lines c =
     let network = c.in_ok-network.ensures in
     let sound = subst IsNetwork (sym network.1)
-        (network_sound c.input.result.now c.input-2.result.now network.0) in
+    (network_sound c.input.result.now c.input-2.result.now network.0) in
     let read = c.in_ok-pool.ensures.made in
     rw read.1 (pool_sound kind.Pool c.in_ok-network.network c.input-3.result.now sound read.0)
 
