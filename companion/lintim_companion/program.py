@@ -10,7 +10,7 @@ from .cells import File
 from .faults import NoProgram, Refused
 
 CHECKOUT = Path(__file__).resolve().parents[2]
-BUILT = ("crates/lintim/out/lintim", "crates/lintim_cli/out/lintim_cli")
+BUILT = ("crates/lintim/out/lintim", "program/lintim")  # in a checkout, and as it is installed
 STATUS_WORDS = {
     "stale": "it is not made of what stands there now",
     "unknown": "a stage before it is not up to date",

@@ -1,0 +1,1 @@
+"""What `./install` puts beside the program: help, manual pages, completion of shells."""
