@@ -53,14 +53,15 @@ class Mixed(NamedTuple):
 
 
 class Answer(NamedTuple):
-    """What a run found: values, if any; whether none cost less; whether there are none at all; and
-    whether the run ended because its time was over."""
+    """What a run found: values, if any; whether none cost less; whether there are none at all;
+    whether the run ended because its time was over; and what none can cost less than, if known."""
 
     values: list[float] | None
     is_best: bool
     is_infeasible: bool
     is_late: bool
     says: str
+    bound: float | None = None
 
 
 def solve(

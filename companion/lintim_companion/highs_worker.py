@@ -44,4 +44,6 @@ def solved(problem: tuple[Any, ...], seconds: float) -> tuple[Any, ...]:
         options={"time_limit": seconds, "mip_rel_gap": 0, "disp": True},
     )
     values = None if got.x is None else [float(value) for value in got.x]
-    return values, got.status == 0, got.status == 2, got.status == 1, str(got.message)
+    bound = getattr(got, "mip_dual_bound", None)
+    says = got.status == 0, got.status == 2, got.status == 1, str(got.message)
+    return values, *says, None if bound is None else float(bound)

@@ -77,10 +77,15 @@ COMMANDS = (
     Command(
         name="lintim-timetable",
         module="commands.timetable",
-        says="Finds a periodic timetable that keeps all bounds.",
-        about="CaDiCaL finds it, or says that there is none. Nothing is minimised: with --changes the\n"
-        "least number that still works gives short changes.",
-        reads="the periodic events and activities: stage ean of lintim make",
+        says="Finds a periodic timetable that keeps all bounds, or one that is good for passengers.",
+        about="CaDiCaL finds one that keeps all bounds, or says that there is none; with --changes the\n"
+        "least number that still works gives short changes. With --for-passengers the timetable\n"
+        "of now is made better by what customers need from stop to stop, over all minutes at\n"
+        "which they may want to leave: routes and times in turn, moves of lines and runs, and\n"
+        "HiGHS, which also tells how much slack these routes have at least. With --few-vehicles\n"
+        "turnarounds at the ends of lines count as well.",
+        reads="the periodic events and activities: stage ean of lintim make; --for-passengers also "
+        "its timetable, and the demand in basis/OD.giv",
         writes="pinned/Timetable-periodic.tim",
         words=(
             FOLDER,
@@ -89,10 +94,24 @@ COMMANDS = (
                 "minutes that a change may take at most beyond its least time",
                 kind="whole",
             ),
+            Word("--for-passengers", "make it good for customers", kind="switch"),
+            Word("--few-vehicles", "the same, with turnarounds of vehicles", kind="switch"),
+            Word(
+                "--weights",
+                "a file of rows `activity-id; weight`: make the sum of weighted slack least",
+                kind="file",
+            ),
+            Word(
+                "--change-penalty",
+                "how many minutes a change counts for beyond those it takes",
+                kind="whole",
+                default=10,
+                greatest=1_000,
+            ),
             SECONDS,
         ),
         example="lintim-timetable . --changes 16",
-        packages=(CADICAL,),
+        packages=(CADICAL, SCIPY),
     ),
     Command(
         name="lintim-schedule",

@@ -1,0 +1,165 @@
+"""Timetables that are good for passengers: where the search begins, what is told, what is written."""
+
+import shutil
+import tempfile
+from argparse import Namespace
+from pathlib import Path
+
+import numpy
+
+from .. import dataset, formats, highs, program
+from ..dataset import Dataset
+from ..faults import Refused
+from ..manners import Deadline, Talk
+from .improve import Search
+from .network import PeriodicNetwork, Real, Whole, periodic_network, whole
+from .objective import Objective, OfCustomers, OwnWeights, WithTurnarounds
+from .own_weights import read_weights
+from .problem import periodic_problem, timetable_rows
+from .routes import Router, demand_of
+from .slack_program import slack_program
+from .solve import feasible
+from .turnarounds import terminals
+
+MOST_ACTIVITIES = 4_000  # that count, for which HiGHS is asked
+FOR_HIGHS = 0.2  # of the time, before the search and after it
+
+
+class Goodness:
+    """A network with its demand, and what is told of a timetable of it."""
+
+    def __init__(self, data: Dataset, words: Namespace) -> None:
+        self.network = periodic_network(data)
+        demand = demand_of(data)
+        self.router = Router(self.network, demand, words.change_penalty)
+        self.own: Real | None = None
+        if words.weights:
+            self.own = read_weights(words.weights, len(self.network.lower))
+        elif not len(demand.origin):
+            raise Refused("basis/OD.giv has no demand: name weights by --weights FILE")
+
+    def objective(self, data: Dataset, words: Namespace, start: Whole) -> Objective:
+        """What timetables are compared by."""
+        of: Objective
+        if self.own is not None:
+            of = OwnWeights(self.network, self.own)
+        else:
+            of = OfCustomers(self.router)
+        if words.few_vehicles:
+            at = terminals(self.network, data.settings.vs_turn_over_time)
+            of = WithTurnarounds(of, self.network, at, start)
+        return of
+
+    def told(self, times: Whole) -> list[str]:
+        """What is told of a timetable, in parts."""
+        network, parts = self.network, []
+        if len(self.router.goals):
+            routing = self.router.route(times)
+            parts.append(f"{routing.minutes:.3f} minutes from stop to stop")
+            parts.append(f"{routing.change_minutes:.3f} of them at {routing.changes:.3f} changes")
+        if self.own is not None:
+            parts.append(f"weighted slack {float(self.own @ network.slack(times)):.10g}")
+        for kind in ("drive", "wait", "change"):
+            parts.append(f"{kind}s {network.minutes(kind, times)}")
+        return [*parts, f"slack {int(network.slack(times).sum())}"]
+
+
+def make_good(data: Dataset, words: Namespace, deadline: Deadline, talk: Talk) -> None:
+    """Makes the timetable of now better, and writes each better one."""
+    if not len(data[formats.PERIODIC_EVENTS]):
+        raise Refused("no line is driven, so there is nothing to be timed")
+    good = Goodness(data, words)
+    start = start_times(data, good.network, deadline, talk)
+    talk.say(f"timetable: before: {', '.join(good.told(start))}")
+    objective = good.objective(data, words, start)
+
+    def found(times: Whole) -> None:
+        rows = timetable_rows([int(time) for time in times])
+        talk.write(words.folder, formats.PINNED_TIMETABLE, rows)
+
+    part = Deadline(deadline.left() * (1 - FOR_HIGHS))
+    search = Search(good.network, objective, part, talk.progress, found)
+    best = search.run(start)
+    best = see_program(search, best, deadline, talk)
+    talk.say(f"timetable: after:  {', '.join(good.told(best))}")
+    _tell_vehicles(words.folder, start, best, talk)
+    name = formats.PINNED_TIMETABLE.name
+    talk.say(f"timetable: found in {deadline.spent():.1f} s, written to {name}")
+
+
+def start_times(data: Dataset, network: PeriodicNetwork, deadline: Deadline, talk: Talk) -> Whole:
+    """Times that keep all bounds: those that are pinned, else those of the program, else by
+    CaDiCaL."""
+    for file in (formats.PINNED_TIMETABLE, formats.TIMETABLE):
+        try:
+            rows = list(data.get(file))
+        except Refused:
+            continue
+        times = whole([row.time for row in rows])
+        is_whole = [row.event_id for row in rows] == list(range(1, network.events + 1))
+        if is_whole and (times < network.period).all() and network.is_kept(times):
+            return times
+    found = feasible(periodic_problem(data), deadline, talk.progress)
+    if found is None:
+        raise Refused("no timetable keeps all bounds, CaDiCaL says")
+    return whole(found)
+
+
+def see_program(search: Search, best: Whole, deadline: Deadline, talk: Talk) -> Whole:
+    """Asks HiGHS for the least slack under the weights of the best times, which may be better ones,
+    and tells its bound."""
+    near = search.objective.weighted(best)
+    program_of = slack_program(near.network, near.weights)
+    if not len(program_of.activities) or len(program_of.activities) > MOST_ACTIVITIES:
+        return best
+    times: list[Whole] = []
+
+    def found(answer: highs.Answer) -> None:
+        got = program_of.times(answer)
+        if got is not None:
+            search.take(got, search.objective.value(got))
+            times.append(got)
+
+    answer = highs.solve(program_of.mixed, Deadline(deadline.left()), talk.progress, found)
+    now = float(near.weights @ near.network.slack(best))
+    least = min([now, *(float(near.weights @ near.network.slack(it)) for it in times)])
+    bound = least if answer.is_best else answer.bound
+    if bound is not None and numpy.isfinite(bound):
+        gap = f", gap {(now - bound) / now:.1%}" if now > 0 else ""
+        talk.say(
+            f"timetable: the slack of these routes, by customers, is {now:.10g}; HiGHS says none "
+            f"has less than {max(bound, 0.0):.10g}{gap}"
+        )
+    return search.best
+
+
+def _tell_vehicles(folder: Path, start: Whole, best: Whole, talk: Talk) -> None:
+    """Tells how many vehicles `lintim make` needs with the two timetables, on copies."""
+    before, after = vehicles(folder, start), vehicles(folder, best)
+    if before is not None and after is not None:
+        talk.say(f"timetable: lintim make then needs {after} vehicles, and {before} before")
+
+
+def vehicles(folder: Path, times: Whole) -> int | None:
+    """How many vehicles `lintim make` needs with a timetable; none where it ends early."""
+    with tempfile.TemporaryDirectory(prefix="lintim-timetable-") as place:
+        copy = Path(place)
+        for file in formats.FILES:
+            if not file.stage and (folder / file.name).is_file():
+                (copy / file.name).parent.mkdir(parents=True, exist_ok=True)
+                shutil.copy(folder / file.name, copy / file.name)
+        _copy_settings(folder, copy)
+        dataset.write(copy, formats.PINNED_TIMETABLE, timetable_rows([int(it) for it in times]))
+        dataset.write_settings(copy, {"pin_timetable": "yes", "pin_vehicles": "no"})
+        if program.run(copy, "make").status != 0:
+            return None
+        values = {row.key: row.value for row in dataset.read(copy)[formats.STATISTIC]}
+        return int(values["vs_vehicles"] // 10**6)
+
+
+def _copy_settings(folder: Path, copy: Path) -> None:
+    """Copies the files of settings, which may be several."""
+    for path in (folder / "basis").glob("*.cnf"):
+        if path.is_file():
+            (copy / "basis").mkdir(parents=True, exist_ok=True)
+            shutil.copy(path, copy / "basis" / path.name)

@@ -1,0 +1,89 @@
+"""What a timetable is compared by, and the weights under which it is made better."""
+
+from dataclasses import dataclass
+from typing import Protocol
+
+import numpy
+
+from .network import PeriodicNetwork, Real, Whole
+from .routes import Router
+from .turnarounds import Terminals, with_turnarounds
+
+
+@dataclass(frozen=True)
+class Weighted:
+    """A network with a weight on each activity, which is right near the times it was made for."""
+
+    network: PeriodicNetwork
+    weights: Real
+
+
+class Objective(Protocol):
+    """A value of times, less is better; and weights whose slack stands for it near given times."""
+
+    def value(self, times: Whole) -> float:
+        """What the times are compared by."""
+
+    def weighted(self, times: Whole) -> Weighted:
+        """The weights near these times."""
+
+
+class OwnWeights:
+    """The sum of slack under weights that a file names."""
+
+    def __init__(self, network: PeriodicNetwork, weights: Real) -> None:
+        self.network, self.weights = network, weights
+
+    def value(self, times: Whole) -> float:
+        """The weighted sum of slack."""
+        return float(self.weights @ self.network.slack(times))
+
+    def weighted(self, times: Whole) -> Weighted:
+        """The same weights for all times."""
+        return Weighted(self.network, self.weights)
+
+
+class OfCustomers:
+    """The mean minutes of customers, over all minutes at which they may want to leave."""
+
+    def __init__(self, router: Router) -> None:
+        self.router = router
+
+    def value(self, times: Whole) -> float:
+        """The mean minutes, with penalties for changes."""
+        return self.router.mean(times)
+
+    def weighted(self, times: Whole) -> Weighted:
+        """Customers on each activity, by the routes that they take under these times."""
+        return Weighted(self.router.network, self.router.route(times).weights)
+
+
+class WithTurnarounds:
+    """Another objective, and minutes of turnarounds beside it. All turnarounds together weigh as
+    much as all waits and changes of the customers."""
+
+    def __init__(
+        self, of: Objective, network: PeriodicNetwork, at: Terminals, start: Whole
+    ) -> None:
+        self.of, self.network, self.at = of, network, at
+        weights = of.weighted(start).weights
+        kinds = numpy.array(network.kind, dtype=str)
+        count = sum(len(it) for it in at.ends)
+        moved = float(weights[numpy.isin(kinds, ["wait", "change"])].sum())
+        self.weight = moved / count if count and moved > 0 else 1.0
+        total = float(weights.sum())
+        value = of.value(start)
+        # How much a minute of one unit of weight is in the value of the other objective.
+        share = value / float(weights @ network.tension(start)) if total > 0 and value > 0 else 1.0
+        self.unit = self.weight * share
+
+    def value(self, times: Whole) -> float:
+        """The value of the other one, and the weighted minutes of turnarounds."""
+        _, _, slack = self.at.matched(self.network.period, times)
+        return self.of.value(times) + self.unit * slack
+
+    def weighted(self, times: Whole) -> Weighted:
+        """The weights of the other one, and one weight for each turnaround as matched now."""
+        network = with_turnarounds(self.network, self.at, times)
+        turns = numpy.full(len(network.lower) - len(self.network.lower), self.weight)
+        return Weighted(network, numpy.concatenate([self.of.weighted(times).weights, turns]))
