@@ -166,7 +166,7 @@ def is_good(seed: int, folder: Path) -> bool:
     if program.run(folder, "make").status != 0:
         return False
     words: list[object] = ["--few-vehicles" if seed % 3 == 0 else "--for-passengers"]
-    if not list(dataset.read(folder).get(formats.DEMAND)):
+    if not len(demand_of(dataset.read(folder)).origin):
         weights = folder.parent / f"weights{seed}"
         count = len(dataset.read(folder)[formats.PERIODIC_ACTIVITIES])
         weights.write_text("".join(f"{it}; {it % 7}.5\n" for it in range(1, count + 1)))

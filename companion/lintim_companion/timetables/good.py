@@ -3,6 +3,7 @@
 import shutil
 import tempfile
 from argparse import Namespace
+from collections.abc import Callable
 from pathlib import Path
 
 import numpy
@@ -10,7 +11,7 @@ import numpy
 from .. import dataset, formats, highs, program
 from ..dataset import Dataset
 from ..faults import Refused
-from ..manners import Deadline, Talk
+from ..manners import Deadline, Progress, Talk
 from .improve import Search
 from .network import PeriodicNetwork, Real, Whole, periodic_network, whole
 from .objective import Objective, OfCustomers, OwnWeights, WithTurnarounds
@@ -77,10 +78,9 @@ def make_good(data: Dataset, words: Namespace, deadline: Deadline, talk: Talk) -
         rows = timetable_rows([int(time) for time in times])
         talk.write(words.folder, formats.PINNED_TIMETABLE, rows)
 
-    part = Deadline(deadline.left() * (1 - FOR_HIGHS))
-    search = Search(good.network, objective, part, talk.progress, found)
-    best = search.run(start)
-    best = see_program(search, best, deadline, talk)
+    best, says = improved(good.network, objective, start, deadline, talk.progress, found)
+    if says:
+        talk.say(f"timetable: {says}")
     talk.say(f"timetable: after:  {', '.join(good.told(best))}")
     _tell_vehicles(words.folder, start, best, talk)
     name = formats.PINNED_TIMETABLE.name
@@ -105,32 +105,51 @@ def start_times(data: Dataset, network: PeriodicNetwork, deadline: Deadline, tal
     return whole(found)
 
 
-def see_program(search: Search, best: Whole, deadline: Deadline, talk: Talk) -> Whole:
-    """Asks HiGHS for the least slack under the weights of the best times, which may be better ones,
-    and tells its bound."""
+def improved(
+    network: PeriodicNetwork,
+    objective: Objective,
+    start: Whole,
+    deadline: Deadline,
+    progress: Progress,
+    found: Callable[[Whole], None],
+) -> tuple[Whole, str]:
+    """The best times that are found in time, and what HiGHS says of the slack of their routes. HiGHS
+    is asked at the beginning, where the network is small, and at the end."""
+    search = Search(network, objective, deadline, progress, found)
+    search.take(start, objective.value(start))
+    ask_highs(search, Deadline(FOR_HIGHS * deadline.left()))
+    search.deadline = Deadline((1 - FOR_HIGHS) * deadline.left())
+    search.run(search.best)
+    says = ask_highs(search, Deadline(deadline.left()))
+    return search.best, says
+
+
+def ask_highs(search: Search, deadline: Deadline) -> str:
+    """Asks HiGHS for the least slack under the weights of the best times, and takes what is better;
+    gives what it says of the slack of these routes, nothing where the network is too large."""
+    best = search.best
     near = search.objective.weighted(best)
     program_of = slack_program(near.network, near.weights)
-    if not len(program_of.activities) or len(program_of.activities) > MOST_ACTIVITIES:
-        return best
-    times: list[Whole] = []
+    if not 0 < len(program_of.activities) <= MOST_ACTIVITIES or deadline.is_over():
+        return ""
 
     def found(answer: highs.Answer) -> None:
-        got = program_of.times(answer)
-        if got is not None:
-            search.take(got, search.objective.value(got))
-            times.append(got)
+        times = program_of.times(answer)
+        if times is not None:
+            search.take(times, search.objective.value(times))
+            search.alternate(times)
 
-    answer = highs.solve(program_of.mixed, Deadline(deadline.left()), talk.progress, found)
+    answer = highs.solve(program_of.mixed, deadline, search.progress, found)
     now = float(near.weights @ near.network.slack(best))
-    least = min([now, *(float(near.weights @ near.network.slack(it)) for it in times)])
-    bound = least if answer.is_best else answer.bound
-    if bound is not None and numpy.isfinite(bound):
-        gap = f", gap {(now - bound) / now:.1%}" if now > 0 else ""
-        talk.say(
-            f"timetable: the slack of these routes, by customers, is {now:.10g}; HiGHS says none "
-            f"has less than {max(bound, 0.0):.10g}{gap}"
-        )
-    return search.best
+    if answer.bound is None or not numpy.isfinite(answer.bound):
+        return ""
+    loops = near.network.first == near.network.second
+    bound = max(answer.bound, 0.0) + float(near.weights[loops] @ near.network.slack(best)[loops])
+    gap = f", a gap of {max(0.0, now - bound) / now:.1%}" if now > 0 else ""
+    return (
+        f"customers have {now:.10g} minutes of slack on their routes; HiGHS says that on these "
+        f"routes none has less than {bound:.10g}{gap}"
+    )
 
 
 def _tell_vehicles(folder: Path, start: Whole, best: Whole, talk: Talk) -> None:

@@ -73,11 +73,19 @@ class Search:
     def run(self, start: Whole) -> Whole:
         """The best times that are found from a start, which is one of them."""
         self.take(start, self.objective.value(start))
+        self.from_short_changes(start)
         self.alternate(self.best.copy())
         while self.try_moves() and not self.is_over():
             self.alternate(self.best.copy())
         self.kicks()
         return self.best
+
+    def from_short_changes(self, start: Whole) -> None:
+        """Another place to begin at: times in which all changes together are short."""
+        if not self.is_over():
+            times, each = start.copy(), self.network.of_kind("change").astype(float)
+            Descent(Costs(self.network, each, self.sets)).down(times, self.is_over)
+            self.alternate(times)
 
     def costs(self, times: Whole) -> Costs:
         """What activities cost near these times."""
@@ -87,6 +95,7 @@ class Search:
     def alternate(self, times: Whole) -> tuple[Whole, float]:
         """Routes and times in turn, until nothing gets better; gives where that ended."""
         value = self.objective.value(times)
+        self.take(times, value)
         while not self.is_over():
             after = times.copy()
             Descent(self.costs(times)).down(after, self.is_over)
