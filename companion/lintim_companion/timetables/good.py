@@ -147,8 +147,8 @@ def ask_highs(search: Search, deadline: Deadline) -> str:
     bound = max(answer.bound, 0.0) + float(near.weights[loops] @ near.network.slack(best)[loops])
     gap = f", a gap of {max(0.0, now - bound) / now:.1%}" if now > 0 else ""
     return (
-        f"customers have {now:.10g} minutes of slack on their routes; HiGHS says that on these "
-        f"routes none has less than {bound:.10g}{gap}"
+        f"by the weights at the end the slack is {now:.10g}; HiGHS says that none has less than "
+        f"{bound:.10g}{gap}"
     )
 
 

@@ -21,6 +21,9 @@ class Weighted:
 class Objective(Protocol):
     """A value of times, less is better; and weights whose slack stands for it near given times."""
 
+    def customers(self, times: Whole) -> float:
+        """How many times the value the weights add up to: the customers, where it is their mean."""
+
     def value(self, times: Whole) -> float:
         """What the times are compared by."""
 
@@ -33,6 +36,10 @@ class OwnWeights:
 
     def __init__(self, network: PeriodicNetwork, weights: Real) -> None:
         self.network, self.weights = network, weights
+
+    def customers(self, times: Whole) -> float:
+        """The value is the sum itself."""
+        return 1.0
 
     def value(self, times: Whole) -> float:
         """The weighted sum of slack."""
@@ -49,6 +56,10 @@ class OfCustomers:
     def __init__(self, router: Router) -> None:
         self.router = router
 
+    def customers(self, times: Whole) -> float:
+        """How many customers have a route."""
+        return self.router.route(times).routed or 1.0
+
     def value(self, times: Whole) -> float:
         """The mean minutes, with penalties for changes."""
         return self.router.mean(times)
@@ -58,24 +69,23 @@ class OfCustomers:
         return Weighted(self.router.network, self.router.route(times).weights)
 
 
+A_VEHICLE = 0.03  # of the value at the start: what a vehicle more may make better elsewhere
+
+
 class WithTurnarounds:
-    """Another objective, and minutes of turnarounds beside it. All turnarounds together weigh as
-    much as all waits and changes of the customers."""
+    """Another objective, and minutes of turnarounds beside it. A period of them is a vehicle, which
+    counts for a part of the value that the other objective has at the start."""
 
     def __init__(
         self, of: Objective, network: PeriodicNetwork, at: Terminals, start: Whole
     ) -> None:
         self.of, self.network, self.at = of, network, at
-        weights = of.weighted(start).weights
-        kinds = numpy.array(network.kind, dtype=str)
-        count = sum(len(it) for it in at.ends)
-        moved = float(weights[numpy.isin(kinds, ["wait", "change"])].sum())
-        self.weight = moved / count if count and moved > 0 else 1.0
-        total = float(weights.sum())
-        value = of.value(start)
-        # How much a minute of one unit of weight is in the value of the other objective.
-        share = value / float(weights @ network.tension(start)) if total > 0 and value > 0 else 1.0
-        self.unit = self.weight * share
+        self.unit = A_VEHICLE * (of.value(start) or 1.0) / network.period
+        self.weight = self.unit * of.customers(start)
+
+    def customers(self, times: Whole) -> float:
+        """As in the other one."""
+        return self.of.customers(times)
 
     def value(self, times: Whole) -> float:
         """The value of the other one, and the weighted minutes of turnarounds."""
