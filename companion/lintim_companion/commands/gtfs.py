@@ -29,7 +29,7 @@ def run(words: Namespace, talk: Talk) -> int:
             return _export(words, talk)
         if words.what == "check":
             return _check(words.paths[0], talk)
-        from ..gtfs.command_import import import_feed
+        from ..gtfs.importing import import_feed
 
         return import_feed(words, talk)
     except WrongWord as why:

@@ -1,0 +1,101 @@
+"""Journeys over a feed alone: a connection scan (J. Dibbelt, T. Pajor, B. Strasser and D. Wagner,
+2018) over `stop_times.txt` with the rules of `transfers.txt`. It shares nothing with the package:
+it reads the zip file by itself, and knows no dataset."""
+
+import csv
+import io
+import zipfile
+from collections import defaultdict
+from pathlib import Path
+from typing import NamedTuple
+
+NEVER = 10**9
+
+
+class Connection(NamedTuple):
+    """A drive of a trip from a stop to the next one, in minutes."""
+
+    departure: int
+    arrival: int
+    start: str
+    end: str
+    trip: str
+
+
+class Timetable:
+    """The connections of a feed and its transfers."""
+
+    def __init__(self, path: Path) -> None:
+        with zipfile.ZipFile(path) as archive:
+            self.files = {
+                name: list(csv.DictReader(io.StringIO(archive.read(name).decode("utf-8-sig"))))
+                for name in archive.namelist()
+            }
+        self.route = {row["trip_id"]: row["route_id"] for row in self.files["trips.txt"]}
+        self.stops = [row["stop_id"] for row in self.files["stops.txt"]]
+        self.connections = sorted(self._connections())
+        self.at_stop: dict[str, tuple[str, int]] = {}
+        self.of_routes: dict[tuple[str, str, str], tuple[str, int]] = {}
+        self.of_trips: dict[tuple[str, str, str], tuple[str, int]] = {}
+        for row in self.files["transfers.txt"]:
+            stop = row["from_stop_id"]
+            rule = row["transfer_type"], int(row["min_transfer_time"] or 0) // 60
+            if not stop:
+                continue  # nobody stays in a vehicle from one trip to the next
+            if row["from_trip_id"]:
+                self.of_trips[stop, row["from_trip_id"], row["to_trip_id"]] = rule
+            elif row["from_route_id"]:
+                self.of_routes[stop, row["from_route_id"], row["to_route_id"]] = rule
+            else:
+                self.at_stop[stop] = rule
+
+    def _connections(self) -> list[Connection]:
+        calls = defaultdict(list)
+        for row in self.files["stop_times.txt"]:
+            times = minute(row["arrival_time"]), minute(row["departure_time"])
+            calls[row["trip_id"]].append((int(row["stop_sequence"]), row["stop_id"], *times))
+        found = []
+        for trip, of_trip in calls.items():
+            of_trip.sort()
+            for (_, start, _, departure), (_, end, arrival, _) in zip(of_trip, of_trip[1:]):
+                found.append(Connection(departure, arrival, start, end, trip))
+        return found
+
+    def can_change(self, stop: str, before: str, after: str, minutes: int) -> bool:
+        """Whether a customer gets from a trip to another at a stop in so many minutes, by the
+        most special rule that there is for it."""
+        kind, least = (
+            self.of_trips.get((stop, before, after))
+            or self.of_routes.get((stop, self.route[before], self.route[after]))
+            or self.at_stop.get(stop, ("0", 0))
+        )
+        return kind != "3" and minutes >= least
+
+    def earliest(self, start: str, end: str, begin: int) -> int | None:
+        """The minute at which a customer is at a stop who starts at another at a minute or later."""
+        arrivals: dict[str, dict[str, int]] = defaultdict(dict)  # by stop and trip
+        on_board: set[str] = set()
+        best = NEVER
+        for departure, arrival, here, there, trip in self.connections:
+            if departure < begin:
+                continue
+            if departure >= best:
+                break
+            if trip not in on_board and here != start:
+                if not any(
+                    self.can_change(here, before, trip, departure - at)
+                    for before, at in arrivals[here].items()
+                ):
+                    continue
+            on_board.add(trip)
+            at = arrivals[there]
+            at[trip] = min(arrival, at.get(trip, NEVER))
+            if there == end:
+                best = min(best, arrival)
+        return None if best == NEVER else best
+
+
+def minute(text: str) -> int:
+    """A time HH:MM:SS as a minute."""
+    hours, minutes, _ = map(int, text.split(":"))
+    return hours * 60 + minutes
