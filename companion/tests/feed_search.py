@@ -64,11 +64,9 @@ class Timetable:
     def can_change(self, stop: str, before: str, after: str, minutes: int) -> bool:
         """Whether a customer gets from a trip to another at a stop in so many minutes, by the
         most special rule that there is for it."""
-        kind, least = (
-            self.of_trips.get((stop, before, after))
-            or self.of_routes.get((stop, self.route[before], self.route[after]))
-            or self.at_stop.get(stop, ("0", 0))
-        )
+        of_stop = self.at_stop.get(stop, ("0", 0))
+        of_routes = self.of_routes.get((stop, self.route[before], self.route[after]), of_stop)
+        kind, least = self.of_trips.get((stop, before, after), of_routes)
         return kind != "3" and minutes >= least
 
     def earliest(self, start: str, end: str, begin: int) -> int | None:

@@ -32,7 +32,7 @@ def planned(rides: Rides, choice: Choice, left: Counter[str]) -> Plan | None:
     if not parts:
         return None
     lines = lines_of(parts, rides.routes, left)
-    return plan_of(parts, lines, rides, choice.window, choice.period)
+    return plan_of(parts, lines, rides, choice.period)
 
 
 def advice(rides: Rides, choice: Choice) -> list[str]:
@@ -71,9 +71,7 @@ def _by_area(rides: Rides, choice: Choice) -> Iterator[tuple[str, Choice]]:
     for share in SHARES:
         low = round((len(places) - 1) * (1 - share) / 2)
         high = len(places) - 1 - low
-        box = Box(
-            *(round(it, 4) for it in (north[low], east[low], north[high], east[high]))
-        )
+        box = Box(*(round(it, 4) for it in (north[low], east[low], north[high], east[high])))
         yield f"--area {box.word()}", choice._replace(area=box)
 
 

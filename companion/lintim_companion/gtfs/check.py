@@ -2,7 +2,6 @@
 the rules under conditions of `conditions`."""
 
 
-
 from ..faults import Refused
 from . import conditions
 from .cells import fault_of
@@ -133,9 +132,7 @@ def _see_cells(checker: Checker, sheet: Sheet, number: int, row: Cells) -> None:
             _see_reference(checker, sheet, number, field, text)
 
 
-def _see_reference(
-    checker: Checker, sheet: Sheet, number: int, field: Field, text: str
-) -> None:
+def _see_reference(checker: Checker, sheet: Sheet, number: int, field: Field, text: str) -> None:
     """The id of a row in another file; those of the same file are looked at in the end."""
     targets = field.refers_to
     if targets[0].startswith(sheet.name):
@@ -144,5 +141,3 @@ def _see_reference(
         where = " and ".join(target.rpartition(".")[0] for target in targets)
         says = f"{field.name}: {text!r} is not in {where}"
         checker.error(sheet.name, number, says, f"{field.name} is not in {where}")
-
-

@@ -117,7 +117,8 @@ class Conditions:
         if cells.get("timepoint") == "1" and None in times:
             self._error("stop_times", row, "timepoint is 1, and a time is empty")
         if order is not None:
-            call = _Call(order, row, *times, number_of(cells.get("shape_dist_traveled", "")))
+            walked = number_of(cells.get("shape_dist_traveled", ""))
+            call = _Call(order, row, times[0], times[1], walked)
             self.calls.setdefault(cells.get("trip_id", ""), []).append(call)
 
     def _see_frequencies(self, row: int, cells: Cells) -> None:

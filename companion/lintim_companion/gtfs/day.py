@@ -54,7 +54,8 @@ def read_day(data: Dataset, is_disposed: bool, has_vehicles: bool) -> Day:
     forward = {it.event_id: it.direction == ">" for it in data[formats.PERIODIC_EVENTS]}
     lengths = _line_lengths(data)
     vehicles = _vehicles(data) if has_vehicles else {}
-    trips, trip_of = [], {}
+    trips: list[DayTrip] = []
+    trip_of: dict[int, int] = {}
     for number, trip in enumerate(data[formats.TRIPS], 1):
         is_forward = forward.get(trip.periodic_start_id)
         if is_forward is None:

@@ -91,12 +91,11 @@ def is_short(data: Dataset, day: Day) -> bool:
     trip together, the journey that waits for the departure after that can start a period later
     and arrives at the same time; in a shorter day it may not be there."""
     keys = data.settings
-    longest = max((trip.calls[-1].arrival - trip.calls[0].departure for trip in day.trips), default=0)
-    is_one = len({change.least for change in day.changes}) <= 1
-    return (
-        not is_one
-        or keys.DM_latest_time - keys.DM_earliest_time < keys.period_length + longest
+    longest = max(
+        (trip.calls[-1].arrival - trip.calls[0].departure for trip in day.trips), default=0
     )
+    is_one = len({change.least for change in day.changes}) <= 1
+    return not is_one or keys.DM_latest_time - keys.DM_earliest_time < keys.period_length + longest
 
 
 def _see_times(day: Day) -> None:
@@ -119,9 +118,7 @@ def _agency() -> Rows:
     yield "1", "lintim", "http://example.org", "UTC"
 
 
-def _stops(
-    stops: list[formats.Stop], names: dict[int, str], places: dict[int, Place]
-) -> Rows:
+def _stops(stops: list[formats.Stop], names: dict[int, str], places: dict[int, Place]) -> Rows:
     yield "stop_id", "stop_code", "stop_name", "stop_lat", "stop_lon"
     for stop in stops:
         yield stop.stop_id, stop.short_name, names[stop.stop_id], *places[stop.stop_id]

@@ -22,7 +22,7 @@ from .lengths import lengths_of
 from .lines import lines_of, parts_of
 from .plan import Plan, plan_of
 from .rides import LATEST_START, Rides
-from .sizes import too_large
+from .sizes import sizes, too_large
 from .stations import Stations
 from .words import WrongWord, box_word, date_word, minute_word
 
@@ -55,7 +55,7 @@ def import_feed(words: Namespace, talk: Talk) -> int:
     if not parts:
         raise Refused(f"no trip is left: {_counted(left) or 'there are none'}{_first(rides)}")
     lines = lines_of(parts, rides.routes, left)
-    plan = plan_of(parts, lines, rides, choice.window, choice.period)
+    plan = plan_of(parts, lines, rides, choice.period)
     if large := too_large(plan):
         words_that_fit = advice(rides, choice)
         says = " or ".join(words_that_fit) or "a smaller --area, one --route-type or less time"
@@ -145,6 +145,8 @@ def _tell(plan: Plan, rides: Rides, feed: Feed, lengths: str, talk: Talk) -> Non
     of = f"{good} of {len(plan.timed)} lines are periodic and as in the feed"
     kept = f"pinned as {formats.PINNED_TIMETABLE.name}" if good else "lintim makes a timetable"
     talk.say(f"gtfs: timetable: {of}; {kept}")
+    if others and (day := sizes(plan)["trips"]) != trips:
+        talk.say(f"gtfs: the day of lintim has up to {day} trips, since all its lines are periodic")
     for name in others[:SHOWN_LINES]:
         route = rides.routes[plan.lines[name].route].name
         talk.say(f"gtfs: line {name} ({plan_rows.plain(route)}): {plan.timed[name].why_not}")

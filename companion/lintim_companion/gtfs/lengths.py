@@ -132,5 +132,3 @@ def _part(p: Point, q: Point, end: Point, step: float) -> float:
         return 0.0
     along = (end[0] - p[0]) * (q[0] - p[0]) + (end[1] - p[1]) * (q[1] - p[1])
     return min(1.0, max(0.0, along / step**2))
-
-

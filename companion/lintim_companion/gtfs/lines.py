@@ -71,9 +71,7 @@ def parts_of(
     left: Counter[str],
 ) -> list[Part]:
     """The parts of trips in an area that start within a window of minutes."""
-    inside = [
-        area is None or it.at is not None and area.has(*it.at) for it in stations.all
-    ]
+    inside = [area is None or it.at is not None and area.has(*it.at) for it in stations.all]
     found = []
     for ride in rides:
         calls = _longest([call for call in ride.calls], inside)

@@ -12,6 +12,9 @@ from typing import NamedTuple
 from .lines import Line, Run
 
 
+Minutes = list[tuple[int, tuple[int, ...]]]  # of runs: the start in the period, and what follows
+
+
 class Window(NamedTuple):
     """The minutes of the day at which trips start first and last, and the minutes of a period."""
 
@@ -34,8 +37,8 @@ class Timed(NamedTuple):
     """The minutes of a line: of each direction its runs, each with its start in the period and the
     minutes after that of its events; and why they are not those of the feed, if they are not."""
 
-    forward: list[tuple[int, tuple[int, ...]]]
-    backward: list[tuple[int, tuple[int, ...]]]
+    forward: Minutes
+    backward: Minutes
     why_not: str
 
     @property
@@ -47,10 +50,12 @@ class Timed(NamedTuple):
 def timed(line: Line, window: Window) -> Timed:
     """The minutes of a line: as in the feed where it is periodic, else near to that."""
     try:
-        sides = [_runs(side, window) for side in (line.forward, line.backward)]
-        if len(sides[0]) != len(sides[1]):
+        if not line.forward or not line.backward:
+            raise NotPeriodic("it is driven in one direction alone")
+        forward, backward = _runs(line.forward, window), _runs(line.backward, window)
+        if len(forward) != len(backward):
             raise NotPeriodic("its directions are not driven equally often")
-        return Timed(*sides, "")
+        return Timed(forward, backward, "")
     except NotPeriodic as why:
         return _near(line, window, str(why))
 
@@ -59,10 +64,8 @@ class NotPeriodic(Exception):
     """Why a line is not periodic."""
 
 
-def _runs(runs: list[Run], window: Window) -> list[tuple[int, tuple[int, ...]]]:
+def _runs(runs: list[Run], window: Window) -> Minutes:
     """The runs of a direction, evenly spread, in the order of their repetitions."""
-    if not runs:
-        raise NotPeriodic("it is driven in one direction alone")
     by_minute: dict[int, list[Run]] = {}
     for run in sorted(runs):
         by_minute.setdefault(run.start % window.period, []).append(run)
@@ -76,9 +79,7 @@ def _runs(runs: list[Run], window: Window) -> list[tuple[int, tuple[int, ...]]]:
     return _spread(found, window.period)
 
 
-def _spread(
-    runs: list[tuple[int, tuple[int, ...]]], period: int
-) -> list[tuple[int, tuple[int, ...]]]:
+def _spread(runs: Minutes, period: int) -> Minutes:
     """Runs so turned that each follows the one before after an even part of the period."""
     count = len(runs)
     for turn in range(count):
@@ -103,7 +104,7 @@ def _near(line: Line, window: Window, why: str) -> Timed:
                 for at in range(frequency)
             ]
         )
-    return Timed(*sides, why)
+    return Timed(sides[0], sides[1], why)
 
 
 def _usual(runs: list[Run]) -> tuple[int, ...]:

@@ -47,8 +47,7 @@ def degrees(stops: Sequence[Stop], edges: Sequence[Edge]) -> dict[int, Place]:
         raise Refused(f"all stops have the same coordinates; {remedy}")
     _see_lengths(edges, at, remedy)
     return {
-        stop.stop_id: Place(stop.y_coordinate.strip(), stop.x_coordinate.strip())
-        for stop in stops
+        stop.stop_id: Place(stop.y_coordinate.strip(), stop.x_coordinate.strip()) for stop in stops
     }
 
 

@@ -18,7 +18,9 @@ class Plan:
     window: Window
     stops: dict[int, Station]  # by ids
     edges: dict[int, tuple[int, int]]  # the ids of the left and the right stop, by ids
-    bounds: dict[Pair, tuple[int, int]]  # least and greatest minutes, by the lesser id and the other
+    bounds: dict[
+        Pair, tuple[int, int]
+    ]  # least and greatest minutes, by the lesser id and the other
     lines: dict[int, Line]
     timed: dict[int, Timed]
     drives: Counter[tuple[int, int]]  # how often each edge is driven, from stop to stop
@@ -40,12 +42,10 @@ class Plan:
         return any(not it.why_not for it in self.timed.values())
 
 
-def plan_of(
-    parts: list[Part], lines: list[Line], rides: Rides, window: tuple[int, int], period: int
-) -> Plan:
-    """The plan for the trips that are taken."""
-    starts = [part.start for part in parts]
-    day = Window(max(window[0], min(starts)), min(window[1], max(starts)), period)
+def plan_of(parts: list[Part], lines: list[Line], rides: Rides, period: int) -> Plan:
+    """The plan for the trips that are taken; its day is that of the trips of its lines."""
+    starts = [run.start for line in lines for run in (*line.forward, *line.backward)]
+    day = Window(min(starts), max(starts), period)
     stops = _ids_of_stops(parts, rides.stations)
     id_of = {station: stop for stop, station in stops.items()}
     named = _ids_of_lines(lines)
@@ -68,9 +68,7 @@ def plan_of(
 
 def _kept_ids(names: list[str]) -> list[int] | None:
     """Ids of the feed that can be ids of a dataset as they are."""
-    good = all(
-        it.isascii() and it.isdigit() and it[0] != "0" and len(it) < 10 for it in names
-    )
+    good = all(it.isascii() and it.isdigit() and it[0] != "0" and len(it) < 10 for it in names)
     return [int(it) for it in names] if good and len(set(names)) == len(names) else None
 
 

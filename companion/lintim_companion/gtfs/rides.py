@@ -213,9 +213,9 @@ def _routes(feed: Feed) -> dict[str, Route]:
     return found
 
 
-def _frequencies(feed: Feed, wanted: dict[str, tuple[str, str, str]]) -> dict[
-    str, list[tuple[int, int, int]]
-]:
+def _frequencies(
+    feed: Feed, wanted: dict[str, tuple[str, str, str]]
+) -> dict[str, list[tuple[int, int, int]]]:
     """The spans of trips that are repeated: first start, end, and seconds between two starts."""
     found: dict[str, list[tuple[int, int, int]]] = {}
     fields = ("trip_id", "start_time", "end_time", "headway_secs")

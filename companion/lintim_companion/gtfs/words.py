@@ -52,8 +52,10 @@ def box_word(text: str) -> Box:
     """A box as SOUTH,WEST,NORTH,EAST in degrees."""
     parts = text.split(",")
     south, west, north, east = (
-        degrees_of(part, most) for part, most in zip(parts, (90, 180, 90, 180))
-    ) if len(parts) == 4 else (None, None, None, None)
+        (degrees_of(part, most) for part, most in zip(parts, (90, 180, 90, 180)))
+        if len(parts) == 4
+        else (None, None, None, None)
+    )
     if south is None or west is None or north is None or east is None:
         raise WrongWord(f"--area {text!r} is no box SOUTH,WEST,NORTH,EAST in degrees")
     if south > north or west > east:
