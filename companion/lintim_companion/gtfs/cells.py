@@ -65,17 +65,14 @@ def clock(minute: int) -> str:
 
 
 @cache
+def _zones() -> frozenset[str]:
+    """The names of time zones that the system has."""
+    return frozenset(zoneinfo.available_timezones())
+
+
 def _is_zone(text: str) -> bool:
     """Whether a time zone has this name; where the system has no names, whether it looks so."""
-    if not ZONE.fullmatch(text):
-        return False
-    if not zoneinfo.available_timezones():
-        return True
-    try:
-        zoneinfo.ZoneInfo(text)
-    except (OSError, ValueError):
-        return False
-    return True
+    return bool(ZONE.fullmatch(text)) and (text in _zones() or not _zones())
 
 
 def _is_route_type(text: str) -> bool:

@@ -15,6 +15,7 @@ from .cells import clock
 from .day import Day, DayTrip, read_day
 from .places import Place
 
+PUBLISHER = "lintim"
 MAX_MINUTE = 999 * 60 + 59  # a time has at most three digits for its hours
 Rows = Iterable[tuple[Any, ...]]
 FIRST_OF_ALL_ZIP_TIMES = (1980, 1, 1, 0, 0, 0)
@@ -115,7 +116,7 @@ def _text(rows: Rows) -> bytes:
 
 def _agency() -> Rows:
     yield "agency_id", "agency_name", "agency_url", "agency_timezone"
-    yield "1", "lintim", "http://example.org", "UTC"
+    yield "1", PUBLISHER, "http://example.org", "UTC"
 
 
 def _stops(stops: list[formats.Stop], names: dict[int, str], places: dict[int, Place]) -> Rows:
@@ -208,4 +209,4 @@ def _info(wanted: Wanted) -> Rows:
     yield tuple(f"feed_{name}" for name in fields.split())
     on = f"{wanted.on:%Y%m%d}"
     kind = "disposed" if wanted.is_disposed else "planned"
-    yield "lintim", "http://example.org", "und", on, on, f"{on} {kind}"
+    yield PUBLISHER, "http://example.org", "und", on, on, f"{on} {kind}"

@@ -2,7 +2,8 @@
 great circle between two stations.
 
 `shape_dist_traveled` has any unit. It is compared with the kilometres between stations: where it is
-near kilometres, metres, miles or feet, lengths become kilometres, and else they keep its unit.
+near kilometres, metres, miles or feet, lengths become kilometres, and else they keep its unit. A
+feed that `lintim-gtfs export` wrote has the lengths of a dataset, and gives them back.
 """
 
 import math
@@ -10,13 +11,14 @@ from typing import NamedTuple
 
 from ..cells import MILLION
 from .cells import degrees_of, number_of, whole_of
+from .export import PUBLISHER
 from .feed import Feed
 from .lines import Part, pairs_of
 from .places import KM_PER_DEGREE, distance_km
 from .stations import Stations
 
 UNITS = {"kilometres": 1.0, "metres": 1000.0, "miles": 0.621371, "feet": 3280.84}
-SHORTEST = MILLION // 1000  # of stations at one place
+SHORTEST = 0.001  # of stations at one place
 LONGEST = 10_000 * MILLION
 UNKNOWN = 1.0  # kilometres between stations of which one has no place
 Pair = tuple[int, int]
@@ -45,19 +47,27 @@ def lengths_of(parts: list[Part], stations: Stations, feed: Feed) -> Lengths:
     rest = {pair: shapes[pair] for pair in shapes if pair not in told}
     km = straight | _along_shapes(rest, stations, feed, straight)
     unit, factor = _unit(ratio)
-    if not told:
+    if told and _is_ours(feed):
+        says = "lengths as in the dataset from which the feed comes"
+    elif not told:
         says = "lengths in kilometres from places"
     elif unit:
         told = {pair: length / factor for pair, length in told.items()}
         says, ratio = f"lengths in kilometres; the feed tells {unit}", 1.0
     else:
         says = "lengths in the unit of the feed, which is none of kilometres, metres, miles, feet"
-    found = {pair: told.get(pair, km[pair] * (ratio or 1.0)) for pair in shapes}
-    return Lengths({pair: _millionths(length) for pair, length in found.items()}, says)
+    rest_of = {pair: max(km[pair] * (ratio or 1.0), SHORTEST) for pair in rest}
+    return Lengths({pair: _millionths((told | rest_of)[pair]) for pair in shapes}, says)
+
+
+def _is_ours(feed: Feed) -> bool:
+    """Whether `lintim-gtfs export` wrote a feed."""
+    names = feed.records("feed_info.txt", "feed_publisher_name")
+    return [cells for _, cells in names] == [[PUBLISHER]]
 
 
 def _millionths(length: float) -> int:
-    return min(max(round(length * MILLION), SHORTEST), LONGEST)
+    return min(max(round(length * MILLION), 1), LONGEST)
 
 
 def _straight(stations: Stations, pair: Pair) -> float:
