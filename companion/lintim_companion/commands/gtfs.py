@@ -67,18 +67,19 @@ def _export(words: Namespace, talk: Talk) -> int:
     kind = BUS if words.route_type is None else words.route_type
     wanted = export.Wanted(words.disposed, on, kind, has_vehicles)
     made = export.feed_of(data, at, wanted)
+    packed = export.packed(made.files)
+    faults = [it for it in check.checked(Feed(path, packed)) if it.is_error]
+    if faults:
+        raise Refused(f"the feed would break a rule of the reference: {faults[0].line()}")
     with files.undisturbed():
-        files.write_bytes(path.parent, path.name, export.packed(made.files))
+        files.write_bytes(path.parent, path.name, packed)
         talk.wrote.append(str(path))
     _say_made(made, wanted, path, talk)
     return 0
 
 
 def _say_made(made: export.Made, wanted: export.Wanted, path: Path, talk: Talk) -> None:
-    """Tells what the feed has, and that it keeps the rules of the reference."""
-    faults = [it for it in check.checked(Feed(path)) if it.is_error]
-    if faults:
-        raise Refused(f"{path} breaks a rule of the reference: {faults[0].line()}")
+    """Tells what the feed has."""
     counts = f"{made.stops} stops, {made.routes} routes, {made.trips} trips, {made.calls} calls"
     times = "disposed" if wanted.is_disposed else "planned"
     talk.say(f"gtfs: {counts} of {wanted.on}, {times} times; no rule of the reference is broken")

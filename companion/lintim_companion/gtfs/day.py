@@ -1,5 +1,6 @@
 """The day of a dataset, trip by trip, as a feed tells it."""
 
+from collections import Counter
 from collections.abc import Iterator
 from typing import NamedTuple
 
@@ -10,13 +11,14 @@ from ..formats import DayEvent, Trip
 
 
 class Call(NamedTuple):
-    """A stop of a trip: when the trip arrives and departs, in minutes of the day, and how far it
-    has come by then, in millionths of a unit of length."""
+    """A stop of a trip: when the trip arrives and departs, in minutes of the day, how far it has
+    come by then, in millionths of a unit of length, and for which time it calls there, from 1."""
 
     stop: int
     arrival: int
     departure: int
     walked: int
+    visit: int
 
 
 class DayTrip(NamedTuple):
@@ -29,12 +31,19 @@ class DayTrip(NamedTuple):
     calls: list[Call]
 
 
+class Side(NamedTuple):
+    """One end of a change: a trip, and which of its calls at the stop it is."""
+
+    trip: int
+    visit: int
+
+
 class Change(NamedTuple):
     """A change of the day: from a trip to a trip at a stop, in so many minutes at least."""
 
     stop: int
-    from_trip: int
-    to_trip: int
+    before: Side
+    after: Side
     least: int
 
 
@@ -55,7 +64,7 @@ def read_day(data: Dataset, is_disposed: bool, has_vehicles: bool) -> Day:
     lengths = _line_lengths(data)
     vehicles = _vehicles(data) if has_vehicles else {}
     trips: list[DayTrip] = []
-    trip_of: dict[int, int] = {}
+    side_of: dict[int, Side] = {}
     for number, trip in enumerate(data[formats.TRIPS], 1):
         is_forward = forward.get(trip.periodic_start_id)
         if is_forward is None:
@@ -64,8 +73,9 @@ def read_day(data: Dataset, is_disposed: bool, has_vehicles: bool) -> Day:
         calls = list(_calls(trip, events, times, steps if is_forward else steps[::-1]))
         vehicle = vehicles.get(trip.start_id, 0)
         trips.append(DayTrip(number, trip.line, is_forward, vehicle, calls))
-        trip_of.update((event, number) for event in range(trip.start_id, trip.end_id + 1))
-    return Day(trips, _changes(data, events, trip_of))
+        for event in range(trip.start_id, trip.end_id + 1):
+            side_of[event] = Side(number, calls[(event - trip.start_id + 1) // 2].visit)
+    return Day(trips, _changes(data, events, side_of))
 
 
 def _line_lengths(data: Dataset) -> dict[int, list[int]]:
@@ -93,23 +103,24 @@ def _calls(
     if trip.end_id - trip.start_id + 1 != 2 * len(steps) or not steps:
         raise Refused(f"{formats.TRIPS.name}: a trip does not go over the edges of {trip.line}")
     start, walked = trip.start_id, 0
-    yield Call(events[start].stop_id, times[start], times[start], 0)
+    visits = Counter([events[start].stop_id])
+    yield Call(events[start].stop_id, times[start], times[start], 0, 1)
     for place, step in enumerate(steps):
         arrival = start + 2 * place + 1
         departure = arrival + 1 if place + 1 < len(steps) else arrival
         walked += step
-        yield Call(events[arrival].stop_id, times[arrival], times[departure], walked)
+        stop = events[arrival].stop_id
+        visits[stop] += 1
+        yield Call(stop, times[arrival], times[departure], walked, visits[stop])
 
 
-def _changes(data: Dataset, events: dict[int, DayEvent], trip_of: dict[int, int]) -> list[Change]:
-    """The changes of the day, each one once. Where a trip calls twice at a stop, several changes
-    are one: a feed does not tell which call is meant."""
-    found: dict[tuple[int, int, int], int] = {}
+def _changes(data: Dataset, events: dict[int, DayEvent], side_of: dict[int, Side]) -> list[Change]:
+    """The changes of the day."""
+    found = []
     for it in data[formats.DAY_ACTIVITIES]:
         if it.type == "change":
-            if it.from_event not in trip_of or it.to_event not in trip_of:
+            if it.from_event not in side_of or it.to_event not in side_of:
                 raise Refused(f"{formats.DAY_ACTIVITIES.name}: unknown event in {it.activity_id}")
-            ends = trip_of[it.from_event], trip_of[it.to_event]
-            key = (events[it.from_event].stop_id, *ends)
-            found[key] = min(it.lower_bound, found.get(key, it.lower_bound))
-    return [Change(*key, least) for key, least in sorted(found.items())]
+            sides = side_of[it.from_event], side_of[it.to_event]
+            found.append(Change(events[it.from_event].stop_id, *sides, it.lower_bound))
+    return sorted(found)

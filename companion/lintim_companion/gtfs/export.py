@@ -3,6 +3,7 @@
 import csv
 import io
 import zipfile
+from collections import Counter
 from collections.abc import Iterable
 from datetime import date
 from typing import Any, NamedTuple
@@ -46,21 +47,22 @@ def feed_of(data: Dataset, places: dict[int, Place], wanted: Wanted) -> Made:
     day = read_day(data, wanted.is_disposed, wanted.has_vehicles)
     _see_times(day)
     stops = list(data[formats.STOPS])
-    names = {stop.stop_id: stop.long_name or stop.short_name or str(stop.stop_id) for stop in stops}
     for trip in day.trips:
         for call in trip.calls:
             if call.stop not in places:
                 raise Refused(f"{formats.DAY_EVENTS.name}: unknown stop {call.stop}")
     one_by_one = wanted.is_disposed or is_short(data, day)
+    naming = Naming(stops, day, one_by_one)
+    names = naming.names
     tables = {
         "agency.txt": _agency(),
-        "stops.txt": _stops(stops, names, places),
+        "stops.txt": _stops(stops, naming, places),
         "routes.txt": _routes(day, names, wanted.route_type),
         "calendar_dates.txt": _dates(wanted.on),
         "shapes.txt": _shapes(day, places),
         "trips.txt": _trips(day, names),
-        "stop_times.txt": _calls(day),
-        "transfers.txt": _transfers(data, day, one_by_one),
+        "stop_times.txt": _calls(day, naming),
+        "transfers.txt": _transfers(data, day, naming, one_by_one),
         "feed_info.txt": _info(wanted),
     }
     return Made(
@@ -71,6 +73,38 @@ def feed_of(data: Dataset, places: dict[int, Place], wanted: Wanted) -> Made:
         sum(len(trip.calls) for trip in day.trips),
         len(day.changes) if one_by_one else 0,
     )
+
+
+class Naming:
+    """The names and the ids of stops. Where changes are listed one by one, a stop at which a trip
+    arrives or departs twice is a station, with a platform for each time; else the feed could not
+    tell which call of the trip a change means."""
+
+    def __init__(self, stops: list[formats.Stop], day: Day, one_by_one: bool) -> None:
+        self.names = {stop.stop_id: _name(stop) for stop in stops}
+        self.platforms: dict[int, int] = {}  # how many a station has
+        if one_by_one:
+            twice = {stop for trip in day.trips for stop in _twice(trip)}
+            for trip in day.trips:
+                for call in trip.calls:
+                    if call.stop in twice:
+                        most = max(call.visit, self.platforms.get(call.stop, 1))
+                        self.platforms[call.stop] = most
+
+    def id(self, stop: int, visit: int) -> str:
+        """The id of the place where a trip calls for this time."""
+        return f"{stop}.{visit}" if stop in self.platforms else str(stop)
+
+    def ids(self, stop: int) -> list[str]:
+        """The ids of all places of a stop where trips call."""
+        return [self.id(stop, visit) for visit in range(1, self.platforms.get(stop, 1) + 1)]
+
+
+def _twice(trip: DayTrip) -> set[int]:
+    """The stops at which a trip arrives twice, or from which it departs twice."""
+    stops = [call.stop for call in trip.calls]
+    counts = Counter(stops[1:]), Counter(stops[:-1])
+    return {stop for count in counts for stop, often in count.items() if often > 1}
 
 
 def packed(files: dict[str, bytes]) -> bytes:
@@ -119,10 +153,21 @@ def _agency() -> Rows:
     yield "1", PUBLISHER, "http://example.org", "UTC"
 
 
-def _stops(stops: list[formats.Stop], names: dict[int, str], places: dict[int, Place]) -> Rows:
-    yield "stop_id", "stop_code", "stop_name", "stop_lat", "stop_lon"
+def _stops(stops: list[formats.Stop], naming: Naming, places: dict[int, Place]) -> Rows:
+    fields = "stop_id stop_code stop_name stop_lat stop_lon location_type parent_station"
+    yield tuple(fields.split())
     for stop in stops:
-        yield stop.stop_id, stop.short_name, names[stop.stop_id], *places[stop.stop_id]
+        key = stop.stop_id
+        says = " ".join(stop.short_name.split()), naming.names[key], *places[key]
+        is_station = key in naming.platforms
+        yield key, *says, int(is_station), ""
+        for platform in naming.ids(key) if is_station else ():
+            yield platform, *says, 0, key
+
+
+def _name(stop: formats.Stop) -> str:
+    """The name of a stop, without tabs; its short name or its id where it has none."""
+    return " ".join((stop.long_name.strip() or stop.short_name).split()) or str(stop.stop_id)
 
 
 def _routes(day: Day, names: dict[int, str], kind: int) -> Rows:
@@ -167,34 +212,50 @@ def _trips(day: Day, names: dict[int, str]) -> Rows:
         yield trip.line, "day", trip.number, head, _direction(trip), block, _shape(trip)
 
 
-def _calls(day: Day) -> Rows:
+def _calls(day: Day, naming: Naming) -> Rows:
     fields = "trip_id arrival_time departure_time stop_id stop_sequence shape_dist_traveled"
     yield tuple(fields.split())
     for trip in day.trips:
         for place, call in enumerate(trip.calls):
             times = clock(call.arrival), clock(call.departure)
-            yield trip.number, *times, call.stop, place, number_text(call.walked)
+            at = naming.id(call.stop, call.visit)
+            yield trip.number, *times, at, place, number_text(call.walked)
 
 
-def _transfers(data: Dataset, day: Day, one_by_one: bool) -> Rows:
+def _transfers(data: Dataset, day: Day, naming: Naming, one_by_one: bool) -> Rows:
     """The changes: at each stop after the least time, and none from a line to itself; or none but
     those that are listed trip by trip. Nobody stays in a vehicle from one trip to the next."""
     ends = "from_stop_id to_stop_id from_route_id to_route_id from_trip_id to_trip_id"
     yield *ends.split(), "transfer_type", "min_transfer_time"
-    stops = sorted({call.stop for trip in day.trips for call in trip.calls})
-    for stop in stops:
-        least = min((it.least for it in day.changes), default=None)
-        if least is None:
-            least = data.settings.ean_default_minimal_change_time
-        kind = (3, "") if one_by_one else (2, 60 * least)
-        yield stop, stop, "", "", "", "", *kind
+    least = min((it.least for it in day.changes), default=None)
+    if least is None:
+        least = data.settings.ean_default_minimal_change_time
+    kind = (3, "") if one_by_one else (2, 60 * least)
+    for stop in sorted({call.stop for trip in day.trips for call in trip.calls}):
+        for a in naming.ids(stop):
+            for b in naming.ids(stop):
+                yield a, b, "", "", "", "", *kind
     if one_by_one:
-        for change in day.changes:
-            trips = change.from_trip, change.to_trip
-            yield change.stop, change.stop, "", "", *trips, 2, 60 * change.least
+        yield from _changes(day, naming)
     else:
         for line, stop in sorted({(it.line, at.stop) for it in day.trips for at in it.calls}):
             yield stop, stop, line, line, "", "", 3, ""
+    yield from _blocks(day)
+
+
+def _changes(day: Day, naming: Naming) -> Rows:
+    """The changes of the day, from trip to trip; each one once."""
+    found: dict[tuple[str, str, int, int], int] = {}
+    for it in day.changes:
+        stops = naming.id(it.stop, it.before.visit), naming.id(it.stop, it.after.visit)
+        key = *stops, it.before.trip, it.after.trip
+        found[key] = min(it.least, found.get(key, it.least))
+    for (a, b, before, after), least in found.items():
+        yield a, b, "", "", before, after, 2, 60 * least
+
+
+def _blocks(day: Day) -> Rows:
+    """No two trips that follow one another in a vehicle are one for a customer."""
     vehicles: dict[int, list[DayTrip]] = {}
     for trip in sorted(day.trips, key=lambda it: it.calls[0].departure):
         if trip.vehicle:

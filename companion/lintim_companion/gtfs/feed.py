@@ -48,14 +48,14 @@ csv.field_size_limit(MAX_FIELD)
 
 
 class Feed:
-    """The files of a feed; `folder` is the folder inside the zip file in which all of them stand,
-    which the reference does not allow."""
+    """The files of a feed, of a zip file or of its bytes; `folder` is the folder inside of it in
+    which all files stand, which the reference does not allow."""
 
-    def __init__(self, path: Path) -> None:
+    def __init__(self, path: Path, data: bytes | None = None) -> None:
         self.path = path
         self.not_utf8: set[str] = set()
         try:
-            self.zip = zipfile.ZipFile(path)
+            self.zip = zipfile.ZipFile(path if data is None else io.BytesIO(data))
             names = [it.filename for it in self.zip.infolist() if not it.is_dir()]
         except FileNotFoundError:
             raise Refused(f"{path}: no such file") from None
