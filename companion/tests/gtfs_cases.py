@@ -7,17 +7,18 @@ from typing import Any
 import seeded
 from conftest import EXAMPLES
 from lintim_companion import dataset, demos, formats, manners, program
+from lintim_companion.cells import MILLION
 from lintim_companion.commands import gtfs
 from lintim_companion.faults import Refused
-from lintim_companion.formats import EventDelay
+from lintim_companion.formats import Edge, EventDelay, Load, Stop
 from lintim_companion.registry import command
 
 PLACE = "50.0,8.0"
 TOWN = program.CHECKOUT / "companion/tests/data/town"
 COMMAND = command("lintim-gtfs")
 DATASETS = (
-    *("market-town", "three-stops", "town", "demo 3", "demo 5", "demo 8"),
-    *("seed 12", "seed 13", "seed 47", "seed 48"),
+    *("market-town", "three-stops", "town", "loops", "demo 3", "demo 5", "demo 8"),
+    *("seed 12", "seed 47", "seed 48"),
 )
 
 
@@ -60,6 +61,8 @@ def late_day(folder: Path, name: str) -> Path:
     """The dataset of a name in a folder, with some late events, and all of its stages made."""
     if name.startswith("demo "):
         demos.write_demo(folder, int(name.removeprefix("demo ")))
+    elif name == "loops":
+        write_loops(folder)
     elif name.startswith("seed "):
         seeded.write(folder, seeded.dataset(int(name.removeprefix("seed ")), 12))
     else:
@@ -73,6 +76,24 @@ def late_day(folder: Path, name: str) -> Path:
     dataset.write(folder, formats.EVENT_DELAYS, rows)
     make(folder)
     return folder
+
+
+def write_loops(folder: Path) -> None:
+    """Lines that come twice to a stop, so that a trip calls there twice."""
+    ends = ((1, 2), (2, 3), (3, 4), (4, 2), (4, 5), (5, 6), (6, 4), (3, 7), (7, 8), (8, 3))
+    lines = [[1, 2, 3, 4], [1, 4, 5, 6, 7], [2, 8, 9, 10, 3], [4, 3]]
+    stops = [Stop(at, "s", "s", str(at), str(at * at % 7)) for at in range(1, 9)]
+    edges = [
+        Edge(edge, *two, MILLION, 2 + edge % 3, 3 + edge % 3) for edge, two in enumerate(ends, 1)
+    ]
+    loads = [Load(it.edge_id, 0, sum(it.edge_id in on for on in lines), 9) for it in edges]
+    dataset.write(folder, formats.STOPS, stops)
+    dataset.write(folder, formats.EDGES, edges)
+    dataset.write(folder, formats.POOL, demos.pool_rows(lines))
+    dataset.write(folder, formats.GIVEN_LOADS, loads)
+    day: dict[str, int | str] = {"DM_earliest_time": 300, "DM_latest_time": 480}
+    of_lines: dict[str, int | str] = {"load_source": "file", "period_length": 20}
+    dataset.write_settings(folder, day | of_lines)
 
 
 def _name_stops(folder: Path) -> None:

@@ -17,7 +17,7 @@ from gtfs_cases import DATASETS, PLACE, TOWN, journey, late_day, make, ran, run
 from lintim_companion import dataset, formats
 
 pytestmark = pytest.mark.usefixtures("lintim")
-QUICK = ("market-town", "three-stops", "town", "demo 3", "seed 47")
+QUICK = ("market-town", "three-stops", "town", "loops", "seed 47")
 AFTER_MIDNIGHT: dict[str, int | str] = {"DM_earliest_time": 1380, "DM_latest_time": 1500}
 
 
@@ -61,7 +61,9 @@ def test_500_journeys_over_each_of_ten_feeds(name: str, tmp_path: Path) -> None:
         assert differing(folder, times, 250, tmp_path / "feed.zip") == []
 
 
-@pytest.mark.parametrize("name", ["market-town", "three-stops", "town", "demo 5", "seed 13"])
+@pytest.mark.parametrize(
+    "name", ["market-town", "three-stops", "town", "loops", "demo 5", "seed 13"]
+)
 def test_export_then_import_gives_network_lines_and_times(name: str, tmp_path: Path) -> None:
     folder, back = late_day(tmp_path / "there", name), tmp_path / "back"
     (folder / formats.EVENT_DELAYS.name).unlink()
@@ -167,6 +169,17 @@ def test_times_after_midnight(tmp_path: Path) -> None:
     make(back)
     file = formats.TRIPS.name
     assert (folder / file).read_bytes() == (back / file).read_bytes()
+
+
+def test_without_a_schedule_there_are_no_blocks(tmp_path: Path) -> None:
+    folder, feed = late_day(tmp_path / "town", "town"), tmp_path / "feed.zip"
+    dataset.write_settings(folder, {"last_stage": "rollout"})
+    make(folder)
+    assert "gtfs: without blocks, since stage vehicles is not up to date" in ran(
+        "export", folder, feed
+    )
+    assert {it["block_id"] for it in table(feed, "trips.txt")} == {""}
+    assert "stage disposition is off" in run("export", folder, feed, "--disposed")[2]
 
 
 def test_coordinates_that_are_no_degrees(tmp_path: Path) -> None:

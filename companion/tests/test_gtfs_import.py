@@ -3,10 +3,13 @@ reason; and what is damaged never ends with a traceback."""
 
 import csv
 import random
+from collections import Counter
 from collections.abc import Callable
 from pathlib import Path
 
 import pytest
+from hypothesis import given, settings
+from hypothesis import strategies as some
 
 import made_feeds
 from gtfs_cases import make, ran, run
@@ -77,6 +80,54 @@ def test_the_same_day_in_other_clothes(name: str, tmp_path: Path) -> None:
     plain, _ = imported(made_feeds.plain(), tmp_path / "plain")
     data, _ = imported(FEEDS[name](), tmp_path / "city")
     assert starts_of(data) == starts_of(plain)
+
+
+@some.composite
+def periodic_cities(draw: some.DrawFn) -> tuple[int, made_feeds.City]:
+    """A period, and lines over any ways that are evenly spread over it, with any minutes."""
+    period, periods = draw(some.sampled_from((20, 30, 60))), draw(some.integers(1, 4))
+    city = made_feeds.City()
+    city.weekly("week")
+    for place in range(6):
+        city.stop(str(place + 1), place * 1.0, place % 2 * 1.0)
+    for route in range(1, draw(some.integers(1, 4)) + 1):
+        city.route(str(route))
+        way = [str(it) for it in draw(some.permutations(range(1, 7)))]
+        way = way[: draw(some.integers(2, 6))]
+        often = draw(some.integers(1, 3))
+        for direction in (0, 1):
+            first = draw(some.integers(0, period - 1))
+            drive = [60 * draw(some.integers(1, 9)) for _ in way[1:]]
+            stand = 60 * draw(some.integers(0, 3))
+            side = way[::-1] if direction else way
+            for at in range(often * periods):
+                minute = (first + at % often * period // often) % period
+                start = 60 * (600 + minute + at // often * period)
+                name = f"{route}-{direction}-{at}"
+                city.trip(name, str(route), side, start, drive, stand, direction_id=direction)
+    return period, city
+
+
+@settings(max_examples=25)
+@given(made=periodic_cities())
+def test_periodic_feeds_come_back_to_the_minute(
+    made: tuple[int, made_feeds.City], tmp_path_factory: pytest.TempPathFactory
+) -> None:
+    period, city = made
+    folder = tmp_path_factory.mktemp("city") / "back"
+    data, said = imported(city.files(), folder, "--period", period)
+    wanted = [
+        (row["stop_id"], row[f"{kind}_time"])
+        for row in city.rows["stop_times.txt"]
+        for kind in ("arrival", "departure")
+    ]
+    counts = Counter(wanted)
+    for event in data[formats.DAY_EVENTS]:
+        counts[(str(event.stop_id), made_feeds.clock(60 * event.time))] -= 1
+    ends = {it for it, count in counts.items() if count}
+    assert "lines are periodic and as in the feed" in said and "gtfs: line " not in said
+    assert all(count >= 0 for count in counts.values())
+    assert sum(counts.values()) == 2 * len(city.rows["trips.txt"]), ends
 
 
 def test_after_midnight(tmp_path: Path) -> None:

@@ -58,7 +58,7 @@ def _export(words: Namespace, talk: Talk) -> int:
     if words.scale is not None and place is None:
         raise WrongWord("--scale wants --place")
     data = dataset.read(folder)
-    needed = [formats.TRIPS, formats.DAY_EVENTS, formats.CONCEPT]
+    needed = formats.CONCEPT, formats.PERIODIC_EVENTS, formats.TRIPS
     program.see_kept(folder, *needed, *([formats.DISPOSITION] if words.disposed else []))
     has_vehicles = program.states(folder).get("vehicles") == "kept"
     files.see_writable(path.parent, path.name)

@@ -27,7 +27,7 @@ def planned(rides: Rides, choice: Choice, left: Counter[str]) -> Plan | None:
     """The plan of a part of the trips; none where nothing is left."""
     taken = rides.all
     if choice.kind is not None:
-        taken = [it for it in taken if rides.routes[it.route].told == choice.kind]
+        taken = [it for it in taken if rides.routes[it.route].is_of(choice.kind)]
     parts = parts_of(taken, rides.stations, choice.window, choice.area, left)
     if not parts:
         return None

@@ -18,7 +18,7 @@ from . import plan_rows
 from .advice import Choice, advice
 from .cells import whole_of
 from .feed import Feed
-from .lengths import lengths_of
+from .lengths import Lengths, lengths_of
 from .lines import lines_of, parts_of
 from .plan import Plan, plan_of
 from .rides import LATEST_START, Rides
@@ -61,7 +61,19 @@ def import_feed(words: Namespace, talk: Talk) -> int:
         says = " or ".join(words_that_fit) or "a smaller --area, one --route-type or less time"
         raise Refused(f"more than lintim takes: {', '.join(large)}; what would fit: {says}")
     lengths = lengths_of(parts, rides.stations, feed)
-    change = _least_change(feed)
+    texts = _texts(plan, lengths, _least_change(feed))
+    texts[IDS] = _ids(plan, rides)
+    with files.undisturbed():
+        for name, text in texts.items():
+            files.write_bytes(folder, name, text)
+            talk.wrote.append(name)
+    _tell(plan, rides, feed, lengths.says, talk)
+    talk.say(f"gtfs: written to {folder}; lintim make plans it, and {IDS} has the ids of the feed")
+    return 0
+
+
+def _texts(plan: Plan, lengths: Lengths, change: int) -> dict[str, bytes]:
+    """The files of the dataset."""
     rows: list[tuple[File[Any], list[Any]]] = [
         (formats.STOPS, plan_rows.stop_rows(plan)),
         (formats.EDGES, plan_rows.edge_rows(plan, lengths)),
@@ -73,14 +85,7 @@ def import_feed(words: Namespace, talk: Talk) -> int:
         rows.append((formats.PINNED_TIMETABLE, plan_rows.timetable_rows(plan)))
     texts = {file.name: written(file, of_file) for file, of_file in rows}
     texts[formats.CONFIG] = config.with_values(b"", plan_rows.settings_of(plan, change))
-    texts[IDS] = _ids(plan, rides)
-    with files.undisturbed():
-        for name, text in texts.items():
-            files.write_bytes(folder, name, text)
-            talk.wrote.append(name)
-    _tell(plan, rides, feed, lengths.says, talk)
-    talk.say(f"gtfs: written to {folder}; lintim make plans it, and {IDS} has the ids of the feed")
-    return 0
+    return texts
 
 
 def _choice(words: Namespace) -> Choice:

@@ -74,7 +74,7 @@ def parts_of(
     inside = [area is None or it.at is not None and area.has(*it.at) for it in stations.all]
     found = []
     for ride in rides:
-        calls = _longest([call for call in ride.calls], inside)
+        calls = ride.calls if area is None else _longest(ride.calls, inside)
         if len(calls) < 2:
             is_cut = len(ride.calls) > 1
             left["trips out of the area" if is_cut else "trips with one station"] += 1
@@ -86,7 +86,7 @@ def parts_of(
     return found
 
 
-def _longest(calls: list[Call], inside: list[bool]) -> tuple[Call, ...]:
+def _longest(calls: tuple[Call, ...], inside: list[bool]) -> tuple[Call, ...]:
     """The longest row of calls inside of an area, the first one of several."""
     best: list[Call] = []
     now: list[Call] = []

@@ -54,6 +54,10 @@ class Route(NamedTuple):
     name: str
     place: int
 
+    def is_of(self, kind: int) -> bool:
+        """Whether it is of a type, which may be a basic or an extended one."""
+        return kind in (self.kind, self.told)
+
 
 class _Row(NamedTuple):
     order: int
@@ -91,7 +95,7 @@ class Rides:
                 self.left["trips of other dates"] += 1
             elif more[0] not in self.routes:
                 self._fault(f"trips.txt row {row}: route {more[0]!r} is not in routes.txt")
-            elif self.kind not in (None, self.routes[more[0]].kind, self.routes[more[0]].told):
+            elif self.kind is not None and not self.routes[more[0]].is_of(self.kind):
                 self.left["trips of other types of routes"] += 1
             else:
                 found[trip] = more[0], more[1], more[2]

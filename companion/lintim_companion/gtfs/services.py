@@ -11,6 +11,7 @@ from .feed import Feed
 
 DAYS = tuple("monday tuesday wednesday thursday friday saturday sunday".split())
 MOST_DAYS = 800  # dates of a service that are looked at to find a busy one
+MOST_DATES = 2_000  # and of all services
 
 
 class Weekly(NamedTuple):
@@ -52,7 +53,7 @@ class Calendar:
         for it in self.weekly:
             count = min((it.last - it.first).days + 1, MOST_DAYS)
             days.update(it.first + timedelta(at) for at in range(count))
-        counts = ((sum(trips[it] for it in self.on(day)), day) for day in sorted(days))
+        counts = ((sum(trips[it] for it in self.on(day)), day) for day in sorted(days)[:MOST_DATES])
         best: tuple[date, int] | None = None
         for count, day in counts:
             if count and (best is None or count > best[1]):
