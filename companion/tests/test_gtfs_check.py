@@ -8,7 +8,8 @@ import pytest
 
 import made_feeds
 from gtfs_cases import run
-from made_feeds import FEEDS, City, write
+from made_city import City, write
+from made_feeds import FEEDS
 
 GOOD = sorted(set(FEEDS) - {"other_bytes", "in_a_folder", "without_places", "single_calls"})
 

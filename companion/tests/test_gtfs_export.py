@@ -9,12 +9,12 @@ from pathlib import Path
 
 import pytest
 
-import made_feeds
 from commands import run as run_command
 from conftest import Folders
 from feed_search import Timetable
 from gtfs_cases import DATASETS, PLACE, TOWN, journey, late_day, make, ran, run
 from lintim_companion import dataset, formats
+from made_city import clock
 
 pytestmark = pytest.mark.usefixtures("lintim")
 QUICK = ("market-town", "three-stops", "town", "loops", "seed 47")
@@ -144,7 +144,7 @@ def test_a_feed_has_the_times_the_vehicles_and_the_directions(tmp_path: Path) ->
     names = {str(it.stop_id): it.long_name for it in data[formats.STOPS]}
     assert {it["stop_id"]: it["stop_name"] for it in table(feed, "stops.txt")} == names
     calls = table(feed, "stop_times.txt")
-    minutes = [made_feeds.clock(60 * it.time) for it in data[formats.DAY_EVENTS]]
+    minutes = [clock(60 * it.time) for it in data[formats.DAY_EVENTS]]
     ends = {trip.end_id for trip in data[formats.TRIPS]}
     starts = {trip.start_id for trip in data[formats.TRIPS]}
     told = [text for it in calls for text in (it["arrival_time"], it["departure_time"])]

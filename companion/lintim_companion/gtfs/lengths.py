@@ -10,7 +10,7 @@ import math
 from typing import NamedTuple
 
 from ..cells import MILLION
-from .cells import degrees_of, number_of, whole_of
+from .cells import degrees_of, whole_of
 from .export import PUBLISHER
 from .feed import Feed
 from .lines import Part, pairs_of
