@@ -207,6 +207,9 @@ def test_places_and_scale(tmp_path: Path) -> None:
     ran("export", folder, feed, "--place", "0,0", "--scale", "111195.08")
     stops = {it["stop_id"]: it for it in table(feed, "stops.txt")}
     assert (stops["5"]["stop_lat"], stops["5"]["stop_lon"]) == ("5.000000", "2.000000")
+    ran("export", folder, feed, "--place=-33.9,-70.6")
+    area, back = "--area=-33.91,-70.61,-33.88,-70.5", tmp_path / "back"
+    assert "5 stops of 5" in ran("import", feed, back, "--date", "20260105", area)[0]
 
 
 def test_faults_are_one_line(tmp_path: Path, example: Folders) -> None:

@@ -129,6 +129,19 @@ def test_periodic_feeds_come_back_to_the_minute(
     assert sum(counts.values()) == 2 * len(city.rows["trips.txt"]), ends
 
 
+def test_a_period_that_fits_better_is_told(tmp_path: Path) -> None:
+    city = City()
+    city.weekly("week")
+    for place in range(3):
+        city.stop(f"{place}", place * 1.0, 0.0)
+    city.route("45")
+    city.both_ways("45", "012", range(6 * 3600, 12 * 3600, 45 * 60))
+    _, said = imported(city.files(), tmp_path / "one")
+    assert "--period 45 would have 1 of 1 lines so" in said
+    _, said = imported(city.files(), tmp_path / "two", "--period", 45)
+    assert "--period" not in said and "1 of 1 lines are periodic" in said
+
+
 def test_after_midnight(tmp_path: Path) -> None:
     words = ("--from", "23:00", "--to", "26:00")
     data, said = imported(made_feeds.after_midnight(), tmp_path / "city", *words)
@@ -163,6 +176,14 @@ def test_stations(tmp_path: Path) -> None:
         "School",
         "Church",
     ]
+
+
+def test_parents_that_lead_round_in_a_ring(tmp_path: Path) -> None:
+    city = made_feeds.small()
+    for row, parent in zip(city.rows["stops.txt"], "bcaa"):
+        row["parent_station"] = parent
+    data, _ = imported(city.files(), tmp_path / "city")
+    assert len(data[formats.STOPS]) == 5
 
 
 def test_names_fit_into_cells(tmp_path: Path) -> None:

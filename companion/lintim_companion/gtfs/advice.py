@@ -4,7 +4,7 @@ from collections import Counter
 from collections.abc import Callable, Iterator
 from typing import NamedTuple
 
-from .lines import lines_of, parts_of
+from .lines import Part, lines_of, parts_of
 from .plan import Plan, plan_of
 from .rides import Rides
 from .sizes import sizes, too_large
@@ -12,6 +12,7 @@ from .words import Box
 
 SHARES = (0.8, 0.6, 0.4, 0.3, 0.2, 0.1, 0.05, 0.02)
 HOURS = 2
+PERIODS = (60, 30, 20, 15, 10, 12, 40, 45, 90, 120)
 
 
 class Choice(NamedTuple):
@@ -49,6 +50,21 @@ def advice(rides: Rides, choice: Choice) -> list[str]:
     return found
 
 
+def better_period(rides: Rides, parts: list[Part], plan: Plan) -> str:
+    """Words for another period with which more lines would be as in the feed; none where there is
+    no such period."""
+    lines = list(plan.lines.values())
+    best = plan
+    for period in PERIODS:
+        if best.periodic < len(lines) and period != plan.window.period:
+            other = plan_of(parts, lines, rides, period)
+            if other.periodic > best.periodic and not too_large(other):
+                best = other
+    if best is plan:
+        return ""
+    return f"--period {best.window.period} would have {best.periodic} of {len(lines)} lines so"
+
+
 def _by_kind(rides: Rides, choice: Choice) -> Iterator[tuple[str, Choice]]:
     """Each type of routes, the one with the most trips first."""
     kinds = Counter(rides.routes[it.route].told for it in rides.all)
@@ -72,7 +88,7 @@ def _by_area(rides: Rides, choice: Choice) -> Iterator[tuple[str, Choice]]:
         low = round((len(places) - 1) * (1 - share) / 2)
         high = len(places) - 1 - low
         box = Box(*(round(it, 4) for it in (north[low], east[low], north[high], east[high])))
-        yield f"--area {box.word()}", choice._replace(area=box)
+        yield f"--area={box.word()}", choice._replace(area=box)
 
 
 def _by_window(rides: Rides, choice: Choice) -> Iterator[tuple[str, Choice]]:

@@ -15,7 +15,7 @@ from ..faults import Refused
 from ..manners import Talk
 from ..tables import written
 from . import plan_rows
-from .advice import Choice, advice
+from .advice import Choice, advice, better_period
 from .cells import whole_of
 from .feed import Feed
 from .lengths import Lengths, lengths_of
@@ -68,6 +68,8 @@ def import_feed(words: Namespace, talk: Talk) -> int:
             files.write_bytes(folder, name, text)
             talk.wrote.append(name)
     _tell(plan, rides, feed, lengths.says, talk)
+    if word := better_period(rides, parts, plan):
+        talk.say(f"gtfs: {word}")
     talk.say(f"gtfs: written to {folder}; lintim make plans it, and {IDS} has the ids of the feed")
     return 0
 

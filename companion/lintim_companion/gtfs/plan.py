@@ -37,9 +37,14 @@ class Plan:
         return {(min(two), max(two)): edge for edge, two in self.edges.items()}
 
     @property
+    def periodic(self) -> int:
+        """How many lines are as in the feed."""
+        return sum(not it.why_not for it in self.timed.values())
+
+    @property
     def is_timed(self) -> bool:
         """Whether some line is as in the feed."""
-        return any(not it.why_not for it in self.timed.values())
+        return self.periodic > 0
 
 
 def plan_of(parts: list[Part], lines: list[Line], rides: Rides, period: int) -> Plan:

@@ -84,13 +84,14 @@ def _groups(stops: dict[str, _Stop]) -> dict[str, list[str]]:
 
 
 def _root(stops: dict[str, _Stop], stop: str) -> str:
-    """The station of a stop; a boarding area belongs to a platform, and this to a station."""
-    for _ in range(3):
-        parent = stops[stop].parent
-        if not parent or parent not in stops:
+    """The station of a stop; a boarding area belongs to a platform, and this to a station. The
+    stop itself, where parents lead round in a ring."""
+    seen = [stop]
+    while (parent := stops[seen[-1]].parent) in stops:
+        if parent in seen:
             return stop
-        stop = parent
-    return stop
+        seen.append(parent)
+    return seen[-1]
 
 
 def _are_near(stops: dict[str, _Stop], a: str, b: str) -> bool:
