@@ -142,6 +142,25 @@ FAULTS: tuple[tuple[Callable[[City], None], str], ...] = (
         add_row("agency", agency_name="B", agency_url="http://b", agency_timezone="Asia/Tokyo"),
         "agency.txt row 3: agency_id is empty, and there are several",
     ),
+    (add_row("translations", table_name="stops"), "it is missing or empty, and translations.txt"),
+    (add_row("attributions", organization_name="O"), "attributions.txt row 2: it is neither"),
+    (
+        add_row("fare_attributes", fare_id="f", price=-1, currency_type="EUR", payment_method=0),
+        "price is '-1', wanted a number from 0",
+    ),
+    (add_row("fare_rules", fare_id="f"), "fare_id: 'f' is not in fare_attributes.txt"),
+    (add_row("levels", level_id="l", level_index="x"), "level_index is 'x', wanted a number"),
+    (
+        add_row(
+            "pathways",
+            pathway_id="p",
+            from_stop_id="a",
+            to_stop_id="b",
+            pathway_mode=8,
+            is_bidirectional=1,
+        ),
+        "pathway_mode is '8', wanted 1 to 7",
+    ),
     (add_row("nonsense", a=1), "warning: nonsense.txt: no file of the reference has this name"),
 )
 

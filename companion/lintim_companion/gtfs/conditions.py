@@ -142,8 +142,21 @@ class Conditions:
         if kind == "2" and not cells.get("min_transfer_time"):
             self._warn("transfers", row, "transfer_type 2 without min_transfer_time")
 
+    def _see_attributions(self, row: int, cells: Cells) -> None:
+        roles = [cells.get(f"is_{role}") for role in ("producer", "operator", "authority")]
+        if "1" not in roles:
+            self._error("attributions", row, "it is neither producer, operator nor authority")
+
+    def _see_fare_attributes(self, row: int, cells: Cells) -> None:
+        if len(self.agencies) > 1 and not cells.get("agency_id"):
+            self._error(
+                "fare_attributes", row, "agency_id is empty, and there are several agencies"
+            )
+
     def see_whole(self) -> None:
         """The rules for which all rows have to be there."""
+        if "translations.txt" in self.checker.feed and not self.infos:
+            self._error("feed_info", 0, "it is missing or empty, and translations.txt is there")
         self._whole_agencies()
         self._whole_stops()
         for trip, calls in self.calls.items():
