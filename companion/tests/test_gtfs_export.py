@@ -50,7 +50,7 @@ def differing(folder: Path, times: str, count: int, feed: Path) -> list[object]:
 def test_journeys_over_the_feed_alone(name: str, tmp_path: Path) -> None:
     folder = late_day(tmp_path / name.replace(" ", ""), name)
     for times in ("planned", "disposed"):
-        assert differing(folder, times, 12, tmp_path / "feed.zip") == []
+        assert differing(folder, times, 40, tmp_path / "feed.zip") == []
 
 
 @pytest.mark.long
