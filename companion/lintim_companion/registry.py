@@ -156,6 +156,48 @@ COMMANDS = (
         example="lintim-waits . 10",
         packages=(SCIPY,),
     ),
+    Command(
+        name="lintim-gtfs",
+        module="commands.gtfs",
+        says="Turns a dataset into a GTFS feed, a feed into a dataset, and checks feeds.",
+        about="lintim-gtfs export FOLDER FEED.zip writes the planned or the disposed day as a feed.\n"
+        "lintim-gtfs import FEED.zip FOLDER writes a new dataset of one date of a feed: stops, edges,\n"
+        "lines, loads and, where lines are periodic, their timetable.\n"
+        "lintim-gtfs check FEED.zip tells which rules of the GTFS Schedule reference are broken.",
+        reads="the day that lintim make planned, or a feed",
+        writes="the feed that is named, or a dataset in a new folder with import/ids.csv",
+        words=(
+            Word("what", "export, import or check"),
+            Word("paths", "the folder and the feed, from where to where", kind="file", many=True),
+            Word("--date", "the date of the feed (export: 20260105 where none is given)"),
+            Word("--disposed", "export the times of the day with its delays", kind="switch"),
+            Word("--place", "export: LAT,LON where plane coordinates have their origin"),
+            Word("--scale", "export: how many metres a unit of plane coordinates has (1000)"),
+            Word("--from", "import: take trips that start at this time or later, as 07:00"),
+            Word("--to", "import: take trips that start at this time or before, as 09:00"),
+            Word(
+                "--period",
+                "import: the minutes of a period (60)",
+                kind="whole",
+                least=1,
+                greatest=720,
+            ),
+            Word(
+                "--route-type",
+                "import: take routes of this type alone; export: the type of all routes (3, bus)",
+                kind="whole",
+                greatest=1799,
+            ),
+            Word("--area", "import: take the stops in the box SOUTH,WEST,NORTH,EAST of degrees"),
+        ),
+        example="lintim-gtfs export . feed.zip",
+        statuses=(
+            (0, "it was written; check: no rule is broken"),
+            (1, "it was not written; check: a rule is broken; the last line says why"),
+            (2, "the words of the command are wrong"),
+            (130, "it was stopped before anything was written"),
+        ),
+    ),
 )
 
 

@@ -1,0 +1,1 @@
+"""Feeds of the General Transit Feed Specification (GTFS Schedule): reading, checking, writing."""

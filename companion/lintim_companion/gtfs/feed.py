@@ -1,0 +1,132 @@
+"""Feeds as zip files of comma separated texts: what stands in them, row by row.
+
+A text is read as UTF-8, with or without a byte order mark; bytes that are no UTF-8 are taken as
+Latin-1 and counted. Rows are read one after the other, so a large file takes little memory.
+"""
+
+import codecs
+import csv
+import io
+import lzma
+import struct
+import zipfile
+import zlib
+from collections import Counter
+from collections.abc import Iterator
+from pathlib import Path
+
+from ..faults import Refused
+
+FAULTS = (  # what a damaged zip file may raise
+    zipfile.BadZipFile,
+    zlib.error,
+    lzma.LZMAError,
+    struct.error,
+    EOFError,
+    OSError,
+    RuntimeError,
+    ValueError,
+    OverflowError,
+)
+MAX_FIELD = 1 << 20  # the characters of a cell
+MAX_BYTES = 1 << 32  # of an unpacked file
+LATIN = "lintim-latin-1"
+Row = tuple[int, list[str]]
+_strange = Counter[str]()  # how many bytes were no UTF-8
+
+
+def _as_latin(fault: UnicodeError) -> tuple[str, int]:
+    if not isinstance(fault, UnicodeDecodeError):
+        raise fault
+    bad = fault.object[fault.start : fault.end]
+    _strange["bytes"] += len(bad)
+    return bad.decode("latin-1"), fault.end
+
+
+codecs.register_error(LATIN, _as_latin)
+csv.field_size_limit(MAX_FIELD)
+
+
+class Feed:
+    """The files of a feed, of a zip file or of its bytes; `folder` is the folder inside of it in
+    which all files stand, which the reference does not allow."""
+
+    def __init__(self, path: Path, data: bytes | None = None) -> None:
+        self.path = path
+        self.not_utf8: set[str] = set()
+        try:
+            self.zip = zipfile.ZipFile(path if data is None else io.BytesIO(data))
+            names = [it.filename for it in self.zip.infolist() if not it.is_dir()]
+        except FileNotFoundError:
+            raise Refused(f"{path}: no such file") from None
+        except FAULTS as why:
+            raise Refused(f"{path} is no zip file that can be read: {why}") from None
+        names = [name for name in names if not name.startswith("__MACOSX/")]
+        self.folder = _folder_of(names)
+        self.names = {name.removeprefix(self.folder): name for name in names}
+
+    def __contains__(self, name: str) -> bool:
+        return name in self.names
+
+    def lines(self, name: str) -> Iterator[Row]:
+        """The rows of a file with their lines as an editor counts, the header first; rows without
+        any cell are passed over."""
+        before = _strange["bytes"]
+        try:
+            there = self.zip.getinfo(self.names[name])
+            if there.file_size > MAX_BYTES:
+                raise Refused(f"{name} is too long")
+            with self.zip.open(there) as data:
+                text = io.TextIOWrapper(data, "utf-8-sig", errors=LATIN, newline="")
+                yield from _rows(text)
+        except csv.Error as why:
+            raise Refused(f"{name} cannot be read: {why}") from None
+        except FAULTS as why:
+            raise Refused(f"{name} cannot be read: {why}") from None
+        finally:
+            if _strange["bytes"] > before:
+                self.not_utf8.add(name)
+
+    def header(self, name: str) -> list[str]:
+        """The names of the fields of a file."""
+        for _, cells in self.lines(name):
+            return [cell.strip() for cell in cells]
+        return []
+
+    def records(self, name: str, *fields: str) -> Iterator[tuple[int, list[str]]]:
+        """The cells of these fields, row by row; a field that is not there is empty. Nothing where
+        the file is not there. Blanks round a cell do not count."""
+        if name not in self:
+            return
+        lines = self.lines(name)
+        header = [cell.strip() for cell in next(lines, (0, [""]))[1]]
+        places = [header.index(field) if field in header else -1 for field in fields]
+        for number, cells in lines:
+            count = len(cells)
+            yield number, [cells[at].strip() if 0 <= at < count else "" for at in places]
+
+    def see(self, name: str, *fields: str) -> None:
+        """Sees that a file is there and has these fields."""
+        if name not in self:
+            raise Refused(f"{self.path}: {name} is missing")
+        header = self.header(name)
+        for field in fields:
+            if field not in header:
+                raise Refused(f"{name} row 1: no field {field}")
+
+
+def _rows(text: io.TextIOWrapper) -> Iterator[Row]:
+    reader = csv.reader(text)
+    number = 1
+    for cells in reader:
+        if any(cells):
+            yield number, cells
+        number = reader.line_num + 1
+
+
+def _folder_of(names: list[str]) -> str:
+    """The folder in which all files stand, `` where they stand at the top."""
+    folders = {name.rpartition("/")[0] for name in names}
+    if len(folders) == 1 and (folder := folders.pop()):
+        return f"{folder}/"
+    return ""
