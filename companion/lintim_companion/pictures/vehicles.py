@@ -1,0 +1,111 @@
+"""Vehicles: a row for each, with its trips, empty rides and stands, and how many are out each hour."""
+
+from collections import defaultdict
+
+from ..formats import SCHEDULE, STOPS, ScheduleRow
+from . import style
+from .plan import Plan
+from .scene import Axis, Layer, Picture, Section, Shape, Value, clock
+from .space_time import time_axis
+
+FACTS = ("vehicle", "row", "kind", "line", "from event", "to event", "from", "to", "start", "end")
+NAMES = 40  # vehicles up to which hovering names those of an hour
+
+
+def vehicle_section(plan: Plan) -> Section:
+    """The rows of all vehicles, and those that are out at each hour."""
+    section = Section(
+        "vehicles",
+        "Vehicles",
+        "Each row is a vehicle. Bars in the colours of lines are trips, low grey bars empty rides, and"
+        " thin strokes the turnaround, from its arrival to its next trip. Below stands how many"
+        " vehicles have a trip or an empty ride in each hour.",
+    )
+    section.left_out = plan.missing(STOPS, SCHEDULE)
+    if section.left_out:
+        return section
+    rows = drawn_rows(plan)
+    if not rows:
+        section.left_out = "no vehicle is out with these lines and times"
+        return section
+    section.pictures = [vehicle_picture(plan, rows), hour_picture(plan, rows)]
+    return section
+
+
+def drawn_rows(plan: Plan) -> list[ScheduleRow]:
+    """The rows that are drawn: trips of the lines and times, and empty rides beside such a trip."""
+    by_vehicle = defaultdict(list)
+    for row in plan.data[SCHEDULE]:
+        by_vehicle[row.circulation].append(row)
+    found = []
+    for rows in by_vehicle.values():
+        rows.sort(key=lambda row: row.number)
+        kept = [
+            row.type == "TRIP"
+            and plan.choice.has_line(row.line)
+            and plan.choice.has_time(row.start_time, row.end_time)
+            for row in rows
+        ]
+        for place, row in enumerate(rows):
+            is_beside = row.type == "EMPTY" and any(kept[max(place - 1, 0) : place + 2])
+            if kept[place] or is_beside:
+                found.append(row)
+    return found
+
+
+def told(plan: Plan, row: ScheduleRow) -> tuple[Value, ...]:
+    """What hovering tells of a row."""
+    ends = plan.names[row.start_stop], plan.names[row.end_stop]
+    times = clock(row.start_time), clock(row.end_time)
+    kind, line = ("trip", row.line) if row.type == "TRIP" else ("empty ride", "")
+    return (row.circulation, row.number, kind, line, row.start_id, row.end_id, *ends, *times)
+
+
+def vehicle_picture(plan: Plan, rows: list[ScheduleRow]) -> Picture:
+    """A row for each vehicle."""
+    places = {id: place for place, id in enumerate(sorted({row.circulation for row in rows}))}
+    empty = Layer("empty rides", "bar", FACTS, style.QUIET, width=0.3)
+    stand = Layer("turnarounds", "stroke", ("vehicle", "row"), style.QUIET, width=1)
+    stand.is_told = False
+    layers: dict[int, Layer] = {}
+    for row, then in zip(rows, [*rows[1:], rows[-1]]):
+        y, layer = float(places[row.circulation]), empty
+        if row.type == "TRIP":
+            name, colour = f"line {row.line}", plan.colour(row.line)
+            fresh = Layer(name, "bar", FACTS, colour, (row.line,), width=0.7)
+            layer = layers.setdefault(row.line, fresh)
+        elif then.circulation == row.circulation and then is not row:
+            name = f"stand-{row.circulation}-{row.number}"
+            facts: list[tuple[Value, ...]] = [(row.circulation, row.number)] * 2
+            stand.shapes.append(Shape(name, [row.end_time, then.start_time], [y, y], facts))
+        name = f"vehicle-{row.circulation}-{row.number}"
+        layer.shapes.append(Shape(name, [row.start_time, row.end_time], [y], [told(plan, row)]))
+    ticks = tuple((float(place), f"vehicle {id}") for id, place in places.items())
+    y_axis = Axis("named", "", ticks, len(places) - 0.4, -0.6)
+    all_layers = [stand, empty, *(layers[line] for line in sorted(layers))]
+    height = 130 + 20 * len(places)
+    shown = [layer for layer in all_layers if layer.shapes]
+    return Picture("vehicles", "Vehicles and their trips", time_axis(plan), y_axis, shown, height)
+
+
+def hour_picture(plan: Plan, rows: list[ScheduleRow]) -> Picture:
+    """How many vehicles have a trip or an empty ride in each hour."""
+    out: dict[int, set[int]] = defaultdict(set)
+    for row in rows:
+        for hour in range(row.start_time // 60, max(row.end_time - 1, row.start_time) // 60 + 1):
+            out[hour].add(row.circulation)
+    layer = Layer("vehicles that are out", "stroke", ("hour", "vehicles", "which"), plan_colour())
+    layer.width, layer.in_legend = 14, False
+    for hour in sorted(out):
+        ids = sorted(out[hour])
+        which = ", ".join(map(str, ids)) if len(ids) <= NAMES else ""
+        shape = Shape(f"hour-{hour}", [60 * hour + 30] * 2, [0, len(ids)], [])
+        shape.facts.extend([(hour, len(ids), which)] * 2)
+        layer.shapes.append(shape)
+    y = Axis("number", "vehicles", (), 0, max(map(len, out.values())) * 1.1)
+    return Picture("hours", "Vehicles that are out in each hour", time_axis(plan), y, [layer], 260)
+
+
+def plan_colour() -> str:
+    """The colour of what belongs to no line."""
+    return style.LINE_COLOURS[3]
