@@ -9,7 +9,7 @@ from ..dataset import Dataset
 from ..faults import Refused
 from ..manners import Talk, see_package
 from ..pictures.numbers import difference_section, number_section
-from ..pictures.page import Side, line_colours, page_of
+from ..pictures.page import Side, page_of
 from ..pictures.plan import Choice, Plan, lines_of
 from ..pictures.scene import Section
 from ..pictures.sections import sections_of
@@ -37,12 +37,12 @@ def run(words: Namespace, talk: Talk) -> int:
     if words.svg or words.png:
         see_package(MATPLOTLIB)
     out = place_of(words.out)
-    sides, common, lines = drawn([dataset.read(folder) for folder in folders], choice, talk)
+    first, sides, last, lines = drawn([dataset.read(it) for it in folders], choice, talk)
     from plotly.offline import get_plotlyjs
 
     talk.progress.tell("writing the page")
     script: str = get_plotlyjs()
-    page = page_of(sides, common, line_colours(lines), None if words.beside else script)
+    page = page_of(first, sides, last, lines, None if words.beside else script)
     if words.beside:
         written(out.parent / SCRIPT, script.encode(), talk)
     written(out, page, talk)
@@ -85,8 +85,8 @@ def ids_of(name: str, text: str) -> tuple[int, ...]:
 
 def drawn(
     datasets: list[Dataset], choice: Choice, talk: Talk
-) -> tuple[list[Side], list[Section], list[int]]:
-    """The sections of each dataset, those of both, and the lines."""
+) -> tuple[list[Section], list[Side], list[Section], dict[int, str]]:
+    """What differs, the sections of each dataset, the numbers, and the colours of lines."""
     every = sorted({line for data in datasets for line in lines_of(data)})
     for line in sorted(choice.lines):
         if line not in every:
@@ -102,19 +102,21 @@ def drawn(
         talk.progress.tell(f"drawing {name}")
         sides.append(Side(name, sections_of(plan)))
     two = len(plans) == 2
-    common = [difference_section(plans[0], plans[1])] if two else []
+    apart = [difference_section(plans[0], plans[1])] if two else []
     numbers = number_section(plans[0], plans[1] if two else None)
     for side in sides:
         for section in side.sections:
             told(section, f"{side.name}: " if two else "", talk)
-    told(numbers, "", talk)
-    return sides, [*common, numbers], [line for line in every if choice.has_line(line)]
+    for section in [*apart, numbers]:
+        told(section, "", talk)
+    colours = {line: plans[0].colour(line) for line in every if choice.has_line(line)}
+    return apart, sides, [numbers], colours
 
 
 def told(section: Section, of: str, talk: Talk) -> None:
     """Says what a section has, or why it is left out."""
     count = len(section.pictures)
-    has = f"{count} picture{'s' * (count != 1)}" if count else f"{len(section.table)} values"
+    has = f"{count} picture{'s' * (count != 1)}" if count else f"{len(section.table)} rows"
     says = f"left out: {section.left_out}" if section.left_out else has
     talk.say(f"view: {of}{section.title}: {says}")
 

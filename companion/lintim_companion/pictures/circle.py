@@ -76,7 +76,7 @@ def stop_picture(
 ) -> Picture:
     """The circle of a stop."""
     period = plan.data.settings.period_length
-    layers = [dial(period)]
+    layers = [ring(period), dial(period)]
     layers += change_layers(plan, period, timed, changes)
     facts = ("event", "kind", "line", "direction", "run", "minute")
     for line in sorted({it.event.line_id for it in timed.values()}):
@@ -97,13 +97,25 @@ def stop_picture(
     return Picture(f"stop-{stop}", title, plane, plane, layers, 620, is_even=True)
 
 
+def ring(period: int) -> Layer:
+    """The ring of all minutes."""
+    layer = Layer("ring", "stroke", ("minute",), style.QUIET, width=1, is_told=False)
+    layer.in_legend = False
+    steps = range(-(-120 // period) * period + 1)
+    minutes = [step * period / (len(steps) - 1) for step in steps]
+    places = [on_circle(minute, period, RING) for minute in minutes]
+    facts = [(round(minute, 3),) for minute in minutes]
+    layer.shapes.append(Shape("ring", [x for x, _ in places], [y for _, y in places], facts))
+    return layer
+
+
 def dial(period: int) -> Layer:
     """The ring, with minutes at up to twelve places."""
     layer = Layer("minutes", "mark", ("minute",), style.QUIET, width=5, symbol="dot")
     layer.in_legend = False
     step = next(it for it in (1, 2, 5, 10, 15, 30, 60, 120) if period / it <= 12)
     for minute in range(0, period, step):
-        x, y = on_circle(minute, period, RING - 0.1)
+        x, y = on_circle(minute, period, RING - 0.12)
         layer.shapes.append(Shape(f"minute-{minute}", [x], [y], [(minute,)], f"{minute}"))
     return layer
 

@@ -7,7 +7,7 @@ from ..formats import ACTIVITY_DELAYS, DAY_ACTIVITIES, DAY_EVENTS, DISPOSITION, 
 from ..formats import REASONS, SCHEDULE, STOPS, TRIPS, DayActivity, Reason
 from . import style
 from .plan import Index, Plan
-from .scene import Axis, Layer, Picture, Section, Shape, Value, clock
+from .scene import Axis, Facts, Layer, Picture, Section, Shape, clock
 from .space_time import time_axis
 
 WAYS = {
@@ -78,7 +78,9 @@ def sources(plan: Plan) -> list[tuple[Source, int, int]]:
     """The delays that come from outside: their row, their minutes, and the event that they reach
     first."""
     ways = activities(plan)
-    found = [(("event", row.event_id), row.delay, row.event_id) for row in plan.data.get(EVENT_DELAYS)]
+    found = [
+        (("event", row.event_id), row.delay, row.event_id) for row in plan.data.get(EVENT_DELAYS)
+    ]
     for row in plan.data.get(ACTIVITY_DELAYS):
         found.append((("activity", row.activity_id), row.delay, ways[row.activity_id].to_event))
     return found
@@ -104,7 +106,7 @@ def source_table(plan: Plan, lates: dict[int, Late]) -> list[tuple[str, ...]]:
     reached: dict[Source, list[int]] = defaultdict(list)
     for event in lates:
         reached[source_of(event, lates, longer)].append(event)
-    found = []
+    found: list[tuple[str, ...]] = []
     for source, minutes, event in sources(plan):
         ids = reached.get(source, [])
         at_arrivals = sum(
@@ -143,7 +145,8 @@ def delay_picture(plan: Plan, lates: dict[int, Late]) -> Picture:
 
 def way_layers(plan: Plan, lates: list[Late], rows: dict[int, int]) -> list[Layer]:
     """Strokes from each event to those that are late by it."""
-    kinds, layers = activities(plan), {}
+    kinds = activities(plan)
+    layers: dict[tuple[str, tuple[int, ...]], Layer] = {}
     for late in lates:
         if not late.before:
             continue
@@ -168,7 +171,17 @@ def way_layers(plan: Plan, lates: list[Late], rows: dict[int, int]) -> list[Laye
 
 def late_layers(plan: Plan, lates: list[Late], rows: dict[int, int]) -> list[Layer]:
     """The late events, in the colours of their lines."""
-    facts = ("event", "trip", "line", "kind", "stop", "planned", "disposed", "minutes late", "reason")
+    facts = (
+        "event",
+        "trip",
+        "line",
+        "kind",
+        "stop",
+        "planned",
+        "disposed",
+        "minutes late",
+        "reason",
+    )
     layers: dict[int, Layer] = {}
     for late in lates:
         event, trip = plan.events[late.event], plan.trip_of[late.event]
@@ -182,8 +195,8 @@ def late_layers(plan: Plan, lates: list[Late], rows: dict[int, int]) -> list[Lay
         elif why == "turn":
             why = f"turn after event {late.before}"
         stop = plan.names[event.stop_id]
-        times: tuple[Value, ...] = (clock(event.time), clock(time), time - event.time)
-        told = (late.event, trip.id, trip.line, event.type, stop, *times, why)
+        times = (clock(event.time), clock(time), time - event.time)
+        told: Facts = (late.event, trip.id, trip.line, event.type, stop, *times, why)
         name, y = f"late-{late.event}", float(rows[trip.id])
         layer.shapes.append(Shape(name, [time], [y], [told], f"+{time - event.time}"))
     return [layers[line] for line in sorted(layers)]

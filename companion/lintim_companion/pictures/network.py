@@ -3,13 +3,12 @@
 import math
 from collections import defaultdict
 
-from ..cells import MILLION
 from ..formats import CONCEPT, EDGES, LOADS, STOPS, ConceptRow, Edge, Load
 from ..rows import number_text
 from . import style
 from .places import Place, stop_places
 from .plan import Plan
-from .scene import Axis, Layer, Picture, Section, Shape
+from .scene import Axis, Facts, Layer, Picture, Section, Shape, Value
 
 WIDEST = 30.0  # the edge of greatest load, in a square of 1,000
 MANY = 80  # edges, above which no number stands beside an edge
@@ -105,7 +104,7 @@ def edge_layer(name: str, edges: list[Edge], ways: dict[int, tuple[Place, Place]
     layer = Layer(name, "stroke", ("edge",), style.QUIET, width=1.5, is_told=False)
     for edge in edges:
         (left, low), (right, high) = ways[edge.edge_id]
-        facts: list[tuple[float | int | str, ...]] = [(edge.edge_id,)] * 2
+        facts = [(edge.edge_id,)] * 2
         layer.shapes.append(Shape(f"edge-{edge.edge_id}", [left, right], [low, high], facts))
     layer.in_legend = False
     return layer
@@ -153,7 +152,7 @@ def load_layers(plan: Plan, ways: dict[int, tuple[Place, Place]]) -> list[Layer]
         load, way = loads.get(edge.edge_id), ways[edge.edge_id]
         ends = plan.names[edge.left_stop], plan.names[edge.right_stop]
         minutes = f"{edge.lower_bound} to {edge.upper_bound}"
-        told: list[float | int | str] = ["", "", ""]
+        told: Facts = ("", "", "")
         label = ""
         if load is not None:
             xs, ys = band(way, 0.0, WIDEST * load.load / top)
@@ -161,11 +160,12 @@ def load_layers(plan: Plan, ways: dict[int, tuple[Place, Place]]) -> list[Layer]
             layer.shapes.append(Shape(f"load-{edge.edge_id}", xs, ys, [(edge.edge_id,)] * 4))
             label = number_text(load.load) if len(plan.edges) <= MANY else ""
             allowed = f"{load.minimal_frequency} to {load.maximal_frequency}"
-            told = [number_text(load.load), drives.get(edge.edge_id, 0) if has_concept else ""]
-            told.append(allowed)
+            driven: Value = drives.get(edge.edge_id, 0) if has_concept else ""
+            told = number_text(load.load), driven, allowed
         x, y = middle([way[0][0], way[1][0]], [way[0][1], way[1][1]])
-        facts = [(edge.edge_id, *ends, number_text(edge.length), minutes, *told)]
-        marks.shapes.append(Shape(f"load-mark-{edge.edge_id}", [x], [y], facts, label))
+        length = number_text(edge.length)
+        facts: Facts = (edge.edge_id, *ends, length, minutes, *told)
+        marks.shapes.append(Shape(f"load-mark-{edge.edge_id}", [x], [y], [facts], label))
     return [layer for layer in areas if layer.shapes] + [marks]
 
 
@@ -231,8 +231,3 @@ def line_layers(
         label = f"{marks.lines[0]} ×{often}"
         marks.shapes[place] = marks.shapes[place]._replace(label=label)
     return [layer for two in layers.values() for layer in two]
-
-
-def load_width(load: int, top: int) -> float:
-    """How wide an edge is drawn, by its load and the greatest one, both in millionths."""
-    return WIDEST * load / (top or MILLION)

@@ -55,7 +55,9 @@ def value_of(data: Dataset) -> dict[str, int]:
 
 def difference_section(plan: Plan, other: Plan) -> Section:
     """Which files differ, by rows, and which lines are driven more or less often."""
-    section = Section("differences", "What differs", "Rows of each file that only one of the two has.")
+    section = Section(
+        "differences", "What differs", "Rows of each file that only one of the two has."
+    )
     section.head = ("file or line", "only in the first", "only in the second")
     for file in FILES:
         if file in plan.data or file in other.data:

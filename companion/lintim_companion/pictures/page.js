@@ -49,6 +49,7 @@
       "yaxis.gridcolor": line,
       "modebar.color": text,
       "modebar.bgcolor": "rgba(0,0,0,0)",
+      "modebar.activecolor": "#e67300",
     };
   }
 

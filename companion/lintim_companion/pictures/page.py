@@ -5,7 +5,6 @@ import json
 from pathlib import Path
 from typing import Any, NamedTuple
 
-from . import style
 from .scene import Picture, Section
 from .traces import ends_of, figure_of
 
@@ -21,16 +20,24 @@ class Side(NamedTuple):
 
 
 def page_of(
-    sides: list[Side], common: list[Section], lines: dict[int, str], script: str | None
+    first: list[Section],
+    sides: list[Side],
+    last: list[Section],
+    lines: dict[int, str],
+    script: str | None,
 ) -> bytes:
-    """The page; `lines` has the colour of each line that can be switched off. The script of plotly
+    """The page: sections of all, sections of each dataset, and sections of all again. `lines` has the colour of each line that can be switched off. The script of plotly
     is within the page, or a file `plotly.js` beside it where none is given."""
     figures: dict[str, Any] = {}
-    parts = [section_html([section], [""], figures) for section in common]
-    for sections in zip(*(side.sections for side in sides)):
-        parts.append(section_html([*sections], [side.name for side in sides], figures))
+    names = [side.name for side in sides]
+    parts = [section_html([section], [""], figures) for section in first]
+    parts += [
+        section_html([*sections], names, figures)
+        for sections in zip(*(side.sections for side in sides))
+    ]
+    parts += [section_html([section], [""], figures) for section in last]
     data = json.dumps(figures, separators=(",", ":"), ensure_ascii=False).replace("<", "\\u003c")
-    title = html.escape(" and ".join(side.name for side in sides))
+    title = html.escape(" and ".join(names))
     plotly = '<script src="plotly.js" charset="utf-8"></script>'
     if script is not None:
         plotly = f'<script charset="utf-8">{script}</script>'
@@ -71,7 +78,9 @@ def section_html(sections: list[Section], names: list[str], figures: dict[str, A
         parts.append(chooser(sections, keys))
     parts.append(f'<div class="sides sides{len(sections)}">')
     for side, (section, name) in enumerate(zip(sections, names)):
-        parts.append(f'<div class="side"><h3>{html.escape(name)}</h3>' if name else "<div>")
+        parts.append('<div class="side">')
+        if len(sections) > 1:
+            parts.append(f"<h3>{html.escape(name)}</h3>")
         if section.left_out:
             parts.append(f'<p class="left-out">Left out: {html.escape(section.left_out)}.</p>')
         mine = {it.key: it for it in section.pictures}
@@ -125,8 +134,3 @@ def table_html(section: Section) -> str:
         for row, kind in zip(rows, ["th"] + ["td"] * len(section.table))
     ]
     return "<table>" + "".join(f"<tr>{row}</tr>" for row in cells) + "</table>"
-
-
-def line_colours(lines: list[int]) -> dict[int, str]:
-    """The colour of each line."""
-    return {line: style.line_colour(place) for place, line in enumerate(lines)}

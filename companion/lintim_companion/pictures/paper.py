@@ -21,7 +21,7 @@ WIDE = 9.0  # inches
 DOTS = 100.0  # of the page to an inch
 SYMBOLS = {"circle": "o", "triangle": "^", "cross": "X", "diamond": "D", "star": "*", "dot": "."}
 DASHES = {"solid": "-", "dash": "--", "dot": ":", "dashdot": "-."}
-SETTINGS = {
+SETTINGS: dict[Any, Any] = {
     "svg.hashsalt": "lintim",
     "svg.fonttype": "none",
     "font.family": "DejaVu Sans",
@@ -66,7 +66,11 @@ def finish(axes: "Axes", picture: Picture) -> None:
     handles, names = axes.get_legend_handles_labels()
     told = dict(zip(names, handles))
     if told:
-        below = {"loc": "upper left", "bbox_to_anchor": (0, -0.02 if picture.is_even else -0.1)}
+        height = axes.figure.get_size_inches()[1] * axes.get_position().height
+        below = {
+            "loc": "upper left",
+            "bbox_to_anchor": (0, -0.02 if picture.is_even else -0.3 / height),
+        }
         axes.legend(told.values(), told.keys(), ncol=3, frameon=False, fontsize=8, **below)
 
 

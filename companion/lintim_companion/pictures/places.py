@@ -1,11 +1,12 @@
 """Where stops lie in pictures of the network, in a square of 1,000 by 1,000."""
 
 import math
+from typing import Any
 
 from ..formats import EDGES, STOPS
 from ..manners import see_package
 from ..registry import NETWORKX, SCIPY
-from .plan import Plan
+from .plan import Index, Plan
 
 SIDE = 1000.0
 Place = tuple[float, float]
@@ -59,12 +60,12 @@ def by_distances(plan: Plan) -> dict[int, Place]:
     from scipy.sparse.csgraph import shortest_path
 
     ids = [stop.stop_id for stop in plan.data[STOPS]]
-    at = {id: place for place, id in enumerate(ids)}
+    at = Index("stop", STOPS, {id: place for place, id in enumerate(ids)})
     lengths = numpy.full((len(ids), len(ids)), numpy.inf)
     for edge in plan.data[EDGES]:
-        ends = at.get(edge.left_stop), at.get(edge.right_stop)
+        ends = at[edge.left_stop], at[edge.right_stop]
         length = max(edge.length, 1) / 1e6
-        lengths[ends] = lengths[ends[::-1]] = min(lengths[ends], length)
+        lengths[ends] = lengths[ends[::-1]] = min(float(lengths[ends]), length)
     apart = shortest_path(numpy.where(numpy.isfinite(lengths), lengths, 0.0), directed=False)
     far = apart[numpy.isfinite(apart)].max(initial=1.0)
     apart[~numpy.isfinite(apart)] = 1.5 * far
@@ -80,7 +81,7 @@ def by_distances(plan: Plan) -> dict[int, Place]:
     return {id: (float(x), float(y)) for id, (x, y) in laid.items()}
 
 
-def scaled(apart: "numpy.ndarray") -> list[Place]:  # type: ignore[name-defined] # noqa: F821
+def scaled(apart: Any) -> list[Place]:
     """Places in the plane by classical scaling of distances."""
     import numpy
 

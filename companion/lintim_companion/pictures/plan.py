@@ -56,11 +56,6 @@ class DayTrip(NamedTuple):
         """The stops along it."""
         return (self.events[0].stop_id, *(event.stop_id for event in self.events[1::2]))
 
-    @property
-    def is_late(self) -> bool:
-        """Whether an event of it is not as planned."""
-        return any(time != event.time for time, event in zip(self.disposed, self.events))
-
 
 class Plan:
     """The tables of a dataset, looked up by id."""

@@ -5,10 +5,12 @@ vertex a tuple of facts, which hovering tells; the first fact is the id of the r
 draws. Times are minutes of the day, other places are as the picture says.
 """
 
+from collections.abc import Sequence
 from dataclasses import dataclass, field
 from typing import Literal, NamedTuple
 
 Value = int | float | str
+Facts = tuple[Value, ...]
 Kind = Literal["stroke", "area", "mark", "bar"]
 
 
@@ -16,9 +18,9 @@ class Shape(NamedTuple):
     """A shape: its vertices and their facts. A bar has its two ends as `x`, and its row as `y`."""
 
     name: str
-    x: list[float]
-    y: list[float]
-    facts: list[tuple[Value, ...]]
+    x: Sequence[float]
+    y: Sequence[float]
+    facts: Sequence[Facts]
     label: str = ""
 
 

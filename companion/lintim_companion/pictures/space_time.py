@@ -11,7 +11,7 @@ from ..formats import ACTIVITY_DELAYS, DAY_ACTIVITIES, DAY_EVENTS, DISPOSITION, 
 from ..formats import DayActivity
 from . import style
 from .plan import DayTrip, Plan
-from .scene import Axis, Layer, Picture, Section, Shape, Value, clock
+from .scene import Axis, Facts, Layer, Picture, Section, Shape, Value, clock
 
 FACTS = ("event", "trip", "line", "kind", "stop", "planned", "disposed", "minutes after the last")
 Run = tuple[DayTrip, int, list[float]]  # a trip, its first event that is drawn, the places
@@ -162,8 +162,8 @@ def diagram(
         late.width, late.dash = 1.8, "dash"
         for run in mine:
             planned.shapes.append(stroke(plan, "trip", run, apart, is_disposed=False))
-            if run[0].is_late:
-                late.shapes.append(stroke(plan, "late-trip", run, apart, is_disposed=True))
+            if part := late_part(run):
+                late.shapes.append(stroke(plan, "late-trip", part, apart, is_disposed=True))
         layers += [planned, late, missed_layer(plan, line, mine, missed)]
     ticks = tuple((far, plan.names[stop]) for stop, far in zip(walk.stops, walk.along))
     y = Axis("named", "", ticks, -0.03 * walk.along[-1], 1.03 * walk.along[-1])
@@ -172,23 +172,38 @@ def diagram(
     return Picture(key, title, time_axis(plan), y, layers, height)
 
 
+def late_part(run: Run) -> Run | None:
+    """The part of a run from the event before its first late one to the event after its last."""
+    trip, first, places = run
+    late = [
+        place
+        for place in range(first, first + len(places))
+        if trip.disposed[place] != trip.events[place].time
+    ]
+    if not late:
+        return None
+    begin = max(late[0] - 1, first)
+    return trip, begin, places[begin - first : late[-1] + 2 - first]
+
+
 def time_axis(plan: Plan) -> Axis:
     """The axis of the minutes of the day."""
-    return Axis("time", "time", (), plan.choice.begin, plan.choice.end)
+    return Axis("time", "", (), plan.choice.begin, plan.choice.end)
 
 
 def stroke(plan: Plan, kind: str, run: Run, apart: dict[int, int], is_disposed: bool) -> Shape:
     """A part of a trip as a stroke."""
     trip, first, places = run
-    shape = Shape(f"{kind}-{trip.id}" + (f"-{first}" if first else ""), [], places, [])
+    x: list[float] = []
+    facts: list[Facts] = []
     for place in range(first, first + len(places)):
         event, disposed = trip.events[place], trip.disposed[place]
-        shape.x.append(disposed if is_disposed else event.time)
+        x.append(disposed if is_disposed else event.time)
         after: Value = apart.get(event.event_id, "")
         times = clock(event.time), "" if disposed == event.time else clock(disposed)
         name = plan.names[event.stop_id]
-        shape.facts.append((event.event_id, trip.id, trip.line, event.type, name, *times, after))
-    return shape
+        facts.append((event.event_id, trip.id, trip.line, event.type, name, *times, after))
+    return Shape(f"{kind}-{trip.id}" + (f"-{first}" if first else ""), x, places, facts)
 
 
 def missed_layer(

@@ -112,7 +112,8 @@ def bar_trace(layer: Layer) -> Trace:
 
 def ends_of(axis: Axis, picture: Picture, way: int) -> tuple[float, float]:
     """From where to where an axis goes: as it says, or around all shapes."""
-    values = [it for layer in picture.layers for shape in layer.shapes for it in shape[1 + way]]
+    shapes = [shape for layer in picture.layers for shape in layer.shapes]
+    values = [it for shape in shapes for it in (shape.y if way else shape.x)]
     least, greatest = min(values, default=0.0), max(values, default=1.0)
     around = 0.04 * (greatest - least or 1.0) * (2 if axis.kind == "plane" else 1)
     low = least - around if axis.least is None else axis.least
@@ -121,7 +122,7 @@ def ends_of(axis: Axis, picture: Picture, way: int) -> tuple[float, float]:
 
 def layout_of(picture: Picture, x_ends: tuple[float, float]) -> dict[str, Any]:
     """The layout of a picture."""
-    layout = {
+    layout: dict[str, Any] = {
         "height": picture.height,
         "barmode": "overlay",
         "hovermode": "closest",

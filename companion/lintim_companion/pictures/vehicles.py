@@ -57,7 +57,8 @@ def told(plan: Plan, row: ScheduleRow) -> tuple[Value, ...]:
     """What hovering tells of a row."""
     ends = plan.names[row.start_stop], plan.names[row.end_stop]
     times = clock(row.start_time), clock(row.end_time)
-    kind, line = ("trip", row.line) if row.type == "TRIP" else ("empty ride", "")
+    kind = "trip" if row.type == "TRIP" else "empty ride"
+    line: Value = row.line if row.type == "TRIP" else ""
     return (row.circulation, row.number, kind, line, row.start_id, row.end_id, *ends, *times)
 
 
@@ -76,7 +77,7 @@ def vehicle_picture(plan: Plan, rows: list[ScheduleRow]) -> Picture:
             layer = layers.setdefault(row.line, fresh)
         elif then.circulation == row.circulation and then is not row:
             name = f"stand-{row.circulation}-{row.number}"
-            facts: list[tuple[Value, ...]] = [(row.circulation, row.number)] * 2
+            facts = [(row.circulation, row.number)] * 2
             stand.shapes.append(Shape(name, [row.end_time, then.start_time], [y, y], facts))
         name = f"vehicle-{row.circulation}-{row.number}"
         layer.shapes.append(Shape(name, [row.start_time, row.end_time], [y], [told(plan, row)]))
@@ -94,18 +95,20 @@ def hour_picture(plan: Plan, rows: list[ScheduleRow]) -> Picture:
     for row in rows:
         for hour in range(row.start_time // 60, max(row.end_time - 1, row.start_time) // 60 + 1):
             out[hour].add(row.circulation)
-    layer = Layer("vehicles that are out", "stroke", ("hour", "vehicles", "which"), plan_colour())
-    layer.width, layer.in_legend = 14, False
+    hours = Axis("time", "", (), 60 * min(out), 60 * max(out) + 60)
+    facts = ("hour", "vehicles that are out", "they are")
+    areas = Layer("vehicles that are out", "area", ("hour",), style.LINE_COLOURS[3])
+    marks = Layer("how many", "mark", facts, style.QUIET, width=14, symbol="none")
+    areas.is_told = areas.in_legend = marks.in_legend = False
     for hour in sorted(out):
         ids = sorted(out[hour])
         which = ", ".join(map(str, ids)) if len(ids) <= NAMES else ""
-        shape = Shape(f"hour-{hour}", [60 * hour + 30] * 2, [0, len(ids)], [])
-        shape.facts.extend([(hour, len(ids), which)] * 2)
-        layer.shapes.append(shape)
-    y = Axis("number", "vehicles", (), 0, max(map(len, out.values())) * 1.1)
-    return Picture("hours", "Vehicles that are out in each hour", time_axis(plan), y, [layer], 260)
-
-
-def plan_colour() -> str:
-    """The colour of what belongs to no line."""
-    return style.LINE_COLOURS[3]
+        x = [60 * hour + minute for minute in (3, 57, 57, 3)]
+        y = [0, 0, len(ids), len(ids)]
+        areas.shapes.append(Shape(f"hour-{hour}", x, y, [(hour,)] * 4))
+        top, told_of = len(ids) / 2, [(hour, len(ids), which)]
+        shape = Shape(f"hour-mark-{hour}", [60 * hour + 30], [top], told_of, str(len(ids)))
+        marks.shapes.append(shape)
+    y_axis = Axis("number", "vehicles", (), 0, max(map(len, out.values())) * 1.1)
+    layers = [areas, marks]
+    return Picture("hours", "Vehicles that are out in each hour", hours, y_axis, layers, 260)
