@@ -7,7 +7,7 @@ from ..formats import ACTIVITY_DELAYS, DAY_ACTIVITIES, DAY_EVENTS, DISPOSITION, 
 from ..formats import REASONS, SCHEDULE, STOPS, TRIPS, DayActivity, Reason
 from . import style
 from .plan import Index, Plan
-from .scene import Axis, Facts, Layer, Picture, Section, Shape, clock
+from .scene import Axis, Facts, Layer, Picture, Section, Shape, clock, row_axis
 from .space_time import time_axis
 
 WAYS = {
@@ -15,6 +15,7 @@ WAYS = {
     "change that waits": style.LINE_COLOURS[2],
     "turn of the vehicle": style.LINE_COLOURS[1],
 }
+MANY = 300  # late events, above which no number stands beside them
 Source = tuple[str, int]  # the kind, event or activity, and the id of a row of delays
 
 
@@ -136,11 +137,10 @@ def delay_picture(plan: Plan, lates: dict[int, Late]) -> Picture:
     layers += late_layers(plan, [lates[id] for id in sorted(shown)], rows)
     layers.append(source_layer(plan, of_sources, rows))
     lines = {trip.id: trip.line for trip in plan.all_trips}
-    ticks = tuple((float(rows[id]), f"trip {id}, line {lines[id]}") for id in rows)
-    y = Axis("named", "", ticks, len(rows) - 0.4, -0.6)
+    y, height = row_axis([f"trip {id}, line {lines[id]}" for id in rows])
     layers = [layer for layer in layers if layer.shapes]
     title = "Late events and why they are late"
-    return Picture("delays", title, time_axis(plan), y, layers, 150 + 30 * len(rows))
+    return Picture("delays", title, time_axis(plan), y, layers, height)
 
 
 def way_layers(plan: Plan, lates: list[Late], rows: dict[int, int]) -> list[Layer]:
@@ -178,7 +178,6 @@ def late_layers(plan: Plan, lates: list[Late], rows: dict[int, int]) -> list[Lay
         "kind",
         "stop",
         "planned",
-        "disposed",
         "minutes late",
         "reason",
     )
@@ -195,10 +194,11 @@ def late_layers(plan: Plan, lates: list[Late], rows: dict[int, int]) -> list[Lay
         elif why == "turn":
             why = f"turn after event {late.before}"
         stop = plan.names[event.stop_id]
-        times = (clock(event.time), clock(time), time - event.time)
+        times = (clock(event.time), time - event.time)
         told: Facts = (late.event, trip.id, trip.line, event.type, stop, *times, why)
         name, y = f"late-{late.event}", float(rows[trip.id])
-        layer.shapes.append(Shape(name, [time], [y], [told], f"+{time - event.time}"))
+        label = f"+{time - event.time}" if len(lates) <= MANY else ""
+        layer.shapes.append(Shape(name, [time], [y], [told], label))
     return [layers[line] for line in sorted(layers)]
 
 

@@ -11,7 +11,7 @@ from .plan import Plan
 from .scene import Axis, Facts, Layer, Picture, Section, Shape, Value
 
 WIDEST = 30.0  # the edge of greatest load, in a square of 1,000
-MANY = 80  # edges, above which no number stands beside an edge
+MANY = 100  # edges or stops, above which no number or name stands beside them
 BOUNDS = (
     ("driven as often as allowed", style.ALARM),
     ("driven as often as needed", style.LINE_COLOURS[1]),
@@ -67,7 +67,9 @@ def edge_ways(plan: Plan, places: dict[int, Place]) -> dict[int, tuple[Place, Pl
 def across(way: tuple[Place, Place]) -> Place:
     """One step to the side of a way, which is the same side for both of its directions."""
     (left, low), (right, high) = way
-    length = math.hypot(right - left, high - low) or 1.0
+    length = math.hypot(right - left, high - low)
+    if not length:
+        return 0.0, 1.0
     x, y = (low - high) / length, (right - left) / length
     return (-x, -y) if (y, x) < (0.0, 0.0) else (x, y)
 
@@ -112,12 +114,14 @@ def edge_layer(name: str, edges: list[Edge], ways: dict[int, tuple[Place, Place]
 
 def stop_layer(plan: Plan, places: dict[int, Place]) -> Layer:
     """The stops with their names."""
-    layer = Layer("stops", "mark", ("stop", "name"), style.LINE_COLOURS[3], width=11)
+    layer = Layer("stops", "mark", ("stop", "name"), style.LINE_COLOURS[3])
+    layer.width = 11 if len(plan.names) <= MANY else 6
     layer.in_legend = False
     for stop in plan.data[STOPS]:
         x, y = places[stop.stop_id]
         name = plan.names[stop.stop_id]
-        shape = Shape(f"stop-{stop.stop_id}", [x], [y], [(stop.stop_id, name)], name)
+        label = name if len(plan.names) <= MANY else ""
+        shape = Shape(f"stop-{stop.stop_id}", [x], [y], [(stop.stop_id, name)], label)
         layer.shapes.append(shape)
     return layer
 

@@ -16,10 +16,16 @@
     return two(Math.floor(minute / 60)) + ":" + two(minute % 60);
   }
 
+  function escaped(fact) {
+    const signs = { "&": "&amp;", "<": "&lt;", ">": "&gt;" };
+    return String(fact).replace(/[&<>]/g, (sign) => signs[sign]);
+  }
+
   // What pointing at a vertex tells: its facts, of which the first is the id.
-  function told(facts, names) {
+  function told(facts, names, minute) {
     if (facts === null) return "";
-    const lines = names.map((name, place) => [name, facts[place]]);
+    const lines = names.map((name, place) => [name, escaped(facts[place])]);
+    if (minute !== null) lines.splice(1, 0, ["time", clock(minute)]);
     return lines
       .filter((line) => line[1] !== "")
       .map((line, place) => (place ? line[0] + ": " + line[1] : "<b>" + line.join(" ") + "</b>"))
@@ -64,7 +70,10 @@
     for (const trace of figure.data) {
       trace.visible = isShown(trace);
       if (trace.hoverinfo === "text") {
-        trace.hovertext = trace.customdata.map((facts) => told(facts, trace.meta.facts));
+        const hasTime = figure.time && trace.meta.facts[0] === "event";
+        trace.hovertext = trace.customdata.map((facts, at) =>
+          told(facts, trace.meta.facts, hasTime ? trace.x[at] : null)
+        );
       }
     }
     const layout = figure.layout;

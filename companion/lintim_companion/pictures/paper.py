@@ -5,7 +5,6 @@ import io
 from typing import TYPE_CHECKING, Any
 
 import matplotlib
-from matplotlib import patheffects
 from matplotlib.backends.backend_agg import FigureCanvasAgg
 from matplotlib.backends.backend_svg import FigureCanvasSVG
 from matplotlib.figure import Figure
@@ -119,7 +118,7 @@ def mark(axes: "Axes", layer: Layer, shape: Shape, look: dict[str, Any]) -> None
         axes.plot(shape.x, shape.y, color=layer.colour, linestyle="none", **look)
     if shape.label:
         is_alone = layer.symbol == "none"
-        halo = [patheffects.withStroke(linewidth=2.5, foreground="white")]
+        box = {"boxstyle": "round,pad=0.12", "facecolor": "white", "alpha": 0.75, "linewidth": 0}
         axes.annotate(
             shape.label,
             (shape.x[0], shape.y[0]),
@@ -129,6 +128,6 @@ def mark(axes: "Axes", layer: Layer, shape: Shape, look: dict[str, Any]) -> None
             va="center" if is_alone else "bottom",
             fontsize=8,
             zorder=9,
-            path_effects=halo,
+            bbox=box,
             gid=shape.name if is_alone else f"{shape.name}-label",
         )

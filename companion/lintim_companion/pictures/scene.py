@@ -79,6 +79,16 @@ class Section:
     left_out: str = ""
 
 
+def row_axis(names: Sequence[str]) -> tuple[Axis, int]:
+    """An axis with a row for each name, the first one above, and how high its picture is: many rows
+    are lower, and then not every one has its name beside it."""
+    count = max(len(names), 1)
+    each = max(5, min(26, 1200 // count))
+    step = -(-14 // each)
+    ticks = tuple((float(row), name) for row, name in enumerate(names) if row % step == 0)
+    return Axis("named", "", ticks, count - 0.4, -0.6), 150 + each * count
+
+
 def clock(minute: float) -> str:
     """A minute of the day in words, as 07:05; hours go on after 24."""
     return f"{int(minute) // 60:02}:{int(minute) % 60:02}"

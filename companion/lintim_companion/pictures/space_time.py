@@ -4,6 +4,7 @@ Such diagrams are due to C. Ibry and were made known by E. J. Marey, La méthode
 """
 
 from collections import defaultdict
+from itertools import accumulate
 from typing import NamedTuple
 
 from ..faults import Refused
@@ -13,7 +14,8 @@ from . import style
 from .plan import DayTrip, Plan
 from .scene import Axis, Facts, Layer, Picture, Section, Shape, Value, clock
 
-FACTS = ("event", "trip", "line", "kind", "stop", "planned", "disposed", "minutes after the last")
+FACTS = ("event", "trip", "kind", "stop", "disposed", "minutes after the last")
+LATE_FACTS = ("event", "trip", "kind", "stop", "planned", "minutes late")
 Run = tuple[DayTrip, int, list[float]]  # a trip, its first event that is drawn, the places
 
 
@@ -25,11 +27,12 @@ class Walk(NamedTuple):
 
 
 def walk_of(plan: Plan, stops: tuple[int, ...]) -> Walk:
-    """The walk over some stops; stops without an edge between them are one unit apart."""
-    along = [0.0]
-    for ends in zip(stops, stops[1:]):
-        along.append(along[-1] + plan.lengths.get(frozenset(ends), 10**6) / 1e6)
-    return Walk(stops, tuple(round(far, 4) for far in along))
+    """The walk over some stops; stops without an edge between them are one unit apart. Stops that
+    are very near are drawn a little apart."""
+    steps = [plan.lengths.get(frozenset(ends), 10**6) / 1e6 for ends in zip(stops, stops[1:])]
+    least = sum(steps) / 60
+    along = [0.0, *accumulate(max(step, least) for step in steps)]
+    return Walk(stops, tuple(round(far, 7) for far in along))
 
 
 def space_time_section(plan: Plan) -> Section:
@@ -158,7 +161,7 @@ def diagram(
         colour, lines = plan.colour(line), (line,)
         planned = Layer(f"line {line}, planned", "stroke", FACTS, colour, lines, width=1.4)
         planned.dash = plan.dash(line)
-        late = Layer(f"line {line}, disposed", "stroke", FACTS, style.ALARM, lines)
+        late = Layer(f"line {line}, disposed", "stroke", LATE_FACTS, style.ALARM, lines)
         late.width, late.dash = 1.8, "dash"
         for run in mine:
             planned.shapes.append(stroke(plan, "trip", run, apart, is_disposed=False))
@@ -198,11 +201,15 @@ def stroke(plan: Plan, kind: str, run: Run, apart: dict[int, int], is_disposed: 
     facts: list[Facts] = []
     for place in range(first, first + len(places)):
         event, disposed = trip.events[place], trip.disposed[place]
-        x.append(disposed if is_disposed else event.time)
-        after: Value = apart.get(event.event_id, "")
-        times = clock(event.time), "" if disposed == event.time else clock(disposed)
-        name = plan.names[event.stop_id]
-        facts.append((event.event_id, trip.id, trip.line, event.type, name, *times, after))
+        name, late = plan.names[event.stop_id], disposed - event.time
+        told: Facts = (event.event_id, trip.id, event.type, name)
+        if is_disposed:
+            x.append(disposed)
+            facts.append((*told, clock(event.time), late))
+        else:
+            x.append(event.time)
+            then = clock(disposed) if late else ""
+            facts.append((*told, then, apart.get(event.event_id, "")))
     return Shape(f"{kind}-{trip.id}" + (f"-{first}" if first else ""), x, places, facts)
 
 

@@ -27,16 +27,16 @@ def plain(value: float) -> float:
     return int(value) if value == int(value) else value
 
 
-def escaped(value: Value) -> Value:
-    """A fact that plotly shows as it is."""
-    return html.escape(value, quote=False) if isinstance(value, str) else value
+def escaped(text: str) -> str:
+    """A text that plotly shows as it is."""
+    return html.escape(text, quote=False)
 
 
 def trace_of(layer: Layer) -> Trace:
     """A layer as a trace of plotly."""
     makers = {"stroke": stroke_trace, "area": area_trace, "mark": mark_trace, "bar": bar_trace}
     trace = makers[layer.kind](layer)
-    trace["name"] = trace["legendgroup"] = str(escaped(layer.name))
+    trace["name"] = trace["legendgroup"] = escaped(layer.name)
     trace["showlegend"] = layer.in_legend
     trace["meta"] = {"facts": list(layer.facts), "lines": list(layer.lines), "kind": layer.kind}
     trace["hoverinfo"] = "text" if layer.is_told else "skip"
@@ -45,7 +45,7 @@ def trace_of(layer: Layer) -> Trace:
 
 def facts_of(shape: Shape) -> list[list[Value]]:
     """The facts of all vertices of a shape."""
-    return [[escaped(fact) for fact in facts] for facts in shape.facts]
+    return [[*facts] for facts in shape.facts]
 
 
 def joined(layer: Layer) -> Trace:

@@ -5,7 +5,7 @@ from collections import defaultdict
 from ..formats import SCHEDULE, STOPS, ScheduleRow
 from . import style
 from .plan import Plan
-from .scene import Axis, Layer, Picture, Section, Shape, Value, clock
+from .scene import Axis, Layer, Picture, Section, Shape, Value, clock, row_axis
 from .space_time import time_axis
 
 FACTS = ("vehicle", "row", "kind", "line", "from event", "to event", "from", "to", "start", "end")
@@ -65,7 +65,7 @@ def told(plan: Plan, row: ScheduleRow) -> tuple[Value, ...]:
 def vehicle_picture(plan: Plan, rows: list[ScheduleRow]) -> Picture:
     """A row for each vehicle."""
     places = {id: place for place, id in enumerate(sorted({row.circulation for row in rows}))}
-    empty = Layer("empty rides", "bar", FACTS, style.QUIET, width=0.3)
+    empty = Layer("empty rides", "stroke", FACTS, style.QUIET, width=5)
     stand = Layer("turnarounds", "stroke", ("vehicle", "row"), style.QUIET, width=1)
     stand.is_told = False
     layers: dict[int, Layer] = {}
@@ -80,11 +80,10 @@ def vehicle_picture(plan: Plan, rows: list[ScheduleRow]) -> Picture:
             facts = [(row.circulation, row.number)] * 2
             stand.shapes.append(Shape(name, [row.end_time, then.start_time], [y, y], facts))
         name = f"vehicle-{row.circulation}-{row.number}"
-        layer.shapes.append(Shape(name, [row.start_time, row.end_time], [y], [told(plan, row)]))
-    ticks = tuple((float(place), f"vehicle {id}") for id, place in places.items())
-    y_axis = Axis("named", "", ticks, len(places) - 0.4, -0.6)
+        x, ends = [row.start_time, row.end_time], 1 if layer.kind == "bar" else 2
+        layer.shapes.append(Shape(name, x, [y] * ends, [told(plan, row)] * ends))
+    y_axis, height = row_axis([f"vehicle {id}" for id in places])
     all_layers = [stand, empty, *(layers[line] for line in sorted(layers))]
-    height = 130 + 20 * len(places)
     shown = [layer for layer in all_layers if layer.shapes]
     return Picture("vehicles", "Vehicles and their trips", time_axis(plan), y_axis, shown, height)
 
