@@ -48,10 +48,10 @@ def town(tmp_path_factory: pytest.TempPathFactory, lintim: str) -> Path:
     return made_folder(tmp_path_factory.mktemp("pictures") / "town", "market-town")
 
 
-@pytest.fixture(
-    scope="module",
-    params=[*NAMES, *[pytest.param(name, marks=pytest.mark.long) for name in LONG]],
-)
+CASES: list[Any] = [*NAMES, *(pytest.param(name, marks=pytest.mark.long) for name in LONG)]
+
+
+@pytest.fixture(scope="module", params=CASES)
 def both(
     request: pytest.FixtureRequest, tmp_path_factory: pytest.TempPathFactory, lintim: str
 ) -> tuple[Dataset, Page]:

@@ -51,13 +51,13 @@ def test_two_runs_give_the_same_bytes(plan: Path, tmp_path: Path) -> None:
     for number in ("1", "2"):
         folder = tmp_path / number
         words = ("--out", folder / "page.html", "--svg", folder / "svg", "--png", folder / "png")
-        ended = run("lintim-view", plan, *words, "--lines", "1,2", PYTHONHASHSEED=number)
+        ended = run("lintim-view", plan, *words, "--lines", "4", PYTHONHASHSEED=number)
         assert (ended.status, ended.err) == (0, [])
         paths = sorted(path for path in folder.rglob("*") if path.is_file())
         made.append({path.relative_to(folder): path.read_bytes() for path in paths})
     assert made[0] == made[1]
     endings = [path.suffix for path in made[0]]
-    assert endings.count(".svg") == endings.count(".png") > 8 and endings.count(".html") == 1
+    assert endings.count(".svg") == endings.count(".png") >= 8 and endings.count(".html") == 1
 
 
 def test_a_dataset_is_not_changed(plan: Path) -> None:
