@@ -17,7 +17,8 @@ from lintim_companion import dataset, demos, formats, program
 from lintim_companion.dataset import Dataset
 from lintim_companion.pictures.network import BOUNDS, WIDEST
 
-pytest.importorskip("plotly")
+for module in ("plotly", "matplotlib", "networkx", "scipy"):
+    pytest.importorskip(module)
 SEEDS = (3, 11, 18, 19, 23, 32)
 NAMES = ("market-town", "three-stops", "demo 3", *(f"seed {seed}" for seed in SEEDS))
 LONG = [f"seed {seed}" for seed in range(1, 61) if seed not in SEEDS] + ["demo 6"]

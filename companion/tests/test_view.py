@@ -16,7 +16,8 @@ from lintim_companion.cells import File
 from lintim_companion.pictures import style
 from test_pictures import made_folder
 
-pytest.importorskip("plotly")
+for module in ("plotly", "matplotlib", "networkx", "scipy"):
+    pytest.importorskip(module)
 SECTIONS = ("network", "lines", "period", "space-time", "vehicles", "delays", "numbers")
 NEEDS = {
     formats.STOPS: SECTIONS[:-1],

@@ -11,8 +11,11 @@ from .plan import Index, Plan
 from .scene import Axis, Layer, Picture, Section, Shape
 
 RING, STEP = 1.0, 0.085  # where the first mark of a minute stands, and how far each further one
-SLACKS = ((3, "slack of 0 to 3 minutes", style.LINE_COLOURS[1]), (10, "of 4 to 10", style.QUIET))
-LONG = ("of more than 10", style.LINE_COLOURS[3])
+SLACKS = (
+    (3, "change, slack 0 to 3 minutes", style.ALARM, "solid"),
+    (10, "change, slack 4 to 10", style.QUIET, "solid"),
+    (10**9, "change, slack more than 10", style.QUIET, "dot"),
+)
 
 
 class Timed(NamedTuple):
@@ -125,21 +128,16 @@ def change_layers(
 ) -> list[Layer]:
     """A chord for each change, and a mark on it that tells of it."""
     layers: dict[tuple[int, int, int], tuple[Layer, Layer]] = {}
-    facts = ("change", "from event", "to event", "from line", "to line", "minutes", "slack")
     for by in changes:
         if by.from_event not in timed or by.to_event not in timed:
             continue
         first, second = timed[by.from_event], timed[by.to_event]
         minutes = by.lower_bound + (second.time - first.time - by.lower_bound) % period
         slack = minutes - by.lower_bound
-        rank = next((place for place, it in enumerate(SLACKS) if slack <= it[0]), len(SLACKS))
+        rank = next(place for place, it in enumerate(SLACKS) if slack <= it[0])
         lines = first.event.line_id, second.event.line_id
         if (*lines, rank) not in layers:
-            name, colour = LONG if rank == len(SLACKS) else SLACKS[rank][1:]
-            chords = Layer(f"changes, {name}", "stroke", ("change",), colour, lines, width=1)
-            marks = Layer(f"changes, {name}", "mark", facts, colour, lines, width=7)
-            chords.is_told, chords.in_legend, marks.symbol = False, False, "diamond"
-            layers[*lines, rank] = chords, marks
+            layers[*lines, rank] = fresh_layers(rank, lines)
         chords, marks = layers[*lines, rank]
         a, b = (on_circle(it.time, period, RING) for it in (first, second))
         name, id = f"change-{by.activity_id}", by.activity_id
@@ -152,3 +150,13 @@ def change_layers(
         marks.in_legend = rank not in shown
         shown.add(rank)
     return [layer for _, two in sorted(layers.items()) for layer in two]
+
+
+def fresh_layers(rank: int, lines: tuple[int, int]) -> tuple[Layer, Layer]:
+    """A layer of chords of one look, and one of the marks on them."""
+    _, name, colour, dash = SLACKS[rank]
+    facts = ("change", "from event", "to event", "from line", "to line", "minutes", "slack")
+    chords = Layer(name, "stroke", ("change",), colour, lines, width=1, dash=dash, is_told=False)
+    marks = Layer(name, "mark", facts, colour, lines, width=7, symbol="diamond")
+    chords.in_legend = False
+    return chords, marks

@@ -10,11 +10,7 @@ from .plan import Index, Plan
 from .scene import Axis, Facts, Layer, Picture, Section, Shape, clock, row_axis
 from .space_time import time_axis
 
-WAYS = {
-    "drive or wait": style.QUIET,
-    "change that waits": style.LINE_COLOURS[2],
-    "turn of the vehicle": style.LINE_COLOURS[1],
-}
+WAYS = {"drive or wait": "solid", "change that waits": "dash", "turn of the vehicle": "dot"}
 MANY = 300  # late events, above which no number stands beside them
 Source = tuple[str, int]  # the kind, event or activity, and the id of a row of delays
 
@@ -156,7 +152,8 @@ def way_layers(plan: Plan, lates: list[Late], rows: dict[int, int]) -> list[Laye
         ends = [plan.trip_of[event] for event in (late.before, late.event)]
         lines = tuple(sorted({trip.line for trip in ends}))
         facts = ("event", "activity", "from event")
-        fresh = Layer(way, "stroke", facts, WAYS[way], lines, width=2, is_told=False)
+        fresh = Layer(way, "stroke", facts, style.QUIET, lines, width=2, is_told=False)
+        fresh.dash = WAYS[way]
         layer = layers.setdefault((way, lines), fresh)
         x: list[float] = [plan.disposed[event] for event in (late.before, late.event)]
         y: list[float] = [rows[trip.id] for trip in ends]
