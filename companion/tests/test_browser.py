@@ -12,7 +12,7 @@ from commands import made, run
 from drawn import drawn
 from large_day import write_large_day
 from lintim_companion import dataset, formats
-from test_pictures import made_folder
+from drawn_cases import made_folder
 
 pytest.importorskip("plotly")
 webdriver = pytest.importorskip("selenium.webdriver")

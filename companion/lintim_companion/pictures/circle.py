@@ -139,7 +139,7 @@ def change_layers(
         if (*lines, rank) not in layers:
             layers[*lines, rank] = fresh_layers(rank, lines)
         chords, marks = layers[*lines, rank]
-        a, b = (on_circle(it.time, period, RING) for it in (first, second))
+        a, b = (on_circle(it.time, period, RING + STEP * it.rank) for it in (first, second))
         name, id = f"change-{by.activity_id}", by.activity_id
         chords.shapes.append(Shape(name, [a[0], b[0]], [a[1], b[1]], [(id,)] * 2))
         x, y = (round(0.3 * one + 0.7 * two, 4) for one, two in zip(a, b))
