@@ -111,12 +111,19 @@ def test_numbers(both: tuple[Dataset, Page]) -> None:
     assert all(row[2] for row in page.table("numbers"))
 
 
-@pytest.mark.parametrize("name", ["space-time-line-1", "space-time-line-5", "vehicles"])
-def test_svg_turned_back(name: str, town: Path, tmp_path: Path) -> None:
-    """Shapes of an SVG, by their ids, in minutes and rows of the axes."""
-    ended = run("lintim-view", town, "--out", tmp_path / "page.html", "--svg", tmp_path)
+@pytest.fixture(scope="module")
+def on_paper(town: Path) -> Path:
+    """A folder with the pictures of the town."""
+    folder = town.parent / "svg"
+    ended = run("lintim-view", town, "--out", folder / "page.html", "--svg", folder)
     assert (ended.status, ended.err) == (0, [])
-    data, sheet = dataset.read(town), Sheet((tmp_path / f"{name}.svg").read_bytes())
+    return folder
+
+
+@pytest.mark.parametrize("name", ["space-time-line-1", "space-time-line-5", "vehicles"])
+def test_svg_turned_back(name: str, town: Path, on_paper: Path) -> None:
+    """Shapes of an SVG, by their ids, in minutes and rows of the axes."""
+    data, sheet = dataset.read(town), Sheet((on_paper / f"{name}.svg").read_bytes())
     names = {stop.stop_id: stop.long_name for stop in data[formats.STOPS]}
     events = {event.event_id: event for event in data[formats.DAY_EVENTS]}
     if name == "vehicles":

@@ -126,6 +126,12 @@ def test_some_lines(plan: Path) -> None:
     assert {line for lines in of_lines for line in lines} - {1} == {2, 5}
     assert any(1 in trace["meta"]["lines"] for trace in ways)  # from where line 2 is late
     assert 'data-line="2"' in page.text and 'data-line="1"' not in page.text
+    stands = [
+        shape[0].facts
+        for layer in traces(page.of("vehicles")["vehicles"], "stroke", "vehicle", 2)
+        for shape in shapes(layer)
+    ]
+    assert stands == [(1, 2), (3, 2)]  # those before a trip that is drawn
 
 
 def test_a_path_of_stops(plan: Path) -> None:
@@ -165,6 +171,7 @@ def test_two_folders_side_by_side(plan: Path, town: Path, tmp_path: Path) -> Non
     trips = [it["ro_trips"] // 10**6 for it in values]
     assert int(rows["delay-management/Trips.giv"][1]) >= trips[1] - trips[0] > 0
     assert "line-planning/Line-Concept.lin" not in rows
+    assert rows[formats.STATISTIC.name][2].startswith("key dm_missed_changes, ")
     numbers = {row[0]: row[1:] for row in page.table("numbers")}
     assert numbers["ro_trips"][:3] == [str(trips[0]), str(trips[1]), str(trips[1] - trips[0])]
 

@@ -4,12 +4,14 @@ from collections import Counter
 from typing import Any
 
 from ..cells import File
+from ..columns import columns
 from ..dataset import Dataset
 from ..formats import CONCEPT, FILES, STATISTIC
 from ..rows import number_text
 from .plan import Plan
 from .scene import Section
 
+MOST = 12  # rows that are named where more differ
 MEANINGS = {
     "lc_cost": "what the line concept costs",
     "lc_lines": "lines that are driven",
@@ -58,26 +60,34 @@ def difference_section(plan: Plan, other: Plan) -> Section:
     section = Section(
         "differences", "What differs", "Rows of each file that only one of the two has."
     )
-    section.head = ("file or line", "only in the first", "only in the second")
+    section.head = ("file or line", "only in the first", "only in the second", "which rows")
     for file in FILES:
         if file in plan.data or file in other.data:
-            only = rows_apart(file, plan.data, other.data)
-            if any(only):
-                section.table.append((file.name, *map(str, only)))
+            first, second = rows_apart(file, plan.data, other.data)
+            if first or second:
+                counts = str(len(first)), str(len(second))
+                section.table.append((file.name, *counts, which(file, [*first, *second])))
     often = [frequencies(it.data) for it in (plan, other)]
     for line in sorted({*often[0], *often[1]}):
         two = [f"driven {each[line]} times" if line in each else "not there" for each in often]
         if two[0] != two[1]:
-            section.table.append((f"line {line}", *two))
+            section.table.append((f"line {line}", *two, ""))
     if not section.table:
         section.left_out = "both have the same rows in all files"
     return section
 
 
-def rows_apart(file: File[Any], first: Dataset, second: Dataset) -> tuple[int, int]:
-    """How many rows of a file only the first dataset has, and only the second one."""
+def rows_apart(file: File[Any], first: Dataset, second: Dataset) -> list[list[tuple[Any, ...]]]:
+    """The rows of a file that only the first dataset has, and those that only the second has."""
     rows = [Counter(map(tuple, data.get(file))) for data in (first, second)]
-    return (rows[0] - rows[1]).total(), (rows[1] - rows[0]).total()
+    return [[*(rows[0] - rows[1]).elements()], [*(rows[1] - rows[0]).elements()]]
+
+
+def which(file: File[Any], rows: list[tuple[Any, ...]]) -> str:
+    """Some rows by their first cells: what column it is, and what stands there."""
+    first = sorted({row[0] for row in rows})
+    more = f" and {len(first) - MOST} more" if len(first) > MOST else ""
+    return f"{columns(file)[0].title} {', '.join(map(str, first[:MOST]))}{more}"
 
 
 def frequencies(data: Dataset) -> dict[int, int]:

@@ -75,7 +75,7 @@ def vehicle_picture(plan: Plan, rows: list[ScheduleRow]) -> Picture:
             name, colour = f"line {row.line}", plan.colour(row.line)
             fresh = Layer(name, "bar", FACTS, colour, (row.line,), width=0.7)
             layer = layers.setdefault(row.line, fresh)
-        elif then.circulation == row.circulation and then is not row:
+        elif (then.circulation, then.number) == (row.circulation, row.number + 1):
             name = f"stand-{row.circulation}-{row.number}"
             facts = [(row.circulation, row.number)] * 2
             stand.shapes.append(Shape(name, [row.end_time, then.start_time], [y, y], facts))
