@@ -17,12 +17,12 @@ for module in ("plotly", "matplotlib", "networkx", "scipy"):
 
 
 def test_vehicles(both: tuple[Dataset, Page]) -> None:
-    """Bars are trips, low strokes empty rides, and thin ones the turnaround after them."""
+    """Bars are trips, and low strokes empty rides."""
     data, page = both
     if not data[formats.SCHEDULE]:
         assert "no vehicle is out" in page.why_left_out()["vehicles"]
         return
-    figure, hours = page.of("vehicles").values()
+    figure = page.of("vehicles")["vehicles"]
     axis = figure["layout"]["yaxis"]
     rows_at = dict(zip(axis["tickvals"], axis["ticktext"]))
     bars: list[tuple[Any, ...]] = []
@@ -45,6 +45,15 @@ def test_vehicles(both: tuple[Dataset, Page]) -> None:
         for it in rows
     ]
     once(bars, wanted)
+
+
+def test_turnarounds_and_hours(both: tuple[Dataset, Page]) -> None:
+    """Thin strokes are the times before a next trip, and each hour has the vehicles that are out."""
+    data, page = both
+    if not data[formats.SCHEDULE]:
+        return
+    figure, hours = page.of("vehicles").values()
+    rows = data[formats.SCHEDULE].rows
     turns = [
         (first.facts, first.x, second.x)
         for layer in traces(figure, "stroke", "vehicle", 2)
