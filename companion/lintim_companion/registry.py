@@ -58,6 +58,9 @@ class Command:
 
 SCIPY = Package("python3-scipy", module="scipy")
 CADICAL = Package("cadical", program="cadical")
+PLOTLY = Package("python3-plotly", module="plotly")
+MATPLOTLIB = Package("python3-matplotlib", module="matplotlib")
+NETWORKX = Package("python3-networkx", module="networkx")
 FOLDER = Word("folder", "the folder of a dataset", kind="folder")
 SECONDS = Word("--seconds", "how long it may take", kind="whole", default=600, least=1)
 
@@ -197,6 +200,38 @@ COMMANDS = (
             (2, "the words of the command are wrong"),
             (130, "it was stopped before anything was written"),
         ),
+    ),
+    Command(
+        name="lintim-view",
+        module="commands.view",
+        says="Draws a plan: one page for a browser, and pictures for paper.",
+        about="The network, the line plan, the circle of each stop, space-time diagrams, vehicles,\n"
+        "delays and numbers, from whatever files stand in the folder. Pointing at a shape tells\n"
+        "its id. Of two folders all is drawn side by side, with what differs. --svg and --png\n"
+        "want python3-matplotlib; a network without coordinates wants python3-scipy and\n"
+        "python3-networkx.",
+        reads="whatever files stand in one dataset, or in two",
+        writes="the page: view.html where you are, or what --out names; pictures where --svg and --png say",
+        words=(
+            FOLDER,
+            Word("other", "a second dataset, to be seen beside the first", "folder", many=True),
+            Word("--out", "the page", kind="file", default="view.html"),
+            Word("--from", "what is under way from this time on, as 07:05"),
+            Word("--to", "what is under way up to this time"),
+            Word("--lines", "these lines alone, as 1,2"),
+            Word(
+                "--path",
+                "stops along which all trips are drawn too, as 1,2,4; several may be named",
+                many=True,
+            ),
+            Word("--svg", "a folder for each picture as a file of its own", kind="file"),
+            Word("--png", "the same as dots, for slides", kind="file"),
+            Word("--beside", "the script of plotly is a file beside the page", kind="switch"),
+        ),
+        example="lintim-view . --out town.html",
+        packages=(PLOTLY,),
+        statuses=((0, "the page was written"), (1, "no page was written; the last line says why"))
+        + STATUSES[2:],
     ),
 )
 
