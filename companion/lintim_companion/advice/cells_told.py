@@ -1,0 +1,111 @@
+"""Cells that are refused: what was found, what the column holds, and what was probably meant."""
+
+import re
+
+from ..cells import Cell, Fixed, Text, Whole, WholeOrWord, Word
+from ..columns import Column, columns, holds
+from ..rows import Row
+from .context import Context
+from .findings import LONGEST_LINE, Finding, finding, shown, take_out, write_line
+from .nearest import nearest_name
+from .spellings import TOTALS, fits, meant
+from .texts import Text as Found
+from .texts import replaced
+
+
+def of_cell(it: Context, text: Found, line: int, place: int, rule: str) -> Finding:
+    """A cell that is no number, out of range, or an unknown word; `place` counts from 0."""
+    row = text.row_at(line)
+    if row is None or text.file is None or place >= len(row.cells):
+        return finding(f"{text.name} line {line}: {rule}", file=text.name)
+    column = columns(text.file)[place]
+    where = f"{text.name} line {line}"
+    if line <= 2 and _is_header(text, row):
+        fix = write_line(text.name, line, "# " + text.line(line))
+        says = f"{where} is a header without # before it: {shown(text.line(line))}"
+        return finding(says, remedy=fix, file=text.name)
+    if is_matrix(text):
+        return matrix_told(it, text)
+    says = f"{where}: {column.title} is {quoted(row.cells[place])}, and {_wanted(column)}"
+    look = meant(column.cell, row.cells[place])
+    more = [f"{shown(text.line(line))}: {look.says}" if look else shown(text.line(line))]
+    values = [look.value] if look and look.value else []
+    values += _guesses(column.cell, row.cells[place], rule)
+    fixes: list[str | None] = [replaced(row, place, value) for value in values]
+    if row.cells[0].lower().strip(":. ") in TOTALS:
+        fixes.append(None)
+    best = it.copy.first_that_helps(text.name, line, fixes)
+    return finding(says, *more, remedy=_remedy(text, line, best, column), file=text.name)
+
+
+def _remedy(text: Found, line: int, best: str | None, column: Column) -> str:
+    if best is None or len(best) > LONGEST_LINE:
+        return f"write {column.title} in line {line} of {text.name} as {holds(column.cell)}"
+    return write_line(text.name, line, best) if best else take_out(text.name, line)
+
+
+def _guesses(cell: Cell, text: str, rule: str) -> list[str]:
+    """What may have been meant by a number out of its range, or a word."""
+    if isinstance(cell, Word):
+        near = nearest_name(text, cell.words, 0.5)
+        return [near] if near else []
+    ends = cell.whole if isinstance(cell, WholeOrWord) else cell
+    if rule != "is out of range" or not isinstance(ends, Whole | Fixed):
+        return []
+    guesses = [text[1:]] if text.startswith("-") else []
+    guesses += [str(max(ends.least, 1))] if _is_below(text, ends.least) else [str(ends.greatest)]
+    return [guess for guess in guesses if fits(cell, guess)]
+
+
+def _is_below(text: str, least: int) -> bool:
+    return text.startswith("-") or float(text) < least
+
+
+def _is_header(text: Found, row: Row) -> bool:
+    """Whether no cell of the first row is a number, though columns want some."""
+    if text.file is None or not text.rows or text.rows[0].line != row.line:
+        return False
+    wanted = [isinstance(column.cell, Whole | Fixed) for column in columns(text.file)]
+    cells = [cell for cell, is_number in zip(row.cells, wanted) if is_number]
+    return bool(cells) and all(re.search(r"[^\W\d]", cell) for cell in cells) and len(cells) > 0
+
+
+def is_matrix(text: Found) -> bool:
+    """Whether the rows are a square of numbers with nothing in its diagonal."""
+    rows = [row.cells for row in text.rows]
+    if text.name != "basis/OD.giv" or len(rows) < 2:
+        return False
+    return all(
+        len(row) == len(rows) and row[at] in ("0", "", "0.0", "-") for at, row in enumerate(rows)
+    )
+
+
+def matrix_told(it: Context, text: Found) -> Finding:
+    """Demand as a square table, told as the rows that it stands for."""
+    count, stops = len(text.rows), sorted(it.names.stops)
+    says = f"{text.name} is a square table of {count} times {count} numbers"
+    wanted = "; ".join(text.titles)
+    rows = []
+    if len(stops) >= count:
+        rows = [
+            f"{stops[a]}; {stops[b]}; {row.cells[b]}"
+            for a, row in enumerate(text.rows)
+            for b in range(count)
+            if row.cells[b] not in ("0", "", "0.0", "-")
+        ]
+    shown = ", ".join(f"{row}" for row in rows[:3])
+    more = f", so it begins with the rows {shown}" if rows else ""
+    return finding(
+        f"{says}, and lintim wants a row for each two stops: {wanted}",
+        remedy=f"write a row for each two stops{more}",
+        file=text.name,
+    )
+
+
+def _wanted(column: Column) -> str:
+    of = holds(column.cell)
+    return "any text may stand there" if isinstance(column.cell, Text) else f"it is to be {of}"
+
+
+def quoted(text: str) -> str:
+    return "empty" if not text else f"`{shown(text)}`"

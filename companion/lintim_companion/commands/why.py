@@ -1,0 +1,25 @@
+"""`lintim-why`: what is wrong with a dataset, where, and what would help."""
+
+from argparse import Namespace
+from pathlib import Path
+
+from ..advice.explain import explain
+from ..advice.words_told import WORDS
+from ..manners import Deadline, Talk
+
+
+def run(words: Namespace, talk: Talk) -> int:
+    """Tells it, and gives 0 where nothing is to be said."""
+    folder, given = words.folder, list(words.words)
+    if given or not folder.is_dir() and str(folder) in WORDS:
+        if not folder.is_dir() and str(folder) in WORDS:
+            folder, given = Path("."), [str(folder), *given]
+    told = explain(folder, given, Deadline(words.seconds), talk.progress)
+    if not told.findings:
+        return 0
+    if told.report:
+        talk.say(f"lintim make ends with: {told.report}")
+    for finding in told.findings:
+        for line in finding.lines():
+            talk.say(line)
+    return 1
