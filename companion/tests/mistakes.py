@@ -84,16 +84,22 @@ def all_of(*edits: Edit) -> Edit:
 
 def link(name: str, to: str) -> Edit:
     """A link in the place of a file."""
-    return lambda folder: [os.rename(folder / name, folder / to), _link(folder / name, to)]
 
+    def edit(folder: Path) -> None:
+        os.rename(folder / name, folder / to)
+        (folder / name).symlink_to(Path("..", to))
 
-def _link(path: Path, to: str) -> None:
-    path.symlink_to(Path("..", to))
+    return edit
 
 
 def folder_of(name: str) -> Edit:
     """A folder in the place of a file."""
-    return lambda folder: [(folder / name).unlink(), (folder / name).mkdir()]
+
+    def edit(folder: Path) -> None:
+        (folder / name).unlink()
+        (folder / name).mkdir()
+
+    return edit
 
 
 def _columns(count: int) -> Callable[[bytes], bytes]:
@@ -124,7 +130,9 @@ CELLS = (
     Mistake("Latin-1 names", every(STOP, lambda it: it.decode().encode("latin-1"))),
     Mistake(
         "Windows line ends in all files",
-        all_of(*(every(it, lambda it: it.replace(b"\n", b"\r\n")) for it in (STOP, EDGE, OD, POOL))),
+        all_of(
+            *(every(it, lambda it: it.replace(b"\n", b"\r\n")) for it in (STOP, EDGE, OD, POOL))
+        ),
     ),
     Mistake("CR only in OD", every(OD, lambda it: it.replace(b"\n", b"\r"))),
     Mistake("CR only in Edge", every(EDGE, lambda it: it.replace(b"\n", b"\r"))),
@@ -168,7 +176,9 @@ ROWS = (
     Mistake("no coordinates in Stop", every(STOP, _columns(3))),
     Mistake("name with a semicolon in quotes", swap(STOP, "Markt", '"Markt; Altstadt"')),
     Mistake("name with #", swap(STOP, "Markt", "Markt #1")),
-    Mistake("stop that no edge reaches", all_of(add(STOP, "13; X; X; 0; 0\n"), add(OD, "1; 13; 5\n"))),
+    Mistake(
+        "stop that no edge reaches", all_of(add(STOP, "13; X; X; 0; 0\n"), add(OD, "1; 13; 5\n"))
+    ),
     Mistake("pool: order from 0", put(POOL, "1; 0; 1\n1; 1; 2\n")),
     Mistake("pool: stops for edges", put(POOL, "1; 1; 1\n1; 2; 3\n")),
     Mistake("pool: an edge twice", put(POOL, "1; 1; 1\n1; 2; 1\n")),

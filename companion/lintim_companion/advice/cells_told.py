@@ -2,15 +2,19 @@
 
 import re
 
-from ..cells import Cell, Fixed, Text, Whole, WholeOrWord, Word
-from ..columns import Column, columns, holds
+from ..cells import Cell, Fixed, Whole, WholeOrWord, Word
+from ..columns import Column, columns
+from ..formats import POOL
 from ..rows import Row
 from .context import Context
-from .findings import LONGEST_LINE, Finding, finding, shown, take_out, write_line
+from .findings import LONGEST_LINE, Finding, call, finding, shown, take_out, write_line
 from .nearest import nearest_name
+from .ranges import is_text, wanted
 from .spellings import TOTALS, fits, meant
 from .texts import Text as Found
 from .texts import replaced
+
+COMMA = re.compile(r"-?\d+,\d+")
 
 
 def of_cell(it: Context, text: Found, line: int, place: int, rule: str) -> Finding:
@@ -26,21 +30,44 @@ def of_cell(it: Context, text: Found, line: int, place: int, rule: str) -> Findi
         return finding(says, remedy=fix, file=text.name)
     if is_matrix(text):
         return matrix_told(it, text)
-    says = f"{where}: {column.title} is {quoted(row.cells[place])}, and {_wanted(column)}"
-    look = meant(column.cell, row.cells[place])
-    more = [f"{shown(text.line(line))}: {look.says}" if look else shown(text.line(line))]
+    cell = row.cells[place]
+    look = meant(column.cell, cell)
+    says = f"{where}: {column.title} is {quoted(cell)}, and {wanted(column.cell)} is wanted"
+    more = [shown(text.line(line))] + ([f"{quoted(cell)}: {look.says}"] if look else [])
+    whole = _of_all(text, place)
+    if whole is not None:
+        return finding(says, *more, whole[0], remedy=whole[1], file=text.name)
     values = [look.value] if look and look.value else []
-    values += _guesses(column.cell, row.cells[place], rule)
+    values += _guesses(column.cell, cell, rule)
     fixes: list[str | None] = [replaced(row, place, value) for value in values]
-    if row.cells[0].lower().strip(":. ") in TOTALS:
+    if row.cells[0].lower().strip(":. ") in TOTALS or look is None and rule == "is not a number":
         fixes.append(None)
     best = it.copy.first_that_helps(text.name, line, fixes)
     return finding(says, *more, remedy=_remedy(text, line, best, column), file=text.name)
 
 
+def _of_all(text: Found, place: int) -> tuple[str, str] | None:
+    """What is wrong in many rows in the same way, and what puts all of them right."""
+    commas = sum(any(COMMA.fullmatch(cell) for cell in row.cells) for row in text.rows)
+    if commas > 1 and text.file is not None and not _has_names(text):
+        says = f"{commas} rows of {text.name} have decimal commas"
+        return says, call(f"sed -i 's/\\([0-9]\\),\\([0-9]\\)/\\1.\\2/g' {text.name}")
+    firsts = [row.cells[1] for row in text.rows if len(row.cells) == 3]
+    if text.name == POOL.name and place == 1 and firsts.count("0") > 0 and len(firsts) > 1:
+        says = "the places of a line are counted from 1, and here from 0"
+        count = '/^ *[0-9"]/ { $2 = $2 + 1 } 1'
+        new = f"awk -F '; *' -v OFS='; ' '{count}' {text.name} > {text.name}.new"
+        return says, call(f"{new} && mv {text.name}.new {text.name}")
+    return None
+
+
+def _has_names(text: Found) -> bool:
+    return text.file is not None and any(is_text(by.cell) for by in columns(text.file))
+
+
 def _remedy(text: Found, line: int, best: str | None, column: Column) -> str:
     if best is None or len(best) > LONGEST_LINE:
-        return f"write {column.title} in line {line} of {text.name} as {holds(column.cell)}"
+        return f"write {wanted(column.cell)} as {column.title} in line {line} of {text.name}"
     return write_line(text.name, line, best) if best else take_out(text.name, line)
 
 
@@ -65,9 +92,9 @@ def _is_header(text: Found, row: Row) -> bool:
     """Whether no cell of the first row is a number, though columns want some."""
     if text.file is None or not text.rows or text.rows[0].line != row.line:
         return False
-    wanted = [isinstance(column.cell, Whole | Fixed) for column in columns(text.file)]
-    cells = [cell for cell, is_number in zip(row.cells, wanted) if is_number]
-    return bool(cells) and all(re.search(r"[^\W\d]", cell) for cell in cells) and len(cells) > 0
+    numbers = [isinstance(column.cell, Whole | Fixed) for column in columns(text.file)]
+    cells = [cell for cell, is_number in zip(row.cells, numbers) if is_number]
+    return len(cells) > 0 and all(re.search(r"[^\W\d]{2}", cell) for cell in cells)
 
 
 def is_matrix(text: Found) -> bool:
@@ -84,7 +111,7 @@ def matrix_told(it: Context, text: Found) -> Finding:
     """Demand as a square table, told as the rows that it stands for."""
     count, stops = len(text.rows), sorted(it.names.stops)
     says = f"{text.name} is a square table of {count} times {count} numbers"
-    wanted = "; ".join(text.titles)
+    titles = "; ".join(text.titles)
     rows = []
     if len(stops) >= count:
         rows = [
@@ -96,15 +123,10 @@ def matrix_told(it: Context, text: Found) -> Finding:
     shown = ", ".join(f"{row}" for row in rows[:3])
     more = f", so it begins with the rows {shown}" if rows else ""
     return finding(
-        f"{says}, and lintim wants a row for each two stops: {wanted}",
+        f"{says}, and lintim wants a row for each two stops: {titles}",
         remedy=f"write a row for each two stops{more}",
         file=text.name,
     )
-
-
-def _wanted(column: Column) -> str:
-    of = holds(column.cell)
-    return "any text may stand there" if isinstance(column.cell, Text) else f"it is to be {of}"
 
 
 def quoted(text: str) -> str:

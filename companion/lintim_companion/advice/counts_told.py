@@ -47,6 +47,7 @@ def too_many(it: Context, what: str, count: int) -> Finding:
 
 def _still(it: Context, what: str, *rows: str) -> bool:
     """Whether the count is still over its limit with rows more in the settings."""
+    rows += ("last_stage; rollout",)
     return it.last_with(*rows).startswith(f"refused: too many {what}: ")
 
 

@@ -4,7 +4,7 @@ from ..formats import DEMAND, EDGES, GIVEN_LOADS, POOL, STOPS
 from .findings import Finding, call, either, finding
 from .texts import Text
 
-WIDE = ((b"\xff\xfe", "utf-16-le"), (b"\xfe\xff", "utf-16-be"))
+WIDE = (b"\xff\xfe", b"\xfe\xff")
 BLANK = {
     STOPS.name: "so the dataset has no stops",
     EDGES.name: "so no stop is joined to another",
@@ -20,7 +20,7 @@ def of_bytes(text: Text) -> Finding | None:
     wide = _width(data)
     if wide:
         says = f"{name} is saved with two bytes for each letter (UTF-16, Unicode text)"
-        convert = f"iconv -f {wide} -t UTF-8 {name} | sed '1s/^\\xef\\xbb\\xbf//' > {name}.new"
+        convert = f"iconv -f {wide} -t UTF-8 {name} > {name}.new"
         return finding(
             f"{says}; lintim reads UTF-8",
             remedy=either(call(f"{convert} && mv {name}.new {name}"), "save it as UTF-8"),
@@ -48,9 +48,9 @@ def of_bytes(text: Text) -> Finding | None:
 
 def _width(data: bytes) -> str:
     """The name of a 16-bit encoding, where the bytes show one."""
-    for mark, name in WIDE:
+    for mark in WIDE:
         if data.startswith(mark):
-            return name.upper()
+            return "UTF-16"
     start = data[:2000]
     if len(start) >= 8 and start[1::2].count(0) > 0.4 * len(start):
         return "UTF-16LE"

@@ -15,7 +15,7 @@ from .copies import REFUSED_ROW, copied
 from .encodings import of_bytes, without_rows
 from .fields_told import of_fields
 from .findings import Finding, finding
-from .missing_told import missing, near_files, no_dataset, no_files
+from .missing_told import missing, near_files, no_dataset, no_files, pool_call
 from .moved import moved
 from .plans_told import pinned, unmarked_decision
 from .rows_told import RULES, missing_edge
@@ -62,7 +62,8 @@ def _of_make(it: Context, folder: Path) -> Told:
     if faults:
         return Told("file fault", faults)
     near = near_files(folder)
-    bytes_told = [one for one in map(_of_text, _read_texts(it)) if one is not None]
+    seen = [_of_text(it, text) for text in _read_texts(it)]
+    bytes_told = [one for one in seen if one is not None]
     first = _of_report(it, folder)
     causes = [one for one in bytes_told if one.file in _concerned(it, first)]
     if it.answer.status != 0 and causes:
@@ -74,8 +75,11 @@ def _of_make(it: Context, folder: Path) -> Told:
     return Told(it.answer.last, _each_once(found))
 
 
-def _of_text(text: Text) -> Finding | None:
-    return of_bytes(text) or without_rows(text)
+def _of_text(it: Context, text: Text) -> Finding | None:
+    found = of_bytes(text) or without_rows(text)
+    if found is not None and text.name == POOL.name and not text.rows and pool_call(it):
+        return found._replace(remedy=pool_call(it))
+    return found
 
 
 def _read_texts(it: Context) -> Iterator[Text]:
@@ -176,11 +180,11 @@ def _silent(it: Context, folder: Path, near: dict[str, str]) -> list[Finding]:
         *silent.unread_source(it),
         *silent.unread_pins(it),
         *silent.thousands(it),
-        *silent.no_demand(it),
+        *(silent.no_demand(it) if DEMAND.name not in it.answer.last else ()),
         *silent.late_by_hours(it),
         *silent.misnamed(it, near),
         *moved(it, folder),
-        *silent.lonely_stops(it),
+        *(silent.lonely_stops(it) if not it.answer.last.endswith("no path") else ()),
     ]
     for line in it.answer.lines:
         if line.startswith("concept: ") and "not proved optimal" in line:

@@ -2,11 +2,14 @@
 
 import re
 
+from ..columns import columns
 from .cells_told import is_matrix, matrix_told
 from .context import Context
 from .encodings import separator_of
 from .findings import LONGEST_LINE, Finding, call, either, finding, shown, take_out, write_line
+from .spellings import fits
 from .texts import Text, spelled
+from .values_told import KEYS
 
 ERRORS = re.compile(r"#(?:REF!|N/A|NV|DIV/0!|VALUE!|WERT!|NAME\?|NULL!|NUM!|ZAHL!|BEZUG!)")
 SED_OF = {"tabs": "\\t", "commas": ",", "bars": "|", "colons": ":", "an equals sign": "="}
@@ -53,9 +56,19 @@ def _separators(it: Context, text: Text, line: int) -> tuple[str, str] | None:
     sign, name = between
     says = f"its cells are separated by {name}, and lintim wants semicolons"
     cells = [cell.strip() for cell in text.line(line).split(None if sign == " " else sign)]
+    if sign == " " and not _are_good(text, cells):
+        return None
     if sum(1 for row in text.rows if len(row.cells) == 1) == 1 or name not in SED_OF:
         return says, _line_or(it, text, line, spelled(cells), f"write `{spelled(cells)}`")
     return says, call(f"sed -i '/^#/!s/ *{SED_OF[name]} */; /g' {text.name}")
+
+
+def _are_good(text: Text, cells: list[str]) -> bool:
+    """Whether cells are good ones of the columns."""
+    if text.file is None:
+        return len(cells) == 2 and cells[0] in KEYS
+    wanted = columns(text.file)
+    return len(cells) == len(wanted) and all(map(fits, (by.cell for by in wanted), cells))
 
 
 def _number_sign(it: Context, text: Text, line: int) -> tuple[str, str] | None:

@@ -4,6 +4,7 @@ import os
 import stat
 from pathlib import Path
 
+from ..formats import POOL
 from .context import Context
 from .copies import HAND_FILES
 from .findings import Finding, call, either, finding, rename, take_out
@@ -74,7 +75,10 @@ def _others(folder: Path) -> list[str]:
 
 def missing(it: Context, folder: Path, name: str) -> Finding:
     """A file that is missing."""
-    near = [old for old, new in near_files(folder).items() if new == name]
+    files = near_files(folder)
+    near = [old for old, new in files.items() if new == name]
+    if near and misplaced(files):
+        return misplaced(files)[0]
     if near:
         says = f"{name} is missing, and {near[0]} has nearly its name"
         return finding(says, remedy=rename(near[0], name), file=name)
@@ -85,9 +89,8 @@ def missing(it: Context, folder: Path, name: str) -> Finding:
         says = f"{row[0]} line {row[1]} includes {name}, which is missing"
         return finding(says, remedy=take_out(row[0], row[1]), file=name)
     remedy = f"write {name}: docs/FORMAT.md has its columns"
-    if name == "basis/Pool.giv":
-        ends = " ".join(map(str, _ends(it)[:20]))
-        remedy = either(call(f"lintim pool {ends} > {name}"), "write it by hand")
+    if name == POOL.name:
+        remedy = either(pool_call(it), "write it by hand")
     if name == "basis/OD.giv" and "basis/Load.giv" in it.copy.texts:
         remedy = either(it.set_key("load_source", "file"), remedy)
     elif name == "basis/Load.giv" and "basis/OD.giv" in it.copy.texts:
@@ -95,10 +98,25 @@ def missing(it: Context, folder: Path, name: str) -> Finding:
     return finding(f"{name} is missing", remedy=remedy, file=name)
 
 
+def pool_call(it: Context) -> str:
+    """A pool of shortest lines between the ends of the network."""
+    ends = _ends(it)[:20]
+    return call(f"lintim pool {' '.join(map(str, ends))} > {POOL.name}") if len(ends) > 1 else ""
+
+
 def _ends(it: Context) -> list[int]:
     """The stops with one neighbour, or some stops where there are fewer than two."""
     ends = [stop for stop in sorted(it.names.stops) if len(it.names.neighbours.get(stop, ())) == 1]
     return ends if len(ends) > 1 else sorted(it.names.neighbours)[:4]
+
+
+def misplaced(near: dict[str, str]) -> list[Finding]:
+    """Several files of the folder basis that stand in the folder itself."""
+    named = {old: new for old, new in near.items() if old == new.removeprefix("basis/")}
+    if len(named) < 2:
+        return []
+    says = f"{', '.join(named)} stand in the folder itself, and lintim reads them in basis"
+    return [finding(says, remedy=call(f"mv {' '.join(named)} basis"), file="basis/Stop.giv")]
 
 
 def _pinned(it: Context, name: str) -> Finding:
@@ -108,7 +126,7 @@ def _pinned(it: Context, name: str) -> Finding:
         "pinned/Timetable-periodic.tim": ("pin_timetable", "lintim-timetable"),
     }.get(name, ("pin_vehicles", "lintim-schedule"))
     says = f"{key} is yes, so {name} is to be there, and it is missing"
-    remedy = either(it.set_key(key, "no"), f"then, after lintim make, run {command}")
+    remedy = either(it.set_key(key, "no"), call(f"lintim make; {command} ."))
     return finding(says, remedy=remedy, file=name)
 
 

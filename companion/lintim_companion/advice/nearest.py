@@ -13,6 +13,11 @@ def nearest_ids(wrong: int, ids: Iterable[int], count: int = 3) -> list[int]:
     return sorted(known, key=lambda at: (_unlike(str(wrong), str(at)), abs(at - wrong)))[:count]
 
 
+def is_like(a: int, b: int) -> bool:
+    """Whether two ids are one but for the order of their digits, or one digit."""
+    return _unlike(str(a), str(b)) < 2
+
+
 def _unlike(a: str, b: str) -> int:
     if sorted(a) == sorted(b):
         return 0

@@ -36,9 +36,7 @@ def pinned(it: Context, text: Text, row: int, why: str) -> Finding:
     says += _broken(it, text.name) if why == "not feasible" else []
     says.append("a pinned plan belongs to the files from which it was made")
     off = it.set_key(key, "no")
-    return finding(
-        *says, remedy=either(off, f"make it anew by {command}, after that"), file=text.name
-    )
+    return finding(*says, remedy=either(off, call(f"lintim make; {command} .")), file=text.name)
 
 
 def _broken(it: Context, name: str) -> list[str]:

@@ -6,7 +6,7 @@ from ..formats import EDGES, EVENT_DELAYS, GIVEN_LOADS, STOPS
 from ..rows import Row
 from .context import Context
 from .findings import Finding, add_rows, both, either, finding, shown, take_out, write_line
-from .nearest import nearest_ids
+from .nearest import is_like, nearest_ids
 from .texts import Text, replaced
 
 Told = Callable[[Context, Text, Row], Finding]
@@ -250,17 +250,16 @@ def unknown_of_day(it: Context, text: Text, row: Row) -> Finding:
     if not count:
         return finding(says, "the day has no trips at all", file=text.name)
     plural = "events" if kind == "event" else "activities"
-    near = nearest_ids(_number(row.cells[0]), range(1, min(count, 5_000) + 1))
-    if _number(row.cells[0]) > count:
-        near = [at for at in near if at <= count] + [count]
+    wrong = _number(row.cells[0])
+    near = [at for at in nearest_ids(wrong, range(1, count + 1)) if is_like(wrong, at)]
     told = [f"{at}: {it.names.day[at]}" for at in near if kind == "event" and at in it.names.day]
     return finding(
         f"{says}: its {plural} are 1 to {count}",
         "numbers of a day change with the lines, the timetable and the day",
         *(f"{kind} {line}" for line in told[:3]),
         remedy=either(
-            _fix(it, text, row, [replaced(row, 0, str(at)) for at in near], ""),
             take_out(text.name, row.line),
+            _fix(it, text, row, [replaced(row, 0, str(at)) for at in near], ""),
         ),
         file=text.name,
     )

@@ -10,6 +10,7 @@ from ..formats import ACTIVITY_DELAYS, DEMAND, EVENT_DELAYS, GIVEN_LOADS, STOPS
 from .context import Context
 from .findings import Finding, both, either, finding, rename, shown, take_out
 from .findings import write_line
+from .missing_told import misplaced
 from .texts import Text, replaced
 from .values_told import KEYS, config_rows
 
@@ -142,8 +143,10 @@ def late_by_hours(it: Context) -> Iterator[Finding]:
 
 def misnamed(it: Context, near: dict[str, str]) -> Iterator[Finding]:
     """Files that nobody reads and that have nearly the name of one."""
+    together = misplaced(near)
+    yield from together
     for old, new in near.items():
-        if new not in it.copy.texts:
+        if new not in it.copy.texts and not (together and old in together[0].remedy.split()):
             yield finding(
                 f"{shown(old)} is read by nobody; {new} has nearly its name and is not there",
                 remedy=rename(old, new),

@@ -40,8 +40,8 @@ def meant(cell: Cell, text: str) -> Meant | None:
     for look in (_signs, _clock, _date, _grouped, _forms, _unit, _letters):
         found = look(text, is_whole)
         if found is not None:
-            is_good = found.value is not None and fits(cell, found.value)
-            return found if is_good else Meant(found.says)
+            values = [found.value, (found.value or "").removeprefix("-")]
+            return Meant(found.says, next((it for it in values if it and fits(cell, it)), None))
     return None
 
 
@@ -176,6 +176,7 @@ def _letters(text: str, is_whole: bool) -> Meant | None:
         return Meant("it looks like a row of totals")
     if low in NOTHING:
         return Meant("it stands for no value")
-    if re.search(r"\d", text) and re.fullmatch(r"[\dOoQlI|SBZ.]+", text):
+    has_both = re.search(r"\d", text) and re.search(r"[OoQlI|SBZ]", text)
+    if has_both and re.fullmatch(r"[\dOoQlI|SBZ.]+", text):
         return Meant("it has letters that look like digits", text.translate(LOOKALIKES))
     return None

@@ -3,13 +3,14 @@
 import re
 
 from ..cells import Cell, Fixed, Whole, WholeOrWord, Word
-from ..columns import Key, holds, keys
+from ..columns import Key, keys
 from ..formats import CONFIG
 from ..settings import ConfigRow
 from ..tables import text_of
 from .context import Context
 from .findings import Finding, add_rows, finding, shown, take_out, write_line
 from .nearest import nearest_name
+from .ranges import wanted
 from .spellings import fits, meant
 from .texts import Text
 
@@ -45,21 +46,20 @@ def value(it: Context, name: str) -> Finding:
     found = row.value if row else text_of(key.cell, key.default)
     where = f"{row.name} line {row.line}: {name} is `{shown(found)}`" if row else ""
     where = where or f"no row of {CONFIG} has {name}, so it is {found}"
-    about = f"{name}: {key.use.says}"
-    says = [where, f"{about}; it is to be {_held(key)}"]
+    says = [where, f"{name} says {key.use.says}: {_held(key)}"]
     guesses, more = _guesses(it, key, found)
     last = [guess for guess in guesses if f"value of {name}" not in _with(it, row, name, guess)]
-    remedy = _set(row, name, last[0]) if last else f"write {name} as {holds(key.cell)}"
+    remedy = _set(row, name, last[0]) if last else f"write {wanted(key.cell)} as {name}"
     return finding(*says, *more, remedy=remedy, file=row.name if row else CONFIG)
 
 
 def _held(key: Key) -> str:
-    wanted = holds(key.cell)
+    held = wanted(key.cell)
     if key.use.not_below:
-        wanted += f", not below {key.use.not_below}"
+        held += f", not below {key.use.not_below}"
     if key.use.at_most_half_of:
-        wanted += f", at most half of {key.use.at_most_half_of}"
-    return wanted
+        held += f", at most half of {key.use.at_most_half_of}"
+    return held
 
 
 def _set(row: ConfigRow | None, name: str, new: str) -> str:
@@ -89,6 +89,8 @@ def _guesses(it: Context, key: Key, found: str) -> tuple[list[str], list[str]]:
         word = SYNONYMS.get(found.lower())
         near = word if word in words else nearest_name(found, words, 0.5)
         guesses += [near] if near else []
+    if found.strip("0.") == "" and not fits(key.cell, found):
+        guesses.append(text_of(key.cell, key.default))
     return guesses + _in_range(key.cell, found), more + _seconds(key, found)
 
 
@@ -163,7 +165,7 @@ def unknown_keys(it: Context) -> list[Finding]:
     """Keys that are like one of `lintim`, each of them, and then all others together."""
     found, others = [], []
     for row in config_rows(it):
-        if row.key in KEYS or row.key in FOREIGN:
+        if row.key in KEYS or row.key in FOREIGN or row.key.startswith("\ufeff"):
             continue
         near = nearest_name(row.key, KEYS)
         if near is None:
@@ -198,5 +200,5 @@ def _spelled(it: Context, row: ConfigRow, near: str) -> str:
     look = meant(cell, row.value)
     new = look.value if look and look.value and not fits(cell, row.value) else row.value
     if not fits(cell, new):
-        return f"write line {row.line} of {row.name} with the key {near}, as {holds(cell)}"
+        return f"write line {row.line} of {row.name} with the key {near}, as {wanted(cell)}"
     return write_line(row.name, row.line, f"{near}; {new}")

@@ -8,6 +8,7 @@ from ..cells import Whole
 from ..formats import FILES, WAITS
 from .context import Context
 from .findings import Finding, call, either, finding, shown
+from .missing_told import pool_call
 from .nearest import nearest_ids, nearest_name
 from .spellings import meant
 
@@ -38,7 +39,7 @@ STAGE_FILES = {file.stage: file.name for file in reversed(FILES) if file.stage}
 
 def of_words(it: Context, folder: Path, words: list[str]) -> list[Finding]:
     """What is wrong with words of `lintim`, or with what they need."""
-    if not words:
+    if not words or words == [""]:
         says = "lintim wants a word that says what it is to do"
         return [finding(f"{says}: {', '.join(WORDS)}", remedy=call("lintim make"))]
     word = words[0]
@@ -72,12 +73,15 @@ def _wrong(it: Context, words: list[str]) -> Finding | None:
             return None
         says = f"{word} takes no word after it: lintim runs in the folder where you stand"
         fixed = call(f"lintim {word}")
-        if len(rest) == 1 and (it.copy.folder / rest[0]).is_dir() or rest == ["."]:
+        if len(rest) == 1 and "/" in rest[0]:
             fixed = call(f"cd {rest[0]} && lintim {word}")
         return finding(says, remedy=fixed)
     fixed_words = _fixed(it, words)
     if fixed_words == words:
         return None
+    if word == "pool" and len(set(rest)) < 2:
+        ends = pool_call(it).removesuffix(" > basis/Pool.giv`")
+        return finding(f"these words do not fit: {SAYS[word]}", remedy=f"{ends}`" if ends else "")
     remedy = call(f"lintim {' '.join(fixed_words)}") if fixed_words else f"write {SAYS[word]}"
     return finding(f"these words do not fit: {SAYS[word]}", *_whys(it, words), remedy=remedy)
 
@@ -94,8 +98,22 @@ def _whys(it: Context, words: list[str]) -> list[str]:
             at = _stop_named(it, word)
             named = f" is {it.names.stop_by_id(at)}" if at else " is no stop by its name either"
             found.append(f"stops are told by their ids, and {shown(word)}{named}")
-    if words[0] == "pool" and len(set(words[1:])) < 2:
-        found.append("a line needs two ends")
+    if words[0] == "journey":
+        found += _whys_of_journey(words[1:])
+    for text, (least, greatest) in zip(words[1:], RANGES.get(words[0], ())):
+        if not _number(text, least, greatest) == text:
+            found.append(f"{shown(text)} is no whole number from {least} to {greatest}")
+    return found
+
+
+def _whys_of_journey(rest: list[str]) -> list[str]:
+    """What is wrong with the time of a journey, and with its last word."""
+    found = []
+    look = meant(MINUTE, rest[2]) if len(rest) > 2 else None
+    if look:
+        found.append(f"`{shown(rest[2])}`: {look.says}")
+    if len(rest) == 3:
+        found.append("planned or disposed is to stand at the end")
     return found
 
 
