@@ -13,7 +13,7 @@ WRITE = re.compile(r"write line (\d+) of (\S+) as `(.*)`")
 ADD = re.compile(r"add to (\S+): (`.*`)(?: with .*)?")
 TAKE = re.compile(r"take line (\d+) out of (\S+)")
 RENAME = re.compile(r"rename `(.*)` to `(.*)`")
-RUN = re.compile(r"run `(.*)`(?: .*)?")
+RUN = re.compile(r"run `([^`]*)`(?: .*)?")
 MOST_TURNS = 40
 
 

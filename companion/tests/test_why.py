@@ -2,6 +2,7 @@
 
 import shutil
 from pathlib import Path
+from typing import Any
 
 import pytest
 
@@ -24,12 +25,22 @@ OPEN = {  # mistakes that no script can put right, since something is to be thou
     "run in an empty folder",
     "Edge is a folder",
     "missing value NaN",
+    "huge demand",
     "error of a spreadsheet",
     "a spreadsheet file",
     "misspelt headway and capacity",
     "demand of nobody",
-    "a decision without a tree",
 }
+
+
+def _case(mistake: Mistake) -> Any:
+    """A mistake as a case; where times are searched long, it is left to long tests."""
+    is_long = mistake.name in LONG
+    return pytest.param(mistake, id=mistake.name, marks=[pytest.mark.long] if is_long else [])
+
+
+LONG = {"changes of at most 20 minutes"}
+mistakes = pytest.mark.parametrize("mistake", [_case(mistake) for mistake in ALL])
 
 
 def test_the_table_has_84_usual_mistakes_and_40_more() -> None:
@@ -39,7 +50,7 @@ def test_the_table_has_84_usual_mistakes_and_40_more() -> None:
     assert sum(bool(WANTED[mistake.name]) for mistake in OWN) >= 40
 
 
-@pytest.mark.parametrize("mistake", ALL, ids=[mistake.name for mistake in ALL])
+@mistakes
 def test_what_is_said_and_that_it_helps(mistake: Mistake, tmp_path: Path) -> None:
     folder = folder_with(mistake, tmp_path / "town")
     told = told_of(folder, mistake.words)
@@ -55,7 +66,7 @@ def test_what_is_said_and_that_it_helps(mistake: Mistake, tmp_path: Path) -> Non
                 assert number or told.report == "done" or after.report != told.report, way
 
 
-@pytest.mark.parametrize("mistake", ALL, ids=[mistake.name for mistake in ALL])
+@mistakes
 def test_followed_to_the_end_nothing_is_left_to_say(mistake: Mistake, tmp_path: Path) -> None:
     if mistake.name in OPEN or mistake.words != "make" or mistake.below != ".":
         return

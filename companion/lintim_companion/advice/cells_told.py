@@ -79,13 +79,9 @@ def _guesses(cell: Cell, text: str, rule: str) -> list[str]:
     ends = cell.whole if isinstance(cell, WholeOrWord) else cell
     if rule != "is out of range" or not isinstance(ends, Whole | Fixed):
         return []
-    guesses = [text[1:]] if text.startswith("-") else []
-    guesses += [str(max(ends.least, 1))] if _is_below(text, ends.least) else [str(ends.greatest)]
-    return [guess for guess in guesses if fits(cell, guess)]
-
-
-def _is_below(text: str, least: int) -> bool:
-    return text.startswith("-") or float(text) < least
+    guesses = [text[1:]] if text.startswith("-") else [str(max(ends.least, 1))]
+    is_below = text.startswith("-") or text.strip("0.") == ""
+    return [guess for guess in guesses if is_below and fits(cell, guess)]
 
 
 def _is_header(text: Found, row: Row) -> bool:

@@ -2,10 +2,12 @@
 
 import os
 import re
+import shutil
 import stat
 import tempfile
 from collections.abc import Iterator
 from contextlib import contextmanager
+from functools import cached_property
 from pathlib import Path
 
 from .. import program
@@ -17,23 +19,30 @@ REFUSED_ROW = re.compile(r"refused: (\S+) row (\d+): (.*)")
 
 
 class Copy:
-    """The copy: its folder, and the texts of its files."""
+    """The copy: its folder, in which `lintim make` ran once, and the texts of its files. Remedies
+    are tried in another one beside it."""
 
     def __init__(self, folder: Path, texts: dict[str, Text]) -> None:
         self.folder, self.texts = folder, texts
+
+    @cached_property
+    def answer(self) -> program.Answer:
+        """What `lintim make` said of it."""
+        return program.run(self.folder, "make")
+
+    @cached_property
+    def trial(self) -> Path:
+        """The folder in which remedies are tried."""
+        return Path(shutil.copytree(self.folder, self.folder.parent / "trial"))
 
     def text(self, name: str) -> Text:
         """The text of a file, an empty one where it is not there."""
         return self.texts.get(name) or Text(name, b"")
 
-    def make(self, *words: str) -> program.Answer:
-        """A run of `lintim` there."""
-        return program.run(self.folder, *(words or ("make",)))
-
     @contextmanager
-    def changed(self, name: str, data: bytes) -> Iterator[None]:
-        """Another text of a file, for a while."""
-        path = self.folder / name
+    def _changed(self, name: str, data: bytes) -> Iterator[None]:
+        """Another text of a file in the trial, for a while."""
+        path = self.trial / name
         path.parent.mkdir(parents=True, exist_ok=True)
         old = path.read_bytes() if path.exists() else None
         path.write_bytes(data)
@@ -46,18 +55,18 @@ class Copy:
 
     def tried(self, name: str, data: bytes) -> str:
         """The last line of the report with another text of a file."""
-        with self.changed(name, data):
-            return self.make().last
+        with self._changed(name, data):
+            return program.run(self.trial, "make").last
 
     def with_settings(self, *rows: str) -> program.Answer:
         """The report with rows more at the end of the settings."""
-        with self.changed(CONFIG, self.text(CONFIG).with_rows(*rows)):
-            return self.make()
+        with self._changed(CONFIG, self.text(CONFIG).with_rows(*rows)):
+            return program.run(self.trial, "make")
 
     def first_that_helps(self, name: str, line: int, texts: list[str | None]) -> str | None:
         """The first text of a line with which the report does not end in the same row any more;
         an empty one where the line is to go."""
-        before = REFUSED_ROW.match(self.make().last)
+        before = REFUSED_ROW.match(self.answer.last)
         old = self.text(name)
         for text in texts:
             after = REFUSED_ROW.match(self.tried(name, old.with_line(line, text)))
@@ -70,13 +79,14 @@ class Copy:
 def copied(folder: Path) -> Iterator[Copy]:
     """A copy of what people write, which is gone afterwards."""
     with tempfile.TemporaryDirectory(prefix="lintim-why-") as place:
-        texts = {}
+        texts, base = {}, Path(place, "base")
+        (base / "basis").mkdir(parents=True)
         for name in _names(folder):
             data = _data(folder / name)
             if data is not None:
                 texts[name] = Text(name, data)
-                _write(Path(place, name), folder / name, data)
-        yield Copy(Path(place), texts)
+                _write(base / name, folder / name, data)
+        yield Copy(base, texts)
 
 
 def _names(folder: Path) -> Iterator[str]:

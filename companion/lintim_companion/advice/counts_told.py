@@ -118,7 +118,7 @@ def _loads(it: Context) -> list[Load]:
     if it.copy.with_settings(*rows).status != 0:
         return []
     try:
-        return dataset.read_file(it.copy.folder, LOADS).rows
+        return dataset.read_file(it.copy.trial, LOADS).rows
     except Refused:
         return []
 

@@ -14,9 +14,10 @@ from .context import Context
 from .copies import REFUSED_ROW, copied
 from .encodings import of_bytes, without_rows
 from .fields_told import of_fields
-from .findings import Finding, finding
-from .missing_told import missing, near_files, no_dataset, no_files, pool_call
+from .findings import Finding, either, finding
+from .missing_told import missing, near_files, no_dataset, no_files
 from .moved import moved
+from .pools import pool_that_works
 from .plans_told import pinned, unmarked_decision
 from .rows_told import RULES, missing_edge
 from .texts import Text
@@ -49,7 +50,7 @@ def explain(folder: Path, words: list[str], deadline: Deadline, progress: Progre
     if none is not None and (not words or words[0] in WORDS and words[0] != "demo"):
         return Told("", [none])
     with copied(folder) as copy:
-        it = Context(copy, copy.make(), deadline, progress)
+        it = Context(copy, copy.answer, deadline, progress)
         if words and words not in (["make"], ["fresh"]):
             told = of_words(it, folder, words)
             if told or it.answer.status == 0:
@@ -76,9 +77,10 @@ def _of_make(it: Context, folder: Path) -> Told:
 
 
 def _of_text(it: Context, text: Text) -> Finding | None:
-    found = of_bytes(text) or without_rows(text)
-    if found is not None and text.name == POOL.name and not text.rows and pool_call(it):
-        return found._replace(remedy=pool_call(it))
+    seen = of_bytes(text)
+    found = seen or without_rows(text)
+    if found is not None and seen is None and text.name == POOL.name:
+        return found._replace(remedy=either(pool_that_works(it), found.remedy))
     return found
 
 

@@ -9,6 +9,7 @@ from .context import Context
 from .copies import HAND_FILES
 from .findings import Finding, call, either, finding, rename, take_out
 from .nearest import plain
+from .pools import pool_call
 
 ENDINGS = (".txt", ".csv", ".bak", ".new", ".old", ".orig", ".xlsx", ".ods", ".tsv", "~")
 FOLDERS = ("basis", "delay-management", "pinned", "waiting")
@@ -96,18 +97,6 @@ def missing(it: Context, folder: Path, name: str) -> Finding:
     elif name == "basis/Load.giv" and "basis/OD.giv" in it.copy.texts:
         remedy = either(it.set_key("load_source", "od"), remedy)
     return finding(f"{name} is missing", remedy=remedy, file=name)
-
-
-def pool_call(it: Context) -> str:
-    """A pool of shortest lines between the ends of the network."""
-    ends = _ends(it)[:20]
-    return call(f"lintim pool {' '.join(map(str, ends))} > {POOL.name}") if len(ends) > 1 else ""
-
-
-def _ends(it: Context) -> list[int]:
-    """The stops with one neighbour, or some stops where there are fewer than two."""
-    ends = [stop for stop in sorted(it.names.stops) if len(it.names.neighbours.get(stop, ())) == 1]
-    return ends if len(ends) > 1 else sorted(it.names.neighbours)[:4]
 
 
 def misplaced(near: dict[str, str]) -> list[Finding]:

@@ -78,6 +78,6 @@ def unmarked_decision(folder: Path) -> Finding | None:
         return None
     return finding(
         f"{WAITS.name} has a decision without a tree, which may cost several times the best one",
-        remedy=call("lintim-waits . 10") + " with your penalty in the place of 10",
+        remedy=call("lintim make; lintim-waits . 10") + " with your penalty in the place of 10",
         file=WAITS.name,
     )

@@ -8,7 +8,7 @@ from ..cells import Whole
 from ..formats import FILES, WAITS
 from .context import Context
 from .findings import Finding, call, either, finding, shown
-from .missing_told import pool_call
+from .pools import pool_call
 from .nearest import nearest_ids, nearest_name
 from .spellings import meant
 
