@@ -1,6 +1,7 @@
 """Further mistakes, each as an edit of the town; what is to be said of each stands in
 `data/why.txt`."""
 
+import os
 import shutil
 from pathlib import Path
 
@@ -49,6 +50,20 @@ def pinned_concept(old: str, new: str) -> Edit:
 def made(folder: Path) -> None:
     """All plans."""
     program.run(folder, "make")
+
+
+def doubled(folder: Path) -> None:
+    """A made file has a second name, and is to change."""
+    made(folder)
+    os.link(folder / "statistic/statistic.sta", folder / "a copy")
+    key("vs_vehicle_costs", 50)(folder)
+
+
+def linked(folder: Path) -> None:
+    """A made folder is a link to another place."""
+    made(folder)
+    (folder / "statistic").rename(folder / "elsewhere")
+    (folder / "statistic").symlink_to("elsewhere")
 
 
 TWO_LINES = "1; 1; 1\n2; 1; 1\n3; 1; 1\n"
@@ -113,6 +128,8 @@ OWN = (
     Mistake("a delay whose event moved", all_of(made, key("DM_earliest_time", 300))),
     Mistake("a delay of an activity that is not there", put(LATE_TRIPS, "99999; 5\n")),
     Mistake("a decision without a tree", put("waiting/Waits.cert", "cost; 0; 5\nkeep; 1; 0\n")),
+    Mistake("a made file with a second name", doubled),
+    Mistake("a made folder is a link", linked),
     Mistake("a file saved as .txt", move(OD, "basis/OD.giv.txt")),
     Mistake("a config that includes itself", key("include", "Config.cnf")),
     Mistake("an include that is missing", key("include", "more.cnf")),

@@ -55,24 +55,20 @@ def test_what_is_said_and_that_it_helps(mistake: Mistake, tmp_path: Path) -> Non
     folder = folder_with(mistake, tmp_path / "town")
     told = told_of(folder, mistake.words)
     assert lines_of(told) == WANTED[mistake.name]
-    for number, finding in enumerate(told.findings):
-        for place, way in enumerate(follow.alternatives(finding.remedy)):
-            copy = tmp_path / f"{number}-{place}"
-            shutil.copytree(folder, copy, symlinks=True)
-            follow.follow(copy, way)
-            if mistake.words == "make" and mistake.below == ".":
-                after = told_of(copy)
+    is_of_make = mistake.words == "make" and mistake.below == "."
+    last = folder
+    for number, finding in reversed([*enumerate(told.findings)]):
+        for place, way in reversed([*enumerate(follow.alternatives(finding.remedy))]):
+            last = tmp_path / f"{number}-{place}"
+            shutil.copytree(folder, last, symlinks=True)
+            follow.follow(last, way)
+            if is_of_make:
+                after = told_of(last)
                 assert finding.why not in [other.why for other in after.findings], way
                 assert number or told.report == "done" or after.report != told.report, way
-
-
-@mistakes
-def test_followed_to_the_end_nothing_is_left_to_say(mistake: Mistake, tmp_path: Path) -> None:
-    if mistake.name in OPEN or mistake.words != "make" or mistake.below != ".":
-        return
-    folder = folder_with(mistake, tmp_path / "town")
-    follow.until_good(folder, lambda at: [it.remedy for it in told_of(at).findings])
-    assert program.run(folder, "make").status == 0
+    if is_of_make and mistake.name not in OPEN:
+        follow.until_good(last, lambda at: [it.remedy for it in told_of(at).findings])
+        assert program.run(last, "make").status == 0
 
 
 @pytest.mark.parametrize(

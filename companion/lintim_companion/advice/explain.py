@@ -15,7 +15,8 @@ from .copies import REFUSED_ROW, copied
 from .encodings import of_bytes, without_rows
 from .fields_told import of_fields
 from .findings import Finding, either, finding
-from .missing_told import missing, near_files, no_dataset, no_files
+from .links_told import no_files, second_names
+from .missing_told import missing, near_files, no_dataset
 from .moved import moved
 from .pools import pool_that_works
 from .plans_told import pinned, unmarked_decision
@@ -60,6 +61,7 @@ def explain(folder: Path, words: list[str], deadline: Deadline, progress: Progre
 
 def _of_make(it: Context, folder: Path) -> Told:
     faults = [one for one in no_files(folder) if _is_read(it, one.file)]
+    faults += second_names(folder, it.copy)
     if faults:
         return Told("file fault", faults)
     near = near_files(folder)
@@ -78,7 +80,8 @@ def _of_make(it: Context, folder: Path) -> Told:
 
 def _of_text(it: Context, text: Text) -> Finding | None:
     seen = of_bytes(text)
-    found = seen or without_rows(text)
+    is_network = it.answer.status != 0 or len(it.names.stops) > 1
+    found = seen or (without_rows(text) if is_network else None)
     if found is not None and seen is None and text.name == POOL.name:
         return found._replace(remedy=either(pool_that_works(it), found.remedy))
     return found

@@ -1,7 +1,6 @@
 """Files that are missing, misnamed, misplaced, or no files."""
 
 import os
-import stat
 from pathlib import Path
 
 from ..formats import POOL
@@ -128,53 +127,6 @@ def _includes(it: Context) -> list[tuple[str, int, str]]:
         for row in text.rows
         if len(row.cells) == 2 and row.cells[0] == "include"
     ]
-
-
-def no_files(folder: Path) -> list[Finding]:
-    """What stands in the place of a file and is none, or cannot be read: `lintim` follows no link
-    and ends with `file fault`."""
-    found = []
-    for place in FOLDERS:
-        if (folder / place).is_symlink():
-            says = f"{place} is a link to another folder, and lintim follows no links"
-            copy = f"cp -rL {place} {place}.new && rm {place} && mv {place}.new {place}"
-            found.append(finding(says, remedy=call(copy), file=place))
-    for name in HAND_FILES:
-        told = _no_file(folder, name)
-        if told:
-            found.append(told)
-    return found
-
-
-def _no_file(folder: Path, name: str) -> Finding | None:
-    path = folder / name
-    try:
-        there = path.lstat()
-    except OSError:
-        return None
-    if stat.S_ISLNK(there.st_mode):
-        copy = f"cp -L {name} {name}.new && mv {name}.new {name}"
-        says = f"{name} is a link to {shown_link(path)}, and lintim follows no links"
-        is_good = path.is_file()
-        remedy = call(copy) if is_good else f"put a file in the place of {name}"
-        return finding(says, remedy=remedy, file=name)
-    if stat.S_ISDIR(there.st_mode):
-        inside = path / os.path.basename(name)
-        says = f"{name} is a folder, and a file is wanted"
-        move = f"mv {name} {name}.folder && mv {name}.folder/{os.path.basename(name)} {name}"
-        remedy = call(move) if inside.is_file() else f"put a file in the place of {name}"
-        return finding(says, remedy=remedy, file=name)
-    if not stat.S_ISREG(there.st_mode):
-        says = f"{name} is no regular file, and lintim reads no other"
-        return finding(says, remedy=f"put a file in the place of {name}", file=name)
-    if not os.access(path, os.R_OK):
-        return finding(f"{name} may not be read", remedy=call(f"chmod u+r {name}"), file=name)
-    return None
-
-
-def shown_link(path: Path) -> str:
-    """Where a link leads."""
-    return os.readlink(path)
 
 
 def no_dataset(folder: Path) -> Finding | None:
