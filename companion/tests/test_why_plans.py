@@ -8,6 +8,8 @@ from pathlib import Path
 
 import numpy
 import pytest
+from hypothesis import given
+from hypothesis import strategies as some
 
 import follow
 from commands import BIN, environment
@@ -15,7 +17,8 @@ from conftest import Folders
 from lintim_companion import dataset, program
 from lintim_companion.advice import elastic
 from lintim_companion.advice.cores import Cores, least_good
-from lintim_companion.cells import MILLION
+from lintim_companion.advice.spellings import fits, meant
+from lintim_companion.cells import MILLION, Cell, Fixed, Whole, WholeOrWord
 from lintim_companion.formats import Load
 from lintim_companion.line_concepts.problem import LineProblem, ProblemEdge, ProblemLine
 from lintim_companion.timetables.problem import PeriodicProblem, Span
@@ -114,6 +117,14 @@ def test_cores_by_brute_force(seed: int) -> None:
     core, is_minimal = Cores(problem, time(), QUIET).smallest(groups)
     assert is_minimal and not is_possible(core)
     assert all(is_possible([at for at in core if at != place]) for place in core)
+
+
+@given(text=some.text(alphabet="0123456789.,:'eE+-/ Oh\u00a0\u2212\u0663janmio€%#xs", max_size=60))
+def test_what_was_meant_is_a_good_value(text: str) -> None:
+    cells: tuple[Cell, ...] = (Whole(1, 720), Fixed(0, 10_000), WholeOrWord(Whole(0, 9), ("all",)))
+    for cell in cells:
+        look = meant(cell, text)
+        assert look is None or look.value is None or fits(cell, look.value)
 
 
 def test_the_least_number_that_is_good() -> None:

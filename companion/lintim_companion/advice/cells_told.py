@@ -126,4 +126,5 @@ def matrix_told(it: Context, text: Found) -> Finding:
 
 
 def quoted(text: str) -> str:
+    """A cell as it is told."""
     return "empty" if not text else f"`{shown(text)}`"

@@ -16,7 +16,7 @@ Groups = Sequence[frozenset[int]]
 
 
 class Cores:
-    """A periodic problem whose activities can be taken one by one; they are told by their places."""
+    """A periodic problem whose activities can be taken one by one, by their places."""
 
     def __init__(self, problem: PeriodicProblem, deadline: Deadline, progress: Progress) -> None:
         self.problem, self.deadline, self.progress = problem, deadline, progress
@@ -34,6 +34,7 @@ class Cores:
         self.calls += 1
 
         def write(file: IO[str]) -> None:
+            """All clauses of these activities."""
             file.write(f"p cnf {self.size} {len(self.always) + len(chosen)}\n")
             file.writelines(self.always)
             file.writelines(chosen)

@@ -194,7 +194,8 @@ def broken_line(it: Context, text: Text, row: Row) -> Finding:
         more.append("these may be ids of stops: lintim wants those of edges")
     return finding(
         f"{text.name} line {row.line}: {names.edge(edge)} does not join the end of"
-        f" {names.edge(before[-1]) if before else 'the line'}, which line {row.cells[0]} has before",
+        f" {names.edge(before[-1]) if before else 'the line'}, which line {row.cells[0]} has"
+        " before",
         shown(text.line(row.line)),
         *more,
         remedy=_fix(it, text, row, fixes[:5] + [None], "write an edge that joins"),

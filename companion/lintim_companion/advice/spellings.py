@@ -137,6 +137,8 @@ def _grouped(text: str, is_whole: bool) -> Meant | None:
 
 
 def _rounded(number: str) -> str:
+    if len(number) > 20:
+        return number
     return str(Decimal(number).quantize(Decimal(1), rounding=ROUND_HALF_UP))
 
 
