@@ -114,7 +114,9 @@ OWN = (
     Mistake("headways that do not fit", all_of(SHORT, key("ean_headway", 25))),
     Mistake("headway over half of the period", key("ean_headway", 31)),
     Mistake("too many trips", MANY_TRIPS),
-    Mistake("misspelt headway and capacity", all_of(key("headway", 3), key("capacity", 50))),
+    Mistake(
+        "keys by other names", all_of(key("headway", 3), key("capacity", 80), key("colour", "red"))
+    ),
     Mistake("costs with thousands", key("vs_vehicle_costs", "1.000")),
     Mistake("demand of nobody", all_of(put(OD, "1; 3; 0\n2; 2; 50\n"), remove(LATE))),
     Mistake("a stop without an edge", add(STOP, "13; NEU; Neubau; 7.7; 49.4\n")),

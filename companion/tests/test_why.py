@@ -28,7 +28,7 @@ OPEN = {  # mistakes that no script can put right, since something is to be thou
     "huge demand",
     "error of a spreadsheet",
     "a spreadsheet file",
-    "misspelt headway and capacity",
+    "keys by other names",
     "demand of nobody",
 }
 

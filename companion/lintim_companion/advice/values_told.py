@@ -9,7 +9,7 @@ from ..settings import ConfigRow
 from ..tables import text_of
 from .context import Context
 from .findings import Finding, add_rows, finding, shown, take_out, write_line
-from .nearest import nearest_name
+from .nearest import nearest_name, plain
 from .ranges import wanted
 from .spellings import fits, meant
 from .texts import Text
@@ -23,6 +23,21 @@ SYNONYMS = {
     "vehicle-scheduling": "vehicles", "delay-management": "disposition", "all_stages": "statistic",
     "never": "none", "always": "all", "keine": "none", "alle": "all", "costs": "cost",
 }  # fmt: skip
+
+
+OTHER_NAMES = {
+    "capacity": "gen_passengers_per_vehicle",
+    "vehiclecapacity": "gen_passengers_per_vehicle",
+    "seats": "gen_passengers_per_vehicle",
+    "cycletime": "period_length",
+    "interval": "period_length",
+    "turnaround": "vs_turn_over_time",
+    "turnaroundtime": "vs_turn_over_time",
+    "starttime": "DM_earliest_time",
+    "endtime": "DM_latest_time",
+    "vehiclecost": "vs_vehicle_costs",
+    "linecost": "lpool_costs_fixed",
+}
 
 
 def config_rows(it: Context) -> list[ConfigRow]:
@@ -140,7 +155,17 @@ def _of_bounds(it: Context, key: Key, found: str) -> tuple[list[str], list[str]]
     if key.name == "DM_latest_time" and int(float(found)) <= 1440:
         more.append("a day that goes on after midnight is counted on: 24:00 is 1440")
         return [str(int(float(found)) + 1440), bound], more
+    if key.name == "ean_default_maximal_change_time":
+        free = int(float(bound)) + _period(it) - 1
+        return [str(free), bound], [*more, f"with {free} a change may take any minute of a period"]
     return [bound], more
+
+
+def _period(it: Context) -> int:
+    """The period, as far as its row can be read."""
+    row = next((one for one in reversed(config_rows(it)) if one.key == "period_length"), None)
+    is_good = row is not None and fits(KEYS["period_length"].cell, row.value)
+    return int(float(row.value)) if row and is_good else int(KEYS["period_length"].default)
 
 
 def config_row(it: Context, text: Text, line: int, why: str) -> Finding:
@@ -167,7 +192,7 @@ def unknown_keys(it: Context) -> list[Finding]:
     for row in config_rows(it):
         if row.key in KEYS or row.key in FOREIGN or row.key.startswith("\ufeff"):
             continue
-        near = nearest_name(row.key, KEYS)
+        near = OTHER_NAMES.get(plain(row.key)) or nearest_name(row.key, KEYS)
         if near is None:
             others.append(row)
             continue

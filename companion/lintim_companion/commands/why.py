@@ -5,16 +5,19 @@ from pathlib import Path
 
 from ..advice.explain import explain
 from ..advice.words_told import WORDS
+from ..faults import Refused
 from ..manners import Deadline, Talk
 
 
 def run(words: Namespace, talk: Talk) -> int:
     """Tells it, and gives 0 where nothing is to be said."""
     folder, given = words.folder, list(words.words)
-    if given or not folder.is_dir() and str(folder) in WORDS:
-        if not folder.is_dir() and str(folder) in WORDS:
+    try:
+        if str(folder) in WORDS and not folder.is_dir():
             folder, given = Path("."), [str(folder), *given]
-    told = explain(folder, given, Deadline(words.seconds), talk.progress)
+        told = explain(folder, given, Deadline(words.seconds), talk.progress)
+    except OSError as why:
+        raise Refused(f"{why.filename or folder} cannot be read: {why.strerror}") from None
     if not told.findings:
         return 0
     if told.report:
