@@ -96,5 +96,7 @@ def test_as_a_command(tmp_path: Path) -> None:
     assert ended.out[0] == "lintim make ends with: refused: basis/OD.giv is missing"
     ended = run("lintim-why", TOWN, "journey", "Markt", "9", "07:00")
     assert ended.status == 1 and ended.out[-1] == "try: run `lintim journey 3 9 420 planned`"
+    ended = run("lintim-why", "chekc")
+    assert ended.status == 1 and ended.out[-1] == "try: run `lintim check`"
     assert run("lintim-why", TOWN, "--seconds", 0).status == 2
     assert run("lintim-why", tmp_path / "none").one_line().endswith("no such folder")

@@ -26,7 +26,7 @@ from mistakes import Mistake
 from more_mistakes import OWN
 from searches import QUIET, time
 from test_pages import blocks_of
-from told import folder_with, lines_of, told_of
+from told import folder_with, lines_of, told_of, wanted
 
 
 def line_problem(seed: int) -> tuple[LineProblem, list[Load]]:
@@ -184,5 +184,7 @@ def test_the_page_prints_what_it_shows(tmp_path: Path, lintim: str) -> None:
     )
     assert len(shown) == 1 and not ended.stderr
     assert shown[0] in ended.stdout and ended.stdout.endswith("\ndone\n")
+    [other] = blocks_of(page, "## A timetable that cannot be")
+    assert other.splitlines() == wanted()["changes of at most 20 minutes"]
     first = (program.CHECKOUT / "docs/FIRST-POOL.md").read_text().replace("\n    ", "\n")
     assert shown[0] in first

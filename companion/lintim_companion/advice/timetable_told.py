@@ -23,6 +23,7 @@ class Network:
         self.activities = it.names.made(PERIODIC_ACTIVITIES)
         self.events = it.names.made(PERIODIC_EVENTS)
         self.period = it.settings.period_length
+        self.is_late = False  # whether time was over before a nearer value was tried
 
     def problem(self, changes: int | None = None, headway: int | None = None) -> PeriodicProblem:
         """The problem, with another greatest time of changes, or another headway."""
@@ -42,6 +43,14 @@ class Network:
         problem = self.problem(changes, headway)
         return feasible(problem, self.it.deadline, self.it.progress) is not None
 
+    def is_good(self, changes: int | None = None, headway: int | None = None) -> bool:
+        """Whether CaDiCaL says in time that there is a timetable."""
+        try:
+            return self.has(changes, headway)
+        except cadical.NoTime:
+            self.is_late = True
+            return False
+
     @property
     def free(self) -> int:
         """A greatest time with which changes may take any minute of the period."""
@@ -59,6 +68,7 @@ def no_timetable(it: Context) -> Finding:
     except cadical.NoTime:
         remedy = "give it more time with --seconds, or allow longer changes"
     told = told or ["CaDiCaL cannot tell in time which activities do not hold together"]
+    told += ["time was over before nearer values were tried"] if network.is_late else []
     return finding(*told, remedy=remedy, file="basis/Config.cnf")
 
 
@@ -120,6 +130,10 @@ def core_told(network: Network) -> list[str]:
     more = [f"and {len(told) - MOST_TOLD} more such lines"] if len(told) > MOST_TOLD else []
     count = f"{len(activities)} activities of {len(network.activities)}"
     head = f"no timetable keeps these {count} together, and any but one of them fit:"
+    if not is_minimal and len(told) > MOST_TOLD:
+        among = sorted({it.names.periodic[by.from_event].line_id for by in activities})
+        named = ", ".join(map(str, among))
+        return [f"no timetable keeps all bounds; which do not fit is of lines {named}"]
     if not is_minimal:
         head = (
             f"no timetable keeps all bounds; those of these {count} do not fit, perhaps of fewer:"
@@ -144,14 +158,14 @@ def keys(network: Network) -> list[str]:
     changes, headway = now.ean_default_maximal_change_time, now.ean_headway
     found = []
     if network.has(changes=free):
-        least = least_good(changes, free, lambda at: network.has(changes=at))
+        least = least_good(changes, free, lambda at: network.is_good(changes=at))
         found.append(it.set_key("ean_default_maximal_change_time", least))
     if headway and network.has(headway=0):
-        greatest = -least_good(-headway, 0, lambda at: network.has(headway=-at))
+        greatest = -least_good(-headway, 0, lambda at: network.is_good(headway=-at))
         found.append(it.set_key("ean_headway", greatest))
     if not found:
-        has = partial(network.has, free)
-        greatest = -least_good(-headway, 0, lambda at: has(-at))
+        is_good = partial(network.is_good, free)
+        greatest = -least_good(-headway, 0, lambda at: is_good(-at))
         found.append(
             both(
                 it.set_key("ean_default_maximal_change_time", free),

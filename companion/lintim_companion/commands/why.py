@@ -4,6 +4,7 @@ from argparse import Namespace
 from pathlib import Path
 
 from ..advice.explain import explain
+from ..advice.nearest import nearest_name
 from ..advice.words_told import WORDS
 from ..faults import Refused
 from ..manners import Deadline, Talk
@@ -13,7 +14,7 @@ def run(words: Namespace, talk: Talk) -> int:
     """Tells it, and gives 0 where nothing is to be said."""
     folder, given = words.folder, list(words.words)
     try:
-        if str(folder) in WORDS and not folder.is_dir():
+        if not folder.is_dir() and nearest_name(str(folder), WORDS, 0.6):
             folder, given = Path("."), [str(folder), *given]
         told = explain(folder, given, Deadline(words.seconds), talk.progress)
     except OSError as why:
