@@ -81,6 +81,11 @@ OWN = (
     Mistake("named date in a length", swap(EDGE, "1; 1; 2; 1.1;", "1; 1; 2; 1. Jan;")),
     Mistake("thousands with an apostrophe", swap(OD, "1; 3; 120", "1; 3; 1'200")),
     Mistake("thousands with a comma", swap(EDGE, "1; 1; 2; 1.1;", "1; 1; 2; 1,234.5;")),
+    Mistake("a comma in customers", swap(OD, "1; 3; 120", "1; 3; 1,200")),
+    Mistake(
+        "commas in customers",
+        all_of(swap(OD, "1; 3; 120", "1; 3; 1,120"), swap(OD, "3; 1; 110", "3; 1; 1,110")),
+    ),
     Mistake("plus sign", swap(OD, "1; 3; 120", "1; 3; +120")),
     Mistake("no digit before the point", swap(EDGE, "2; 2; 3; 0.5;", "2; 2; 3; .5;")),
     Mistake("letter O for zero", swap(OD, "1; 3; 120", "1; 3; 12O")),

@@ -4,7 +4,7 @@ import re
 
 from ..cells import Cell, Fixed, Whole, WholeOrWord, Word
 from ..columns import Column, columns
-from ..formats import POOL
+from ..formats import DEMAND, POOL
 from ..rows import Row
 from .context import Context
 from .findings import LONGEST_LINE, Finding, call, finding, shown, take_out, write_line
@@ -15,6 +15,7 @@ from .texts import Text as Found
 from .texts import replaced
 
 COMMA = re.compile(r"-?\d+,\d+")
+GROUPED = re.compile(r"[1-9]\d{0,2},\d{3}")
 
 
 def of_cell(it: Context, text: Found, line: int, place: int, rule: str) -> Finding:
@@ -34,7 +35,7 @@ def of_cell(it: Context, text: Found, line: int, place: int, rule: str) -> Findi
     look = meant(column.cell, cell)
     says = f"{where}: {column.title} is {quoted(cell)}, and {wanted(column.cell)} is wanted"
     more = [shown(text.line(line))] + ([f"{quoted(cell)}: {look.says}"] if look else [])
-    whole = _of_all(text, place)
+    whole = _of_all(text, place, cell)
     if whole is not None:
         return finding(says, *more, whole[0], remedy=whole[1], file=text.name)
     values = [look.value] if look and look.value else []
@@ -46,12 +47,14 @@ def of_cell(it: Context, text: Found, line: int, place: int, rule: str) -> Findi
     return finding(says, *more, remedy=_remedy(text, line, best, column), file=text.name)
 
 
-def _of_all(text: Found, place: int) -> tuple[str, str] | None:
+def _of_all(text: Found, place: int, cell: str) -> tuple[str, str] | None:
     """What is wrong in many rows in the same way, and what puts all of them right."""
-    commas = sum(any(COMMA.fullmatch(cell) for cell in row.cells) for row in text.rows)
-    if commas > 1 and text.file is not None and not _has_names(text):
-        says = f"{commas} rows of {text.name} have decimal commas"
-        return says, call(f"sed -i 's/\\([0-9]\\),\\([0-9]\\)/\\1.\\2/g' {text.name}")
+    commas = [cell for row in text.rows for cell in row.cells if COMMA.fullmatch(cell)]
+    if len(commas) > 1 and cell in commas and not _has_names(text):
+        are_groups = all(map(GROUPED.fullmatch, commas)) and text.name == DEMAND.name
+        what, sign = ("separators of thousands", "") if are_groups else ("decimal commas", ".")
+        says = f"{len(commas)} cells of {text.name} have {what}"
+        return says, call(f"sed -i 's/\\([0-9]\\),\\([0-9]\\)/\\1{sign}\\2/g' {text.name}")
     firsts = [row.cells[1] for row in text.rows if len(row.cells) == 3]
     if text.name == POOL.name and place == 1 and firsts.count("0") > 0 and len(firsts) > 1:
         says = "the places of a line are counted from 1, and here from 0"

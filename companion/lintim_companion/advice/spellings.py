@@ -37,6 +37,8 @@ def meant(cell: Cell, text: str) -> Meant | None:
     if not isinstance(cell, Whole | Fixed):
         return None
     is_whole = isinstance(cell, Whole)
+    if cell.unit == "customers" and re.fullmatch(r"[1-9]\d{0,2}(,\d{3})+", text):
+        return Meant("it has separators of thousands", text.replace(",", ""))
     for look in (_signs, _clock, _date, _grouped, _forms, _unit, _letters):
         found = look(text, is_whole)
         if found is not None:
