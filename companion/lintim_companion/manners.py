@@ -20,7 +20,7 @@ from typing import Any, NoReturn, TextIO
 
 from . import dataset, files
 from .cells import File, R
-from .faults import NoProgram, Refused, Stopped
+from .faults import NoProgram, Refused, Stopped, WrongWords
 from .registry import Command, Package, Word, command
 
 EVERY = 3.0  # seconds between two lines of progress
@@ -172,6 +172,9 @@ def main(name: str, words: Sequence[str] | None = None) -> int:
         for number in (signal.SIGINT, signal.SIGTERM):
             signal.signal(number, _stop)
         return talk.ended(_run(command(name), words, talk))
+    except WrongWords as why:
+        talk.fault(f"{why}; see {name} --help")
+        return 2
     except Refused as why:
         return talk.fault(f"{why}; {talk.left()}" if talk.wrote else why)
     except Stopped as by:

@@ -11,7 +11,8 @@ from lintim_companion.gtfs.cells import KINDS, clock, date_of, degrees_of, fault
 from lintim_companion.gtfs.cells import number_of, seconds_of, whole_of
 from lintim_companion.gtfs.periods import Window
 from lintim_companion.gtfs.places import KM_PER_DEGREE, distance_km
-from lintim_companion.gtfs.words import WrongWord, box_word, date_word, minute_word, place_word
+from lintim_companion.faults import WrongWords
+from lintim_companion.gtfs.words import box_word, date_word, minute_word, place_word
 
 LATITUDES, LONGITUDES = some.floats(-89, 89), some.floats(-180, 180)
 PLACES = some.tuples(LATITUDES, LONGITUDES)
@@ -38,7 +39,7 @@ def test_any_text_is_a_cell_or_not(text: str) -> None:
     for word in (box_word, place_word):
         try:
             word(text)
-        except WrongWord as why:
+        except WrongWords as why:
             assert "\n" not in str(why)
 
 

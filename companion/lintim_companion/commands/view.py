@@ -6,7 +6,7 @@ from pathlib import Path
 
 from .. import dataset, files
 from ..dataset import Dataset
-from ..faults import Refused
+from ..faults import Refused, WrongWords
 from ..manners import Talk, see_package
 from ..pictures.numbers import difference_section, number_section
 from ..pictures.page import Side, page_of
@@ -20,23 +20,17 @@ IDS = re.compile(r"\d{1,9}(,\d{1,9})*", re.ASCII)
 SCRIPT = "plotly.js"
 
 
-class WrongWords(Exception):
-    """Why the words of the command are wrong."""
-
-
 def run(words: Namespace, talk: Talk) -> int:
     """Writes the page, and then the files for paper."""
-    try:
-        choice = choice_of(words)
-        folders = [words.folder, *(words.other or ())]
-        if len(folders) > 2:
-            raise WrongWords(f"{len(folders)} folders are named, wanted one or two")
-    except WrongWords as why:
-        talk.fault(f"{why}; see {talk.name} --help")
-        return 2
+    choice = choice_of(words)
+    folders = [words.folder, *(words.other or ())]
+    if len(folders) > 2:
+        raise WrongWords(f"{len(folders)} folders are named, wanted one or two")
     if words.svg or words.png:
         see_package(MATPLOTLIB)
-    out = place_of(words.out)
+    out = files.place_of(words.out)
+    papers = [(it, end) for it, end in ((words.svg, "svg"), (words.png, "png")) if it]
+    places = [files.place_of(folder / "x").parent for folder, _ in papers]
     first, sides, last, lines = drawn([dataset.read(it) for it in folders], choice, talk)
     from plotly.offline import get_plotlyjs
 
@@ -47,9 +41,8 @@ def run(words: Namespace, talk: Talk) -> int:
         written(out.parent / SCRIPT, script.encode(), talk)
     written(out, page, talk)
     talk.say(f"view: written to {words.out}, {len(page) / 1e6:.1f} MB")
-    for folder, ending in ((words.svg, "svg"), (words.png, "png")):
-        if folder:
-            on_paper(sides, place_of(folder / "x").parent, ending, talk)
+    for place, (_, ending) in zip(places, papers):
+        on_paper(sides, place, ending, talk)
     return 0
 
 
@@ -125,14 +118,6 @@ def names_of(folders: list[Path]) -> list[str]:
     """What each dataset is called: the name of its folder, or its path where two have one name."""
     names = [folder.resolve().name or str(folder) for folder in folders]
     return names if len({*names}) == len(names) else [str(folder) for folder in folders]
-
-
-def place_of(path: Path) -> Path:
-    """Where a file is to stand; a folder on the way may be a link."""
-    place = path.parent.resolve() / path.name
-    if place.exists() and not place.is_file():
-        raise Refused(f"{path} cannot be written: it is no regular file")
-    return place
 
 
 def written(path: Path, data: bytes, talk: Talk) -> None:
