@@ -105,6 +105,17 @@ def place_of(path: Path) -> Path:
     return place
 
 
+def folder_of(path: Path) -> Path:
+    """Where files that belong to no dataset are to stand, in a folder that may have to be made."""
+    place = path.resolve()
+    if os.path.lexists(place) and not place.is_dir():
+        raise Refused(f"{path} is no folder, so nothing can be written to it")
+    there = next(it for it in (place, *place.parents) if it.exists())
+    if not there.is_dir() or not os.access(there, os.W_OK | os.X_OK):
+        raise Refused(f"{path} cannot be written: {there} does not allow it")
+    return place
+
+
 def see_no_link(path: Path) -> None:
     """Sees that no link stands in the place of a file or of its folder."""
     for there in (path, path.parent):

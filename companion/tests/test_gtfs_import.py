@@ -9,6 +9,7 @@ import pytest
 from hypothesis import given, settings
 from hypothesis import strategies as some
 
+import large_city
 import made_feeds
 from gtfs_cases import make, ran, run
 from lintim_companion import dataset, files, formats
@@ -284,7 +285,7 @@ def test_where_not_all_can_be_written_nothing_stays(
 
 
 def test_50_000_stop_times_are_refused_with_advice_that_fits(tmp_path: Path) -> None:
-    feed = write(tmp_path / "feed.zip", made_feeds.large())
+    feed = write(tmp_path / "feed.zip", large_city.large())
     status, _, fault = run("import", feed, tmp_path / "city", "--date", ON)
     assert status == 1 and "periodic events (at most 4000)" in fault
     advice = fault.split("what would fit: ")[1].split(" or ")

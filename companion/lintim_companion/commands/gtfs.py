@@ -55,7 +55,7 @@ def _export(words: Namespace, talk: Talk) -> int:
         raise WrongWords("--scale wants --place")
     out = files.place_of(path)
     data = dataset.read(folder)
-    needed = formats.CONCEPT, formats.PERIODIC_EVENTS, formats.TRIPS
+    needed = formats.CONCEPT, formats.PERIODIC_EVENTS, formats.TIMETABLE, formats.TRIPS
     program.see_kept(folder, *needed, *([formats.DISPOSITION] if words.disposed else []))
     has_vehicles = program.states(folder).get("vehicles") == "kept"
     stops, edges = list(data[formats.STOPS]), list(data[formats.EDGES])

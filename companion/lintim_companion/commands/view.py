@@ -30,7 +30,7 @@ def run(words: Namespace, talk: Talk) -> int:
         see_package(MATPLOTLIB)
     out = files.place_of(words.out)
     papers = [(it, end) for it, end in ((words.svg, "svg"), (words.png, "png")) if it]
-    places = [files.place_of(folder / "x").parent for folder, _ in papers]
+    places = [files.folder_of(folder) for folder, _ in papers]
     first, sides, last, lines = drawn([dataset.read(it) for it in folders], choice, talk)
     from plotly.offline import get_plotlyjs
 
