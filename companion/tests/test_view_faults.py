@@ -29,8 +29,8 @@ def town(plan: Path, tmp_path: Path) -> Path:
 @pytest.mark.parametrize(
     "words, says",
     [
-        (("--from", "7"), "--from '7' is no time as 07:05"),
-        (("--to", "07:60"), "--to '07:60' is no time as 07:05"),
+        (("--from", "7:5"), "--from '7:5' is no time as 07:10 or 430"),
+        (("--to", "07:60"), "--to '07:60' is no time as 07:10 or 430"),
         (("--from", "08:00", "--to", "07:00"), "--from has to be before --to"),
         (("--lines", "a"), "--lines 'a' are no ids as 1,2,5"),
         (("--path", "1,2,1"), "--path wants two or more stops, and none of them twice"),

@@ -5,6 +5,7 @@ from argparse import Namespace
 from pathlib import Path
 
 from .. import dataset, files
+from ..clocks import minute_word
 from ..dataset import Dataset
 from ..faults import Refused, WrongWords
 from ..manners import Talk, see_package
@@ -15,7 +16,6 @@ from ..pictures.scene import Section
 from ..pictures.sections import sections_of
 from ..registry import MATPLOTLIB
 
-CLOCK = re.compile(r"(\d{1,3}):([0-5]\d)", re.ASCII)
 IDS = re.compile(r"\d{1,9}(,\d{1,9})*", re.ASCII)
 SCRIPT = "plotly.js"
 
@@ -48,7 +48,8 @@ def run(words: Namespace, talk: Talk) -> int:
 
 def choice_of(words: Namespace) -> Choice:
     """What is to be drawn, by the words of the command."""
-    times = [minute_of("--from", words.__dict__["from"]), minute_of("--to", words.to)]
+    given = ("--from", words.__dict__["from"]), ("--to", words.to)
+    times = [None if text is None else minute_word(name, text) for name, text in given]
     if times[0] is not None and times[1] is not None and times[0] >= times[1]:
         raise WrongWords("--from has to be before --to")
     paths = [ids_of("--path", text) for text in words.path or ()]
@@ -57,16 +58,6 @@ def choice_of(words: Namespace) -> Choice:
             raise WrongWords("--path wants two or more stops, and none of them twice")
     lines = frozenset(ids_of("--lines", words.lines)) if words.lines is not None else frozenset()
     return Choice(times[0], times[1], lines, tuple(paths))
-
-
-def minute_of(name: str, text: str | None) -> int | None:
-    """The minute of the day of a word as 07:05."""
-    if text is None:
-        return None
-    found = CLOCK.fullmatch(text)
-    if not found:
-        raise WrongWords(f"{name} {text!r} is no time as 07:05")
-    return 60 * int(found[1]) + int(found[2])
 
 
 def ids_of(name: str, text: str) -> tuple[int, ...]:

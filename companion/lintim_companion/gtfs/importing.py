@@ -12,6 +12,7 @@ from typing import Any
 from .. import files, formats
 from .. import settings as config
 from ..cells import File
+from ..clocks import clock, minute_word
 from ..faults import Refused, WrongWords
 from ..manners import Talk
 from ..tables import written
@@ -25,7 +26,7 @@ from .plan import Plan, plan_of
 from .rides import LATEST_START, Rides
 from .sizes import sizes, too_large
 from .stations import Stations
-from .words import box_word, date_word, minute_word
+from .words import box_word, date_word
 
 IDS = "import/ids.csv"
 PERIOD = 60
@@ -196,4 +197,4 @@ def _id_rows(plan: Plan, rides: Rides) -> Iterator[tuple[str, int, str, str]]:
     for name, line in plan.lines.items():
         for sign, runs in ((">", line.forward), ("<", line.backward)):
             for run in runs:
-                yield "trip", name, run.trip, f"{sign} {run.start // 60:02}:{run.start % 60:02}"
+                yield "trip", name, run.trip, f"{sign} {clock(run.start)}"

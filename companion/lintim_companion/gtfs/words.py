@@ -1,10 +1,10 @@
-"""Words of the command line: minutes, dates, boxes and places, with a fault in one line."""
+"""Words of the command line: dates, boxes and places, with a fault in one line."""
 
 from datetime import date
 from typing import NamedTuple
 
 from ..faults import WrongWords
-from .cells import date_of, degrees_of, number_of, whole_of
+from .cells import date_of, degrees_of, number_of
 
 
 class Box(NamedTuple):
@@ -29,18 +29,6 @@ def date_word(name: str, text: str) -> date:
     found = date_of(text.replace("-", ""))
     if found is None:
         raise WrongWords(f"{name} {text!r} is no date as 20260105")
-    return found
-
-
-def minute_word(name: str, text: str) -> int:
-    """A minute of the day as 430 or as 07:10; 24:10 is ten minutes after midnight."""
-    hours, colon, minutes = text.partition(":")
-    first, second = whole_of(hours), whole_of(minutes) if colon else 0
-    if first is None or second is None or colon and (second > 59 or len(minutes) != 2):
-        raise WrongWords(f"{name} {text!r} is no time as 07:10 or 430")
-    found = first * 60 + second if colon else first
-    if found > 10_080:
-        raise WrongWords(f"{name} {text!r} is after 168:00, where a day of lintim ends")
     return found
 
 
