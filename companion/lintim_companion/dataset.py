@@ -75,10 +75,7 @@ class Dataset:
 def read(folder: str | Path) -> Dataset:
     """The dataset in a folder."""
     folder = Path(folder)
-    if not folder.is_dir():
-        raise Refused(f"{folder}: {'no folder' if folder.exists() else 'no such folder'}")
-    if not (folder / "basis").is_dir():
-        raise Refused(f"{folder} is no dataset: it has no folder basis")
+    files.see_folder(folder)
     names = frozenset(file.name for file in FILES if os.path.lexists(folder / file.name))
     return Dataset(folder, names, config.read(folder))
 

@@ -5,6 +5,10 @@ class Refused(Exception):
     """Why a command cannot go on, in one line."""
 
 
+class WrongWords(Refused):
+    """Words of the command line that say nothing, or do not go together."""
+
+
 class Missing(Refused):
     """A file of the dataset that is not there."""
 

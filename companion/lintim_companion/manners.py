@@ -20,10 +20,11 @@ from typing import Any, NoReturn, TextIO
 
 from . import dataset, files
 from .cells import File, R
-from .faults import NoProgram, Refused, Stopped
+from .faults import NoProgram, Refused, Stopped, WrongWords
 from .registry import Command, Package, Word, command
 
 EVERY = 3.0  # seconds between two lines of progress
+TOGETHER = 0.5  # seconds within which two signals are one
 _put_off: list[Stopped] = []  # a stop that came where nothing can be raised
 
 
@@ -31,6 +32,7 @@ class Parser(argparse.ArgumentParser):
     """A parser that tells a fault in one line."""
 
     def error(self, message: str) -> NoReturn:
+        """Ends the command with the line of a fault, and the status 2."""
         self.exit(2, f"{self.prog}: {message}; see {self.prog} --help\n")
 
 
@@ -172,6 +174,9 @@ def main(name: str, words: Sequence[str] | None = None) -> int:
         for number in (signal.SIGINT, signal.SIGTERM):
             signal.signal(number, _stop)
         return talk.ended(_run(command(name), words, talk))
+    except WrongWords as why:
+        talk.fault(f"{why}; see {name} --help")
+        return 2
     except Refused as why:
         return talk.fault(f"{why}; {talk.left()}" if talk.wrote else why)
     except Stopped as by:
@@ -199,8 +204,16 @@ def _run(it: Command, words: Sequence[str] | None, talk: Talk) -> int:
 
 
 def _stop(number: int, _: object) -> NoReturn:
-    """Ends the command in good order; a second signal ends it at once."""
-    signal.signal(number, signal.SIG_DFL)
+    """Ends the command in good order; a second signal ends it at once. One that comes together with
+    the first is none: `timeout` sends two, to the command and to its group."""
+    begun = time.monotonic()
+
+    def again(number: int, _: object) -> None:
+        if time.monotonic() - begun > TOGETHER:
+            signal.signal(number, signal.SIG_DFL)
+            os.kill(os.getpid(), number)
+
+    signal.signal(number, again)
     raise Stopped(number)
 
 

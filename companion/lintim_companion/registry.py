@@ -106,9 +106,9 @@ COMMANDS = (
             ),
             Word(
                 "--change-penalty",
-                "how many minutes a change counts for beyond those it takes",
+                "--for-passengers: how many minutes a change counts for beyond those it takes;"
+                " 10 where nothing is said",
                 kind="whole",
-                default=10,
                 greatest=1_000,
             ),
             SECONDS,

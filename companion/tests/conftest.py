@@ -29,7 +29,17 @@ try:
     for package in (registry.SCIPY, registry.CADICAL):
         manners.see_package(package)
 except NoProgram:
-    names = ("manners", "plans", "stops", "taken", "waits", "why", "why_hostile", "why_plans")
+    names = (
+        "manners",
+        "plans",
+        "stops",
+        "taken",
+        "waits",
+        "why",
+        "why_hostile",
+        "why_plans",
+        "why_folders",
+    )
     collect_ignore = [f"test_{name}.py" for name in names]
 
 EXAMPLES = program.CHECKOUT / "examples"

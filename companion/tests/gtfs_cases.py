@@ -9,7 +9,7 @@ from conftest import EXAMPLES
 from lintim_companion import dataset, demos, formats, manners, program
 from lintim_companion.cells import MILLION
 from lintim_companion.commands import gtfs
-from lintim_companion.faults import Refused
+from lintim_companion.faults import Refused, WrongWords
 from lintim_companion.formats import Edge, EventDelay, Load, Stop
 from lintim_companion.registry import command
 
@@ -45,6 +45,9 @@ def run(*words: object) -> tuple[int, list[str], str]:
     talk = Said()
     try:
         status = gtfs.run(parsed, talk)
+    except WrongWords as why:
+        talk.fault(f"{why}; see lintim-gtfs --help")
+        status = 2
     except Refused as why:
         status = talk.fault(why)
     return status, talk.lines, "".join(talk.faults)

@@ -7,11 +7,13 @@ import pytest
 from hypothesis import given
 from hypothesis import strategies as some
 
-from lintim_companion.gtfs.cells import KINDS, clock, date_of, degrees_of, fault_of
-from lintim_companion.gtfs.cells import number_of, seconds_of, whole_of
+from lintim_companion.clocks import clock, minute_word
+from lintim_companion.gtfs.cells import KINDS, date_of, degrees_of, fault_of
+from lintim_companion.gtfs.cells import number_of, seconds_of, time_cell, whole_of
 from lintim_companion.gtfs.periods import Window
 from lintim_companion.gtfs.places import KM_PER_DEGREE, distance_km
-from lintim_companion.gtfs.words import WrongWord, box_word, date_word, minute_word, place_word
+from lintim_companion.faults import WrongWords
+from lintim_companion.gtfs.words import box_word, date_word, place_word
 
 LATITUDES, LONGITUDES = some.floats(-89, 89), some.floats(-180, 180)
 PLACES = some.tuples(LATITUDES, LONGITUDES)
@@ -19,10 +21,10 @@ PLACES = some.tuples(LATITUDES, LONGITUDES)
 
 @given(some.integers(0, 999 * 60 + 59))
 def test_a_minute_is_read_as_it_is_written(minute: int) -> None:
-    assert seconds_of(clock(minute)) == 60 * minute
+    assert seconds_of(time_cell(minute)) == 60 * minute
     if minute <= 10_080:
         assert minute_word("--from", str(minute)) == minute
-        assert minute_word("--from", clock(minute)[:-3]) == minute
+        assert minute_word("--from", clock(minute)) == minute
 
 
 @given(some.dates())
@@ -38,7 +40,7 @@ def test_any_text_is_a_cell_or_not(text: str) -> None:
     for word in (box_word, place_word):
         try:
             word(text)
-        except WrongWord as why:
+        except WrongWords as why:
             assert "\n" not in str(why)
 
 

@@ -6,6 +6,7 @@ from typing import Any
 
 import pytest
 
+import large_city
 import made_feeds
 from gtfs_cases import run
 from made_city import City, write
@@ -21,7 +22,7 @@ def test_a_good_feed_has_no_error(name: str, tmp_path: Path) -> None:
 
 
 def test_50_000_stop_times_are_checked(tmp_path: Path) -> None:
-    files = made_feeds.large()
+    files = large_city.large()
     assert files["stop_times.txt"].count(b"\r\n") == 50_001
     status, lines, _ = run("check", write(tmp_path / "feed.zip", files))
     assert status == 0 and lines[-1].startswith("gtfs: 0 errors, 0 warnings")

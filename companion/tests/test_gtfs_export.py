@@ -3,6 +3,7 @@ keeps the rules of the reference, and import gives the dataset back."""
 
 import csv
 import io
+import os
 import random
 import zipfile
 from pathlib import Path
@@ -234,6 +235,13 @@ def test_faults_are_one_line(tmp_path: Path, example: Folders) -> None:
     blocked = tmp_path / "file"
     blocked.touch()
     assert "cannot be written" in run("export", town, blocked / "feed.zip")[2]
+    os.mkfifo(tmp_path / "pipe")
+    (tmp_path / "new").mkdir()
+    for place in (tmp_path / "pipe", tmp_path / "new"):
+        assert "cannot be written: it is no regular file" in run("export", town, place)[2]
+    assert (tmp_path / "pipe").is_fifo()
+    (tmp_path / "way").symlink_to(tmp_path / "new")
+    assert "gtfs: written to" in ran("export", town, tmp_path / "way/feed.zip")[-1]
     assert "is not empty" in (
         ran("export", town, feed) and run("import", feed, town, "--date", "20260105")[2]
     )

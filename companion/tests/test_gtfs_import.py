@@ -9,9 +9,12 @@ import pytest
 from hypothesis import given, settings
 from hypothesis import strategies as some
 
+import large_city
 import made_feeds
 from gtfs_cases import make, ran, run
-from lintim_companion import dataset, formats
+from lintim_companion import dataset, files, formats
+from lintim_companion.faults import Refused
+from lintim_companion.gtfs.importing import IDS
 from made_city import ON, City, Files, clock, write
 from made_feeds import FEEDS
 
@@ -250,16 +253,39 @@ def test_refusals_have_a_reason(tmp_path: Path) -> None:
         status, _, fault = run("import", feed, folder, *words)
         assert status == 1 and why in fault and not folder.exists()
     for name in ("stops.txt", "routes.txt", "trips.txt", "stop_times.txt"):
-        files = made_feeds.plain()
-        del files[name]
-        fault = run("import", write(feed, files), folder, "--date", ON)[2]
+        some_files = made_feeds.plain()
+        del some_files[name]
+        fault = run("import", write(feed, some_files), folder, "--date", ON)[2]
         assert fault.endswith(f"{name} is missing")
     feed.write_bytes(b"no zip file")
     assert "is no zip file" in run("import", feed, folder, "--date", ON)[2]
+    assert run("import", feed, feed, "--date", ON)[2] == f"{feed} is no folder"
+    assert run("import", tmp_path, folder, "--date", ON)[2].endswith(
+        "cannot be read: Is a directory"
+    )
+
+
+def test_where_not_all_can_be_written_nothing_stays(
+    tmp_path: Path, monkeypatch: pytest.MonkeyPatch
+) -> None:
+    feed, folder = write(tmp_path / "feed.zip", made_feeds.plain()), tmp_path / "city"
+    real = files.write_bytes
+
+    def full(place: Path, name: str, data: bytes) -> None:
+        if name == IDS:
+            (place / "import").mkdir()
+            raise Refused(f"{name} cannot be written: No space left on device")
+        real(place, name, data)
+
+    monkeypatch.setattr(files, "write_bytes", full)
+    assert "No space left" in run("import", feed, folder, "--date", ON)[2] and not folder.exists()
+    folder.mkdir()
+    assert "No space left" in run("import", feed, folder, "--date", ON)[2]
+    assert folder.is_dir() and not [*folder.iterdir()]
 
 
 def test_50_000_stop_times_are_refused_with_advice_that_fits(tmp_path: Path) -> None:
-    feed = write(tmp_path / "feed.zip", made_feeds.large())
+    feed = write(tmp_path / "feed.zip", large_city.large())
     status, _, fault = run("import", feed, tmp_path / "city", "--date", ON)
     assert status == 1 and "periodic events (at most 4000)" in fault
     advice = fault.split("what would fit: ")[1].split(" or ")

@@ -150,12 +150,29 @@ def test_uninstall_takes_exactly_that_away(tmp_path: Path) -> None:
 
 
 def test_wrong_words_are_one_line(tmp_path: Path) -> None:
-    for words in (("--prefix",), ("--nothing",), ("--program", tmp_path / "none")):
-        ended = call(HOME / "install", *words)
-        assert ended.returncode == 1 and len(ended.stderr.splitlines()) == 1
+    there = ("--program", program.find())
     (tmp_path / "file").write_text("")
-    ended = install(tmp_path / "file/pre")
-    assert ended.returncode == 1 and "cannot be written" in ended.stderr
+    for words, says in (
+        (("--prefix",), "--prefix wants a word after it"),
+        (("--prefix", ""), "--prefix wants a word after it"),
+        (("--nothing",), "--nothing is no word of it"),
+        (("--program", tmp_path / "none"), "none is no program"),
+        (("--program", tmp_path), "is no program"),
+        ((*there, "--prefix", tmp_path / "file/pre"), "file/pre cannot be written"),
+        ((*there, "--deb", "--out", tmp_path / "file"), "file cannot be written"),
+    ):
+        ended = call(HOME / "install", *words)
+        assert ended.returncode == 1 and says in ended.stderr
+        assert len(ended.stderr.splitlines()) == 1
+
+
+def test_what_was_stopped_in_the_middle_is_taken_away_too(tmp_path: Path) -> None:
+    prefix = tmp_path / "pre"
+    assert install(prefix).returncode == 0
+    shutil.rmtree(prefix / "lib/lintim/companion")
+    shutil.rmtree(prefix / "share")
+    ended = call(HOME / "install", "--uninstall", "--prefix", prefix)
+    assert (ended.returncode, ended.stderr) == (0, "") and not prefix.exists()
 
 
 def checkout(folder: Path, rt: str) -> Path:

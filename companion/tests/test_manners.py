@@ -1,5 +1,6 @@
 """The manners of all commands, with a fault tried for each of them."""
 
+import errno
 import os
 import shutil
 import subprocess
@@ -10,8 +11,8 @@ import pytest
 
 from commands import BIN, PYTHON, environment, made, run, start
 from conftest import Folders
-from lintim_companion import formats, manners
-from lintim_companion.faults import Refused
+from lintim_companion import files, formats, manners
+from lintim_companion.faults import Refused, Stopped
 from lintim_companion.registry import COMMANDS, STATUSES, Command, Package
 
 pytestmark = pytest.mark.usefixtures("lintim")
@@ -250,6 +251,48 @@ def test_through_a_link_from_any_folder_with_any_name(
         capture_output=True,
     )
     assert (ended.returncode, ended.stderr) == (0, b"")
+
+
+def test_a_folder_that_may_not_be_entered_is_one_line(
+    monkeypatch: pytest.MonkeyPatch, tmp_path: Path
+) -> None:
+    def refuse(path: Path) -> bool:
+        raise PermissionError(13, "Permission denied", str(path))
+
+    monkeypatch.setattr(Path, "is_dir", refuse)
+    with pytest.raises(Refused, match="cannot be read: Permission denied"):
+        files.see_folder(tmp_path)
+
+
+def test_nothing_but_files_is_written_over(tmp_path: Path) -> None:
+    """A pipe, a device or a folder in the place of a file stays what it is."""
+    os.mkfifo(tmp_path / "pipe")
+    (tmp_path / "folder").mkdir()
+    for name in ("pipe", "folder"):
+        says = f"{name} cannot be written: it is no regular file"
+        with pytest.raises(Refused, match=says):
+            files.write_bytes(tmp_path, name, b"x")
+        with pytest.raises(Refused, match=says):
+            files.see_writable(tmp_path, name)
+    assert (tmp_path / "pipe").is_fifo() and (tmp_path / "folder").is_dir()
+
+
+def test_a_folder_for_a_while_is_gone_where_it_ends_in_any_way(
+    tmp_path: Path, monkeypatch: pytest.MonkeyPatch
+) -> None:
+    monkeypatch.setattr("tempfile.tempdir", str(tmp_path))
+    for fault, told in (
+        (Stopped(2), Stopped),
+        (OSError(errno.ENOSPC, "No space left on device"), Refused),
+        (OSError(errno.EACCES, "Permission denied"), PermissionError),
+    ):
+        with pytest.raises(told), files.scratch("test-") as place:
+            (place / "file").touch()
+            raise fault
+        assert not [*tmp_path.iterdir()]
+    monkeypatch.setattr("tempfile.tempdir", str(tmp_path / "none"))
+    with pytest.raises(Refused, match="no folder can be made in"), files.scratch("test-"):
+        pass
 
 
 def test_progress_is_told_each_few_seconds_and_to_terminals_alone() -> None:

@@ -210,11 +210,21 @@ def test_faults_are_one_line(example: Folders, tmp_path: Path, lintim: str) -> N
     folder = made(example("three-stops"))
     weights = tmp_path / "weights"
     weights.write_text("1; 2\n99; 1\n")
+    twice, nothing = tmp_path / "twice", tmp_path / "nothing"
+    twice.write_text("1; 2\n1; 1\n")
+    nothing.write_text("1; 0\n")
     for words, says in (
         (("--for-passengers",), "basis/OD.giv has no demand: name weights by --weights FILE"),
+        (("--weights", twice), f"{twice} row 2: activity 1 comes twice"),
+        (("--weights", nothing), f"{nothing} has no weight above 0"),
         (("--weights", weights), f"{weights} row 2: unknown activity (99)"),
         (("--weights", tmp_path / "none"), "none cannot be read: No such file or directory"),
-        (("--few-vehicles", "--changes", "3"), "--changes goes with none of the other words"),
     ):
         ended = run("lintim-timetable", folder, *words)
         assert ended.status == 1 and says in ended.one_line()
+    for words, says in (
+        (("--few-vehicles", "--changes", "3"), "--changes goes with none of the other words"),
+        (("--change-penalty", "3"), "--change-penalty wants --for-passengers"),
+    ):
+        ended = run("lintim-timetable", folder, *words)
+        assert ended.status == 2 and says in ended.one_line()

@@ -59,6 +59,19 @@ def test_stopped_before_anything_is_found(example: Folders) -> None:
     assert not (folder / "pinned").exists()
 
 
+def test_two_signals_that_come_together_are_one(example: Folders) -> None:
+    """`timeout` sends one to the command, and one to its group."""
+    folder = made(example("demo 8"))
+    command = start("lintim-timetable", folder, "--changes", 45)
+    assert command.stdout
+    command.stdout.readline()
+    command.send_signal(signal.SIGTERM)
+    command.send_signal(signal.SIGTERM)
+    _, err = command.communicate()
+    assert err == b"lintim-timetable: stopped before anything was found\n"
+    assert command.returncode == 128 + signal.SIGTERM
+
+
 @pytest.mark.long
 def test_time_is_over(tmp_path: Path) -> None:
     folder = hard_problem(tmp_path)

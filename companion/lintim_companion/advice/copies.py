@@ -4,13 +4,12 @@ import os
 import re
 import shutil
 import stat
-import tempfile
 from collections.abc import Iterator
 from contextlib import contextmanager
 from functools import cached_property
 from pathlib import Path
 
-from .. import program
+from .. import files, program
 from ..formats import CONFIG, FILES, MAX_HAND_BYTES
 from .texts import Text
 
@@ -78,8 +77,8 @@ class Copy:
 @contextmanager
 def copied(folder: Path) -> Iterator[Copy]:
     """A copy of what people write, which is gone afterwards."""
-    with tempfile.TemporaryDirectory(prefix="lintim-why-") as place:
-        texts, base = {}, Path(place, "base")
+    with files.scratch("lintim-why-") as place:
+        texts, base = {}, place / "base"
         (base / "basis").mkdir(parents=True)
         for name in _names(folder):
             data = _data(folder / name)

@@ -10,23 +10,12 @@ from .. import dataset
 from ..cells import MILLION
 from ..faults import Refused
 from ..formats import CONFIG, DEMAND, LOADS, Load
+from ..limits import LIMITS
 from .context import Context
 from .cores import least_good
 from .findings import Finding, either, finding, take_out
 from .names import Placed
 
-LIMITS = {
-    "stops": 1_000,
-    "edges": 1_000,
-    "lines": 200,
-    "demand rows": 100_000,
-    "frequency": 1_000,
-    "periodic events": 4_000,
-    "periodic activities": 200_000,
-    "trips": 2_000,
-    "expanded events": 100_000,
-    "expanded activities": 500_000,
-}
 TOO_MANY = re.compile(r"refused: too many ([a-z ]+): (\d+)")
 FILES = {"stops": "basis/Stop.giv", "edges": "basis/Edge.giv", "lines": "basis/Pool.giv"}
 

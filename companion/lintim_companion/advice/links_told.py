@@ -28,6 +28,9 @@ def no_files(folder: Path) -> list[Finding]:
         elif (folder / place).exists() and not (folder / place).is_dir():
             says = f"{place} is no folder, and lintim wants one of this name"
             found.append(finding(says, remedy=call(f"mv {place} {place}.old"), file=place))
+        elif (folder / place).is_dir() and not os.access(folder / place, os.R_OK | os.X_OK):
+            remedy = call(f"chmod u+rx {place}")
+            found.append(finding(f"the folder {place} may not be read", remedy=remedy, file=place))
     for name in (*HAND_FILES, *MADE_FILES):
         told = _no_file(folder, name)
         if told:

@@ -1,6 +1,7 @@
 """Files that are missing, misnamed, misplaced, or no files."""
 
 import os
+import shlex
 from pathlib import Path
 
 from ..formats import POOL
@@ -144,7 +145,7 @@ def no_dataset(folder: Path) -> Finding | None:
     inner = [path for path in _folders(folder) if (path / "basis").is_dir()]
     if inner:
         says = "there is no dataset here, and one stands in a folder below"
-        return finding(says, remedy=call(f"cd {inner[0].name}"))
+        return finding(says, remedy=call(f"cd {shlex.quote(inner[0].name)}"))
     says = "there is no dataset here: a dataset is a folder with a folder basis in it"
     return finding(says, remedy=call("mkdir basis") + " and write basis/Stop.giv first")
 

@@ -6,11 +6,11 @@ from typing import Any, NamedTuple
 
 from .. import dataset
 from ..cells import File
+from ..clocks import clock
 from ..faults import Refused
 from ..formats import ACTIVITY_DELAYS, DAY_ACTIVITIES, DAY_EVENTS, EVENT_DELAYS, PERIODIC_EVENTS
 from .context import Context
 from .findings import Finding, either, finding, take_out, write_line
-from .names import clock
 from .texts import replaced
 
 

@@ -7,6 +7,7 @@ from typing import Any, NamedTuple
 
 from .. import dataset
 from ..cells import MILLION, File, R
+from ..clocks import clock
 from ..columns import columns
 from ..faults import Refused
 from ..formats import DAY_EVENTS, DEMAND, EDGES, PERIODIC_EVENTS, POOL, STOPS
@@ -20,11 +21,6 @@ class Placed(NamedTuple):
 
     row: Any
     line: int
-
-
-def clock(minute: int) -> str:
-    """A minute of the day as people say it."""
-    return f"{minute // 60:02}:{minute % 60:02}"
 
 
 class Names:

@@ -1,6 +1,7 @@
 """Words of `lintim` that are none, or that its questions cannot be asked with."""
 
 import re
+import shlex
 from pathlib import Path
 
 from .. import program
@@ -74,7 +75,7 @@ def _wrong(it: Context, words: list[str]) -> Finding | None:
         says = f"{word} takes no word after it: lintim runs in the folder where you stand"
         fixed = call(f"lintim {word}")
         if len(rest) == 1 and "/" in rest[0]:
-            fixed = call(f"cd {rest[0]} && lintim {word}")
+            fixed = call(f"cd {shlex.quote(rest[0])} && lintim {word}")
         return finding(says, remedy=fixed)
     fixed_words = _fixed(it, words)
     if fixed_words == words:

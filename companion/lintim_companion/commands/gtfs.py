@@ -4,11 +4,11 @@ from argparse import Namespace
 from pathlib import Path
 
 from .. import dataset, files, formats, program
-from ..faults import Refused
+from ..faults import Refused, WrongWords
 from ..gtfs import check, export, places
 from ..gtfs.feed import Feed
 from ..gtfs.findings import told
-from ..gtfs.words import WrongWord, date_word, place_word, scale_word
+from ..gtfs.words import date_word, place_word, scale_word
 from ..manners import Talk
 
 USES = {
@@ -23,30 +23,26 @@ BUS = 3
 
 def run(words: Namespace, talk: Talk) -> int:
     """Does what the first word says."""
-    try:
-        _see_words(words)
-        if words.what == "export":
-            return _export(words, talk)
-        if words.what == "check":
-            return _check(words.paths[0], talk)
-        from ..gtfs.importing import import_feed
+    _see_words(words)
+    if words.what == "export":
+        return _export(words, talk)
+    if words.what == "check":
+        return _check(words.paths[0], talk)
+    from ..gtfs.importing import import_feed
 
-        return import_feed(words, talk)
-    except WrongWord as why:
-        talk.fault(f"{why}; see {talk.name} --help")
-        return 2
+    return import_feed(words, talk)
 
 
 def _see_words(words: Namespace) -> None:
     """Sees that the words are those of one of the three uses."""
     if words.what not in USES:
-        raise WrongWord(f"{words.what!r} is not export, import or check")
+        raise WrongWords(f"{words.what!r} is not export, import or check")
     paths, options = USES[words.what]
     if len(words.paths) != len(paths.split()):
-        raise WrongWord(f"{words.what} wants {paths}")
+        raise WrongWords(f"{words.what} wants {paths}")
     for name in OPTIONS:
         if getattr(words, name) not in (None, False) and name not in options:
-            raise WrongWord(f"{words.what} has no --{name.replace('_', '-')}")
+            raise WrongWords(f"{words.what} has no --{name.replace('_', '-')}")
 
 
 def _export(words: Namespace, talk: Talk) -> int:
@@ -56,12 +52,12 @@ def _export(words: Namespace, talk: Talk) -> int:
     place = None if words.place is None else place_word(words.place)
     scale = scale_word(words.scale or "1000")
     if words.scale is not None and place is None:
-        raise WrongWord("--scale wants --place")
+        raise WrongWords("--scale wants --place")
+    out = files.place_of(path)
     data = dataset.read(folder)
-    needed = formats.CONCEPT, formats.PERIODIC_EVENTS, formats.TRIPS
+    needed = formats.CONCEPT, formats.PERIODIC_EVENTS, formats.TIMETABLE, formats.TRIPS
     program.see_kept(folder, *needed, *([formats.DISPOSITION] if words.disposed else []))
     has_vehicles = program.states(folder).get("vehicles") == "kept"
-    files.see_writable(path.parent, path.name)
     stops, edges = list(data[formats.STOPS]), list(data[formats.EDGES])
     at = places.put(stops, place, scale) if place else places.degrees(stops, edges)
     kind = BUS if words.route_type is None else words.route_type
@@ -72,7 +68,7 @@ def _export(words: Namespace, talk: Talk) -> int:
     if faults:
         raise Refused(f"the feed would break a rule of the reference: {faults[0].line()}")
     with files.undisturbed():
-        files.write_bytes(path.parent, path.name, packed)
+        files.write_bytes(out.parent, out.name, packed)
         talk.wrote.append(str(path))
     _say_made(made, wanted, path, talk)
     return 0

@@ -4,7 +4,7 @@ passengers, by local search and HiGHS."""
 from argparse import Namespace
 
 from .. import dataset, files, program
-from ..faults import Refused
+from ..faults import Refused, WrongWords
 from ..formats import PERIODIC_ACTIVITIES, PERIODIC_EVENTS, PINNED_TIMETABLE
 from ..manners import Deadline, Talk
 from ..timetables.good import make_good
@@ -14,13 +14,16 @@ from ..timetables.solve import feasible
 
 def run(words: Namespace, talk: Talk) -> int:
     """Finds times, and writes them."""
+    is_good = bool(words.for_passengers or words.few_vehicles or words.weights)
+    if is_good and words.changes is not None:
+        raise WrongWords("--changes goes with none of the other words: no change is bounded there")
+    if not is_good and words.change_penalty is not None:
+        raise WrongWords("--change-penalty wants --for-passengers")
     data = dataset.read(words.folder)
     program.see_kept(words.folder, PERIODIC_EVENTS, PERIODIC_ACTIVITIES)
     files.see_writable(words.folder, PINNED_TIMETABLE.name)
     deadline = Deadline(words.seconds)
-    if words.for_passengers or words.few_vehicles or words.weights:
-        if words.changes is not None:
-            raise Refused("--changes goes with none of the other words: no change is bounded there")
+    if is_good:
         make_good(data, words, deadline, talk)
     else:
         _find_any(data, words, deadline, talk)

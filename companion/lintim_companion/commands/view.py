@@ -5,8 +5,9 @@ from argparse import Namespace
 from pathlib import Path
 
 from .. import dataset, files
+from ..clocks import minute_word
 from ..dataset import Dataset
-from ..faults import Refused
+from ..faults import Refused, WrongWords
 from ..manners import Talk, see_package
 from ..pictures.numbers import difference_section, number_section
 from ..pictures.page import Side, page_of
@@ -15,28 +16,21 @@ from ..pictures.scene import Section
 from ..pictures.sections import sections_of
 from ..registry import MATPLOTLIB
 
-CLOCK = re.compile(r"(\d{1,3}):([0-5]\d)", re.ASCII)
 IDS = re.compile(r"\d{1,9}(,\d{1,9})*", re.ASCII)
 SCRIPT = "plotly.js"
 
 
-class WrongWords(Exception):
-    """Why the words of the command are wrong."""
-
-
 def run(words: Namespace, talk: Talk) -> int:
     """Writes the page, and then the files for paper."""
-    try:
-        choice = choice_of(words)
-        folders = [words.folder, *(words.other or ())]
-        if len(folders) > 2:
-            raise WrongWords(f"{len(folders)} folders are named, wanted one or two")
-    except WrongWords as why:
-        talk.fault(f"{why}; see {talk.name} --help")
-        return 2
+    choice = choice_of(words)
+    folders = [words.folder, *(words.other or ())]
+    if len(folders) > 2:
+        raise WrongWords(f"{len(folders)} folders are named, wanted one or two")
     if words.svg or words.png:
         see_package(MATPLOTLIB)
-    out = place_of(words.out)
+    out = files.place_of(words.out)
+    papers = [(it, end) for it, end in ((words.svg, "svg"), (words.png, "png")) if it]
+    places = [files.folder_of(folder) for folder, _ in papers]
     first, sides, last, lines = drawn([dataset.read(it) for it in folders], choice, talk)
     from plotly.offline import get_plotlyjs
 
@@ -47,15 +41,15 @@ def run(words: Namespace, talk: Talk) -> int:
         written(out.parent / SCRIPT, script.encode(), talk)
     written(out, page, talk)
     talk.say(f"view: written to {words.out}, {len(page) / 1e6:.1f} MB")
-    for folder, ending in ((words.svg, "svg"), (words.png, "png")):
-        if folder:
-            on_paper(sides, place_of(folder / "x").parent, ending, talk)
+    for place, (_, ending) in zip(places, papers):
+        on_paper(sides, place, ending, talk)
     return 0
 
 
 def choice_of(words: Namespace) -> Choice:
     """What is to be drawn, by the words of the command."""
-    times = [minute_of("--from", words.__dict__["from"]), minute_of("--to", words.to)]
+    given = ("--from", words.__dict__["from"]), ("--to", words.to)
+    times = [None if text is None else minute_word(name, text) for name, text in given]
     if times[0] is not None and times[1] is not None and times[0] >= times[1]:
         raise WrongWords("--from has to be before --to")
     paths = [ids_of("--path", text) for text in words.path or ()]
@@ -64,16 +58,6 @@ def choice_of(words: Namespace) -> Choice:
             raise WrongWords("--path wants two or more stops, and none of them twice")
     lines = frozenset(ids_of("--lines", words.lines)) if words.lines is not None else frozenset()
     return Choice(times[0], times[1], lines, tuple(paths))
-
-
-def minute_of(name: str, text: str | None) -> int | None:
-    """The minute of the day of a word as 07:05."""
-    if text is None:
-        return None
-    found = CLOCK.fullmatch(text)
-    if not found:
-        raise WrongWords(f"{name} {text!r} is no time as 07:05")
-    return 60 * int(found[1]) + int(found[2])
 
 
 def ids_of(name: str, text: str) -> tuple[int, ...]:
@@ -125,14 +109,6 @@ def names_of(folders: list[Path]) -> list[str]:
     """What each dataset is called: the name of its folder, or its path where two have one name."""
     names = [folder.resolve().name or str(folder) for folder in folders]
     return names if len({*names}) == len(names) else [str(folder) for folder in folders]
-
-
-def place_of(path: Path) -> Path:
-    """Where a file is to stand; a folder on the way may be a link."""
-    place = path.parent.resolve() / path.name
-    if place.exists() and not place.is_file():
-        raise Refused(f"{path} cannot be written: it is no regular file")
-    return place
 
 
 def written(path: Path, data: bytes, talk: Talk) -> None:

@@ -6,6 +6,8 @@ import zoneinfo
 from collections.abc import Callable
 from functools import cache
 
+from ..clocks import clock
+
 TIME = re.compile(r"([0-9]{1,3}):([0-5][0-9]):([0-5][0-9])")
 DATE = re.compile(r"[0-9]{8}")
 NUMBER = re.compile(r"[+-]?(?:[0-9]+(?:\.[0-9]*)?|\.[0-9]+)(?:[eE][+-]?[0-9]{1,3})?")
@@ -59,9 +61,9 @@ def degrees_of(text: str, most: int) -> float | None:
     return value if value is not None and abs(value) <= most else None
 
 
-def clock(minute: int) -> str:
+def time_cell(minute: int) -> str:
     """A minute of the day as `HH:MM:00`; 24:10:00 is ten minutes after midnight."""
-    return "%02d:%02d:00" % divmod(minute, 60)
+    return f"{clock(minute)}:00"
 
 
 @cache

@@ -12,7 +12,7 @@ from .. import formats
 from ..dataset import Dataset
 from ..faults import Refused
 from ..rows import number_text
-from .cells import clock
+from .cells import time_cell
 from .day import Day, DayTrip, read_day
 from .places import Place
 
@@ -217,7 +217,7 @@ def _calls(day: Day, naming: Naming) -> Rows:
     yield tuple(fields.split())
     for trip in day.trips:
         for place, call in enumerate(trip.calls):
-            times = clock(call.arrival), clock(call.departure)
+            times = time_cell(call.arrival), time_cell(call.departure)
             at = naming.id(call.stop, call.visit)
             yield trip.number, *times, at, place, number_text(call.walked)
 

@@ -59,6 +59,8 @@ class Feed:
             names = [it.filename for it in self.zip.infolist() if not it.is_dir()]
         except FileNotFoundError:
             raise Refused(f"{path}: no such file") from None
+        except OSError as why:
+            raise Refused(f"{path} cannot be read: {why.strerror or why}") from None
         except FAULTS as why:
             raise Refused(f"{path} is no zip file that can be read: {why}") from None
         names = [name for name in names if not name.startswith("__MACOSX/")]

@@ -5,13 +5,15 @@ import io
 from argparse import Namespace
 from collections import Counter
 from collections.abc import Iterator
+from contextlib import suppress
 from pathlib import Path
 from typing import Any
 
 from .. import files, formats
 from .. import settings as config
 from ..cells import File
-from ..faults import Refused
+from ..clocks import clock, minute_word
+from ..faults import Refused, WrongWords
 from ..manners import Talk
 from ..tables import written
 from . import plan_rows
@@ -24,7 +26,7 @@ from .plan import Plan, plan_of
 from .rides import LATEST_START, Rides
 from .sizes import sizes, too_large
 from .stations import Stations
-from .words import WrongWord, box_word, date_word, minute_word
+from .words import box_word, date_word
 
 IDS = "import/ids.csv"
 PERIOD = 60
@@ -42,7 +44,7 @@ def import_feed(words: Namespace, talk: Talk) -> int:
     """Reads a feed, and writes the dataset of a date."""
     path, folder = words.paths
     if words.date is None:
-        raise WrongWord("import wants --date, as 20260105")
+        raise WrongWords("import wants --date, as 20260105")
     on = date_word("--date", words.date)
     choice = _choice(words)
     _see_new(folder)
@@ -64,9 +66,8 @@ def import_feed(words: Namespace, talk: Talk) -> int:
     texts = _texts(plan, lengths, _least_change(feed))
     texts[IDS] = _ids(plan, rides)
     with files.undisturbed():
-        for name, text in texts.items():
-            files.write_bytes(folder, name, text)
-            talk.wrote.append(name)
+        _write(folder, texts)
+        talk.wrote += texts
     _tell(plan, rides, feed, lengths.says, talk)
     if word := better_period(rides, parts, plan):
         talk.say(f"gtfs: {word}")
@@ -96,14 +97,13 @@ def _choice(words: Namespace) -> Choice:
     first = minute_word("--from", begin) if begin is not None else 0
     last = minute_word("--to", words.to) if words.to is not None else LATEST_START
     if last < first:
-        raise WrongWord("--to is before --from")
+        raise WrongWords("--to is before --from")
     area = box_word(words.area) if words.area is not None else None
     return Choice((first, last), words.period or PERIOD, area)
 
 
 def _see_new(folder: Path) -> None:
-    """Sees that nothing stands in the place of the new dataset."""
-    files.see_writable(folder, formats.STOPS.name)
+    """Sees that nothing stands in the place of the new dataset, and that it can be written."""
     try:
         if folder.is_dir() and any(folder.iterdir()):
             raise Refused(f"{folder} is not empty: import writes a new dataset, into a new folder")
@@ -111,6 +111,23 @@ def _see_new(folder: Path) -> None:
             raise Refused(f"{folder} is no folder")
     except OSError as why:
         raise Refused(f"{folder} cannot be read: {why.strerror}") from None
+    files.see_writable(folder, formats.STOPS.name)
+
+
+def _write(folder: Path, texts: dict[str, bytes]) -> None:
+    """Writes the dataset, all of it or nothing."""
+    was_there = folder.exists()
+    try:
+        for name, text in texts.items():
+            files.write_bytes(folder, name, text)
+    except Refused:
+        for name in texts:
+            (folder / name).unlink(missing_ok=True)
+        places = {(folder / name).parent for name in texts}
+        for place in [*places, *([] if was_there else [folder])]:
+            with suppress(OSError):
+                place.rmdir()
+        raise
 
 
 def _least_change(feed: Feed) -> int:
@@ -180,4 +197,4 @@ def _id_rows(plan: Plan, rides: Rides) -> Iterator[tuple[str, int, str, str]]:
     for name, line in plan.lines.items():
         for sign, runs in ((">", line.forward), ("<", line.backward)):
             for run in runs:
-                yield "trip", name, run.trip, f"{sign} {run.start // 60:02}:{run.start % 60:02}"
+                yield "trip", name, run.trip, f"{sign} {clock(run.start)}"

@@ -2,22 +2,12 @@
 
 from collections import Counter
 
+from ..limits import LIMITS
 from .plan import Plan
-
-MOST = {
-    "stops": 1_000,
-    "edges": 1_000,
-    "lines": 200,
-    "periodic events": 4_000,
-    "periodic activities": 200_000,
-    "trips": 2_000,
-    "events of the day": 100_000,
-    "activities of the day": 500_000,
-}
 
 
 def sizes(plan: Plan) -> dict[str, int]:
-    """How large the dataset is, by the words of `MOST`; activities of the day at most so many."""
+    """How large the dataset is, by the words of `LIMITS`; activities of the day at most so many."""
     events = activities = trips = day_events = day_activities = 0
     at_stop: dict[int, Counter[int]] = {}
     for name, of_line in plan.timed.items():
@@ -44,8 +34,8 @@ def sizes(plan: Plan) -> dict[str, int]:
         "periodic events": events,
         "periodic activities": activities + changes,
         "trips": trips,
-        "events of the day": day_events,
-        "activities of the day": day_activities + changes * plan.window.periods,
+        "expanded events": day_events,
+        "expanded activities": day_activities + changes * plan.window.periods,
     }
 
 
@@ -62,4 +52,6 @@ def _changes(plan: Plan, arrivals: dict[int, Counter[int]]) -> int:
 def too_large(plan: Plan) -> list[str]:
     """What is above the limits of the program, in words."""
     found = sizes(plan)
-    return [f"{found[it]} {it} (at most {most})" for it, most in MOST.items() if found[it] > most]
+    return [
+        f"{count} {it} (at most {LIMITS[it]})" for it, count in found.items() if count > LIMITS[it]
+    ]

@@ -1,14 +1,10 @@
-"""Words of the command line: minutes, dates, boxes and places, with a fault in one line."""
+"""Words of the command line: dates, boxes and places, with a fault in one line."""
 
 from datetime import date
 from typing import NamedTuple
 
-from ..faults import Refused
-from .cells import date_of, degrees_of, number_of, whole_of
-
-
-class WrongWord(Refused):
-    """A word of the command line that says nothing."""
+from ..faults import WrongWords
+from .cells import date_of, degrees_of, number_of
 
 
 class Box(NamedTuple):
@@ -32,19 +28,7 @@ def date_word(name: str, text: str) -> date:
     """A date as 20260105 or 2026-01-05."""
     found = date_of(text.replace("-", ""))
     if found is None:
-        raise WrongWord(f"{name} {text!r} is no date as 20260105")
-    return found
-
-
-def minute_word(name: str, text: str) -> int:
-    """A minute of the day as 430 or as 07:10; 24:10 is ten minutes after midnight."""
-    hours, colon, minutes = text.partition(":")
-    first, second = whole_of(hours), whole_of(minutes) if colon else 0
-    if first is None or second is None or colon and (second > 59 or len(minutes) != 2):
-        raise WrongWord(f"{name} {text!r} is no time as 07:10 or 430")
-    found = first * 60 + second if colon else first
-    if found > 10_080:
-        raise WrongWord(f"{name} {text!r} is after 168:00, where a day of lintim ends")
+        raise WrongWords(f"{name} {text!r} is no date as 20260105")
     return found
 
 
@@ -57,9 +41,9 @@ def box_word(text: str) -> Box:
         else (None, None, None, None)
     )
     if south is None or west is None or north is None or east is None:
-        raise WrongWord(f"--area {text!r} is no box SOUTH,WEST,NORTH,EAST in degrees")
+        raise WrongWords(f"--area {text!r} is no box SOUTH,WEST,NORTH,EAST in degrees")
     if south > north or west > east:
-        raise WrongWord(f"--area {text!r}: south is above north, or west above east")
+        raise WrongWords(f"--area {text!r}: south is above north, or west above east")
     return Box(south, west, north, east)
 
 
@@ -68,7 +52,7 @@ def place_word(text: str) -> tuple[float, float]:
     north, _, east = text.partition(",")
     found = degrees_of(north, 89), degrees_of(east, 180)
     if found[0] is None or found[1] is None:
-        raise WrongWord(f"--place {text!r} is no place LAT,LON in degrees")
+        raise WrongWords(f"--place {text!r} is no place LAT,LON in degrees")
     return found[0], found[1]
 
 
@@ -76,5 +60,5 @@ def scale_word(text: str) -> float:
     """The metres of a unit, more than 0."""
     found = number_of(text)
     if found is None or not 0 < found <= 10_000_000:
-        raise WrongWord(f"--scale {text!r} is no number of metres above 0")
+        raise WrongWords(f"--scale {text!r} is no number of metres above 0")
     return found

@@ -37,6 +37,7 @@ def generated() -> dict[str, str]:
 
 
 def main(folder: Path) -> None:
+    """Writes the pages of commands and the completion of shells below a folder."""
     for name, text in generated().items():
         path = folder / name
         path.parent.mkdir(parents=True, exist_ok=True)

@@ -3,11 +3,12 @@
 from collections import defaultdict
 from typing import NamedTuple
 
+from ..clocks import clock
 from ..formats import ACTIVITY_DELAYS, DAY_ACTIVITIES, DAY_EVENTS, DISPOSITION, EVENT_DELAYS
 from ..formats import REASONS, SCHEDULE, STOPS, TRIPS, DayActivity, Reason
 from . import style
 from .plan import Index, Plan
-from .scene import Axis, Facts, Layer, Picture, Section, Shape, clock, row_axis
+from .scene import Axis, Facts, Layer, Picture, Section, Shape, row_axis
 from .space_time import time_axis
 
 WAYS = {"drive or wait": "solid", "change that waits": "dash", "turn of the vehicle": "dot"}

@@ -9,8 +9,9 @@ from matplotlib.backends.backend_agg import FigureCanvasAgg
 from matplotlib.backends.backend_svg import FigureCanvasSVG
 from matplotlib.figure import Figure
 
+from ..clocks import clock
 from . import style
-from .scene import Axis, Layer, Picture, Shape, clock
+from .scene import Axis, Layer, Picture, Shape
 from .traces import ends_of
 
 if TYPE_CHECKING:

@@ -87,8 +87,3 @@ def row_axis(names: Sequence[str]) -> tuple[Axis, int]:
     step = -(-14 // each)
     ticks = tuple((float(row), name) for row, name in enumerate(names) if row % step == 0)
     return Axis("named", "", ticks, count - 0.4, -0.6), 150 + each * count
-
-
-def clock(minute: float) -> str:
-    """A minute of the day in words, as 07:05; hours go on after 24."""
-    return f"{int(minute) // 60:02}:{int(minute) % 60:02}"

@@ -7,12 +7,13 @@ from collections import defaultdict
 from itertools import accumulate
 from typing import NamedTuple
 
+from ..clocks import clock
 from ..faults import Refused
 from ..formats import ACTIVITY_DELAYS, DAY_ACTIVITIES, DAY_EVENTS, DISPOSITION, EDGES, STOPS, TRIPS
 from ..formats import DayActivity
 from . import style
 from .plan import DayTrip, Plan
-from .scene import Axis, Facts, Layer, Picture, Section, Shape, Value, clock
+from .scene import Axis, Facts, Layer, Picture, Section, Shape, Value
 
 FACTS = ("event", "trip", "kind", "stop", "disposed", "minutes after the last")
 LATE_FACTS = ("event", "trip", "kind", "stop", "planned", "minutes late")

@@ -2,10 +2,11 @@
 
 from collections import defaultdict
 
+from ..clocks import clock
 from ..formats import SCHEDULE, STOPS, ScheduleRow
 from . import style
 from .plan import Plan
-from .scene import Axis, Layer, Picture, Section, Shape, Value, clock, row_axis
+from .scene import Axis, Layer, Picture, Section, Shape, Value, row_axis
 from .space_time import time_axis
 
 FACTS = ("vehicle", "row", "kind", "line", "from event", "to event", "from", "to", "start", "end")

@@ -1,14 +1,13 @@
 """Timetables that are good for passengers: where the search begins, what is told, what is written."""
 
 import shutil
-import tempfile
 from argparse import Namespace
 from collections.abc import Callable
 from pathlib import Path
 
 import numpy
 
-from .. import dataset, formats, highs, program
+from .. import dataset, files, formats, highs, program
 from ..dataset import Dataset
 from ..faults import Refused
 from ..manners import Deadline, Progress, Talk
@@ -24,6 +23,7 @@ from .turnarounds import terminals
 
 MOST_ACTIVITIES = 4_000  # that count, for which HiGHS is asked
 FEW_ACTIVITIES = 600  # that count, for which HiGHS is asked before the search, too
+CHANGE_PENALTY = 10  # minutes for which a change counts beyond those it takes
 FOR_HIGHS = 0.2  # of the time, before the search and after it
 
 
@@ -33,7 +33,9 @@ class Goodness:
     def __init__(self, data: Dataset, words: Namespace) -> None:
         self.network = periodic_network(data)
         demand = demand_of(data)
-        self.router = Router(self.network, demand, words.change_penalty)
+        given = words.change_penalty
+        penalty = CHANGE_PENALTY if given is None else given
+        self.router = Router(self.network, demand, penalty)
         self.own: Real | None = None
         if words.weights:
             self.own = read_weights(words.weights, len(self.network.lower))
@@ -158,15 +160,18 @@ def ask_highs(search: Search, deadline: Deadline, most: int = MOST_ACTIVITIES) -
 
 def _tell_vehicles(folder: Path, start: Whole, best: Whole, talk: Talk) -> None:
     """Tells how many vehicles `lintim make` needs with the two timetables, on copies."""
-    before, after = vehicles(folder, start), vehicles(folder, best)
+    try:
+        before, after = vehicles(folder, start), vehicles(folder, best)
+    except Refused as why:
+        talk.say(f"timetable: how many vehicles it needs is not known: {why}")
+        return
     if before is not None and after is not None:
         talk.say(f"timetable: lintim make then needs {after} vehicles, and {before} before")
 
 
 def vehicles(folder: Path, times: Whole) -> int | None:
     """How many vehicles `lintim make` needs with a timetable; none where it ends early."""
-    with tempfile.TemporaryDirectory(prefix="lintim-timetable-") as place:
-        copy = Path(place)
+    with files.scratch("lintim-timetable-") as copy:
         for file in formats.FILES:
             if not file.stage and (folder / file.name).is_file():
                 (copy / file.name).parent.mkdir(parents=True, exist_ok=True)

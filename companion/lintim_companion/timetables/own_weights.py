@@ -26,8 +26,14 @@ def read_weights(path: Path, activities: int) -> Real:
     except OSError as why:
         raise Refused(f"{path} cannot be read: {why.strerror}") from None
     weights = numpy.zeros(activities)
+    seen = set[int]()
     for number, row in enumerate(parsed(File(str(path), ActivityWeight), data), 1):
         if row.activity_id > activities:
             raise Refused(f"{path} row {number}: unknown activity ({row.activity_id})")
+        if row.activity_id in seen:
+            raise Refused(f"{path} row {number}: activity {row.activity_id} comes twice")
+        seen.add(row.activity_id)
         weights[row.activity_id - 1] = row.weight / 10**6
+    if not weights.any():
+        raise Refused(f"{path} has no weight above 0, so there is nothing to make better")
     return weights
