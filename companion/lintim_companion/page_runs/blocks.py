@@ -6,8 +6,8 @@ from typing import Literal
 
 Kind = Literal["command", "shown", "hidden", "file"]
 COMMANDS = re.compile(
-    r"(?:\S*/)?(?:lintim(?:-[a-z]+)?|test|install|check|try|pages)(?: (?!keep )|$)"
-    r"|(?:apt|bench/\w+|cd|cp|echo|git|mkdir|printf|rm|rt|sed) "
+    r"\(?(?:\S*/)?(?:lintim(?:-[a-z]+)?|test|install|check|try|pages)(?: (?!keep )|$)"
+    r"|\(?(?:apt|awk|bench/\w+|cd|cp|echo|git|grep|mkdir|printf|rm|rt|sed) "
 )
 COMMENT = re.compile(r"<!-- (run|file): (.*?) *-->", re.S)
 SPAN = re.compile(r"(?<!`)`([^`]+)`(?!`)")

@@ -19,19 +19,21 @@ class Mark:
     long: bool = False
 
 
+CLOCK = "takes a minute, and what is found then may depend on the machine"
 TOWN = "8 Mill --5-- 1 Station"
 MARKS = (
     Mark("README.md", "./test", "runs for minutes, and wants rt; CONTRIBUTING has when to run it"),
-    Mark("README.md", "./install", "test_install tries it"),
     Mark("companion/README.md", "apt install", "changes the machine"),
-    Mark("companion/README.md", "from lintim_companion", "test_pages runs it"),
+    Mark("companion/README.md", "from lintim_companion", "Python; test_pages runs it"),
+    Mark("companion/README.md", "data = ", "Python; test_pages runs it"),
     Mark("companion/README.md", "companion/check", "runs this"),
     Mark("companion/README.md", "companion/pages", "runs this"),
-    Mark("docs/ARCHITECTURE.md", "lintim   ", PICTURE),
-    Mark("docs/ARCHITECTURE.md", "what stages share", PICTURE),
-    Mark("docs/ARCHITECTURE.md", "git grep", "its sentence counts lines of code, in the checkout"),
+    Mark("docs/ARCHITECTURE.md", "", "a map, and questions to git about the code of the checkout"),
     Mark("docs/EXAMPLE.md", TOWN, PICTURE),
     Mark("docs/FIRST-POOL.md", TOWN, PICTURE),
+    Mark("docs/GOOD-TIMETABLES.md", "lintim-timetable", CLOCK, long=True),
+    Mark("docs/GOOD-TIMETABLES.md", "echo 'pin_timetable", CLOCK, long=True),
+    Mark("docs/GOOD-TIMETABLES.md", "timetable: before", CLOCK, long=True),
     Mark("docs/GTFS.md", "lintim-gtfs export FOLDER", FORM),
     Mark("docs/GTFS.md", "lintim-gtfs import FEED", FORM),
     Mark("docs/GTFS.md", "lintim-gtfs check FEED", FORM),
@@ -39,9 +41,11 @@ MARKS = (
     Mark("docs/GTFS.md", "error: stop_times.txt", "of a damaged feed; test_gtfs_check has it"),
     Mark("docs/INSTALL.md", "./install", "test_install tries it"),
     Mark("docs/INSTALL.md", "fpath=", FORM),
+    Mark("docs/PROVING.md", "", "code of the program, which the proofs read"),
     Mark("docs/STAGES-LINES.md", "lpool_costs_fixed +", FORM),
 )
-SPANS: frozenset[tuple[str, str]] = frozenset()
+# Lines of reports in prose that no run of their page prints, with where they are tried.
+SPANS = {("README.md", "no solution: concept"): "docs/FIRST-POOL.md"}
 
 
 def is_marked(page: str, line: str, everything: bool) -> bool:
@@ -55,7 +59,7 @@ def is_marked(page: str, line: str, everything: bool) -> bool:
 def without_marks(page: str, block: Block, everything: bool) -> Block:
     """A block without the commands that are not run; nothing is left of a text that is not
     compared."""
-    if block.kind == "command":
+    if block.kind in ("command", "hidden"):
         kept = tuple(line for line in block.lines if not is_marked(page, line, everything))
     else:
         kept = () if is_marked(page, block.lines[0], everything) else block.lines

@@ -15,6 +15,7 @@ COPIED = ("README.md", "docs", "examples", "companion")
 SECONDS = 600
 # What comments may use: commands in a copy of the folder, so that it stays as the page left it.
 HELP = """
+TOP=$PWD
 in_copy() { (
     copy=$(mktemp -d "$TMPDIR/copy.XXXXXX"); cp -r . "$copy/it"; cd "$copy/it"; eval "$1"
 ) }

@@ -61,7 +61,10 @@ class Walk:
     def compare(self, block: Block) -> None:
         """Looks for a shown block in all that was printed, and in the files that stand now."""
         printed = any(stands_in(block.lines, it.printed.splitlines()) for it in self.steps)
-        if not printed and not any(are_rows_of(block.lines, it) for it in self.files()):
+        in_file = any(
+            stands_in(block.lines, it) or are_rows_of(block.lines, it) for it in self.files()
+        )
+        if not printed and not in_file:
             self.fault(block.line, f"nothing prints or has this: {block.lines[0]}")
         self.counts["compared"] += 1
 
