@@ -10,11 +10,10 @@ from lintim_companion.faults import NoProgram
 from lintim_companion.manners import see_package
 from lintim_companion.page_runs import compare, marks
 from lintim_companion.page_runs.blocks import Block, blocks_of, is_command, spans_of
-from lintim_companion.page_runs.walks import pages, walk
+from lintim_companion.page_runs.walks import pages, pages_to_run, walk
 from lintim_companion.registry import COMMANDS
 
 TEXTS = {page: (program.CHECKOUT / page).read_text() for page in pages()}
-RUN = [page for page, text in TEXTS.items() if any(it.kind != "shown" for it in blocks_of(text))]
 LONG = sorted({mark.page for mark in marks.MARKS if mark.long})
 
 
@@ -28,7 +27,7 @@ def see_packages() -> None:
         pytest.skip(str(why))
 
 
-@pytest.mark.parametrize("page", RUN)
+@pytest.mark.parametrize("page", pages_to_run())
 def test_a_page_shows_what_comes(page: str, tmp_path: Path, lintim: str) -> None:
     see_packages()
     walked = walk(page, tmp_path / "it")
@@ -77,7 +76,9 @@ def test_commands(line: str) -> None:
     assert is_command(line)
 
 
-@pytest.mark.parametrize("line", ["lintim keep 1 cost", "load: 2 edges", "1; 2", "checked"])
+@pytest.mark.parametrize(
+    "line", ["lintim keep 1 cost", "load: 2 edges", "1; 2", "checked", "lintim-x [--all]"]
+)
 def test_no_commands(line: str) -> None:
     assert not is_command(line)
 

@@ -7,8 +7,9 @@ from typing import Literal
 Kind = Literal["command", "shown", "hidden", "file"]
 COMMANDS = re.compile(
     r"\(?(?:\S*/)?(?:lintim(?:-[a-z]+)?|test|install|check|try|pages)(?: (?!keep )|$)"
-    r"|\(?(?:apt|awk|bench/\w+|cd|cp|echo|git|grep|mkdir|printf|rm|rt|sed) "
+    r"|\(?(?:apt|awk|bench/\w+|cd|cp|echo|git|grep|mkdir|printf|rm|rt|sed) |PATH="
 )
+SYNOPSIS = re.compile(r"\[(?:--|[A-Z])")
 COMMENT = re.compile(r"<!-- (run|file): (.*?) *-->", re.S)
 SPAN = re.compile(r"(?<!`)`([^`]+)`(?!`)")
 
@@ -28,8 +29,13 @@ class Block:
 
 
 def is_command(line: str) -> bool:
-    """Whether a block that begins with this line shows commands."""
-    return COMMANDS.match(line) is not None
+    """Whether a block that begins with this line shows commands, and no synopsis of one."""
+    return COMMANDS.match(line) is not None and not is_synopsis(line)
+
+
+def is_synopsis(line: str) -> bool:
+    """Whether a block that begins with this line shows the words of a command, some in capitals."""
+    return SYNOPSIS.search(line) is not None
 
 
 def shown_block(line: int, lines: list[str]) -> Block:

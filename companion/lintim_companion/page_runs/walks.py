@@ -5,7 +5,7 @@ from dataclasses import dataclass, field
 from pathlib import Path
 
 from .. import program
-from .blocks import Block, blocks_of, spans_of
+from .blocks import Block, blocks_of, is_synopsis, spans_of
 from .compare import are_rows_of, is_report, stands_in
 from .marks import SPANS, without_marks
 from .shell import Shell, Step
@@ -85,8 +85,10 @@ class Walk:
             elif target:
                 self.write(target, block)
                 target = ""
-            elif block.lines:
-                (self.compare if block.kind == "shown" else self.run)(block)
+            elif block.lines and block.kind != "shown":
+                self.run(block)
+            elif block.lines and not is_synopsis(block.lines[0]):
+                self.compare(block)
 
     def compare_span(self, line: int, span: str) -> None:
         """Looks for a line of a report that the prose tells."""
@@ -101,6 +103,14 @@ def pages() -> list[str]:
     found = [*program.CHECKOUT.glob("*.md"), *program.CHECKOUT.glob("companion/*.md")]
     found += program.CHECKOUT.glob("docs/*.md")
     return sorted(str(path.relative_to(program.CHECKOUT)) for path in found)
+
+
+def pages_to_run() -> list[str]:
+    """The pages that have commands; what others show is compared with nothing."""
+    texts = {page: (program.CHECKOUT / page).read_text() for page in pages()}
+    return [
+        page for page in texts if any(block.kind != "shown" for block in blocks_of(texts[page]))
+    ]
 
 
 def walk(page: str, place: Path, everything: bool = False) -> Walk:
