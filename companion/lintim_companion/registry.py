@@ -233,6 +233,32 @@ COMMANDS = (
         statuses=((0, "the page was written"), (1, "no page was written; the last line says why"))
         + STATUSES[2:],
     ),
+    Command(
+        name="lintim-why",
+        module="commands.why",
+        says="Says what is wrong with a dataset, where, and what would help.",
+        about="lintim make runs over a copy of what people write; nothing in the folder is changed.\n"
+        "Each cause is told in lines `why: ..`, and what would help in a line `try: ..`: the line\n"
+        "of the file as an editor counts, what was found and what is wanted, the nearest names,\n"
+        "why there is no line concept or no timetable and with which settings there is one, and\n"
+        "mistakes with which lintim make ends well. With words of lintim after the folder, as\n"
+        "`lintim-why . journey 1 9 07:00`, it says what is wrong with these.",
+        reads="what people write: basis, pinned, the files of delays and waiting",
+        writes="nothing",
+        words=(
+            Word("folder", "the folder of a dataset", kind="folder", default="."),
+            Word("words", "words that lintim was given there: make, where none are", many=True),
+            Word("--seconds", "how long it may search", kind="whole", default=60, least=1),
+        ),
+        example="lintim-why .",
+        packages=(SCIPY, CADICAL),
+        statuses=(
+            (0, "nothing is to be said"),
+            (1, "something is told, or the last line on the standard error says why it cannot be"),
+            (2, "the words of the command are wrong"),
+            (130, "it was stopped before anything was told"),
+        ),
+    ),
 )
 
 

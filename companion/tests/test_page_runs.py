@@ -77,7 +77,8 @@ def test_commands(line: str) -> None:
 
 
 @pytest.mark.parametrize(
-    "line", ["lintim keep 1 cost", "load: 2 edges", "1; 2", "checked", "lintim-x [--all]"]
+    "line",
+    ["lintim keep 1 cost", "load: 2 edges", "1; 2", "checked", "lintim make ends with: done"],
 )
 def test_no_commands(line: str) -> None:
     assert not is_command(line)

@@ -60,7 +60,7 @@ class Shell:
         self.place = place
         self.temporary = place / "tmp"
         self.temporary.mkdir(parents=True)
-        self.printed = place / "printed"
+        self.printed, self.block = place / "printed", place / "block"
         top = copy_checkout(place)
         path = f"{place}/bin:{top}/companion/bin:{os.environ['PATH']}"
         self.process = subprocess.Popen(
@@ -84,8 +84,9 @@ class Shell:
         """Runs a block, and waits for it."""
         assert self.process.stdin and self.process.stdout
         commands = commands.replace("/tmp/", f"{self.temporary}/")
+        self.block.write_text(commands)
         self.process.stdin.write(
-            f"{{\n{commands.rstrip()}\n}} > '{self.printed}' 2>&1 < /dev/null\n"
+            f". '{self.block}' > '{self.printed}' 2>&1 < /dev/null\n"
             'printf "%s\\n%s\\n" "$?" "$PWD"\n'
         )
         self.process.stdin.flush()

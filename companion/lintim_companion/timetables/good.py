@@ -139,7 +139,10 @@ def ask_highs(search: Search, deadline: Deadline) -> str:
             search.take(times, search.objective.value(times))
             search.alternate(times)
 
-    answer = highs.solve(program_of.mixed, deadline, search.progress, found)
+    try:
+        answer = highs.solve(program_of.mixed, deadline, search.progress, found)
+    except Refused as why:
+        return f"no bound is known: {why}"
     now = float(near.weights @ near.network.slack(best))
     if answer.bound is None or not numpy.isfinite(answer.bound):
         return ""
