@@ -42,7 +42,7 @@ def test_a_page_shows_what_comes_after_minutes(page: str, tmp_path: Path, lintim
 
 
 def test_what_is_marked_stands_on_its_page_and_has_a_reason() -> None:
-    for mark in marks.MARKS:
+    for mark in (it for it in marks.MARKS if it.page in TEXTS):
         lines = [line for block in blocks_of(TEXTS[mark.page]) for line in block.lines]
         assert mark.why and any(line.startswith(mark.begins) for line in lines), mark
     for (page, span), why in marks.SPANS.items():
@@ -100,30 +100,26 @@ def test_the_rule_of_comparing() -> None:
 
 
 @pytest.mark.parametrize(
-    "found, put",
+    "page, found, put",
     [
-        ("concept: cost 57.5, optimal", "concept: cost 58.5, optimal"),
-        ("# uncovered; 7", "# uncovered; 8"),
-        ("../lintim pool 3 5 7 8", "../lintim pool 3 5 7 9"),
-        ("mkdir -p first/basis", "mkdir -p first/basic"),
-        ("`spent: concept after 5000 entries`", "`spent: concept after 5001 entries`"),
+        ("docs/STAGES-LINES.md", "concept: cost 27, optimal, 9", "concept: cost 28, optimal, 9"),
+        ("docs/STAGES-LINES.md", "    1; 5; 15\n", "    1; 5; 16\n"),
+        ("docs/STAGES-LINES.md", "'concept_budget; 8'", "'concept_budget; 7'"),
+        ("docs/STAGES-LINES.md", "`spent: concept after 6 entries`", "`spent: concept after 7`"),
+        ("docs/STAGES.md", "    lintim demo 5", "    lintim demo 6"),
+        ("docs/STAGES.md", "    lintim demo 5", "    lintim-demo 5"),
     ],
 )
 def test_a_page_that_is_wrong_is_found(
-    found: str, put: str, tmp_path: Path, lintim: str, monkeypatch: pytest.MonkeyPatch
+    page: str, found: str, put: str, tmp_path: Path, lintim: str, monkeypatch: pytest.MonkeyPatch
 ) -> None:
-    page = "docs/FIRST-POOL.md"
-    text = TEXTS[page]
-    assert text.count(found) >= 1
     whole = Path.read_text
-    monkeypatch.setattr(
-        Path,
-        "read_text",
-        lambda it, *words, **named: (
-            text.replace(found, put, 1)
-            if it == program.CHECKOUT / page
-            else whole(it, *words, **named)
-        ),
-    )
+    assert found in TEXTS[page]
+
+    def read(path: Path, encoding: str | None = None, errors: str | None = None) -> str:
+        text = whole(path, encoding, errors)
+        return text.replace(found, put, 1) if path == program.CHECKOUT / page else text
+
+    monkeypatch.setattr(Path, "read_text", read)
     faults = walk(page, tmp_path / "it").faults
-    assert faults and re.match(r"docs/FIRST-POOL.md line \d+: ", faults[0])
+    assert faults and re.match(rf"{page} line \d+: ", faults[0])

@@ -19,7 +19,7 @@ class Mark:
     long: bool = False
 
 
-CLOCK = "takes a minute, and what is found then may depend on the machine"
+CLOCK = "may take a minute, and what is found then may depend on the machine"
 TOWN = "8 Mill --5-- 1 Station"
 MARKS = (
     Mark("README.md", "./test", "runs for minutes, and wants rt; CONTRIBUTING has when to run it"),
@@ -40,6 +40,9 @@ MARKS = (
     Mark("docs/GTFS.md", "error: stop_times.txt", "of a damaged feed; test_gtfs_check has it"),
     Mark("docs/INSTALL.md", "./install", "test_install tries it"),
     Mark("docs/INSTALL.md", "fpath=", FORM),
+    Mark("docs/STUDIES.md", "", "wants Snakemake, and takes minutes; test_studies runs a small one"),
+    Mark("docs/WHY.md", "(lintim-why)", CLOCK, long=True),
+    Mark("docs/WHY.md", "lintim make ends with: no solution: timetable", CLOCK, long=True),
     Mark("docs/STAGES-LINES.md", "lpool_costs_fixed +", FORM),
 )
 # Lines of reports in prose that no run of their page prints, with where they are tried.
