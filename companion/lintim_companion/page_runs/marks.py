@@ -40,7 +40,9 @@ MARKS = (
     Mark("docs/GTFS.md", "error: stop_times.txt", "of a damaged feed; test_gtfs_check has it"),
     Mark("docs/INSTALL.md", "./install", "test_install tries it"),
     Mark("docs/INSTALL.md", "fpath=", FORM),
-    Mark("docs/STUDIES.md", "", "wants Snakemake, and takes minutes; test_studies runs a small one"),
+    Mark(
+        "docs/STUDIES.md", "", "wants Snakemake, and takes minutes; test_studies runs a small one"
+    ),
     Mark("docs/WHY.md", "(lintim-why)", CLOCK, long=True),
     Mark("docs/WHY.md", "lintim make ends with: no solution: timetable", CLOCK, long=True),
     Mark("docs/STAGES-LINES.md", "lpool_costs_fixed +", FORM),
