@@ -10,12 +10,13 @@ import pytest
 
 from lintim_companion import formats, program
 from lintim_companion.cells import Cell, Word
-from lintim_companion.columns import Key, allowed, columns, header, holds, keys
+from lintim_companion.columns import Key, allowed, columns, file_named, header, holds, keys, unit
 from lintim_companion.pages import command_table
 from lintim_companion.registry import COMMANDS
 from lintim_companion.tables import text_of
 
 DOCS = program.CHECKOUT / "docs"
+ROW_HEAD = "| File | A row | What it says |"
 
 
 def rows_below(page: str, head: str) -> list[list[str]]:
@@ -43,10 +44,18 @@ def values_of(key: Key) -> str:
 
 def test_settings() -> None:
     wanted = [
-        [f"`{key.name}`", values_of(key), text_of(key.cell, key.default), ", ".join(key.use.stages)]
+        [
+            f"`{key.name}`",
+            key.use.says,
+            values_of(key),
+            unit(key.cell),
+            text_of(key.cell, key.default),
+            ", ".join(key.use.stages),
+        ]
         for key in keys()
     ]
-    assert rows_below("SETTINGS.md", "| Key | Values | Default | Stages |") == wanted
+    head = "| Key | What it means | Values | Unit | Default | Stages |"
+    assert rows_below("SETTINGS.md", head) == wanted
 
 
 def words_of(cell: Cell) -> set[str]:
@@ -76,10 +85,22 @@ def test_columns() -> None:
             holds(column.cell),
         ]
         for file in formats.FILES
-        if not file.stage and not file.name.startswith(("pinned/", "waiting/"))
+        if not file.stage
         for place, column in enumerate(columns(file))
     ]
     assert rows_below("FORMAT.md", "| File | Column | What it holds | Values |") == wanted
+
+
+def test_rows() -> None:
+    """Each file that people write has a row on the page; those of the examples stand there."""
+    rows = {name[1:-1]: row[1:-1] for name, row, _ in rows_below("FORMAT.md", ROW_HEAD)}
+    assert set(rows) == {file.name for file in formats.FILES if not file.stage} | {formats.CONFIG}
+    for name, row in rows.items():
+        file = file_named(name)
+        assert file is None or len(row.split("; ")) == len(columns(file))
+        if not name.startswith(("pinned/", "waiting/")):
+            found = (program.CHECKOUT / "examples").glob(f"*/{name}")
+            assert any(row in path.read_text().splitlines() for path in found), name
 
 
 def test_headers_that_pages_show_are_those_of_the_table() -> None:
@@ -120,33 +141,3 @@ def test_the_example_of_the_readme_runs() -> None:
         env={**os.environ, "PYTHONPATH": "companion"},
         check=True,
     )
-
-
-def test_the_walk_of_other_solvers_prints_what_the_page_shows(tmp_path: Path, lintim: str) -> None:
-    """All commands of the page in order, in one shell; seconds may differ."""
-    blocks = blocks_of(DOCS / "OTHER-SOLVERS.md", "## A walk")
-    shown = [block for block in blocks if block.startswith(("concept: ", "waits: "))]
-    commands = [block for block in blocks if block not in shown]
-    assert len(shown) == 2 and len(commands) == 4
-    last = (
-        f"cp -r $CHECKOUT/examples/market-town {tmp_path}/town; cd {tmp_path}/town; lintim make\n"
-    )
-    script = "".join(commands[:3]).replace("/tmp/stops", str(tmp_path / "stops"))
-    (tmp_path / "bin").mkdir()
-    (tmp_path / "bin/lintim").symlink_to(lintim)
-    ended = subprocess.run(
-        ["bash", "-ec", script + last + commands[3]],
-        cwd=program.CHECKOUT,
-        env={
-            **os.environ,
-            "CHECKOUT": str(program.CHECKOUT),
-            "PATH": f"{tmp_path}/bin:{os.environ['PATH']}",
-        },
-        capture_output=True,
-        text=True,
-    )
-    assert (ended.returncode, ended.stderr) == (0, "")
-    printed = re.sub(r"\d+\.\d s\b", "N s", ended.stdout)
-    for block in shown:
-        assert re.sub(r"\d+\.\d s\b", "N s", block) in printed
-    assert "concept: cost 27, optimal, pinned" in printed and "\nchecked\n" in printed

@@ -186,5 +186,3 @@ def test_the_page_prints_what_it_shows(tmp_path: Path, lintim: str) -> None:
     assert shown[0] in ended.stdout and ended.stdout.endswith("\ndone\n")
     [other] = blocks_of(page, "## A timetable that cannot be")
     assert other.splitlines() == wanted()["changes of at most 20 minutes"]
-    first = (program.CHECKOUT / "docs/FIRST-POOL.md").read_text().replace("\n    ", "\n")
-    assert shown[0] in first
