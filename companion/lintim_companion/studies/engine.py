@@ -15,7 +15,7 @@ from ..faults import NoProgram, Refused
 from .plots import PAGE, write_page
 from .point import row_of
 from .study import Study, read
-from .table import POINTS, TABLE, broken, good, read_row, remove_broken, see_folder
+from .table import POINTS, TABLE, broken, good, read_row, remove_broken, see_folder, without_plan
 from .table import write_row, write_table
 
 HERE = program.CHECKOUT / "companion/studies"
@@ -65,7 +65,7 @@ def _snakemake(path: Path, into: Path, way: Way) -> None:
         *("snakemake", "--snakefile", str(HERE / "Snakefile"), "--directory", str(into)),
         *("--config", f"study={path.resolve()}", f"python={sys.executable}"),
         *("--keep-going", "--rerun-incomplete", "--rerun-triggers", "mtime", "--retries", "2"),
-        *("--nolock", "--scheduler", "greedy", "--quiet", "all", *where, *way.more, "--", "points"),
+        *("--nolock", "--scheduler", "greedy", *where, *way.more, "--", "points"),
     ]
     environment = {**os.environ, "LINTIM": program.find(), "OMP_NUM_THREADS": "1"}
     environment.setdefault("USER", "nobody")  # which --slurm wants to be there
@@ -80,11 +80,9 @@ def _told(study: Study, into: Path, say: Say) -> int:
     write_page(study, rows, into)
     for row in broken(rows):
         say(f"{study.name}: point {row['point']} broke: {row['fault']}")
-    without = len(rows) - len(good(rows)) - len(broken(rows))
-    say(
-        f"{study.name}: {len(good(rows))} good, {without} without a plan, {len(broken(rows))} broken;"
-        f" see {TABLE} and {PAGE} in {into}"
-    )
+    counts = len(good(rows)), len(without_plan(rows)), len(broken(rows))
+    says = "{} good, {} without a plan, {} broken".format(*counts)
+    say(f"{study.name}: {says}; see {TABLE} and {PAGE} in {into}")
     return 1 if broken(rows) else 0
 
 

@@ -10,7 +10,7 @@ from typing import Any
 
 from .point import Row
 from .study import TABLES, Plot, Study
-from .table import broken, good, write_whole
+from .table import broken, good, without_plan, write_whole
 
 PAGE = "page.html"
 Series = dict[str, list[tuple[float | str, float, int]]]
@@ -103,7 +103,7 @@ def _named(plot: Plot) -> str:
 def page_of(study: Study, rows: list[Row]) -> str:
     """The page: plots, the numbers that they show, and what broke."""
     it = html.escape
-    answers = [row for row in rows if row not in good(rows) and row not in broken(rows)]
+    shown = good(rows) + (answers := without_plan(rows))
     parts = [
         "<!DOCTYPE html>",
         f'<html lang="en"><meta charset="utf-8"><title>{it(study.title)}</title>',
@@ -114,7 +114,7 @@ def page_of(study: Study, rows: list[Row]) -> str:
         f"{len(broken(rows))} broken. Study {study.sha256[:16]}.</p>",
     ]
     for plot in study.plots:
-        parts += [picture(plot, good(rows)), _numbers(plot, good(rows))]
+        parts += [picture(plot, shown), _numbers(plot, shown)]
     if answers or broken(rows):
         parts.append("<h2>Points without all plans</h2><table>")
         for row in (*broken(rows), *answers):

@@ -25,7 +25,7 @@ TIMETABLES = {
     "for-passengers": ("--for-passengers",),
     "few-vehicles": ("--few-vehicles",),
 }
-GOOD = "good"
+GOOD, BROKEN = "good", "broken"
 
 
 class NoPlan(Exception):
@@ -64,9 +64,10 @@ class Run:
         ended: trials.Command = self.timed(part, lambda: trials.run(name, self.folder, *words))
         if ended.status != 0:
             says = ended.lines[-1] if ended.lines else f"nothing ({ended.status})"
+            says = says.removeprefix(f"lintim-{name}: ")
             if any(answer in says for answer in ANSWERS):
                 raise NoPlan(says)
-            raise Refused(says)
+            raise Refused(f"lintim-{name}: {says}")
         return ended.lines
 
     def set(self, **values: int | str) -> None:
@@ -90,14 +91,15 @@ def row_of(point: Point, folder: Path, beside: Path) -> Row:
     except NoPlan as why:
         outcome = str(why)
     except (Refused, OSError, ArithmeticError, LookupError, ValueError) as why:
-        outcome, fault = "broken", f"{type(why).__name__}: {why}"
+        outcome, fault = BROKEN, f"{type(why).__name__}: {why}"
         if isinstance(why, Refused):
             fault = str(why)
     finally:
         shutil.rmtree(folder, ignore_errors=True)
     shown = {key: value for key, value in point.items() if key != "rules"}
     fault = " ".join(fault.replace(str(folder), "DATASET").split())
-    return {**shown, "outcome": outcome, "fault": fault, **run.row, **made_by()}
+    has_plan = {} if outcome == BROKEN else {"has_plan": int(outcome == GOOD)}
+    return {**shown, "outcome": outcome, "fault": fault, **has_plan, **run.row, **made_by()}
 
 
 def _dataset(run: Run, beside: Path) -> None:

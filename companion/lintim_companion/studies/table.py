@@ -8,7 +8,7 @@ from collections.abc import Iterable
 from pathlib import Path
 
 from ..faults import Refused
-from .point import GOOD, Row
+from .point import BROKEN, GOOD, Row
 from .study import Study
 
 POINTS = "points"  # the folder of the rows, a file for each point
@@ -43,7 +43,7 @@ def rows_of(study: Study, into: Path) -> list[Row]:
     """All rows; a point that has none is broken."""
     rows = []
     for name, point in study.points.items():
-        lost = {**point, "outcome": "broken", "fault": "it was never ended"}
+        lost = {**point, "outcome": BROKEN, "fault": "it was never ended"}
         rows.append({"point": name, **(read_row(into, name) or lost)})
         rows[-1].pop("rules", None)
     return rows
@@ -84,12 +84,17 @@ def write_table(study: Study, into: Path) -> list[Row]:
 
 def broken(rows: Iterable[Row]) -> list[Row]:
     """The rows of points that broke: a fault, and no answer."""
-    return [row for row in rows if row["outcome"] == "broken"]
+    return [row for row in rows if row["outcome"] == BROKEN]
 
 
 def good(rows: Iterable[Row]) -> list[Row]:
     """The rows of points whose chain ran to its end."""
     return [row for row in rows if row["outcome"] == GOOD]
+
+
+def without_plan(rows: Iterable[Row]) -> list[Row]:
+    """The rows of points whose answer is that there is no plan."""
+    return [row for row in rows if row["outcome"] not in (GOOD, BROKEN)]
 
 
 def remove_broken(study: Study, into: Path) -> int:
@@ -98,7 +103,7 @@ def remove_broken(study: Study, into: Path) -> int:
     for name in study.points:
         path = into / POINTS / f"{name}.json"
         row = read_row(into, name)
-        if path.exists() and (row is None or row["outcome"] == "broken"):
+        if path.exists() and (row is None or row["outcome"] == BROKEN):
             path.unlink()
             count += 1
     return count
