@@ -5,7 +5,8 @@ import os
 import random
 import signal
 import subprocess
-from collections.abc import Iterator
+import time
+from collections.abc import Callable
 from pathlib import Path
 
 import hypothesis.strategies as some
@@ -63,7 +64,7 @@ def written(path: Path, text: str) -> Path:
 def test_the_studies_can_be_read(name: str) -> None:
     path = STUDIES / name
     found = study.read(path)
-    assert len(found.points) >= (100 if path.stem != "small" else 8)
+    assert len(found.points) >= {"small": 8, "on-two-nodes": 24}.get(path.stem, 100)
     assert found.title and found.plots
 
 
@@ -169,8 +170,8 @@ def test_points_that_stand_stay_and_a_broken_one_is_told(tmp_path: Path) -> None
     assert len(good) == 4 and set(good) <= set(kept)
 
 
-def kill_at(seconds: float, path: Path, into: Path) -> bool:
-    """Starts a study and kills all of it after so many seconds: whether it was still at work."""
+def kill_when(is_time: Callable[[], bool], path: Path, into: Path) -> bool:
+    """Starts a study and kills all of it when it is time: whether it was still at work."""
     started = subprocess.Popen(
         words(path, into),
         env=environment(),
@@ -178,45 +179,49 @@ def kill_at(seconds: float, path: Path, into: Path) -> bool:
         stdout=subprocess.DEVNULL,
         stderr=subprocess.DEVNULL,
     )
-    try:
-        started.wait(seconds)
-        return False
-    except subprocess.TimeoutExpired:
-        os.killpg(started.pid, signal.SIGKILL)
-        started.wait()
-        return True
+    while started.poll() is None:
+        if is_time():
+            os.killpg(started.pid, signal.SIGKILL)
+            started.wait()
+            return True
+        time.sleep(0.02)
+    return False
 
 
-def see_killed(path: Path, place: Path, moments: Iterator[float]) -> int:
-    """Sees that a study that is killed at these moments and started again gives the same table: how
-    often it was killed at work."""
-    assert run(path, place / "once").returncode == 0
-    kills = sum(kill_at(moment, path, place / "killed") for moment in moments)
-    assert run(path, place / "killed").returncode == 0
-    assert without_times(place / "killed") == without_times(place / "once")
-    assert not list((place / "killed" / "scratch").glob("*"))
-    return kills
+def see_same(path: Path, once: Path, killed: Path) -> None:
+    """Sees that a study that was killed gives the table of one that was not, when it is started
+    again."""
+    assert run(path, killed).returncode == 0
+    assert without_times(killed) == without_times(once)
+    assert not list((killed / "scratch").glob("*"))
 
 
 @pytest.mark.usefixtures("snakemake")
 def test_killed_and_started_again_the_table_is_the_same(tmp_path: Path) -> None:
-    path = written(tmp_path / "it.toml", SMALL)
-    assert see_killed(path, tmp_path, iter((2.0, 2.5)))
+    path = written(tmp_path / "it.toml", SMALL.replace('["grid", "ring"]', '"ring"'))
+    once, killed = tmp_path / "once", tmp_path / "killed"
+    assert run(path, once).returncode == 0
+    for wanted in (1, 3):
+        points = killed / "points"
+        assert kill_when(lambda: len(list(points.glob("[!.]*"))) >= wanted, path, killed)
+    see_same(path, once, killed)
 
 
 @pytest.mark.long
 @pytest.mark.usefixtures("snakemake")
 def test_killed_at_random_and_started_again_the_table_is_the_same(tmp_path: Path) -> None:
-    text = SMALL.replace("seed = 1\n", "seed = [1, 2, 3]\n")
     late = '[delays]\nlaw = "lognormal"\nmean = 6\nshare = 0.1\nof = "departures"\ndelay_seed = 1\n'
-    path = written(
-        tmp_path / "it.toml", late + '[waits]\nwaits = "lintim-waits"\npenalty = 9\n' + text
-    )
+    text = late + '[waits]\nwaits = "lintim-waits"\npenalty = 9\n' + SMALL
+    path, once = written(tmp_path / "it.toml", text), tmp_path / "once"
+    assert run(path, once).returncode == 0
     chance = random.Random(63)
     for number in range(5):
-        (tmp_path / str(number)).mkdir()
-        moments = (chance.uniform(0.5, 8) for _ in range(6))
-        assert see_killed(path, tmp_path / str(number), moments)
+        killed, kills = tmp_path / str(number), 0
+        for _ in range(4):
+            end = time.monotonic() + chance.uniform(0.5, 8)
+            kills += kill_when(lambda: time.monotonic() >= end, path, killed)
+        assert kills
+        see_same(path, once, killed)
 
 
 @pytest.mark.usefixtures("snakemake")

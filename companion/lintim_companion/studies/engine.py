@@ -11,7 +11,7 @@ from pathlib import Path
 from typing import NamedTuple
 
 from .. import program
-from ..faults import NoProgram, Refused
+from ..faults import Refused
 from .plots import PAGE, write_page
 from .point import row_of
 from .study import Study, read
@@ -37,8 +37,6 @@ def run(path: Path, into: Path, way: Way, say: Say) -> int:
     point broke, else 0."""
     study, into = read(path), into.resolve()
     program.find()
-    if shutil.which("snakemake") is None:
-        raise NoProgram("the program snakemake is missing: apt install snakemake")
     see_folder(into, study.name)
     with open(into / ".lock", "w") as lock:
         try:

@@ -90,10 +90,10 @@ def row_of(point: Point, folder: Path, beside: Path) -> Row:
             _waits(run)
     except NoPlan as why:
         outcome = str(why)
-    except (Refused, OSError, ArithmeticError, LookupError, ValueError) as why:
+    except Refused as why:
+        outcome, fault = BROKEN, str(why)
+    except Exception as why:  # whatever it is, it is told, and other points go on
         outcome, fault = BROKEN, f"{type(why).__name__}: {why}"
-        if isinstance(why, Refused):
-            fault = str(why)
     finally:
         shutil.rmtree(folder, ignore_errors=True)
     shown = {key: value for key, value in point.items() if key != "rules"}

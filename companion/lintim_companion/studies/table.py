@@ -43,7 +43,7 @@ def rows_of(study: Study, into: Path) -> list[Row]:
     """All rows; a point that has none is broken."""
     rows = []
     for name, point in study.points.items():
-        lost = {**point, "outcome": BROKEN, "fault": "it was never ended"}
+        lost = {**point, "outcome": BROKEN, "fault": "it has no row: see snakemake.log"}
         rows.append({"point": name, **(read_row(into, name) or lost)})
         rows[-1].pop("rules", None)
     return rows
