@@ -64,7 +64,7 @@ def written(path: Path, text: str) -> Path:
 def test_the_studies_can_be_read(name: str) -> None:
     path = STUDIES / name
     found = study.read(path)
-    assert len(found.points) >= {"small": 8, "on-two-nodes": 24}.get(path.stem, 100)
+    assert len(found.points) >= {"small": 8, "on-two-nodes": 16}.get(path.stem, 100)
     assert found.title and found.plots
 
 
