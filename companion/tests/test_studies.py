@@ -210,8 +210,10 @@ def test_killed_and_started_again_the_table_is_the_same(tmp_path: Path) -> None:
 @pytest.mark.long
 @pytest.mark.usefixtures("snakemake")
 def test_killed_at_random_and_started_again_the_table_is_the_same(tmp_path: Path) -> None:
-    late = '[delays]\nlaw = "lognormal"\nmean = 6\nshare = 0.1\nof = "departures"\ndelay_seed = 1\n'
-    text = late + '[waits]\nwaits = "lintim-waits"\npenalty = 9\n' + SMALL
+    late = (
+        '\n[delays]\nlaw = "lognormal"\nmean = 6\nshare = 0.1\nof = "departures"\ndelay_seed = 1\n'
+    )
+    text = SMALL + late + '[waits]\nwaits = "lintim-waits"\npenalty = 9\n'
     path, once = written(tmp_path / "it.toml", text), tmp_path / "once"
     assert run(path, once).returncode == 0
     chance = random.Random(63)
