@@ -3,6 +3,7 @@
 import csv
 import os
 import random
+import shutil
 import signal
 import subprocess
 import time
@@ -168,6 +169,34 @@ def test_points_that_stand_stay_and_a_broken_one_is_told(tmp_path: Path) -> None
     kept = [it for it, when in before.items() if it.exists() and it.stat().st_mtime_ns == when]
     good = [it for it in before if '"good"' in it.read_text()]
     assert len(good) == 4 and set(good) <= set(kept)
+
+
+def test_the_page_shows_a_study_and_names_all_keys() -> None:
+    text = (program.CHECKOUT / "docs/STUDIES.md").read_text()
+    shown = "".join(f"    {line}\n" if line else "\n" for line in SMALL.splitlines())
+    assert shown in text
+    named = [key for table, keys in study.TABLES.items() if table != "settings" for key in keys]
+    choices = [word for words in study.CHOICES.values() for word in words]
+    for word in (*named, *choices, *LAWS, *PLACES, *table.LAST, *study.Plot._fields):
+        assert f"`{word}`" in text, word
+
+
+@pytest.mark.long
+@pytest.mark.usefixtures("snakemake")
+@pytest.mark.skipif(os.geteuid() != 0, reason="only root can start slurmd")
+def test_on_slurm_of_two_nodes_of_which_one_is_taken_away(tmp_path: Path) -> None:
+    for name, package in (("slurmd", "slurmd"), ("slurmctld", "slurmctld"), ("munged", "munge")):
+        if shutil.which(name) is None:
+            pytest.skip(f"the program {name} is missing: apt install {package}")
+    ended = subprocess.run(
+        [str(STUDIES / "two-nodes"), str(tmp_path / "out")],
+        env=environment(),
+        capture_output=True,
+        text=True,
+    )
+    assert ended.returncode == 0, ended.stdout + ended.stderr
+    assert "SLURM status is: 'NODE_FAIL'" in ended.stdout
+    assert ended.stdout.endswith("16 rows on Slurm, 16 without it: the same\n")
 
 
 def kill_when(is_time: Callable[[], bool], path: Path, into: Path) -> bool:
