@@ -259,6 +259,8 @@ def _settings_of(word: Word) -> dict[str, Any]:
         found["default"] = word.default
     if word.many:
         found["nargs"] = "*"
+    elif word.default is not None and not word.is_option:
+        found.update(nargs="?", default=word.default)
     if word.kind == "whole":
         found["type"] = lambda text: _whole(word, text)
         found["metavar"] = "N" if word.is_option else found["metavar"]

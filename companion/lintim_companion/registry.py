@@ -58,6 +58,9 @@ class Command:
 
 SCIPY = Package("python3-scipy", module="scipy")
 CADICAL = Package("cadical", program="cadical")
+PLOTLY = Package("python3-plotly", module="plotly")
+MATPLOTLIB = Package("python3-matplotlib", module="matplotlib")
+NETWORKX = Package("python3-networkx", module="networkx")
 FOLDER = Word("folder", "the folder of a dataset", kind="folder")
 SECONDS = Word("--seconds", "how long it may take", kind="whole", default=600, least=1)
 
@@ -196,6 +199,64 @@ COMMANDS = (
             (1, "it was not written; check: a rule is broken; the last line says why"),
             (2, "the words of the command are wrong"),
             (130, "it was stopped before anything was written"),
+        ),
+    ),
+    Command(
+        name="lintim-view",
+        module="commands.view",
+        says="Draws a plan: one page for a browser, and pictures for paper.",
+        about="The network, the line plan, the circle of each stop, space-time diagrams, vehicles,\n"
+        "delays and numbers, from whatever files stand in the folder. Pointing at a shape tells\n"
+        "its id. Of two folders all is drawn side by side, with what differs. --svg and --png\n"
+        "want python3-matplotlib; a network without coordinates wants python3-scipy and\n"
+        "python3-networkx.",
+        reads="whatever files stand in one dataset, or in two",
+        writes="the page: view.html where you are, or what --out names; pictures where --svg and --png say",
+        words=(
+            FOLDER,
+            Word("other", "a second dataset, to be seen beside the first", "folder", many=True),
+            Word("--out", "the page", kind="file", default="view.html"),
+            Word("--from", "what is under way from this time on, as 07:05"),
+            Word("--to", "what is under way up to this time"),
+            Word("--lines", "these lines alone, as 1,2"),
+            Word(
+                "--path",
+                "stops along which all trips are drawn too, as 1,2,4; several may be named",
+                many=True,
+            ),
+            Word("--svg", "a folder for each picture as a file of its own", kind="file"),
+            Word("--png", "the same as dots, for slides", kind="file"),
+            Word("--beside", "the script of plotly is a file beside the page", kind="switch"),
+        ),
+        example="lintim-view . --out town.html",
+        packages=(PLOTLY,),
+        statuses=((0, "the page was written"), (1, "no page was written; the last line says why"))
+        + STATUSES[2:],
+    ),
+    Command(
+        name="lintim-why",
+        module="commands.why",
+        says="Says what is wrong with a dataset, where, and what would help.",
+        about="lintim make runs over a copy of what people write; nothing in the folder is changed.\n"
+        "Each cause is told in lines `why: ..`, and what would help in a line `try: ..`: the line\n"
+        "of the file as an editor counts, what was found and what is wanted, the nearest names,\n"
+        "why there is no line concept or no timetable and with which settings there is one, and\n"
+        "mistakes with which lintim make ends well. With words of lintim after the folder, as\n"
+        "`lintim-why . journey 1 9 07:00`, it says what is wrong with these.",
+        reads="what people write: basis, pinned, the files of delays and waiting",
+        writes="nothing",
+        words=(
+            Word("folder", "the folder of a dataset", kind="folder", default="."),
+            Word("words", "words that lintim was given there: make, where none are", many=True),
+            Word("--seconds", "how long it may search", kind="whole", default=60, least=1),
+        ),
+        example="lintim-why .",
+        packages=(SCIPY, CADICAL),
+        statuses=(
+            (0, "nothing is to be said"),
+            (1, "something is told, or the last line on the standard error says why it cannot be"),
+            (2, "the words of the command are wrong"),
+            (130, "it was stopped before anything was told"),
         ),
     ),
 )

@@ -29,7 +29,7 @@ try:
     for package in (registry.SCIPY, registry.CADICAL):
         manners.see_package(package)
 except NoProgram:
-    names = ("course", "manners", "plans", "stops", "studies", "taken", "waits")
+    names = "course manners plans stops studies taken waits why why_hostile why_plans".split()
     collect_ignore = [f"test_{name}.py" for name in names]
 
 EXAMPLES = program.CHECKOUT / "examples"

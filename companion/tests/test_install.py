@@ -92,8 +92,8 @@ def test_another_user_without_anything_gets_the_answers_of_the_checkout(
     prefix: Path, tmp_path: Path
 ) -> None:
     user = pwd.getpwnam("nobody")
-    own = Path(shutil.copytree(EXAMPLES / "market-town", prefix.parent / "own"))
-    here = Path(shutil.copytree(EXAMPLES / "market-town", tmp_path / "here"))
+    own = Path(shutil.copytree(EXAMPLES / "market-town", prefix.parent / "town"))
+    here = Path(shutil.copytree(EXAMPLES / "market-town", tmp_path / "town"))
     for path in (own, *own.rglob("*")):
         os.chown(path, user.pw_uid, user.pw_gid)
 

@@ -21,8 +21,10 @@ class Clauses:
             for t in range(self.period - 2):
                 first, second = self.number(event, t), self.number(event, t + 1)
                 self.clauses.append([-first, second])
+        self.ends: list[int] = []  # how many clauses there are once an activity is bound
         for span in problem.spans:
             self.bind(span)
+            self.ends.append(len(self.clauses))
         if self.period > 1:
             self.clauses += [[self.number(event, 0)] for event in parts(problem)]
 

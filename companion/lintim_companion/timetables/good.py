@@ -23,6 +23,7 @@ from .solve import feasible
 from .turnarounds import terminals
 
 MOST_ACTIVITIES = 4_000  # that count, for which HiGHS is asked
+FEW_ACTIVITIES = 600  # that count, for which HiGHS is asked before the search, too
 FOR_HIGHS = 0.2  # of the time, before the search and after it
 
 
@@ -117,20 +118,20 @@ def improved(
     is asked at the beginning, where the network is small, and at the end."""
     search = Search(network, objective, deadline, progress, found)
     search.take(start, objective.value(start))
-    ask_highs(search, Deadline(FOR_HIGHS * deadline.left()))
+    ask_highs(search, Deadline(FOR_HIGHS * deadline.left()), FEW_ACTIVITIES)
     search.deadline = Deadline((1 - FOR_HIGHS) * deadline.left())
     search.run(search.best)
     says = ask_highs(search, Deadline(deadline.left()))
     return search.best, says
 
 
-def ask_highs(search: Search, deadline: Deadline) -> str:
+def ask_highs(search: Search, deadline: Deadline, most: int = MOST_ACTIVITIES) -> str:
     """Asks HiGHS for the least slack under the weights of the best times, and takes what is better;
     gives what it says of the slack of these routes, nothing where the network is too large."""
     best = search.best
     near = search.objective.weighted(best)
     program_of = slack_program(near.network, near.weights)
-    if not 0 < len(program_of.activities) <= MOST_ACTIVITIES or deadline.is_over():
+    if not 0 < len(program_of.activities) <= most or deadline.is_over():
         return ""
 
     def found(answer: highs.Answer) -> None:
@@ -139,7 +140,10 @@ def ask_highs(search: Search, deadline: Deadline) -> str:
             search.take(times, search.objective.value(times))
             search.alternate(times)
 
-    answer = highs.solve(program_of.mixed, deadline, search.progress, found)
+    try:
+        answer = highs.solve(program_of.mixed, deadline, search.progress, found)
+    except Refused as why:
+        return f"no bound is known: {why}"
     now = float(near.weights @ near.network.slack(best))
     if answer.bound is None or not numpy.isfinite(answer.bound):
         return ""

@@ -18,6 +18,7 @@ from .network import PeriodicNetwork, Truth, Whole
 from .objective import Objective
 
 GAIN = 1e-9
+RESTARTS = (0.3, 0.2)  # of the time that is left, for each of two ways to begin
 SEED = 1
 MOST_KICKS = 3000  # kicks in a row that helped nothing, after which the search ends
 
@@ -81,11 +82,30 @@ class Search:
         return self.best
 
     def from_short_changes(self, start: Whole) -> None:
-        """Another place to begin at: times in which all changes together are short."""
-        if not self.is_over():
-            times, each = start.copy(), self.network.of_kind("change").astype(float)
-            Descent(Costs(self.network, each, self.sets)).down(times, self.is_over)
-            self.alternate(times)
+        """Other places to begin at: times in which changes are short, each alike, or by customers."""
+        each = self.network.of_kind("change").astype(float)
+        near = self.objective.weighted(start)
+        ways = ((self.network, each), (near.network, near.weights))
+        for (network, weights), part in zip(ways, RESTARTS):
+            costs = Costs(network, weights, self.large)
+            self.alternate(self.by_restarts(costs, start, Deadline(part * self.deadline.left())))
+
+    def by_restarts(self, costs: Costs, start: Whole, part: Deadline) -> Whole:
+        """The best of many descents by shifts of whole lines and directions, each from random
+        shifts of the start."""
+        descent, times, best = Descent(costs), start.copy(), start
+        while not self.is_over():
+            descent.down(times, self.is_over)
+            if costs.total(times) < costs.total(best):
+                best = times.copy()
+                self.take(best, self.objective.value(best))
+            if part.is_over():
+                break
+            times = start.copy()
+            for of in self.large:
+                by = self.chance.randrange(self.network.period)
+                times[of] = (times[of] + by) % self.network.period
+        return best.copy()
 
     def costs(self, times: Whole) -> Costs:
         """What activities cost near these times."""

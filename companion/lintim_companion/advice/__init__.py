@@ -1,0 +1,1 @@
+"""What is wrong with a dataset, where, and what would help: told beside the reports of `lintim`."""

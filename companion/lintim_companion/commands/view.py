@@ -1,0 +1,157 @@
+"""`lintim-view`: pictures of a plan, as a page and as files for paper."""
+
+import re
+from argparse import Namespace
+from pathlib import Path
+
+from .. import dataset, files
+from ..dataset import Dataset
+from ..faults import Refused
+from ..manners import Talk, see_package
+from ..pictures.numbers import difference_section, number_section
+from ..pictures.page import Side, page_of
+from ..pictures.plan import Choice, Plan, lines_of
+from ..pictures.scene import Section
+from ..pictures.sections import sections_of
+from ..registry import MATPLOTLIB
+
+CLOCK = re.compile(r"(\d{1,3}):([0-5]\d)", re.ASCII)
+IDS = re.compile(r"\d{1,9}(,\d{1,9})*", re.ASCII)
+SCRIPT = "plotly.js"
+
+
+class WrongWords(Exception):
+    """Why the words of the command are wrong."""
+
+
+def run(words: Namespace, talk: Talk) -> int:
+    """Writes the page, and then the files for paper."""
+    try:
+        choice = choice_of(words)
+        folders = [words.folder, *(words.other or ())]
+        if len(folders) > 2:
+            raise WrongWords(f"{len(folders)} folders are named, wanted one or two")
+    except WrongWords as why:
+        talk.fault(f"{why}; see {talk.name} --help")
+        return 2
+    if words.svg or words.png:
+        see_package(MATPLOTLIB)
+    out = place_of(words.out)
+    first, sides, last, lines = drawn([dataset.read(it) for it in folders], choice, talk)
+    from plotly.offline import get_plotlyjs
+
+    talk.progress.tell("writing the page")
+    script: str = get_plotlyjs()
+    page = page_of(first, sides, last, lines, None if words.beside else script)
+    if words.beside:
+        written(out.parent / SCRIPT, script.encode(), talk)
+    written(out, page, talk)
+    talk.say(f"view: written to {words.out}, {len(page) / 1e6:.1f} MB")
+    for folder, ending in ((words.svg, "svg"), (words.png, "png")):
+        if folder:
+            on_paper(sides, place_of(folder / "x").parent, ending, talk)
+    return 0
+
+
+def choice_of(words: Namespace) -> Choice:
+    """What is to be drawn, by the words of the command."""
+    times = [minute_of("--from", words.__dict__["from"]), minute_of("--to", words.to)]
+    if times[0] is not None and times[1] is not None and times[0] >= times[1]:
+        raise WrongWords("--from has to be before --to")
+    paths = [ids_of("--path", text) for text in words.path or ()]
+    for path in paths:
+        if len(path) < 2 or len({*path}) < len(path):
+            raise WrongWords("--path wants two or more stops, and none of them twice")
+    lines = frozenset(ids_of("--lines", words.lines)) if words.lines is not None else frozenset()
+    return Choice(times[0], times[1], lines, tuple(paths))
+
+
+def minute_of(name: str, text: str | None) -> int | None:
+    """The minute of the day of a word as 07:05."""
+    if text is None:
+        return None
+    found = CLOCK.fullmatch(text)
+    if not found:
+        raise WrongWords(f"{name} {text!r} is no time as 07:05")
+    return 60 * int(found[1]) + int(found[2])
+
+
+def ids_of(name: str, text: str) -> tuple[int, ...]:
+    """The ids of a word as 1,2,5."""
+    if not IDS.fullmatch(text):
+        raise WrongWords(f"{name} {text!r} are no ids as 1,2,5")
+    return tuple(map(int, text.split(",")))
+
+
+def drawn(
+    datasets: list[Dataset], choice: Choice, talk: Talk
+) -> tuple[list[Section], list[Side], list[Section], dict[int, str]]:
+    """What differs, the sections of each dataset, the numbers, and the colours of lines."""
+    every = sorted({line for data in datasets for line in lines_of(data)})
+    for line in sorted(choice.lines):
+        if line not in every:
+            there = ", ".join(map(str, every)) or "none"
+            raise Refused(f"--lines: line {line} is not driven; those driven are: {there}")
+    plans = [Plan(data, choice, every) for data in datasets]
+    for plan in plans:
+        for stop in {stop for path in choice.paths for stop in path}:
+            if stop not in plan.names:
+                raise Refused(f"--path: there is no stop {stop}")
+    sides = []
+    for plan, name in zip(plans, names_of([data.folder for data in datasets])):
+        talk.progress.tell(f"drawing {name}")
+        sides.append(Side(name, sections_of(plan)))
+    two = len(plans) == 2
+    apart = [difference_section(plans[0], plans[1])] if two else []
+    numbers = number_section(plans[0], plans[1] if two else None)
+    for side in sides:
+        for section in side.sections:
+            told(section, f"{side.name}: " if two else "", talk)
+    for section in [*apart, numbers]:
+        told(section, "", talk)
+    colours = {line: plans[0].colour(line) for line in every if choice.has_line(line)}
+    return apart, sides, [numbers], colours
+
+
+def told(section: Section, of: str, talk: Talk) -> None:
+    """Says what a section has, or why it is left out."""
+    count = len(section.pictures)
+    has = f"{count} picture{'s' * (count != 1)}" if count else f"{len(section.table)} rows"
+    says = f"left out: {section.left_out}" if section.left_out else has
+    talk.say(f"view: {of}{section.title}: {says}")
+
+
+def names_of(folders: list[Path]) -> list[str]:
+    """What each dataset is called: the name of its folder, or its path where two have one name."""
+    names = [folder.resolve().name or str(folder) for folder in folders]
+    return names if len({*names}) == len(names) else [str(folder) for folder in folders]
+
+
+def place_of(path: Path) -> Path:
+    """Where a file is to stand; a folder on the way may be a link."""
+    place = path.parent.resolve() / path.name
+    if place.exists() and not place.is_file():
+        raise Refused(f"{path} cannot be written: it is no regular file")
+    return place
+
+
+def written(path: Path, data: bytes, talk: Talk) -> None:
+    """Writes a file, and remembers that it is there."""
+    files.write_bytes(path.parent, path.name, data)
+    talk.wrote.append(path.name)
+
+
+def on_paper(sides: list[Side], folder: Path, ending: str, talk: Talk) -> None:
+    """Writes each picture as a file of its own."""
+    from ..pictures.paper import paper_of
+
+    count = 0
+    for number, side in enumerate(sides, 1):
+        for section in side.sections:
+            for picture in section.pictures:
+                name = "-".join(dict.fromkeys((section.key, picture.key)))
+                name = f"{number}-{name}" if len(sides) > 1 else name
+                talk.progress.tell(f"drawing {name}.{ending}")
+                written(folder / f"{name}.{ending}", paper_of(picture, ending), talk)
+                count += 1
+    talk.say(f"view: written {count} pictures to {folder}, as {ending}")
