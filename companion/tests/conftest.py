@@ -30,15 +30,17 @@ try:
         manners.see_package(package)
 except NoProgram:
     names = (
+        "course",
         "manners",
         "plans",
         "stops",
+        "studies",
         "taken",
         "waits",
         "why",
+        "why_folders",
         "why_hostile",
         "why_plans",
-        "why_folders",
     )
     collect_ignore = [f"test_{name}.py" for name in names]
 

@@ -1,0 +1,1 @@
+"""Studies: the chain over many datasets, settings, plans and days, by Snakemake."""
