@@ -149,6 +149,17 @@ def test_uninstall_takes_exactly_that_away(tmp_path: Path) -> None:
     assert ended.returncode == 1 and ended.stderr.startswith("install: nothing is installed below")
 
 
+def test_a_file_of_someone_else_stays(tmp_path: Path) -> None:
+    (tmp_path / "bin").mkdir()
+    (tmp_path / "bin/lintim").write_text("mine")
+    ended = install(tmp_path)
+    assert ended.returncode == 1
+    assert ended.stderr == (
+        f"install: {tmp_path}/bin/lintim is of someone else, so nothing was installed\n"
+    )
+    assert [path.name for path in tmp_path.rglob("*")] == ["bin", "lintim"]
+
+
 def test_wrong_words_are_one_line(tmp_path: Path) -> None:
     there = ("--program", program.find())
     (tmp_path / "file").write_text("")
