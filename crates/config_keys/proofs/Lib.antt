@@ -1,9 +1,13 @@
+pub mod Alike
 pub mod Expanding
+pub mod KeptFacts
 pub mod KeyNames
 pub mod Looks
 pub mod NameFacts
 pub mod NamedConfigs
+pub mod Rows
+pub mod SaidItems
 pub mod Settling
 pub mod Steps
-pub mod Taking
+pub mod Telling
 pub mod Whole

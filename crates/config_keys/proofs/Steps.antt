@@ -1,33 +1,15 @@
 -- Reading goes on over items.
-use Rattle.std.proofs.Common.{◌≡◌, ℕ, ◌+◌, Bool, true, false, cond, eqb, List, [], ◌∷◌, ◌++◌}
+use Rattle.std.proofs.Common.{◌≡◌, ℕ, ◌+◌, Bool, true, false, cond, List, [], ◌∷◌, ◌++◌}
 use Rattle.std.proofs.Common.{Option, Some, None, refl, sym, ◌∙◌, arith, ltb, zero-add, add-zero}
 use Rattle.std.proofs.Common.{Result, Ok, Err}
 use Rattle.std.specs.Str.{bytes_eq}
-use Rattle.giv_files.specs.declared.key.Key.{Key}
-use Rattle.giv_files.specs.Keys.{key_place}
 use Rattle.config_keys.specs.declared.config_fault.ConfigFault.{ConfigFault}
 use Rattle.config_keys.specs.declared.config_fault.ConfigFault.TheVariants as fault
 use Rattle.config_keys.specs.declared.config_end.ConfigEnd.{ConfigEnd}
 use Rattle.config_keys.specs.declared.config_end.ConfigEnd.TheVariants.{Refused, FileFault, NoMemory}
 use Rattle.config_keys.specs.declared.reading.Reading.{Reading}
 use Rattle.config_keys.specs.Items.{Item, Setting, Include, Fault, first_fault, include_count, last_said}
-use Rattle.config_keys.specs.Said.{said_of, key_named, ReadOn, ReadGives}
-use Rattle.config_keys.proofs.KeyNames.{unnamed, named}
-
--- a row with a name that no key has changes nothing
-pub took_unknown : (name value : List ℕ) (reading : Reading) → key_named name ≡ None → ReadOn (Setting name value ∷ []) reading reading
-unfolding first_fault include_count last_said
-took_unknown name value reading e = grind (arith, unnamed)
-
--- a row with the name of a key gives it its value
-pub took_known : (name value : List ℕ) (found : Key) (old new : Reading) → key_named name ≡ Some found → new.includes ≡ old.includes
-    → ((key : Key) → said_of new key ≡ cond (eqb (key_place found) (key_place key)) (Some value) (said_of old key)) → ReadOn (Setting name value ∷ []) old new
-unfolding first_fault include_count last_said
-took_known name value found old new e same says = record {
-  faultless = refl;
-  counted = omega (arith, same);
-  told = λ key. rw (named name found key e) (says key);
-}
+use Rattle.config_keys.specs.Said.{ReadOn, ReadGives}
 
 further : (count : ℕ) (last : ConfigFault) (xs ys : List Item) (t : Bool) → (first_fault (count + 1) xs ≡ None → first_fault (count + 1) (xs ++ ys) ≡ first_fault (count + 1 + include_count xs) ys)
     → cond t (first_fault (count + 1) xs) (Some last) ≡ None → cond t (first_fault (count + 1) (xs ++ ys)) (Some last) ≡ first_fault (count + (include_count xs + 1)) ys
@@ -56,14 +38,14 @@ first_fault-stays count (Include file row optional path ∷ xs) ys reason e =
     stays _ _ (fault.TooManyIncludes file row) reason (ltb count 1000) (first_fault-stays (count + 1) xs ys reason) e
 first_fault-stays count (Fault found ∷ xs) ys reason e = e
 
-include_count-append : (xs ys : List Item) → include_count (xs ++ ys) ≡ include_count xs + include_count ys
+pub include_count-append : (xs ys : List Item) → include_count (xs ++ ys) ≡ include_count xs + include_count ys
 unfolding include_count
 include_count-append [] ys = sym (zero-add (include_count ys))
 include_count-append (Setting key value ∷ xs) ys = include_count-append xs ys
 include_count-append (Include file row optional path ∷ xs) ys = omega (arith, include_count-append xs ys)
 include_count-append (Fault reason ∷ xs) ys = include_count-append xs ys
 
-last_said-append : (name : List ℕ) (before : Option (List ℕ)) (xs ys : List Item) → last_said name before (xs ++ ys) ≡ last_said name (last_said name before xs) ys
+pub last_said-append : (name : List ℕ) (before : Option (List ℕ)) (xs ys : List Item) → last_said name before (xs ++ ys) ≡ last_said name (last_said name before xs) ys
 unfolding last_said
 last_said-append name before [] ys = refl
 last_said-append name before (Setting key value ∷ xs) ys = last_said-append name (cond (bytes_eq key name) (Some value) before) xs ys

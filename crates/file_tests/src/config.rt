@@ -3,7 +3,7 @@ use crate::script::{cases, cut, same};
 use crate::settings::{key_named, stages};
 use config_keys::{Config, ConfigEnd, ConfigFault, read_config};
 use giv_files::{Key, Stage};
-use plan_files::{Files, SteadyFiles};
+use plan_files::{Files, MemoryFiles, SteadyFiles};
 use plan_num::Text;
 use std::alloc::{AllocError, Global};
 use std::process::Abort;
@@ -163,12 +163,46 @@ const INCLUDES: &str = "period_length|30|\
     period_length|basis/8.cnf row 2: too deep|\
     Config.cnf:include; 1.cnf\n&1.cnf:include; 2.cnf\n&2.cnf:include; 3.cnf\n&\
     3.cnf:include; 4.cnf\n&4.cnf:include; 5.cnf\n&5.cnf:include; 6.cnf\n&6.cnf:include; 7.cnf\n&\
-    7.cnf:include; 8.cnf\n&8.cnf:period_length; 8\ninclude_if_exists; 9.cnf\n&~";
+    7.cnf:include; 8.cnf\n&8.cnf:period_length; 8\ninclude_if_exists; 9.cnf\n&~\
+    period_length|30|Config.cnf:include; a.cnf\nperiod_length; 20\ninclude; a.cnf\n&\
+    a.cnf:period_length; 20\nperiod_length; 30\n&~\
+    period_length|20|Config.cnf:include; a.cnf\ninclude; b.cnf\ninclude; a.cnf\n&\
+    a.cnf:period_length; 30\ninclude_if_exists; b.cnf\n&b.cnf:period_length; 20\n&~\
+    period_length|basis/8.cnf row 2: too deep|\
+    Config.cnf:include; 8.cnf\ninclude; 1.cnf\n&1.cnf:include; 2.cnf\n&2.cnf:include; 3.cnf\n&\
+    3.cnf:include; 4.cnf\n&4.cnf:include; 5.cnf\n&5.cnf:include; 6.cnf\n&6.cnf:include; 7.cnf\n&\
+    7.cnf:include; 8.cnf\n&8.cnf:period_length; 8\ninclude_if_exists; 9.cnf\n&~\
+    period_length|basis/a.cnf row 2: outside|\
+    Config.cnf:include_if_exists; a.cnf\n&a.cnf:period_length; 30\ninclude; a/b.cnf\nx\n&~";
 
 #[test]
 fn included_files(rt: HostRuntime) -> Result<(), Fail> {
     let count = read_each(&rt, INCLUDES)?;
-    assert_eq!(rt; count, 16);
+    assert_eq!(rt; count, 20);
+    Ok(())
+}
+
+// How many calls on files there were once these files are put and their settings are read.
+fn calls_for(alloc: Global, texts: &str) -> Result<u64, Fail> {
+    let mut files = MemoryFiles::new(alloc);
+    for file in &cases(alloc, texts, '&')? {
+        let (name, text) = cut(*file, ':');
+        let path = format!(in alloc; "basis/{name}")?;
+        files.put(path.as_str(), text.as_bytes())?;
+    }
+    match read_config(alloc, &mut files) {
+        Ok(_) => Ok(files.calls()),
+        Err(_) => Err(Fail::from("refused")),
+    }
+}
+
+// A file is read once, and one that is not there is looked for each time.
+#[test]
+fn a_file_is_read_once(rt: HostRuntime) -> Result<(), Fail> {
+    let twice = "Config.cnf:include; a.cnf\ninclude; a.cnf\n&a.cnf:period_length; 30\n&";
+    assert_eq!(rt; calls_for(rt.alloc(), twice)?, 4);
+    let absent = "Config.cnf:include_if_exists; a.cnf\ninclude_if_exists; a.cnf\n&";
+    assert_eq!(rt; calls_for(rt.alloc(), absent)?, 4);
     Ok(())
 }
 

@@ -1,86 +1,75 @@
 use Rattle.std.proofs.Common.{ap, ◌∙◌, Err, refl}
-use Rattle.plan_files.proofs.Reading.{nothing_read, both_read}
+use Rattle.std.specs.Rc.{rc_value}
+use Rattle.std.specs.contracts.alloc.Global.{the_row}
 use Rattle.std.proofs.lemmas.Result.{err_from_is_err_and}
-use Rattle.config_keys.proofs.Expanding.{row_refused, row_passed, row_unfound, row_alone}
-use Rattle.config_keys.proofs.Expanding.{row_included, text_refused, rows_begin, rows_more}
-use Rattle.config_keys.proofs.Expanding.{rows_refused, rows_all}
+use Rattle.plan_files.proofs.Reading.{nothing_read, both_read}
+use Rattle.config_keys.proofs.Expanding.{row_refused, row_unfound, row_read}
+use Rattle.config_keys.proofs.Expanding.{leads_first, leads_more, leads_refused, leads_last}
 use Rattle.config_keys.proofs.expand.+expand.Goals as goal
 
-pub read_row-returns-in_err-take_row-clause-read :
-    goal.read_row-returns-in_err-take_row-clause-read
-read_row-returns-in_err-take_row-clause-read g t c =
+pub read_include-returns-in_err-take_include-clause-read :
+    goal.read_include-returns-in_err-take_include-clause-read
+read_include-returns-in_err-take_include-clause-read g t c =
     let p = err_from_is_err_and c.from_residual.result c.from_residual.ensures.1 in
-    row_refused _ c.args.left c.args.name.now c.args.row.now c.args.reading.now
-    c.take_row.new.reading _ c.in_err-take_row.field-0.0 _ c.in_err-take_row.ensures
-    (p.1 ∙ ap Err p.2)
+    row_refused c.args.left c.args.name.now c.args.include.now c.args.reading.now c.args.kept.now
+    _ c.args.kept.now c.take_include.new.reading c.take_include.new.reading
+    c.in_err-take_include.field-0.0 _ c.in_err-take_include.ensures (p.1 ∙ ap Err p.2)
 
-pub read_row-returns-in-None-clause-read : goal.read_row-returns-in-None-clause-read
-read_row-returns-in-None-clause-read g t c =
-    row_passed _ c.args.left c.args.name.now c.args.row.now c.args.reading.now
-    c.take_row.new.reading (rw c.in-None.is at c.in_ok-take_row.ensures)
+pub read_include-returns-in_err-file-clause-read :
+    goal.read_include-returns-in_err-file-clause-read
+read_include-returns-in_err-file-clause-read g t c =
+    let p = err_from_is_err_and c.from_residual-in_err-file.result
+    c.from_residual-in_err-file.ensures.1 in
+    row_unfound c.args.left c.args.name.now c.args.include.now c.args.reading.now c.args.kept.now
+    (rc_value {Z = the_row.Denot}) c.take_include.new.reading c.as_str-path.result.now c.in_ok-take_include.ensures
+    c.as_str-path.ensures.value _ c.file.new.self c.take_include.new.reading
+    c.in_err-file.field-0.0 _ c.in_err-file.ensures.gives (p.1 ∙ ap Err p.2)
 
-pub read_row-returns-in_err-fetch-clause-read : goal.read_row-returns-in_err-fetch-clause-read
-read_row-returns-in_err-fetch-clause-read g t c =
-    let p = err_from_is_err_and c.from_residual-in_err-fetch.result
-    c.from_residual-in_err-fetch.ensures.1 in
-    row_unfound _ _ c.args.left c.args.name.now c.args.row.now c.args.reading.now
-    c.take_row.new.reading _ c.in-Some.included c.as_str.result.now c.in_err-fetch.field-0.0 _
-    refl c.as_str.ensures.value (rw c.in-Some.is at c.in_ok-take_row.ensures)
-    c.in_err-fetch.ensures.found (p.1 ∙ ap Err p.2)
+pub read_include-returns-in-Some-clause-read : goal.read_include-returns-in-Some-clause-read
+read_include-returns-in-Some-clause-read g t c =
+    row_read c.args.left c.args.name.now c.args.include.now c.args.reading.now c.args.kept.now
+    (rc_value {Z = the_row.Denot}) c.take_include.new.reading c.as_str-path.result.now c.in_ok-take_include.ensures
+    c.as_str-path.ensures.value _ _ c.file.new.self c.read_file.new.kept
+    c.as_str-path.result.now c.in-Some.file c.read_file.new.reading _
+    c.in_ok-file.ensures.only_reads.contents refl (rw c.in-Some.is at c.in_ok-file.ensures.gives)
+    c.in_ok-file.ensures.kept (rw c.as_ref.ensures at c.read_file.ensures.read)
 
-pub read_row-returns-in-None-2-clause-read : goal.read_row-returns-in-None-2-clause-read
-read_row-returns-in-None-2-clause-read g t c =
-    row_alone _ _ c.args.left c.args.name.now c.args.row.now c.args.reading.now
-    c.take_row.new.reading c.in-Some.included c.as_str.result.now
-    refl c.as_str.ensures.value (rw c.in-Some.is at c.in_ok-take_row.ensures)
-    (rw c.in-None-2.is at c.in_ok-fetch.ensures.found)
-
-pub read_row-returns-clause-read : goal.read_row-returns-clause-read
-read_row-returns-clause-read g t c =
-    row_included _ _ _ c.args.left c.args.name.now c.args.row.now c.args.reading.now
-    c.take_row.new.reading _ c.in-Some.included c.as_str.result.now
-    c.as_str-in-Some-2.result.now c.as_bytes.result.now _
-    refl c.in_ok-fetch.ensures.only_reads.contents c.as_str.ensures.value c.as_str-in-Some-2.ensures.value
-    (rw c.in-Some.is at c.in_ok-take_row.ensures)
-    (rw c.as_bytes.ensures (rw c.in-Some-2.is at c.in_ok-fetch.ensures.found))
-    c.read_text.ensures.read
-
-pub read_text-returns-in_err-rows-clause-read : goal.read_text-returns-in_err-rows-clause-read
-read_text-returns-in_err-rows-clause-read g t c =
-    let p = err_from_is_err_and c.from_residual.result c.from_residual.ensures.1 in
-    text_refused _ c.args.left c.args.name.now c.args.text.now c.args.reading.now _
-    c.in_err-rows.field-0.0 _ c.in_err-rows.ensures (p.1 ∙ ap Err p.2)
-
-pub read_text-rows-init : goal.read_text-rows-init
-read_text-rows-init g t c = record {
+pub read_file-loop-section-init : goal.read_file-loop-section-init
+read_file-loop-section-init g t c = record {
   reads = nothing_read _ _ _ _;
-  read = rows_begin c.args.left c.args.name.now c.args.text.now c.args.reading.now _
-      c.in_ok-rows.rows c.in_ok-rows.ensures.0 c.in_ok-rows.ensures.1;
+  read = leads_first c.args.left c.args.name.now c.args.file.now c.args.reading.now
+      c.args.kept.now _ c.deref-section-items.result.now c.deref-section-items.ensures.value;
 }
 
-pub read_text-rows-preserved : goal.read_text-rows-preserved
-read_text-rows-preserved g t c =
-    let next = rw c.if-branch.true at c.in_ok-next_row.ensures in
-    record {
-      reads = both_read _ _ _ _ _ _ _ c.rows.invariant.reads c.in_ok-read_row.ensures.only_reads;
-      read = rows_more c.args.left c.args.name.now c.args.text.now c.args.reading.now _ _
-          c.rows.rows c.next_row.new.self c.next_row.new.row c.rows.reading
-          c.read_row.new.reading next c.rows.invariant.reads.contents c.rows.invariant.read
-          c.in_ok-read_row.ensures.read;
-    }
+pub read_file-loop-section-preserved : goal.read_file-loop-section-preserved
+read_file-loop-section-preserved g t c = record {
+  reads = both_read _ _ _ _ _ _ _ c.loop-section.invariant.reads
+      c.in_ok-read_include.ensures.only_reads;
+  read = leads_more c.args.left c.args.name.now c.args.file.now c.args.reading.now
+      c.args.kept.now c.deref-section-items.result.now c.loop-section.section-index
+      c.section-item.result
+      c.loop-section.reading c.read_said.new.reading c.loop-section.kept
+      c.loop-section-test.true c.section-item.is c.in_ok-read_said.ensures _ _ c.read_include.new.reading
+      c.read_include.new.kept c.loop-section.invariant.reads.contents
+      c.loop-section.invariant.read c.in_ok-read_include.ensures.read;
+}
 
-pub read_text-returns-in_err-read_row-clause-read :
-    goal.read_text-returns-in_err-read_row-clause-read
-read_text-returns-in_err-read_row-clause-read g t c =
-    let next = rw c.if-branch.true at c.in_ok-next_row.ensures in
-    let p = err_from_is_err_and c.from_residual-in_err-read_row.result
-    c.from_residual-in_err-read_row.ensures.1 in
-    rows_refused c.args.left c.args.name.now c.args.text.now c.args.reading.now _ _
-    c.rows.rows c.next_row.new.self c.next_row.new.row c.rows.reading _
-    c.in_err-read_row.field-0.0 _ next c.rows.invariant.reads.contents c.rows.invariant.read
-    c.in_err-read_row.ensures.read (p.1 ∙ ap Err p.2)
+pub read_file-returns-in_err-read_include-clause-read :
+    goal.read_file-returns-in_err-read_include-clause-read
+read_file-returns-in_err-read_include-clause-read g t c =
+    let p = err_from_is_err_and c.from_residual-in_err-read_include.result
+    c.from_residual-in_err-read_include.ensures.1 in
+    leads_refused c.args.left c.args.name.now c.args.file.now c.args.reading.now c.args.kept.now
+    c.deref-section-items.result.now c.loop-section.section-index c.section-item.result
+    c.loop-section.reading
+    c.read_said.new.reading c.loop-section.kept c.loop-section-test.true
+    c.section-item.is c.in_ok-read_said.ensures _ _ c.read_include.new.reading c.read_include.new.kept
+    c.in_err-read_include.field-0.0 _ c.loop-section.invariant.reads.contents
+    c.loop-section.invariant.read c.in_err-read_include.ensures.read (p.1 ∙ ap Err p.2)
 
-pub read_text-returns-clause-read : goal.read_text-returns-clause-read
-read_text-returns-clause-read g t c =
-    rows_all c.args.left c.args.name.now c.args.text.now c.args.reading.now _ c.rows.rows
-    c.rows.reading (rw c.if-branch.false at c.in_ok-next_row.ensures) c.rows.invariant.read
+pub read_file-returns-clause-read : goal.read_file-returns-clause-read
+read_file-returns-clause-read g t c =
+    leads_last c.args.left c.args.name.now c.args.file.now c.args.reading.now c.args.kept.now _
+    c.deref-section-items.result.now c.loop-section.section-index c.loop-section.reading
+    c.read_end.new.reading c.loop-section.kept c.read_end.result c.loop-section-test.false
+    c.loop-section.invariant.read c.read_end.ensures.read

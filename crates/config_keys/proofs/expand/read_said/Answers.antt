@@ -1,0 +1,8 @@
+use Rattle.std.proofs.Common.{refl}
+use Rattle.std.proofs.lemmas.Result.{on_ok_weaker}
+use Rattle.config_keys.proofs.SaidItems.{read_said}
+use Rattle.config_keys.proofs.expand.read_said.Goals as goal
+
+pub returns : goal.returns
+returns c = on_ok_weaker c.add.result (read_said c.args.said.now c.args.reading.now
+    (record { includes = c.args.reading.now.includes; said = c.add.new.self }) refl) c.add.ensures
