@@ -1,4 +1,6 @@
-// The same search as choose_waits on the same files, with the events that a kept change makes later on a trail:
+// The same search as choose_waits on the same files, as a good program does it: the rides out of each event, and the
+// changes at each event, stand in rows; events that wait stand in their forward order, marks are bits of words of 64,
+// and the events that a kept change makes later stand on a trail:
 // waits BUDGET
 #include <algorithm>
 #include <chrono>
@@ -9,7 +11,7 @@
 #include <vector>
 typedef long long ll;
 typedef unsigned long long u64;
-struct Link { u64 rank; int from, to; ll low; int change; };
+struct Link { int from, to; ll low; };
 struct Moved { int event; ll before; };
 struct Taken { int change; bool kept; size_t trail; };
 static std::vector<std::vector<std::string>> rows(const char *name) {
@@ -24,24 +26,39 @@ static std::vector<std::vector<std::string>> rows(const char *name) {
     fclose(f);
     return all;
 }
-// Marks of places; blocks of 64, and blocks of 64 blocks, tell where none stands.
+// Marks of places in words of 64 bits; words above tell where one stands.
 struct Marks {
-    std::vector<char> flags, blocks, supers;
-    Marks(size_t n) : flags(n), blocks(n / 64 + 1), supers(n / 4096 + 1) {}
-    void set(size_t i, bool is) {
-        flags[i] = is;
-        if (is) { blocks[i / 64] = supers[i / 4096] = 1; return; }
-        size_t end = std::min(i / 64 * 64 + 64, flags.size());
-        for (size_t k = i / 64 * 64; k < end; k++) if (flags[k]) return;
-        blocks[i / 64] = 0;
-        end = std::min(i / 4096 * 64 + 64, blocks.size());
-        for (size_t k = i / 4096 * 64; k < end; k++) if (blocks[k]) return;
-        supers[i / 4096] = 0;
+    std::vector<u64> words, blocks, supers;
+    Marks(size_t n) : words(n / 64 + 1), blocks(n / 4096 + 1), supers(n / 262144 + 1) {}
+    void set(size_t i) {
+        words[i / 64] |= 1ull << i % 64;
+        blocks[i / 4096] |= 1ull << i / 64 % 64;
+        supers[i / 262144] |= 1ull << i / 4096 % 64;
     }
-    size_t next(size_t at) const {
-        while (at < flags.size() && !flags[at])
-            at += at % 4096 == 0 && !supers[at / 4096] ? 4096 : at % 64 == 0 && !blocks[at / 64] ? 64 : 1;
-        return std::min(at, flags.size());
+    void clear(size_t i) {
+        if (words[i / 64] &= ~(1ull << i % 64)) return;
+        if (blocks[i / 4096] &= ~(1ull << i / 64 % 64)) return;
+        supers[i / 262144] &= ~(1ull << i / 4096 % 64);
+    }
+    void put(size_t i, bool is) { is ? set(i) : clear(i); }
+    long first() const {
+        for (size_t k = 0; k < supers.size(); k++) {
+            if (!supers[k]) continue;
+            size_t block = k * 64 + __builtin_ctzll(supers[k]), word = block * 64 + __builtin_ctzll(blocks[block]);
+            return word * 64 + __builtin_ctzll(words[word]);
+        }
+        return -1;
+    }
+};
+// The items of each event, one row after the other.
+template <class T> struct Rows {
+    std::vector<size_t> firsts;
+    std::vector<T> items;
+    Rows(size_t events, const std::vector<std::pair<int, T>> &all) : firsts(events + 1), items(all.size()) {
+        for (auto &a : all) firsts[a.first + 1]++;
+        for (size_t i = 0; i < events; i++) firsts[i + 1] += firsts[i];
+        auto at = firsts;
+        for (auto &a : all) items[at[a.first]++] = a.second;
     }
 };
 int main(int argc, char **argv) {
@@ -50,52 +67,59 @@ int main(int argc, char **argv) {
     std::vector<char> arrival;
     for (auto &r : rows("events.giv")) { plan.push_back(atoll(r[3].c_str())); arrival.push_back(r[2] == "arrival"); }
     size_t events = plan.size();
-    std::vector<u64> rank(events);
-    for (size_t i = 0; i < events; i++) rank[i] = plan[i] * 4294967296ull + (arrival[i] ? 0 : 2147483648ull) + i;
-    std::vector<Link> links, changes;
+    std::vector<Link> rides, changes;
     for (auto &r : rows("activities.giv")) {
-        int from = atoi(r[3].c_str()) - 1, to = atoi(r[4].c_str()) - 1;
-        Link l{rank[from], from, to, atoll(r[5].c_str()), r[2] == "change" ? (int)changes.size() : -1};
-        if (l.change >= 0) changes.push_back(l);
-        links.push_back(l);
+        Link l{atoi(r[3].c_str()) - 1, atoi(r[4].c_str()) - 1, atoll(r[5].c_str())};
+        (r[2] == "change" ? changes : rides).push_back(l);
     }
     std::vector<ll> times = plan;
     for (auto &r : rows("delays.giv")) times[atoi(r[0].c_str()) - 1] += atoll(r[1].c_str());
-    std::sort(links.begin(), links.end(), [](const Link &a, const Link &b) { return a.rank < b.rank; });
     auto start = std::chrono::steady_clock::now();
-    std::vector<std::pair<int, int>> ends;
-    for (size_t c = 0; c < changes.size(); c++) { ends.push_back({changes[c].from, c}); ends.push_back({changes[c].to, c}); }
-    std::sort(ends.begin(), ends.end());
-    for (auto &l : links) if (l.change < 0) times[l.to] = std::max(times[l.to], times[l.from] + l.low);
+    std::vector<int> order(events), place(events);
+    for (size_t i = 0; i < events; i++) order[i] = i;
+    std::sort(order.begin(), order.end(), [&](int a, int b) {
+        return plan[a] != plan[b] ? plan[a] < plan[b] : arrival[a] != arrival[b] ? arrival[a] > arrival[b] : a < b;
+    });
+    for (size_t k = 0; k < events; k++) place[order[k]] = k;
+    std::vector<std::pair<int, Link>> by_tail;
+    for (auto &l : rides) by_tail.push_back({l.from, l});
+    std::vector<std::pair<int, int>> by_end;
+    for (size_t c = 0; c < changes.size(); c++) { by_end.push_back({changes[c].from, c}); by_end.push_back({changes[c].to, c}); }
+    Rows<Link> out(events, by_tail);
+    Rows<int> at(events, by_end);
+    for (int e : order)
+        for (size_t k = out.firsts[e]; k < out.firsts[e + 1]; k++) {
+            auto &l = out.items[k];
+            times[l.to] = std::max(times[l.to], times[e] + l.low);
+        }
     ll delay = 0;
     for (size_t i = 0; i < events; i++) if (arrival[i]) delay += times[i] - plan[i];
     std::vector<char> kept(changes.size()), open(changes.size(), 1);
-    Marks broken(changes.size()), waiting(links.size());
-    auto test = [&](int c) { broken.set(c, open[c] && times[changes[c].from] + changes[c].low > times[changes[c].to]); };
+    Marks broken(changes.size()), waiting(events);
+    auto test = [&](int c) { broken.put(c, open[c] && times[changes[c].from] + changes[c].low > times[changes[c].to]); };
     for (size_t c = 0; c < changes.size(); c++) test(c);
     std::vector<Moved> trail;
     std::vector<Taken> taken;
     auto set_time = [&](int event, ll time) {
         if (arrival[event]) delay += time - times[event];
         times[event] = time;
-        auto at = std::partition_point(ends.begin(), ends.end(), [&](const std::pair<int, int> &e) { return e.first < event; });
-        for (; at != ends.end() && at->first == event; ++at) test(at->second);
+        for (size_t k = at.firsts[event]; k < at.firsts[event + 1]; k++) test(at.items[k]);
     };
-    auto wait_at = [&](int event) {
-        u64 own = rank[event];
-        size_t k = std::partition_point(links.begin(), links.end(), [&](const Link &l) { return l.rank < own; }) - links.begin();
-        for (; k < links.size() && links[k].rank == own; k++) waiting.set(k, true);
+    auto push = [&](int event, ll time) {
+        if (times[event] >= time) return;
+        trail.push_back({event, times[event]});
+        set_time(event, time);
+        waiting.set(place[event]);
     };
     auto settle = [&] {
-        for (size_t k = waiting.next(0); k < links.size(); k = waiting.next(k + 1)) {
-            waiting.set(k, false);
-            auto &l = links[k];
-            if (l.change >= 0 && !kept[l.change]) continue;
-            ll asked = times[l.from] + l.low;
-            if (times[l.to] >= asked) continue;
-            trail.push_back({l.to, times[l.to]});
-            set_time(l.to, asked);
-            wait_at(l.to);
+        for (long k = waiting.first(); k >= 0; k = waiting.first()) {
+            waiting.clear(k);
+            int e = order[k];
+            for (size_t j = out.firsts[e]; j < out.firsts[e + 1]; j++) push(out.items[j].to, times[e] + out.items[j].low);
+            for (size_t j = at.firsts[e]; j < at.firsts[e + 1]; j++) {
+                auto &l = changes[at.items[j]];
+                if (l.from == e && kept[at.items[j]]) push(l.to, times[e] + l.low);
+            }
         }
     };
     ll best = -1, dropped = 0;
@@ -106,15 +130,15 @@ int main(int argc, char **argv) {
         ll bound = delay + 5 * dropped;
         int split = -1;
         if (best < 0 || bound < best) {
-            size_t first = broken.next(0);
-            if (first < changes.size()) split = first; else best = bound;
+            split = broken.first();
+            if (split < 0) best = bound;
         }
         if (split >= 0) {
             taken.push_back({split, true, trail.size()});
             kept[split] = 1;
             open[split] = 0;
             test(split);
-            wait_at(changes[split].from);
+            push(changes[split].to, times[changes[split].from] + changes[split].low);
             settle();
             continue;
         }

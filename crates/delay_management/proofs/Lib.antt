@@ -8,6 +8,7 @@ pub mod DispositionReads
 mod EndsOfChanges
 mod EventTests
 mod FirstOpen
+mod FirstPlaces
 mod FirstTold
 mod Firsts
 mod ForwardInputs
@@ -20,6 +21,7 @@ mod Late
 mod Later
 mod LinksByRank
 mod LinksOut
+mod MarkWords
 mod MarksTell
 mod OnTrialFacts
 mod PassIsLeast

@@ -10,7 +10,7 @@ use Rattle.event_tables.specs.declared.expanded_event.ExpandedEvent.{ExpandedEve
 use Rattle.delay_management.specs.declared.ends.ChangeEnd.{ChangeEnd}
 use Rattle.delay_management.specs.declared.moved.Moved.{Moved}
 use Rattle.delay_management.specs.declared.step.Activity.{Activity}
-use Rattle.delay_management.specs.Lateness.{is_broken, more_delay}
+use Rattle.delay_management.specs.Lateness.{delay_at, is_broken, more_delay}
 use Rattle.delay_management.specs.LeastTimes.{time_at}
 use Rattle.delay_management.specs.OnTrial.{AreTested, IsLastMoved, IsOnTrial, TrialTimes}
 use Rattle.delay_management.proofs.Apart.{set_there}
@@ -23,12 +23,12 @@ abbrev pub IsSound : ℕ → Moved → Type 0
 IsSound events moved = (moved.event < events) × (moved.before ≤ 1000000000000000000)
 
 module _ (all : TrialTimes) (ends : List ChangeEnd) (delay : ℤ) (broken : List Bool)
-    (on : IsOnTrial all ends delay broken) where
+    (first_links first_ends : List ℕ) (on : IsOnTrial all ends delay broken first_links first_ends) where
   -- a change is open, or it is no more
   pub opened : (change : ℕ) (is : Bool) (new : List Bool) → change < length all.problem.changes
       → ((d : Activity) → new ≡ slice_set broken change
       (get_or (slice_set all.open_yet change is) change false && is_broken all.times (get_or all.problem.changes change d)))
-      → IsOnTrial (record all { open_yet = slice_set all.open_yet change is }) ends delay new
+      → IsOnTrial (record all { open_yet = slice_set all.open_yet change is }) ends delay new first_links first_ends
   opened change is new there told = record {
     linked = on.linked;
     all_ends = on.all_ends;
@@ -46,6 +46,8 @@ module _ (all : TrialTimes) (ends : List ChangeEnd) (delay : ℤ) (broken : List
         (sym (set_there all.open_yet (slice_set all.open_yet change is) change is false (λ i. slice_set all.open_yet change is) k apart)));
     noted = on.noted;
     waits = on.waits;
+    links_at = on.links_at;
+    ends_at = on.ends_at;
   }
 
   -- the time of an event is another one
@@ -53,7 +55,7 @@ module _ (all : TrialTimes) (ends : List ChangeEnd) (delay : ℤ) (broken : List
       → event < length all.problem.events → time ≤ 1000000000000000000 → seen ≡ all.problem.events
       → before ≡ time_at all.times event → more ≡ delay +ℤ more_delay (get_or seen event d) before time
       → AreTested all.problem.changes (slice_set all.times event time) all.open_yet new → length new ≡ length broken
-      → IsOnTrial (record all { times = slice_set all.times event time }) ends more new
+      → IsOnTrial (record all { times = slice_set all.times event time }) ends more new first_links first_ends
   timed event time before seen d more new there small events_are before_is told tested size = record {
     linked = on.linked;
     all_ends = on.all_ends;
@@ -67,6 +69,29 @@ module _ (all : TrialTimes) (ends : List ChangeEnd) (delay : ℤ) (broken : List
     tested = tested;
     noted = on.noted;
     waits = on.waits;
+    links_at = on.links_at;
+    ends_at = on.ends_at;
+  }
+
+  -- all times are other ones
+  pub renewed : (times : List ℕ) (late : ℤ) (new : List Bool) → length times ≡ length all.problem.events
+      → All (λ time. time ≤ 1000000000000000000) times → late ≡ delay_at all.problem.events times
+      → AreTested all.problem.changes times all.open_yet new → length new ≡ length broken
+      → IsOnTrial (record all { times = times }) ends late new first_links first_ends
+  renewed times late new each small late_is tested size = record {
+    linked = on.linked;
+    all_ends = on.all_ends;
+    in_order = on.in_order;
+    each = each;
+    small = small;
+    late = late_is;
+    flags = on.flags;
+    marks = size ∙ on.marks;
+    tested = tested;
+    noted = on.noted;
+    waits = on.waits;
+    links_at = on.links_at;
+    ends_at = on.ends_at;
   }
 
   pub delay_room : Bounded delay 100000
@@ -80,7 +105,7 @@ module _ (all : TrialTimes) (ends : List ChangeEnd) (delay : ℤ) (broken : List
 
   -- the last note is taken away
   pub less_noted : (last : Moved) (rest : List Moved) → all.noted ≡ last ∷ rest
-      → IsOnTrial (record all { noted = rest }) ends delay broken
+      → IsOnTrial (record all { noted = rest }) ends delay broken first_links first_ends
   less_noted last rest is = record {
     linked = on.linked;
     all_ends = on.all_ends;
@@ -93,10 +118,12 @@ module _ (all : TrialTimes) (ends : List ChangeEnd) (delay : ℤ) (broken : List
     tested = on.tested;
     noted = All-tail (IsSound (length all.problem.events)) last rest (subst (All (IsSound (length all.problem.events))) is on.noted);
     waits = on.waits;
+    links_at = on.links_at;
+    ends_at = on.ends_at;
   }
 
   pub popped : (old new : List Moved) (result : Option Moved) → all.noted ≡ reverse old
-      → old ≡ new ++ option_to_list result → IsOnTrial (record all { noted = reverse new }) ends delay broken
+      → old ≡ new ++ option_to_list result → IsOnTrial (record all { noted = reverse new }) ends delay broken first_links first_ends
   popped old new None is parts = grind (arith, append-nil)
   popped old new (Some last) is parts =
       less_noted last (reverse new) (is ∙ ap reverse parts ∙ reversed new last)

@@ -48,7 +48,7 @@ chosen_all P (true ∷ kept) (x ∷ xs) each =
 chosen_all P (false ∷ kept) (x ∷ xs) each =
     chosen_all P kept xs (λ k d inside is. each (suc k) d (omega (arith, inside)) is)
 
-all_chosen : {X : Type 0} (P : X → Type 0) (kept : List Bool) (xs : List X)
+pub all_chosen : {X : Type 0} (P : X → Type 0) (kept : List Bool) (xs : List X)
     → All P (items_where_true kept xs) → (k : ℕ) (d : X) → k < length xs → get_or kept k false ≡ true
     → P (get_or xs k d)
 all_chosen P [] xs all k d inside is = let e : false ≡ true = is in absurd (cc)

@@ -12,8 +12,8 @@ use Rattle.delay_management.specs.declared.step.Step.{Step}
 use Rattle.delay_management.specs.LeastTimes.{IsLeast, asked, later, least_times, time_at}
 use Rattle.delay_management.specs.Links.{IsLinked, counts, head_pushed}
 use Rattle.delay_management.specs.Markings.{IsNext}
-use Rattle.delay_management.specs.OnTrial.{Follows, IsHeld, IsSettling, NoneWaits, Pushes, TrialTimes, WaitBy, rewound}
-use Rattle.delay_management.specs.Problems.{DelayProblem}
+use Rattle.delay_management.specs.OnTrial.{Follows, IsHeld, IsSettling, IsSettlingBut, NoneWaits, Pushes, TrialTimes, WaitBy, rewound}
+use Rattle.delay_management.specs.Problems.{DelayProblem, Joins}
 use Rattle.delay_management.specs.Waiting.{chosen_changes}
 use Rattle.delay_management.proofs.Apart.{by_less, by_same, set_back, set_here, set_there}
 use Rattle.delay_management.proofs.ForwardPass.{is_pushed}
@@ -84,6 +84,58 @@ module _ (problem : DelayProblem) (links : List Link) (linked : IsLinked problem
   pub all_held : All (IsHeld kept least) links
   all_held = links_hold problem links linked kept least is_least.feasible.steps
 
+-- ---- the head of a step that is pushed
+
+module _ (all : TrialTimes) (each : length all.times ≡ length all.problem.events) (step : Step)
+    (joins : Joins (length all.problem.events) step)
+    (rises : forward_rank all.problem.events step.from < forward_rank all.problem.events step.to)
+    (new : List ℕ) (pushed : new ≡ head_pushed all.times step) where
+  fits : step.to < length all.times
+  fits = omega (arith, joins.1, each)
+
+  pub grown : (event : ℕ) → time_at all.times event ≤ time_at new event
+  grown event =
+      subst (λ times. time_at all.times event ≤ time_at times event) (sym pushed)
+      ((is_pushed all.times step fits).grows event)
+
+  stayed : (event : ℕ) → step.to ≢ event → time_at new event ≡ time_at all.times event
+  stayed event apart = ap (λ times. time_at times event) pushed ∙ (is_pushed all.times step fits).stays event apart
+
+  apart_ends : step.to ≢ step.from
+  apart_ends same =
+      let rank : forward_rank all.problem.events step.to ≡ forward_rank all.problem.events step.from =
+      ap (forward_rank all.problem.events) same in omega (arith, rank, rises)
+
+  pub own_held : asked new step ≤ time_at new step.to
+  own_held =
+      let from = stayed step.from apart_ends in
+      let held = subst (λ times. asked all.times step ≤ time_at times step.to) (sym pushed) (is_pushed all.times step fits).holds in
+      omega (arith, from, held)
+
+  -- no time is above one that the step respects
+  pub under : (goal : List ℕ) → asked goal step ≤ time_at goal step.to
+      → ((event : ℕ) → event < length all.problem.events → time_at all.times event ≤ time_at goal event)
+      → (event : ℕ) → event < length all.problem.events → time_at new event ≤ time_at goal event
+  under goal holds most event inside =
+      by_same step.to event
+      (λ same. subst (λ n. time_at new n ≤ time_at goal n) same (value (is_pushed all.times step fits).one))
+      (λ apart. let stay = stayed event apart in let old = most event inside in omega (arith, stay, old))
+    where
+      value : (time_at (head_pushed all.times step) step.to ≡ time_at all.times step.to)
+          ⊎ (time_at (head_pushed all.times step) step.to ≡ asked all.times step)
+          → time_at new step.to ≤ time_at goal step.to
+      value (inl is) =
+          let old = most step.to joins.1 in
+          let here = ap (λ times. time_at times step.to) pushed in omega (arith, is, old, here)
+      value (inr is) =
+          let old = most step.from joins.0 in
+          let here = ap (λ times. time_at times step.to) pushed in omega (arith, is, old, here, holds)
+
+  -- a link with another first event holds as before
+  pub held_still : (kept : List Bool) (link : Link) → link.step.from ≢ step.to
+      → IsHeld kept all.times link → IsHeld kept new link
+  held_still kept link apart held there = grind (arith, stayed, get_or, grown)
+
 -- ---- one link
 
 module _ (all : TrialTimes) (linked : IsLinked all.problem all.links) (each : length all.times ≡ length all.problem.events)
@@ -142,61 +194,31 @@ module _ (all : TrialTimes) (linked : IsLinked all.problem all.links) (each : le
     pushes : Pushes step seen new
     pushes = subst (λ t. Pushes step t new) is told
 
-    fits : step.to < length all.times
-    fits = omega (arith, link_joins.1, each)
-
     pushed_times : new.times ≡ head_pushed all.times step
     pushed_times = pushes.times
 
     events_same : new.problem.events ≡ all.problem.events
     events_same = ap (λ (p : DelayProblem). p.events) pushes.follows.problem
 
-    grown : (event : ℕ) → time_at all.times event ≤ time_at new.times event
-    grown event =
-        subst (λ times. time_at all.times event ≤ time_at times event) (sym pushed_times)
-        ((is_pushed all.times step fits).grows event)
+    joined : Joins (length all.problem.events) step
+    joined = link_joins
 
-    stayed : (event : ℕ) → step.to ≢ event → time_at new.times event ≡ time_at all.times event
-    stayed event apart = ap (λ times. time_at times event) pushed_times ∙ (is_pushed all.times step fits).stays event apart
+    rises : ranks step.from < ranks step.to
+    rises = let joins = all_join all.problem all.links linked at e there in omega (arith, joins.own, joins.rises)
 
-    apart_ends : step.to ≢ step.from
-    apart_ends same =
-        let joins = all_join all.problem all.links linked at e there in
-        let rank : ranks step.to ≡ ranks step.from = ap ranks same in omega (arith, rank, joins.rises)
+    grown_now : (event : ℕ) → time_at all.times event ≤ time_at new.times event
+    grown_now = grown all each step joined rises new.times pushed_times
 
-    own_held : asked new.times step ≤ time_at new.times step.to
-    own_held =
-        let from = stayed step.from apart_ends in
-        let held = subst (λ times. asked all.times step ≤ time_at times step.to) (sym pushed_times) (is_pushed all.times step fits).holds in
-        omega (arith, from, held)
-
-    under : (event : ℕ) → event < length all.problem.events → time_at new.times event ≤ time_at goal event
-    under event inside =
-        by_same step.to event
-        (λ same. subst (λ n. time_at new.times n ≤ time_at goal n) same (value (is_pushed all.times step fits).one))
-        (λ apart. let stay = stayed event apart in let old = settling.most event inside in omega (arith, stay, old))
-      where
-        value : (time_at (head_pushed all.times step) step.to ≡ time_at all.times step.to)
-            ⊎ (time_at (head_pushed all.times step) step.to ≡ asked all.times step)
-            → time_at new.times step.to ≤ time_at goal step.to
-        value (inl is) =
-            let old = settling.most step.to link_joins.1 in
-            let here = ap (λ times. time_at times step.to) pushed_times in omega (arith, is, old, here)
-        value (inr is) =
-            let old = settling.most step.from link_joins.0 in
-            let holds = all_held all.problem all.links linked kept at e there counted in
-            let here = ap (λ times. time_at times step.to) pushed_times in omega (arith, is, old, here, holds)
-
-    -- a link with another first event holds as before
-    held_still : (k : ℕ) (d : Link) → (get_or all.links k d).step.from ≢ step.to
-        → IsHeld kept all.times (get_or all.links k d) → IsHeld kept new.times (get_or all.links k d)
-    held_still k d apart held there = grind (arith, stayed, get_or, grown)
+    under_now : (event : ℕ) → event < length all.problem.events → time_at new.times event ≤ time_at goal event
+    under_now = under all each step joined rises new.times pushed_times goal
+        (all_held all.problem all.links linked kept at e there counted) settling.most
 
     held_now : (k : ℕ) (d : Link) → k < length all.links → get_or new.waiting k false ≡ false
         → IsHeld kept new.times (get_or all.links k d)
     held_now k d inside none =
         by_same k at
-        (λ same. subst (IsHeld kept new.times) (sym (ap (λ n. get_or all.links n d) same ∙ same_link d)) (λ _. own_held))
+        (λ same. subst (IsHeld kept new.times) (sym (ap (λ n. get_or all.links n d) same ∙ same_link d))
+        (λ _. own_held all each step joined rises new.times pushed_times))
         (λ apart. other apart pushes.waits)
       where
         other : k ≢ at → (new ≡ seen) ⊎ WaitBy (λ link. link.rank ≡ ranks step.to) all.links seen.waiting new.waiting
@@ -206,7 +228,7 @@ module _ (all : TrialTimes) (linked : IsLinked all.problem all.links) (each : le
             (settling.held k d inside (not_here k apart (sym (ap (λ (t : TrialTimes). get_or t.waiting k false) same) ∙ none)))
         other apart (inr waits) =
             let out = waits.out k d inside none in
-            held_still k d
+            held_still all each step joined rises new.times pushed_times kept (get_or all.links k d)
             (λ is. out.1 ((all_join all.problem all.links linked k d inside).own ∙ ap ranks is))
             (settling.held k d inside (not_here k apart out.0))
 
@@ -227,7 +249,47 @@ module _ (all : TrialTimes) (linked : IsLinked all.problem all.links) (each : le
                 absurd (omega (arith, sorted, rank.1, joins.own, joins.rises))
 
     pub pushed_on : IsSettling kept new (at + 1)
-    pushed_on = grind (arith, pushes, events_same, grown, get_or, under, held_now, done_now)
+    pushed_on = grind (arith, pushes, events_same, grown_now, get_or, under_now, held_now, done_now)
+
+-- ---- the first step, links with which alone may not hold
+
+module _ (all : TrialTimes) (kept : List Bool) (step : Step) (but : IsSettlingBut kept step all) (new : TrialTimes)
+    (pushes : Pushes step all new) where
+  held_first : (k : ℕ) (d : Link) → k < length all.links → get_or new.waiting k false ≡ false
+      → IsHeld kept new.times (get_or all.links k d)
+  held_first k d inside none = by (but.held k d inside) pushes.waits
+    where
+      by : ((get_or all.links k d).step ≡ step) ⊎ IsHeld kept all.times (get_or all.links k d)
+          → (new ≡ all) ⊎ WaitBy (λ link. link.rank ≡ forward_rank all.problem.events step.to) all.links all.waiting new.waiting
+          → IsHeld kept new.times (get_or all.links k d)
+      by (inl own) waits =
+          λ _. subst (λ (step : Step). asked new.times step ≤ time_at new.times step.to) (sym own)
+          (own_held all but.each step but.joins but.rises new.times pushes.times)
+      by (inr held) (inl same) = subst (λ (t : TrialTimes). IsHeld kept t.times (get_or all.links k d)) (sym same) held
+      by (inr held) (inr waits) =
+          held_still all but.each step but.joins but.rises new.times pushes.times kept (get_or all.links k d)
+          (λ is. (waits.out k d inside none).1
+          ((all_join all.problem all.links but.linked k d inside).own ∙ ap (forward_rank all.problem.events) is)) held
+
+  pub pushed_first : IsSettling kept new 0
+  pushed_first =
+      subst (λ t. IsSettling kept t 0)
+      (λ i. record {
+        problem = sym pushes.follows.problem i;
+        links = sym pushes.follows.links i;
+        times = new.times;
+        open_yet = new.open_yet;
+        noted = new.noted;
+        waiting = new.waiting;
+      }) (record {
+        earliest = λ event inside.
+            let old = but.earliest event inside in
+            let more = grown all but.each step but.joins but.rises new.times pushes.times event in omega (arith, old, more);
+        most = under all but.each step but.joins but.rises new.times pushes.times
+            (least_times all.problem (chosen_changes all.problem kept)) but.holds but.most;
+        held = held_first;
+        done = λ k less. absurd (omega (arith, less));
+      })
 
 -- ---- at the end
 

@@ -1,5 +1,5 @@
 -- Inner words: the ends of changes by their events.
-use Rattle.std.specs.Prelude.{ℕ, ◌<◌, ◌≤◌, List, length, get_or, All}
+use Rattle.std.specs.Prelude.{◌≡◌, ℕ, ◌<◌, ◌≤◌, List, length, get_or, All}
 use Rattle.std.specs.List.{Contains}
 use Rattle.delay_management.specs.declared.ends.ChangeEnd.{ChangeEnd}
 use Rattle.delay_management.specs.declared.step.Activity.{Activity}
@@ -17,3 +17,9 @@ pub record IsFirst {X : Type 0} (key : X → ℕ) (xs : List X) (least first : �
   pub most : first ≤ length xs
   pub before : (k : ℕ) (d : X) → k < first → key (get_or xs k d) < least
   pub behind : (k : ℕ) (d : X) → first ≤ k → k < length xs → least ≤ key (get_or xs k d)
+
+-- where the things of each of so many places begin, whose keys are told by the place
+pub record AreFirst {X : Type 0} (key : X → ℕ) (xs : List X) (least : ℕ → ℕ) (count : ℕ)
+    (firsts : List ℕ) : Type 0 where
+  pub each : length firsts ≡ count
+  pub first : (k : ℕ) → k < count → IsFirst key xs (least k) (get_or firsts k 0)

@@ -10,11 +10,11 @@ use Rattle.delay_management.specs.declared.moved.Moved.{Moved}
 use Rattle.delay_management.specs.declared.step.Activity.{Activity}
 use Rattle.delay_management.specs.declared.step.Step.{Step}
 use Rattle.delay_management.specs.declared.taken.Taken.{Taken}
-use Rattle.delay_management.specs.ChangeEnds.{HasEnds}
+use Rattle.delay_management.specs.ChangeEnds.{AreFirst, HasEnds}
 use Rattle.delay_management.specs.Lateness.{delay_at, is_broken}
 use Rattle.delay_management.specs.LeastTimes.{asked, least_times, time_at}
 use Rattle.delay_management.specs.Links.{IsLinked, counts, head_pushed}
-use Rattle.delay_management.specs.Problems.{DelayProblem, earliest_at}
+use Rattle.delay_management.specs.Problems.{DelayProblem, Joins, earliest_at}
 use Rattle.delay_management.specs.Trials.{is_decided, is_kept, times_of}
 use Rattle.delay_management.specs.Waiting.{chosen_changes}
 
@@ -64,9 +64,10 @@ AreTestedBut event changes times open_yet broken = (k : ℕ) (d : Activity) → 
     → (get_or changes k d).step.from ≢ event → (get_or changes k d).step.to ≢ event
     → get_or broken k false ≡ (get_or open_yet k false && is_broken times (get_or changes k d))
 
--- times on trial with their delay and the marks of open changes that they break
+-- times on trial with their delay, the marks of open changes that they break, and where the links
+-- and the ends of changes at each event begin
 pub record IsOnTrial (all : TrialTimes) (ends : List ChangeEnd) (delay : ℤ) (broken : List Bool)
-    : Type 0 where
+    (first_links first_ends : List ℕ) : Type 0 where
   pub linked : IsLinked all.problem all.links
   pub all_ends : HasEnds all.problem.changes ends
   pub in_order : IsNonDecreasingBy (λ end. end.event) ends
@@ -79,6 +80,10 @@ pub record IsOnTrial (all : TrialTimes) (ends : List ChangeEnd) (delay : ℤ) (b
   pub noted : All (λ moved. (moved.event < length all.problem.events)
       × (moved.before ≤ 1000000000000000000)) all.noted
   pub waits : length all.waiting ≡ length all.links
+  pub links_at : AreFirst (λ link. link.rank) all.links (forward_rank all.problem.events)
+      (length all.problem.events) first_links
+  pub ends_at : AreFirst (λ end. end.event) ends (λ event. event)
+      (length all.problem.events) first_ends
 
 -- times as they were before events were made later, the last one first
 abbrev pub rewound : List Moved → List ℕ → List ℕ
@@ -90,6 +95,11 @@ abbrev pub IsUndoing : ℕ → TrialTimes → TrialTimes → Type 0
 IsUndoing left old new = (top rest : List Moved) → old.noted ≡ top ++ rest → length rest ≡ left
     → (more : List Moved) × (new ≡ record old { times = new.times; noted = more ++ rest })
     × (rewound more new.times ≡ rewound top old.times)
+
+-- the same where notes are only dropped
+abbrev pub IsDropping : ℕ → TrialTimes → TrialTimes → Type 0
+IsDropping left old new = (top rest : List Moved) → old.noted ≡ top ++ rest → length rest ≡ left
+    → (more : List Moved) × (new ≡ record old { noted = more ++ rest })
 
 -- the times before can be had again
 abbrev pub CanGoBack : TrialTimes → TrialTimes → Type 0
@@ -122,6 +132,23 @@ pub record IsSettling (kept : List Bool) (all : TrialTimes) (from : ℕ) : Type 
 -- no link waits
 abbrev pub NoneWaits : TrialTimes → Type 0
 NoneWaits all = (k : ℕ) → get_or all.waiting k false ≡ false
+
+-- the same where none waits, and links with one step alone may not hold
+pub record IsSettlingBut (kept : List Bool) (step : Step) (all : TrialTimes) : Type 0 where
+  pub linked : IsLinked all.problem all.links
+  pub each : length all.times ≡ length all.problem.events
+  pub joins : Joins (length all.problem.events) step
+  pub rises : forward_rank all.problem.events step.from < forward_rank all.problem.events step.to
+  pub small : asked all.times step ≤ 1000000000000000000
+  pub holds : asked (least_times all.problem (chosen_changes all.problem kept)) step
+      ≤ time_at (least_times all.problem (chosen_changes all.problem kept)) step.to
+  pub earliest : (event : ℕ) → event < length all.problem.events
+      → earliest_at all.problem event ≤ time_at all.times event
+  pub most : (event : ℕ) → event < length all.problem.events → time_at all.times event
+      ≤ time_at (least_times all.problem (chosen_changes all.problem kept)) event
+  pub held : (k : ℕ) (d : Link) → k < length all.links
+      → ((get_or all.links k d).step ≡ step) ⊎ IsHeld kept all.times (get_or all.links k d)
+  pub none : NoneWaits all
 
 -- the links of a kind wait besides others
 pub record WaitBy (P : Link → Type 0) (links : List Link) (old new : List Bool) : Type 0 where
@@ -165,16 +192,38 @@ pub record StartsTrial (problem : DelayProblem) (all : TrialTimes) : Type 0 wher
   pub noted : all.noted ≡ []
   pub none : NoneWaits all
 
+-- the last notes are dropped until so many are left, or all of them stay
+abbrev pub DropsNotes : ℕ → Bool → TrialTimes → TrialTimes → Type 0
+DropsNotes left true old new = new ≡ old
+DropsNotes left false old new = (top rest : List Moved) → old.noted ≡ top ++ rest
+    → length rest ≡ left → new ≡ record old { noted = rest }
+
+-- the times before a decision are back: from its notes, or as the least ones of what is kept
+abbrev pub GoesBackBy : Bool → ℕ → List Bool → TrialTimes → TrialTimes → Type 0
+GoesBackBy true left kept old new = (top rest : List Moved) → old.noted ≡ top ++ rest
+    → length rest ≡ left → new ≡ record old { times = rewound top old.times; noted = rest }
+GoesBackBy false left kept old new = new ≡ record old {
+  times = least_times old.problem (chosen_changes old.problem kept);
+}
+
+abbrev pub GoesBack : Taken → List Bool → TrialTimes → TrialTimes → Type 0
+GoesBack last kept old new = GoesBackBy last.is_noted last.moved kept old new
+
 -- what is decided, the last decision first
 abbrev pub decided_in : List Taken → List Decided
 decided_in taken = map (λ last. last.decided) taken
 
--- the times behind fewer decisions can be had again
+-- the notes of a decision give the times before it, or there are none
+abbrev pub Gives : Bool → List Moved → List ℕ → List ℕ → Type 0
+Gives true noted times before = rewound noted times ≡ before
+Gives false noted times before = noted ≡ []
+
+-- the times behind fewer decisions can be had again, where their decisions are noted
 unfoldable pub AreSaved : DelayProblem → List Taken → List Moved → List ℕ → Type 0
 AreSaved problem [] noted times = ⊤
 AreSaved problem (last ∷ before) noted times = (top rest : List Moved) × (noted ≡ top ++ rest)
     × (length rest ≡ last.moved)
-    × (rewound top times ≡ times_of (record { problem = problem; decided = decided_in before }))
+    × Gives last.is_noted top times (times_of (record { problem = problem; decided = decided_in before }))
     × AreSaved problem before rest
     (times_of (record { problem = problem; decided = decided_in before }))
 

@@ -1,7 +1,7 @@
 // The ends of changes by their events.
 ghost use Rattle.std.specs.Prelude.{◌≡◌, ◌<◌, ◌≤◌, length, All, IfOk};
 ghost use Rattle.std.specs.List.Sorted.{IsNonDecreasingBy};
-ghost use Rattle.delay_management.specs.ChangeEnds.{HasEnds, IsFirst};
+ghost use Rattle.delay_management.specs.ChangeEnds.{AreFirst, HasEnds, IsFirst};
 
 use crate::step::Activity;
 use plan_num::NoMemory;
@@ -46,8 +46,26 @@ fn all_ends(alloc: Global, changes: &[Activity]) -> Result<Vec<ChangeEnd>, NoMem
     Ok(ends)
 }
 
-/// Where the ends at an event begin.
-pub(crate) fn first_end(ends: &[ChangeEnd], event: u32) -> usize
+/// Where the ends at each event begin.
+pub(crate) fn first_ends(
+    alloc: Global,
+    ends: &[ChangeEnd],
+    events: usize,
+) -> Result<Vec<usize>, NoMemory>
+    requires few { events ≤ 100000 }
+    requires in_order { IsNonDecreasingBy (λ end. end.event) ends.now }
+    ensures { IfOk result
+        (λ firsts. AreFirst (λ end. end.event) ends.now (λ event. event) events firsts.items) }
+{
+    let mut firsts = Vec::with_capacity(alloc, events)?;
+    for event in 0..events as u32 {
+        firsts.push(first_end(ends, event))?;
+    }
+    Ok(firsts)
+}
+
+// Where the ends at an event begin.
+fn first_end(ends: &[ChangeEnd], event: u32) -> usize
     requires { IsNonDecreasingBy (λ end. end.event) ends.now }
     ensures { IsFirst (λ end. end.event) ends.now event result }
 {

@@ -3,7 +3,7 @@ ghost use Rattle.std.specs.Prelude.{◌≡◌, ◌<◌, ◌≤◌, ◌++◌, len
 ghost use Rattle.std.specs.List.{range_with_len};
 ghost use Rattle.std.specs.List.Sorted.{IsNonDecreasing, IsNonDecreasingBy, IsPermutation};
 ghost use Rattle.event_tables.specs.ForwardRanks.{forward_rank};
-ghost use Rattle.delay_management.specs.ChangeEnds.{IsFirst};
+ghost use Rattle.delay_management.specs.ChangeEnds.{AreFirst, IsFirst};
 ghost use Rattle.delay_management.specs.Links.{change_links, link_of, ride_links, turn_links};
 
 use crate::outgoing::Outgoing;
@@ -61,8 +61,26 @@ fn ranks_in_order(alloc: Global, events: &[ExpandedEvent]) -> Result<Vec<u64>, N
     Ok(ranks)
 }
 
-/// Where the links of events of at least a rank begin.
-pub(crate) fn first_link(links: &[Link], rank: u64) -> usize
+/// Where the links out of each event begin.
+pub(crate) fn first_links(
+    alloc: Global,
+    events: &[ExpandedEvent],
+    links: &[Link],
+) -> Result<Vec<usize>, NoMemory>
+    requires few { length events.now ≤ 100000 }
+    requires in_order { IsNonDecreasingBy (λ link. link.rank) links.now }
+    ensures { IfOk result (λ firsts. AreFirst (λ link. link.rank) links.now
+        (forward_rank events.now) (length events.now) firsts.items) }
+{
+    let mut firsts = Vec::with_capacity(alloc, events.len())?;
+    for event in 0..events.len() as u32 {
+        firsts.push(first_link(links, forward_rank(events, event)))?;
+    }
+    Ok(firsts)
+}
+
+// Where the links of events of at least a rank begin.
+fn first_link(links: &[Link], rank: u64) -> usize
     requires { IsNonDecreasingBy (λ link. link.rank) links.now }
     ensures { IsFirst (λ link. link.rank) links.now rank result }
 {

@@ -1,41 +1,44 @@
 // Marks of places, the next of which is found fast.
-ghost use Rattle.std.specs.Prelude.{ℕ, ◌≡◌, ◌≢◌, ◌<◌, ◌≤◌, ◌/◌, false, get_or, length, replicate, slice_set, IfOk};
-ghost use Rattle.delay_management.specs.Markings.{Covers, CoversApart, IsNext, IsBare};
+ghost use Rattle.std.specs.Prelude.{ℕ, ◌≡◌, ◌<◌, ◌≤◌, ◌/◌, ◌%◌, false, get_or, length, replicate, slice_set, IfOk};
+ghost use Rattle.bit_rows.specs.Bits.{with_bit};
+ghost use Rattle.delay_management.specs.Markings.{Covers, IsNext, IsNextBit, IsNextWord, IsWithin};
 
+use bit_rows::{first_bit, with_bit};
 use plan_num::NoMemory;
 use std::alloc::Global;
 use std::marker::Model;
 
-/// Which of some places are marked. Blocks of 64 places tell where no mark stands, and so do blocks
-/// of 64 blocks. Contracts see it as one truth value for each place.
+/// Which of some places are marked: bits of words, and a bit for each word, without which no mark
+/// stands in it. Contracts see it as one truth value for each place.
 #[derive(Drop)]
 pub(crate) struct Marking {
-    flags: Vec<bool>,
-    blocks: Vec<bool>,
-    supers: Vec<bool>,
+    count: usize,
+    words: Vec<u64>,
+    blocks: Vec<u64>,
 }
 
 impl Model for Marking {
     ghost use Rattle.std.specs.Prelude.{Bool, List};
-    ghost use Rattle.delay_management.specs.Markings.{AreBlocked};
+    ghost use Rattle.delay_management.specs.Markings.{AreBlocked, marks_of};
 
     ghost Value = { List Bool };
 
-    ghost view = { λ m. m.flags.items };
+    ghost view = { λ m. marks_of m.words.items m.count };
 
-    ghost invariant = { λ m. AreBlocked m.flags.items m.blocks.items m.supers.items };
+    ghost invariant = { λ m. AreBlocked m.count m.words.items m.blocks.items };
 }
 
 impl Marking {
     /// No place of so many is marked.
     pub(crate) fn none(alloc: Global, count: usize) -> Result<Marking, NoMemory>
+        requires few { count ≤ 1000000 }
         ensures { IfOk result (λ marks. marks ≡ replicate count false) }
     {
-        let blocks = count / 64 + 1;
+        let words = count / 64 + 1;
         Ok(Marking {
-            flags: vec![in alloc; false; count]?,
-            blocks: vec![in alloc; false; blocks]?,
-            supers: vec![in alloc; false; blocks / 64 + 1]?,
+            count,
+            words: vec![in alloc; 0; words]?,
+            blocks: vec![in alloc; 0; words / 64 + 1]?,
         })
     }
 
@@ -43,9 +46,8 @@ impl Marking {
     pub(crate) fn clear(&mut self)
         ensures { self.new ≡ replicate (length self.old) false }
     {
-        self.flags.fill(false);
-        self.blocks.fill(false);
-        self.supers.fill(false);
+        put_zeros(&mut self.words);
+        put_zeros(&mut self.blocks);
     }
 
     /// Marks a place, or takes its mark away.
@@ -53,65 +55,78 @@ impl Marking {
         requires { place < length self.old }
         ensures { self.new ≡ slice_set self.old place is }
     {
-        self.flags[place] = is;
-        lift(&self.flags, &mut self.blocks, place);
-        lift(&self.blocks, &mut self.supers, place / 64);
+        let some = put(&mut self.words, place, is);
+        put(&mut self.blocks, place / 64, some);
     }
 
     /// The first place from one on that is marked.
     pub(crate) fn next(&self, from: usize) -> Option<usize>
         ensures { IsNext self.now from result }
     {
-        let mut place = from;
-        while place < self.flags.len() {
-            if self.flags[place] {
-                return Some(place);
-            }
-            place += self.gap(place);
-        }
-        None
-    }
-
-    // How many places are passed over from one that is not marked.
-    fn gap(&self, place: usize) -> usize
-        requires there { place < length self.now }
-        requires bare { get_or self.now place false ≡ false }
-        ensures some { 1 ≤ result }
-        ensures few { result ≤ 4096 }
-        ensures bare { IsBare self.now place result }
-    {
-        if place % 64 != 0 || self.blocks[place / 64] {
-            1
-        } else if place % 4096 != 0 || self.supers[place / 64 / 64] {
-            64
-        } else {
-            4096
-        }
+        within(next_bit(&self.words, &self.blocks, from), self.count)
     }
 }
 
-// The block of a place that has changed tells whether a mark stands in it.
-fn lift(flags: &[bool], blocks: &mut Vec<bool>, place: usize)
-    requires there { place < length flags.now }
-    requires old { CoversApart place flags.now blocks.old.items }
-    ensures covers { Covers flags.now blocks.new.items }
-    ensures size { length blocks.new.items ≡ length blocks.old.items }
-    ensures others { (k : ℕ) → k ≢ place / 64
-        → get_or blocks.new.items k false ≡ get_or blocks.old.items k false }
+// A place that was found, where it is one of so many.
+fn within(found: Option<usize>, count: usize) -> Option<usize>
+    ensures { IsWithin count found result }
 {
-    let block = place / 64;
-    blocks[block] = is_any(flags, block * 64);
+    match found {
+        None => None,
+        Some(place) => { if place < count { Some(place) } else { None } }
+    }
 }
 
-// Whether a mark stands in the 64 places from one on.
-fn is_any(flags: &[bool], first: usize) -> bool
-    requires { first < length flags.now }
-    ensures { result ≡ false → IsBare flags.now first 64 }
+// All words are 0.
+fn put_zeros(words: &mut Vec<u64>)
+    ensures { words.new.items ≡ replicate (length words.old.items) 0 }
 {
-    for place in first..flags.len().min(first + 64) {
-        if flags[place] {
-            return true;
+    words.fill(0);
+}
+
+// A bit of words is set or taken away; whether its word has one then.
+fn put(words: &mut Vec<u64>, place: usize, is: bool) -> bool
+    requires { place / 64 < length words.old.items }
+    ensures put { words.new.items ≡ slice_set words.old.items (place / 64)
+        (with_bit (get_or words.old.items (place / 64) 0) (place % 64) is) }
+    ensures some { result ≡ false → get_or words.new.items (place / 64) 0 ≡ 0 }
+{
+    let word = with_bit(words[place / 64], place % 64, is);
+    words[place / 64] = word;
+    word != 0
+}
+
+// The first bit of words from a place on, where a bit of others stands for each word that has one.
+fn next_bit(words: &[u64], blocks: &[u64], from: usize) -> Option<usize>
+    requires few { length words.now ≤ 15626 }
+    requires covers { Covers words.now blocks.now }
+    ensures { IsNextBit words.now from result }
+{
+    let mut place = from;
+    while place / 64 < words.len() {
+        if let Some(bit) = first_bit(words[place / 64], place % 64) {
+            return Some(place / 64 * 64 + bit);
+        }
+        match next_word(words, blocks, place / 64 + 1) {
+            None => return None,
+            Some(word) => place = 64 * word,
         }
     }
-    false
+    None
+}
+
+// The first word from one on that may have a bit.
+fn next_word(words: &[u64], blocks: &[u64], from: usize) -> Option<usize>
+    requires few { length words.now ≤ 15626 }
+    requires covers { Covers words.now blocks.now }
+    ensures { IsNextWord words.now from result }
+{
+    let mut word = from;
+    while word < words.len() {
+        if let Some(bit) = first_bit(blocks[word / 64], word % 64) {
+            return Some(word / 64 * 64 + bit);
+        }
+        word = word / 64 * 64 + 64;
+    }
+    None
 }

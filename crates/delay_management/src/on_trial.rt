@@ -3,16 +3,17 @@ ghost use Rattle.std.specs.Prelude.{◌≡◌, ◌+◌, ◌∷◌, ◌++◌, ◌
 ghost use Rattle.std.specs.List.Sorted.{IsNonDecreasingBy};
 ghost use Rattle.event_tables.specs.ForwardRanks.{forward_rank};
 ghost use Rattle.delay_management.specs.declared.moved.Moved.{Moved};
+ghost use Rattle.delay_management.specs.ChangeEnds.{IsFirst};
 ghost use Rattle.delay_management.specs.Lateness.{delay_at};
 ghost use Rattle.delay_management.specs.LeastTimes.{asked, least_times};
 ghost use Rattle.delay_management.specs.Links.{IsLinked};
-ghost use Rattle.delay_management.specs.OnTrial.{Follows, IsLastMoved, IsSettling, NoneWaits, Pushes, StartsTrial, TellsBroken, WaitBy, rewound};
+ghost use Rattle.delay_management.specs.OnTrial.{Follows, IsLastMoved, IsSettling, IsSettlingBut, NoneWaits, Pushes, StartsTrial, TellsBroken, WaitBy, rewound};
 ghost use Rattle.delay_management.specs.Problems.{Joins};
 ghost use Rattle.delay_management.specs.Waiting.{chosen_changes};
 
-use crate::ends::{ChangeEnd, ends_in_order};
+use crate::ends::{ChangeEnd, ends_in_order, first_ends};
 use crate::lateness::{delay_at, more_delay};
-use crate::links::{Link, first_link};
+use crate::links::{Link, first_links};
 use crate::marking::Marking;
 use crate::moved::Moved;
 use crate::pass::counts;
@@ -32,7 +33,9 @@ use std::marker::Model;
 pub(crate) struct TimesOnTrial<'a> {
     problem: &'a Propagation,
     links: &'a [Link],
+    first_links: Vec<usize>,
     ends: Vec<ChangeEnd>,
+    first_ends: Vec<usize>,
     times: Vec<u64>,
     delay: i128,
     undecided: Vec<bool>,
@@ -46,7 +49,9 @@ impl Drop for TimesOnTrial<'_> {
         let TimesOnTrial {
             problem: _,
             links: _,
+            first_links: _,
             ends: _,
+            first_ends: _,
             times: _,
             delay: _,
             undecided: _,
@@ -79,7 +84,7 @@ impl<'a> Model for TimesOnTrial<'a> {
       open_yet = t.undecided.items;
       noted = reverse t.trail.items;
       waiting = t.waiting;
-    }) t.ends.items t.delay t.broken };
+    }) t.ends.items t.delay t.broken t.first_links.items t.first_ends.items };
 }
 
 impl<'a> TimesOnTrial<'a> {
@@ -88,16 +93,20 @@ impl<'a> TimesOnTrial<'a> {
         ensures { IfOk result (λ all. StartsTrial problem.now all) }
     {
         let count = problem.change_count();
+        let events = problem.events();
         let links = problem.links();
         let times = problem.least_times(alloc, &[])?;
         let undecided = vec![in alloc; true; count]?;
         let mut broken = Marking::none(alloc, count)?;
         test_all(&mut broken, problem.changes(), &times, &undecided);
+        let ends = ends_in_order(alloc, problem.changes())?;
         Ok(TimesOnTrial {
             problem,
             links,
-            ends: ends_in_order(alloc, problem.changes())?,
-            delay: delay_at(problem.events(), &times),
+            first_links: first_links(alloc, events, links)?,
+            first_ends: first_ends(alloc, &ends, events.len())?,
+            ends,
+            delay: delay_at(events, &times),
             times,
             undecided,
             broken,
@@ -166,6 +175,7 @@ impl<'a> TimesOnTrial<'a> {
         test_at(
             &mut self.broken,
             &self.ends,
+            self.first_ends[at],
             event,
             self.problem.changes(),
             &self.times,
@@ -173,15 +183,16 @@ impl<'a> TimesOnTrial<'a> {
         );
     }
 
-    /// The links out of an event wait.
-    pub(crate) fn wait_at(&mut self, event: u32)
+    // The links out of an event wait.
+    fn wait_at(&mut self, event: u32)
         requires { event < length self.old.problem.events }
         ensures same { self.new ≡ record self.old { waiting = self.new.waiting } }
         ensures waits { WaitBy (λ link. link.rank ≡ forward_rank self.old.problem.events event)
             self.old.links self.old.waiting self.new.waiting }
     {
         let rank = forward_rank(self.problem.events(), event);
-        wait_behind(&mut self.waiting, self.links, rank);
+        let first = self.first_links[event as usize];
+        wait_behind(&mut self.waiting, self.links, first, rank);
     }
 
     /// No link waits any more.
@@ -192,9 +203,22 @@ impl<'a> TimesOnTrial<'a> {
         self.waiting.clear();
     }
 
-    /// Takes the links that wait in their order, and makes heads later where they ask for it, until
-    /// none waits.
-    pub(crate) fn settle(&mut self, kept: &[bool]) -> Result<(), NoMemory>
+    /// The head of a step is no earlier than the step asks, and what follows from it: heads are
+    /// made later until all links that count have their minutes.
+    pub(crate) fn settle_from(&mut self, step: Step, kept: &[bool]) -> Result<(), NoMemory>
+        requires { IsSettlingBut kept.now step self.old }
+        ensures follows { Follows self.old self.new }
+        ensures least { OnOk result (self.new.times
+            ≡ least_times self.old.problem (chosen_changes self.old.problem kept.now)) }
+        ensures none { OnOk result (NoneWaits self.new) }
+    {
+        self.push(step)?;
+        self.settle(kept)
+    }
+
+    // Takes the links that wait in their order, and makes heads later where they ask for it, until
+    // none waits.
+    fn settle(&mut self, kept: &[bool]) -> Result<(), NoMemory>
         requires { IsSettling kept.now self.old 0 }
         ensures follows { Follows self.old self.new }
         ensures least { OnOk result (self.new.times
@@ -261,6 +285,30 @@ impl<'a> TimesOnTrial<'a> {
         self.trail.len()
     }
 
+    /// The last notes are dropped, until so many are left.
+    pub(crate) fn forget_last(&mut self, left: usize)
+        ensures { (top rest : List Moved) → self.old.noted ≡ top ++ rest → length rest ≡ left
+            → self.new ≡ record self.old { noted = rest } }
+    {
+        while let Some(_last) = self.last_moved(left) {}
+    }
+
+    /// The least times where some changes are kept, in the place of others.
+    pub(crate) fn renew(&mut self, kept: &[bool])
+        ensures { self.new ≡ record self.old {
+          times = least_times self.old.problem (chosen_changes self.old.problem kept.now);
+        } }
+    {
+        self.problem.put_least_times(&mut self.times, kept);
+        self.delay = delay_at(self.problem.events(), &self.times);
+        test_all(
+            &mut self.broken,
+            self.problem.changes(),
+            &self.times,
+            &self.undecided,
+        );
+    }
+
     /// Events that were made later have their times before again, until so many are left.
     pub(crate) fn undo(&mut self, left: usize)
         ensures { (top rest : List Moved) → self.old.noted ≡ top ++ rest → length rest ≡ left
@@ -282,13 +330,14 @@ impl<'a> TimesOnTrial<'a> {
     }
 }
 
-// The links of a rank wait.
-fn wait_behind(waiting: &mut Marking, links: &[Link], rank: u64)
+// The links of a rank wait, which begin at a place.
+fn wait_behind(waiting: &mut Marking, links: &[Link], first: usize, rank: u64)
     requires in_order { IsNonDecreasingBy (λ link. link.rank) links.now }
+    requires first { IsFirst (λ link. link.rank) links.now rank first }
     requires each { length waiting.old ≡ length links.now }
     ensures { WaitBy (λ link. link.rank ≡ rank) links.now waiting.old waiting.new }
 {
-    let mut at = first_link(links, rank);
+    let mut at = first;
     while at < links.len() && links[at].rank == rank {
         waiting.set(at, true);
         at += 1;

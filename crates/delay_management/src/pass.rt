@@ -29,6 +29,19 @@ pub(crate) fn pushed_along(
     Ok(times)
 }
 
+/// Puts the earliest times behind links in the place of others.
+pub(crate) fn push_again(times: &mut Vec<u64>, earliest: &[u64], links: &[Link], kept: &[bool])
+    requires each { length times.old.items ≡ length earliest.now }
+    requires few { length links.now ≤ 502000 }
+    requires soon { All (λ time. time ≤ 8589934590) earliest.now }
+    requires ends { All (λ link. (link.step.from < length earliest.now)
+        × (link.step.to < length earliest.now)) links.now }
+    ensures { times.new.items ≡ pushed_along kept.now links.now earliest.now }
+{
+    times.copy_from_slice(earliest);
+    push_along(times, links, kept);
+}
+
 // Pushes times along links, one after the other, where the links of chosen changes count.
 fn push_along(times: &mut Vec<u64>, links: &[Link], kept: &[bool])
     requires few { length links.now ≤ 502000 }

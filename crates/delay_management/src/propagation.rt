@@ -18,7 +18,7 @@ use crate::inputs::{
     activities_of, activity_delays_of, event_delays_of, events_of, schedule_of, turnover_of,
 };
 use crate::links::{Link, links_in_order};
-use crate::pass::pushed_along;
+use crate::pass::{push_again, pushed_along};
 use crate::step::{Activity, Step};
 use crate::turns::turns_of;
 use event_tables::{DelayRow, ExpandedActivity, ExpandedEvent, ScheduleRow};
@@ -146,6 +146,16 @@ impl Propagation {
         ensures small { IfOk result (λ times. All (λ time. time ≤ 600000000000) times.items) }
     {
         pushed_along(alloc, &self.earliest, &self.links, kept)
+    }
+
+    /// Puts these least times in the place of others.
+    pub(crate) fn put_least_times(&self, times: &mut Vec<u64>, kept: &[bool])
+        requires { length times.old.items ≡ length self.now.events }
+        ensures times { times.new.items ≡ least_times self.now (chosen_changes self.now kept.now) }
+        ensures least { IsLeast self.now (chosen_changes self.now kept.now) times.new.items }
+        ensures small { All (λ time. time ≤ 600000000000) times.new.items }
+    {
+        push_again(times, &self.earliest, &self.links, kept);
     }
 
     /// The links, in their forward order.

@@ -2,12 +2,12 @@
 ghost use Rattle.std.specs.Prelude.{◌≡◌, ◌&&◌, ◌<◌, ◌≤◌, false, get_or, length, slice_set, All};
 ghost use Rattle.std.specs.List.Sorted.{IsNonDecreasingBy};
 ghost use Rattle.delay_management.specs.declared.step.Activity.{Activity};
-ghost use Rattle.delay_management.specs.ChangeEnds.{HasEnds};
+ghost use Rattle.delay_management.specs.ChangeEnds.{HasEnds, IsFirst};
 ghost use Rattle.delay_management.specs.Lateness.{is_broken};
 ghost use Rattle.delay_management.specs.OnTrial.{AreTested, AreTestedBut};
 ghost use Rattle.delay_management.specs.Problems.{Joins};
 
-use crate::ends::{ChangeEnd, first_end};
+use crate::ends::ChangeEnd;
 use crate::marking::Marking;
 use crate::step::Activity;
 use crate::times::is_broken;
@@ -51,10 +51,11 @@ pub(crate) fn test_all(
     }
 }
 
-/// The same for the changes that begin or end at an event.
+/// The same for the changes that begin or end at an event, where its ends begin at a place.
 pub(crate) fn test_at(
     broken: &mut Marking,
     ends: &[ChangeEnd],
+    first: usize,
     event: u32,
     changes: &[Activity],
     times: &[u64],
@@ -62,6 +63,7 @@ pub(crate) fn test_at(
 )
     requires ends { HasEnds changes.now ends.now }
     requires in_order { IsNonDecreasingBy (λ end. end.event) ends.now }
+    requires first { IsFirst (λ end. end.event) ends.now event first }
     requires flags { length undecided.now ≡ length changes.now }
     requires marks { length broken.old ≡ length changes.now }
     requires joins { All (λ change. Joins (length times.now) change.step) changes.now }
@@ -70,7 +72,7 @@ pub(crate) fn test_at(
     ensures tested { AreTested changes.now times.now undecided.now broken.new }
     ensures size { length broken.new ≡ length broken.old }
 {
-    let mut at = first_end(ends, event);
+    let mut at = first;
     while at < ends.len() && ends[at].event == event {
         test(broken, changes, times, undecided, ends[at].change as usize);
         at += 1;

@@ -1,6 +1,7 @@
 // Decisions on trial.
-ghost use Rattle.std.specs.Prelude.{[], ◌≡◌, ◌<◌, ◌≤◌, ◌≤ℤ◌, ◌∷◌, pos, true, false, drop, length, slice_get, slice_set, IfOk, OnOk, OnErr};
+ghost use Rattle.std.specs.Prelude.{nat_le, [], ◌≡◌, ◌<◌, ◌≤◌, ◌≤ℤ◌, ◌∷◌, pos, true, false, drop, length, slice_get, slice_set, IfOk, OnOk, OnErr};
 ghost use Rattle.delay_management.specs.Lateness.{delay_at};
+ghost use Rattle.delay_management.specs.OnTrial.{DropsNotes, GoesBack};
 ghost use Rattle.delay_management.specs.Problems.{IsForward};
 ghost use Rattle.delay_management.specs.Trials.{first_broken, is_decided, times_of};
 
@@ -11,6 +12,10 @@ use crate::taken::Taken;
 use plan_num::NoMemory;
 use std::alloc::Global;
 use std::marker::Model;
+
+// After so many events that were made later none is noted any more: what a decision made later is
+// then taken back by a pass over the day.
+const MOST_NOTED: usize = 1_000_000;
 
 /// Changes of a day that are decided one after the other and taken back again, the last one first,
 /// with the least times of what is kept. Contracts see it as the day and what is decided, the last
@@ -87,12 +92,15 @@ impl<'a> Trial<'a> {
     {
         let step = self.times.problem().changes()[change].step;
         let moved = self.times.moved();
-        self.taken.push(Taken::new(change, true, moved))?;
+        let is_noted = notes_stay(moved);
+        self.taken.push(Taken::new(change, true, moved, is_noted))?;
         set_at(&mut self.kept, change, true);
         self.times.set_open(change, false);
-        self.times.wait_at(step.from);
-        match self.times.settle(&self.kept) {
-            Ok(()) => Ok(()),
+        match self.times.settle_from(step, &self.kept) {
+            Ok(()) => {
+                drop_notes(&mut self.times, moved, is_noted);
+                Ok(())
+            }
             Err(NoMemory) => {
                 self.times.forget();
                 self.times.undo(moved);
@@ -115,7 +123,7 @@ impl<'a> Trial<'a> {
     {
         let _linked = self.times.problem();
         let moved = self.times.moved();
-        self.taken.push(Taken::new(change, false, moved))?;
+        self.taken.push(Taken::new(change, false, moved, true))?;
         self.times.set_open(change, false);
         Ok(())
     }
@@ -127,9 +135,9 @@ impl<'a> Trial<'a> {
     {
         let _linked = self.times.problem();
         let last = self.taken.pop()?;
-        self.times.undo(last.moved);
-        self.times.set_open(last.decided.change, true);
         set_at(&mut self.kept, last.decided.change, false);
+        go_back(&mut self.times, &last, &self.kept);
+        self.times.set_open(last.decided.change, true);
         Some(last.decided)
     }
 
@@ -148,6 +156,33 @@ impl<'a> Trial<'a> {
         ensures { result ≡ first_broken self.now }
     {
         self.times.first_broken()
+    }
+}
+
+// Whether the notes of a decision after so many others stay.
+fn notes_stay(moved: usize) -> bool
+    ensures { result ≡ nat_le moved 1000000 }
+{
+    moved <= MOST_NOTED
+}
+
+// The last notes are dropped until so many are left, where they do not stay.
+fn drop_notes(times: &mut TimesOnTrial, left: usize, stay: bool)
+    ensures { DropsNotes left stay times.old times.new }
+{
+    if !stay {
+        times.forget_last(left);
+    }
+}
+
+// The times before a decision again: by its notes, or as the least ones of what is still kept.
+fn go_back(times: &mut TimesOnTrial, last: &Taken, kept: &[bool])
+    ensures { GoesBack last.now kept.now times.old times.new }
+{
+    if last.is_noted {
+        times.undo(last.moved);
+    } else {
+        times.renew(kept);
     }
 }
 

@@ -7,9 +7,9 @@ use Rattle.delay_management.proofs.tested.test_at.Goals as goal
 pub loop-at-init : goal.loop-at-init
 loop-at-init c = record {
   size = c.requires.marks;
-  behind = c.first_end-at.ensures.behind;
+  behind = c.requires.first.behind;
   tested = at_first c.args.changes.now c.args.times.now c.args.undecided.now c.args.ends.now c.args.event
-      c.args.broken.now c.first_end-at.result c.requires.ends c.first_end-at.ensures c.requires.others;
+      c.args.broken.now c.args.first c.requires.ends c.requires.first c.requires.others;
 }
 
 pub loop-at-preserved : goal.loop-at-preserved

@@ -4,7 +4,10 @@ use Rattle.std.proofs.lemmas.Int.{to_z-of_z}
 use Rattle.std.proofs.lemmas.List.{length-replicate}
 use Rattle.std.proofs.lemmas.List.Elements.{All-nil}
 use mir.Syntax.{w128}
-use Rattle.delay_management.specs.ChangeEnds.{HasEnds}
+use Rattle.event_tables.specs.ForwardRanks.{forward_rank}
+use Rattle.delay_management.specs.declared.ends.ChangeEnd.{ChangeEnd}
+use Rattle.delay_management.specs.declared.links.Link.{Link}
+use Rattle.delay_management.specs.ChangeEnds.{AreFirst, HasEnds}
 use Rattle.delay_management.specs.Lateness.{delay_at, is_broken}
 use Rattle.delay_management.proofs.OnTrialFacts.{IsSound}
 use Rattle.delay_management.proofs.on_trial.TimesOnTrial.new.Goals as goal
@@ -15,12 +18,12 @@ invariant_of-result-2 c =
     let open_yet = c.in_ok-undecided.ensures.items_if_clones_equal (λ y is. is) in
     record {
       linked = c.links-links.ensures;
-      all_ends = subst (λ changes. HasEnds changes c.in_ok-ends_in_order.field-0.items) c.changes-2.ensures.value c.in_ok-ends_in_order.ensures.ends;
-      in_order = c.in_ok-ends_in_order.ensures.in_order;
+      all_ends = subst (λ changes. HasEnds changes c.in_ok-ends.ends.items) c.changes-2.ensures.value c.in_ok-ends.ensures.ends;
+      in_order = c.in_ok-ends.ensures.in_order;
       each = c.in_ok-times.ensures.least.feasible.each;
       small = λ k d inside. let small = c.in_ok-times.ensures.small k d inside in omega (arith, small);
       late = to_z-of_z w128 c.delay_at.result (record { sfits = c.delay_at.type_inv }) ∙ c.delay_at.ensures
-          ∙ (λ i. delay_at (c.events.ensures.value i) (c.deref-3.ensures.value i));
+          ∙ (λ i. delay_at (c.events-events.ensures.value i) (c.deref-4.ensures.value i));
       flags = ap length open_yet ∙ length-replicate c.change_count-count.result true ∙ count;
       marks = ap length c.broken.view_is ∙ c.test_all.ensures.size ∙ ap length c.in_ok-broken.ensures
           ∙ length-replicate c.change_count-count.result false ∙ count;
@@ -32,4 +35,10 @@ invariant_of-result-2 c =
       noted = subst (λ trail. All (IsSound (length c.args.problem.now.events)) (reverse trail)) (sym c.new.ensures.items)
           (All-nil (IsSound (length c.args.problem.now.events)));
       waits = ap length c.in_ok-none.ensures ∙ length-replicate (length c.links-links.result.now) false;
+      links_at = subst (λ events. AreFirst (λ (link : Link). link.rank) c.links-links.result.now (forward_rank events) (length events) c.in_ok-first_links.field-0.items)
+          c.events-events.ensures.value c.in_ok-first_links.ensures;
+      ends_at = subst (λ n. AreFirst (λ (end : ChangeEnd). end.event) c.in_ok-ends.ends.items (λ event. event) n c.in_ok-first_ends.field-0.items)
+          (ap length c.events-events.ensures.value)
+          (subst (λ ends. AreFirst (λ (end : ChangeEnd). end.event) ends (λ event. event) (length c.events-events.result.now) c.in_ok-first_ends.field-0.items)
+          c.deref-3.ensures.value c.in_ok-first_ends.ensures);
     }

@@ -11,7 +11,7 @@ use Rattle.delay_management.proofs.on_trial.TimesOnTrial.set_time.Goals as goal
 pub overflow_add-self : goal.overflow_add-self
 overflow_add-self c =
     let more = c.more_delay-more.result in
-    let room = delay_room _ _ _ _ c.self.invariant in
+    let room = delay_room _ _ _ _ _ _ c.self.invariant in
     rw (
       to_z-of_z w128 c.self.inside.delay (sum_fits c.self.inside.delay more room),
       to_z-of_z w128 more (record { sfits = c.more_delay-more.type_inv }),
@@ -20,10 +20,10 @@ overflow_add-self c =
 pub invariant_of-self : goal.invariant_of-self
 invariant_of-self c =
     let more = c.more_delay-more.result in
-    let room = delay_room _ _ _ _ c.self.invariant in
+    let room = delay_room _ _ _ _ _ _ c.self.invariant in
     let there : c.args.event < length c.self.inside.problem.now.events =
     omega (arith, c.requires.there, ap (λ (t : TrialTimes). length t.problem.events) c.self.view_is) in
-    timed _ _ _ _ c.self.invariant c.args.event c.args.time c.index.result.now c.events.result.now _ _
+    timed _ _ _ _ _ _ c.self.invariant c.args.event c.args.time c.index.result.now c.events.result.now _ _
     c.test_at.new.broken there c.requires.small c.events.ensures.value
     (c.index.ensures ∙ get_or_default c.self.inside.times.items c.args.event c.index.result.now 0 (omega (arith, there, c.self.invariant.each)))
     (sum_told c.self.inside.delay more room (record { sfits = c.more_delay-more.type_inv })

@@ -1,6 +1,6 @@
 use Rattle.std.proofs.Common.{◌∙◌, ap, arith, drop, length, subst, sym}
 use Rattle.std.specs.Prelude.{reverse}
-use Rattle.delay_management.specs.OnTrial.{IsTaken, TrialTimes, decided_in}
+use Rattle.delay_management.specs.OnTrial.{GoesBack, IsTaken, TrialTimes, decided_in}
 use Rattle.delay_management.specs.Problems.{DelayProblem}
 use Rattle.delay_management.specs.Trials.{TrialParts}
 use Rattle.delay_management.proofs.Taking.{last_there, taken_back, undone_problem}
@@ -16,7 +16,7 @@ set_open-requires c =
     omega (
       arith,
       last_there all last (reverse before) c.self.inside.kept.items linked told,
-      ap (λ (p : DelayProblem). length p.changes) (undone_problem all last (reverse before) c.self.inside.kept.items linked told c.undo.new.self c.undo.ensures),
+      ap (λ (p : DelayProblem). length p.changes) (undone_problem all last (reverse before) c.self.inside.kept.items linked told c.go_back.new.times _ c.go_back.ensures),
     )
 
 pub set_at-requires : goal.set_at-requires
@@ -36,7 +36,8 @@ invariant_of-self-2 c =
     let told = subst (λ taken. IsTaken all taken c.self.inside.kept.items)
     (ap reverse c.in_ok-last.ensures.items ∙ reversed before last) c.self.invariant in
     taken_back all last (reverse before) c.self.inside.kept.items c.problem-linked.ensures.linked told
-    c.undo.new.self c.set_open.new.self c.set_at.new.flags.items c.undo.ensures c.set_open.ensures c.set_at.ensures
+    c.go_back.new.times c.set_open.new.self c.set_at.new.flags.items
+    (subst (λ kept. GoesBack last kept all c.go_back.new.times) c.deref.ensures.value c.go_back.ensures) c.set_open.ensures c.set_at.ensures
 
 pub returns-clause-rest : goal.returns-clause-rest
 returns-clause-rest c =
@@ -44,6 +45,6 @@ returns-clause-rest c =
     let parts = ap reverse c.in_ok-last.ensures.items ∙ reversed before last in
     let told = subst (λ taken. IsTaken all taken c.self.inside.kept.items) parts c.self.invariant in
     let problem_is = ap (λ (t : TrialTimes). t.problem) c.set_open.ensures
-    ∙ undone_problem all last (reverse before) c.self.inside.kept.items c.problem-linked.ensures.linked told c.undo.new.self c.undo.ensures in
+    ∙ undone_problem all last (reverse before) c.self.inside.kept.items c.problem-linked.ensures.linked told c.go_back.new.times _ c.go_back.ensures in
     (λ i. record { problem = problem_is i; decided = ap (λ taken. drop 1 (decided_in taken)) (sym parts) i })
     ∙ ap (λ (t : TrialParts). record { problem = t.problem; decided = drop 1 t.decided }) c.self.view_is
