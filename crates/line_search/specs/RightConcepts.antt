@@ -21,7 +21,7 @@ use Rattle.line_cost_model.specs.Problems.{ProblemParts}
 use Rattle.line_cost_model.specs.Regions.{LiesIn, concept_count, concepts_in, root_of}
 use Rattle.branch_certificate.specs.Certified.{Certifies}
 use Rattle.line_search.specs.Budgets.{nodes_in}
-use Rattle.line_search.specs.ConceptStage.{budget_of}
+use Rattle.line_search.specs.ConceptStage.{budget_of, mark_files}
 use Rattle.line_search.specs.ConceptTables.{concept_rows}
 use Rattle.line_search.specs.GivenProblems.{problem_faults, problem_of}
 use Rattle.line_search.specs.Judged.{Marks, first_broken}
@@ -86,11 +86,6 @@ abbrev pub IsWhole : Result Made StageFault → Type 0
 IsWhole (Ok made) = length made.files ≡ 2
 IsWhole (Err (fault.Refused (refusal.Spent entries))) = ⊥
 IsWhole (Err _) = ⊤
-
--- the file of a mark, where there is one
-abbrev pub mark_files : Option (List ℕ) → List MadeFile
-mark_files None = []
-mark_files (Some text) = record { file = file.Tree; text = text } ∷ []
 
 -- A mark means that frequencies are the chosen ones: no feasible concept costs less, and none of
 -- equal cost comes before it; and the text of the tree certifies what they cost.

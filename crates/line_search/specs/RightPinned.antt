@@ -11,7 +11,7 @@ use Rattle.line_cost_model.specs.Concepts.{IsFeasible}
 use Rattle.line_search.specs.ConceptTables.{concept_rows}
 use Rattle.line_search.specs.GivenProblems.{problem_faults, problem_of}
 use Rattle.line_search.specs.Judged.{Marks, first_broken}
-use Rattle.line_search.specs.RightConcepts.{mark_files}
+use Rattle.line_search.specs.ConceptStage.{mark_files}
 
 -- The files of a concept are right: the inputs have no fault; read again, the first one has a
 -- feasible frequency for each line; where a second one stands beside it, it marks them, so no

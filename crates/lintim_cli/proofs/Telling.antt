@@ -11,8 +11,8 @@ use Rattle.command_line.specs.declared.ends.RunEnd.{RunEnd}
 use Rattle.command_line.specs.declared.ends.RunEnd.TheVariants as end
 use Rattle.stage_chain.specs.Hand.{hand_of}
 use Rattle.stage_chain.specs.Runs.{IsOutcome, started}
-use Rattle.stage_driver.proofs.AlwaysMarked.{always_marked}
 use Rattle.stage_driver.proofs.Planned.{both_scratch, fresh_left, part_left, passes_left}
+use Rattle.stage_driver.proofs.PlansLeft.{best_left, feasible_left}
 use Rattle.stage_driver.proofs.SolvedEnds.{ends_as_solved}
 use Rattle.stage_driver.specs.SolvedEnds.{CanBeDone}
 use Rattle.stage_driver.specs.PlanningChain.{IsKeptHonest, IsLeftRight, IsLeft, Trusts, run_over}
@@ -31,13 +31,13 @@ module _ (by : Mode) (folder : Folder) (new : Option Folder) (before now : Optio
       → AsFromScratch folder new old out result
   good result (is, whole) =
       let scratch = both_scratch by folder trusts in
-      let files = part_left by folder new trusts left.folder in
       record {
-        files = files;
+        files = part_left by folder new trusts left.folder;
         report = whole.out ∙ ap (λ report. option_map (λ bytes. bytes ++ report) old) (told.report ∙ scratch.report);
         answer = is ∙ ends ∙ ap status_of (told.end ∙ scratch.end);
         right = right trusts;
-        marked = always_marked folder new files (right trusts);
+        feasible = feasible_left by folder new trusts left.folder;
+        best = best_left by folder new trusts left.folder;
       }
 
   by_answer : (result : Status)

@@ -7,10 +7,13 @@ use Rattle.command_line.specs.declared.mode.Mode.{Mode}
 use Rattle.stage_chain.specs.Hand.{hand_of, is_hand}
 use Rattle.stage_chain.specs.Kept.{KeepsNothing}
 use Rattle.stage_chain.specs.Runs.{AddsNoHandFile, IsOnce, SameHand, started}
+use Rattle.stage_driver.specs.BestPlans.{PlansAreBest}
+use Rattle.stage_driver.specs.FeasiblePlans.{PlansAreFeasible}
+use Rattle.stage_driver.specs.PlansThere.{is_run_in}
 use Rattle.stage_driver.specs.PlanningChain.{FreshKeeps, IsKeptHonest, MadeFilesAreRight, PassesIn}
 use Rattle.stage_driver.specs.PlanningChain.{RefusesHand, RunsPass, StopsSafely, TellsNext, Trusts}
 use Rattle.stage_driver.specs.PlanningChain.{run_over, writes_of}
-use Rattle.stage_driver.specs.SolvedEnds.{CanBeDone, EndsAsSolved}
+use Rattle.stage_driver.specs.SolvedEnds.{CanBeDone, EndsAsSolved, EndsAsSolvedOver}
 use Rattle.command_line.specs.declared.form.Form.{Form}
 use Rattle.plan_queries.specs.Queries.{TakesNone}
 use Rattle.command_line.specs.declared.status.Status.{Status}
@@ -41,11 +44,13 @@ module _ (before after : Seen) (result : Status) where
     pub no_more_steps : IfSome before.contents (λ folder. after.steps ≤ before.steps + (run_over (started mode folder)).work)
 
   -- `check` tells what it finds over a told folder, and changes nothing. Where it passes, the files of each
-  -- stage that is judged satisfy its model, and a concept with a tree beside it costs no more than any
-  -- feasible one.
+  -- stage that is to run satisfy its model, whoever made them; of these stages the plans are feasible, and
+  -- none is better than those with a certificate beside them.
   pub record SaysCheck : Type 0 where
     pub tells : IfSome before.contents (λ folder. CheckTells folder before.out after.out result)
     pub passes : IfSome before.contents (λ folder. result ≡ status.Done → PassesIn folder)
+    pub feasible : IfSome before.contents (λ folder. result ≡ status.Done → PlansAreFeasible (is_run_in folder) folder)
+    pub best : IfSome before.contents (λ folder. result ≡ status.Done → PlansAreBest (is_run_in folder) folder)
     pub changes_nothing : ChangedNothing
 
   -- `status` tells the states of a told folder's stages, and changes nothing.
@@ -96,13 +101,16 @@ CallsNothing _ = ⊥
 
 -- What holds over all folders. Made files are right over the files there from which they were made. What
 -- is refused are files that people write. A chain ends with no solution, and spent, exactly where a search
--- is given what has none, or what it lists beyond its budget. What a finished run leaves passes a check. A
--- folder without keep files is honest, and a fresh run leaves its new entries alone. What `status` tells
--- is what the next run does. No write of a run names a file that people write, and no two have one name.
+-- is given what has none, or what it lists beyond its budget; and so does a run over any folder, whatever
+-- is kept there, for the searches that are not kept. What a run over a trusted keep leaves passes a check,
+-- where it ended as done. A folder without keep files is honest, and a fresh run leaves its new entries
+-- alone. What `status` tells is what the next run does. No write of a run names a file that people write,
+-- and no two have one name.
 pub record Laws : Type 0 where
   pub made_files_are_right : (folder : Folder) → MadeFilesAreRight folder
   pub refusal : (folder : Folder) → RefusesHand (hand_of folder)
   pub ends : (hand : Folder) → EndsAsSolved hand
+  pub ends_over : (folder : Folder) → EndsAsSolvedOver folder
   pub runs_pass : (mode : Mode) (folder : Folder) → RunsPass mode folder
   pub empty_keep : (folder : Folder) → KeepsNothing folder → IsKeptHonest folder
   pub fresh_keep : (folder : Folder) → FreshKeeps folder

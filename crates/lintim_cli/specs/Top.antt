@@ -20,7 +20,9 @@ use Rattle.stage_chain.specs.Checks.{check_end, check_report}
 use Rattle.stage_chain.specs.Hand.{hand_of}
 use Rattle.stage_chain.specs.Runs.{kept_part, started, with_files, without_keep}
 use Rattle.stage_chain.specs.States.{states_end}
-use Rattle.stage_driver.specs.Marked.{IsAlwaysMarked}
+use Rattle.stage_driver.specs.BestPlans.{PlansAreBest}
+use Rattle.stage_driver.specs.FeasiblePlans.{PlansAreFeasible}
+use Rattle.stage_driver.specs.PlansThere.{each_stage}
 use Rattle.stage_driver.specs.PlanningChain.{made, check_of, entries_over, IsLeftRight, IsKeptHonest, IsLeft}
 use Rattle.stage_driver.specs.PlanningChain.{IsUnfinished, Trusts, made_part, run_over, writes_of}
 use Rattle.stage_driver.specs.PlanningChain.{states_of}
@@ -97,15 +99,17 @@ Leaves by read before after result =
 
 -- A run leaves the made files, the report and the answer which the hand files alone determine: those of
 -- a run from scratch. In the folder that is left each stage that was made has its files, which,
--- read again, satisfy its model over the files there from which they were made; a concept with a
--- tree beside it, and a vehicle schedule with potentials beside it, cost no more than any feasible one.
--- Where none is pinned, a vehicle schedule there has them.
+-- read again, satisfy its model over the files there from which they were made. The plans there are
+-- feasible. A concept with a tree beside it, and a vehicle schedule with potentials beside it, cost no
+-- more than any feasible one; no event of a disposition can be earlier; and where no schedule is
+-- pinned, the one there has potentials.
 pub record AsFromScratch (read : Folder) (left : Option Folder) (old new : Option (List ℕ)) (result : Status) : Type 0 where
   pub files : IfSome left (λ folder. made_part folder ≡ with_files (made (hand_of read)).files folders.empty)
   pub report : new ≡ option_map (λ bytes. bytes ++ (made (hand_of read)).report) old
   pub answer : result ≡ status_of (made (hand_of read)).end
   pub right : IsLeftRight read left
-  pub marked : IfSome left IsAlwaysMarked
+  pub feasible : IfSome left (PlansAreFeasible each_stage)
+  pub best : IfSome left (PlansAreBest each_stage)
 
 -- that is so after each answer that is no fault
 abbrev pub Headline : Folder → Option Folder → Option (List ℕ) → Option (List ℕ) → Status → Type 0

@@ -8,6 +8,7 @@ mod question;
 mod run;
 mod status;
 mod top;
+mod words;
 
 pub use command_line::Status;
 pub use demo_dataset::demo_files;

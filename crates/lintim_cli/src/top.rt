@@ -41,8 +41,9 @@ pub fn lintim<F: Files, K: Sink, L: Ledger>(
     // Whatever edits and runs went before: a run that meets no fault, over an honest keep or a fresh
     // one over any, leaves the made files, the report and the answer which the hand files alone
     // determine. Each made file, read again, satisfies its model over the files from which it was
-    // made; a concept with a tree beside it and each vehicle schedule cost no more than any feasible
-    // one, and no event of a disposition can be earlier.
+    // made. The plans there are feasible; a concept with a tree beside it and a vehicle schedule
+    // with potentials beside it cost no more than any feasible one; no event of a disposition can
+    // be earlier; and where no schedule is pinned, the one there has potentials.
     ensures headline { (mode : Mode) → Asks (commands.Run mode) words.now →
         IfSome (F.contents files.old) (λ folder. Trusts mode folder →
         Headline folder (F.contents files.new) (K.written out.old) (K.written out.new) result) }

@@ -18,7 +18,7 @@ use Rattle.plan_files.specs.declared.write.Write.TheVariants.{Put, Removal}
 use Rattle.plan_files.specs.Applied.{AreApplied, AreCutShort, IsTorn, LeftBy, Leaves}
 use Rattle.plan_files.specs.Changes.{after_write, folder_after, folder_of, write_name}
 use Rattle.plan_files.specs.Folder.{Folder, has_failed}
-use Rattle.plan_files.specs.Others.{SameBut, AreOutside}
+use Rattle.plan_files.specs.Others.{AreOutside}
 use Rattle.plan_files.proofs.Writes.{folder_after_push, get_written}
 
 -- a name is not another one
@@ -28,6 +28,10 @@ different false other name h ne = refl
 
 not_equal : (other name : List ℕ) → other ≢ name → eq_by_cmp (slice_cmp nat_cmp) other name ≡ false
 not_equal other name ne = grind (arith, is_eq-slice_cmp, different, bytes_eq-Decides)
+
+-- every file but one is as before
+abbrev SameBut : List ℕ → Folder → Folder → Type 0
+SameBut name old new = (other : List ℕ) → other ≢ name → map.get new other ≡ map.get old other
 
 pub insert_keeps : (folder : Folder) (name bytes : List ℕ)
     → SameBut name folder (map.insert folder name bytes)

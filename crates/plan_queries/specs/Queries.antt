@@ -100,16 +100,16 @@ refused_told (refusal.Spent entries) =
     Ok (record { end = end.Spent; report = spent_line entries })
 refused_told reason = Err (cause.Refused stage.Disposition reason)
 
--- the first of some faults, or the decision
-abbrev pub waits_by : BundleParts → List Refusal → Option Waits → Result Answer Cause
-waits_by bundle (first ∷ more) chosen = refused_told first
-waits_by bundle [] None = Ok (done [])
-waits_by bundle [] (Some chosen) = Ok (done (waits_text (problem_in bundle) chosen))
+-- the first of some faults, or the decision; where there is none, the budget is spent
+abbrev pub waits_by : BundleParts → ℕ → List Refusal → Option Waits → Result Answer Cause
+waits_by bundle budget (first ∷ more) chosen = refused_told first
+waits_by bundle budget [] None = refused_told (refusal.Spent budget)
+waits_by bundle budget [] (Some chosen) = Ok (done (waits_text (problem_in bundle) chosen))
 
 -- a waiting decision at a penalty within a budget over what the stage of dispositions is given
 abbrev pub waits_over : ℕ → ℕ → BundleParts → Result Answer Cause
 waits_over penalty budget bundle =
-    waits_by bundle (waits_refusals bundle penalty budget) (waits_in bundle penalty budget)
+    waits_by bundle budget (waits_refusals bundle penalty budget) (waits_in bundle penalty budget)
 
 -- where that is there
 abbrev pub waits_found : ℕ → ℕ → Result BundleParts Cause → Result Answer Cause

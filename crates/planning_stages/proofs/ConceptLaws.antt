@@ -15,7 +15,7 @@ use Rattle.ptn_network.specs.Networks.{network_in, network_of}
 use Rattle.line_pool.specs.PoolCosts.{pool_cost_input}
 use Rattle.line_pool.specs.Pools.{concept_faults}
 use Rattle.line_search.specs.GivenProblems.{lines_in}
-use Rattle.line_search.specs.RightConcepts.{mark_files}
+use Rattle.line_search.specs.ConceptStage.{mark_files}
 use Rattle.line_search.specs.RightPinned.{ConceptIsRight}
 use Rattle.line_search.proofs.ConceptMakes.{concept_stage_makes}
 use Rattle.line_search.proofs.ConceptNames.{concept_stage_names}
@@ -46,19 +46,19 @@ concept_none bundle there right = rw (right.each, right.inputs, first_mark right
 
 module _ (values : List ℤ) (look : FileId → List ℕ) where
   -- whoever gives the concept, it is right over what the plain stage is given
-  right_by : (pinned : Bool) (files : List MadeFile)
+  pub concept_right_by : (pinned : Bool) (files : List MadeFile)
       → (stage_model (cond pinned stage.PinnedConcept stage.Concept)).IsRight (bundle_over values look (cond pinned stage.PinnedConcept stage.Concept)) files
       → ConceptIsRight (bundle_over values look stage.Concept) files
   unfolding stage_model
-  right_by true files right =
+  concept_right_by true files right =
       right_over (bundle_over values look stage.PinnedConcept) (bundle_over values look stage.Concept)
       (record { stops = refl; edges = refl; pool = refl; loads = refl; costs = refl }) files right
-  right_by false files right = found_right (bundle_over values look stage.Concept) files right
+  concept_right_by false files right = found_right (bundle_over values look stage.Concept) files right
 
   pub concept_right : (concept : IsRightOver planning values look (in_place values stage.Concept))
       → ConceptIsRight (bundle_over values look stage.Concept) (files_over look concept.ids)
   unfolding planning
-  concept_right concept = right_by (is_pinned values key.PinConcept) (files_over look concept.ids) concept.right
+  concept_right concept = concept_right_by (is_pinned values key.PinConcept) (files_over look concept.ids) concept.right
 
   pub concept_accepted : IsRightOver planning values look (in_place values stage.Concept)
       → concept_faults (network_of (look file.Stop) (look file.Edge)) (look file.Concept) ≡ []
@@ -75,7 +75,7 @@ concept_laws = record {
   refuses = λ values look reason was is. concept_stage_names is_hand_file refl refl refl (bundle_over values look stage.Concept) (fine (loads_accepted values look (was stage.Load refl))) (fine (costs_accepted values look (was stage.Cost refl))) reason is;
   names = λ bundle reason is. inl tt;
   stand = λ values folder bundle lacks none. subst (λ lists. Contains lists (ids_of (standing folder stage.Concept))) (sym (concept_lists values)) (either_stand folder file.Concept file.Tree refl lacks);
-  unbroken = λ values look made own. concept_none (bundle_over values look stage.Concept) made.files (right_by values look (is_pinned values key.PinConcept) made.files own.1);
+  unbroken = λ values look made own. concept_none (bundle_over values look stage.Concept) made.files (concept_right_by values look (is_pinned values key.PinConcept) made.files own.1);
 }
 
 pub pinned_concept_laws : StageLaws stage.PinnedConcept

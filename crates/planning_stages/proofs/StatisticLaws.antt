@@ -22,7 +22,7 @@ use Rattle.line_pool.specs.RightCosts.{CostFilesAreRight}
 use Rattle.line_pool.proofs.WholeLines.{whole_lines}
 use Rattle.line_search.specs.ConceptTables.{concept_rows}
 use Rattle.line_search.specs.GivenProblems.{problem_of}
-use Rattle.line_search.specs.RightConcepts.{mark_files}
+use Rattle.line_search.specs.ConceptStage.{mark_files}
 use Rattle.pesp_model.specs.PespTexts.{events_of as periodic_rows, problem_faults}
 use Rattle.evaluators.specs.StatisticInputs.{concept_input, cost_input}
 use Rattle.evaluators.specs.StatisticStage.{costs_of, day_part, line_part, periodic_part, statistic_faults}

@@ -42,18 +42,18 @@ module _ (values : List ℤ) (look : FileId → List ℕ) where
   same_period = refl
 
   -- whoever gives the timetable, it is right over what the plain stage is given
-  right_by : (pinned : Bool) (files : List MadeFile)
+  pub times_right_by : (pinned : Bool) (files : List MadeFile)
       → (stage_model (cond pinned stage.PinnedTimetable stage.Timetable)).IsRight (bundle_over values look (cond pinned stage.PinnedTimetable stage.Timetable)) files
       → TimetableFilesAreRight (bundle_over values look stage.Timetable) files
   unfolding stage_model
-  right_by true files right =
+  times_right_by true files right =
       right_where_same (bundle_over values look stage.PinnedTimetable) (bundle_over values look stage.Timetable) files same_period refl refl right
-  right_by false files right = right
+  times_right_by false files right = right
 
   pub times_right : (times : IsRightOver planning values look (in_place values stage.Timetable))
       → TimetableFilesAreRight (bundle_over values look stage.Timetable) (files_over look times.ids)
   unfolding planning
-  times_right times = right_by (is_pinned values key.PinTimetable) (files_over look times.ids) times.right
+  times_right times = times_right_by (is_pinned values key.PinTimetable) (files_over look times.ids) times.right
 
   pub times_accepted : IsRightOver planning values look (in_place values stage.Timetable) → (period : ℕ)
       → amount (part_of values stage.Timetable) key.PeriodLength ≡ period
@@ -73,7 +73,7 @@ timetable_laws = record {
   refuses = λ values look reason was is. timetable_stage_names is_hand_file (bundle_over values look stage.Timetable) reason (fine (periodic_accepted values look (was stage.Ean refl))) is;
   names = λ bundle reason is. inl tt;
   stand = λ values folder bundle lacks none. subst (λ lists. Contains lists (ids_of (standing folder stage.Timetable))) (sym (times_lists values)) (content_stands stage.Timetable refl refl folder lacks);
-  unbroken = λ values look made own. timetable_none (bundle_over values look stage.Timetable) made.files (right_by values look (is_pinned values key.PinTimetable) made.files own.1);
+  unbroken = λ values look made own. timetable_none (bundle_over values look stage.Timetable) made.files (times_right_by values look (is_pinned values key.PinTimetable) made.files own.1);
 }
 
 pub pinned_timetable_laws : StageLaws stage.PinnedTimetable

@@ -101,24 +101,24 @@ module _ (values : List ℤ) (look : FileId → List ℕ) where
   same_given = record { stops = refl; edges = refl; rows = refl; turnover = refl; vehicle = refl; empty = refl }
 
   -- whoever gives the schedule, it is right over what the plain stage is given
-  right_by : (pinned : Bool) (files : List MadeFile)
+  pub schedule_right_by : (pinned : Bool) (files : List MadeFile)
       → (stage_model (cond pinned stage.PinnedVehicles stage.Vehicles)).IsRight (bundle_over values look (cond pinned stage.PinnedVehicles stage.Vehicles)) files
       → PinnedScheduleIsRight (bundle_over values look stage.Vehicles) files
   unfolding stage_model
-  right_by true files right =
+  schedule_right_by true files right =
       pinned_over (bundle_over values look stage.PinnedVehicles) (bundle_over values look stage.Vehicles) same_given files right
-  right_by false files right = plain_pinned (bundle_over values look stage.Vehicles) files right
+  schedule_right_by false files right = plain_pinned (bundle_over values look stage.Vehicles) files right
 
   vehicles_right : (vehicles : IsRightOver planning values look (in_place values stage.Vehicles))
       → PinnedScheduleIsRight (bundle_over values look stage.Vehicles) (files_over look vehicles.ids)
   unfolding planning
-  vehicles_right vehicles = right_by (is_pinned values key.PinVehicles) (files_over look vehicles.ids) vehicles.right
+  vehicles_right vehicles = schedule_right_by (is_pinned values key.PinVehicles) (files_over look vehicles.ids) vehicles.right
 
   vehicles_unbroken : (pinned : Bool) (files : List MadeFile)
       → (stage_model (cond pinned stage.PinnedVehicles stage.Vehicles)).IsRight (bundle_over values look (cond pinned stage.PinnedVehicles stage.Vehicles)) files
       → (schedule_judged pinned).verdict (bundle_over values look stage.Vehicles) files ≡ None
   unfolding stage_model
-  vehicles_unbroken true files right = bare_none (bundle_over values look stage.Vehicles) files (right_by true files right)
+  vehicles_unbroken true files right = bare_none (bundle_over values look stage.Vehicles) files (schedule_right_by true files right)
   vehicles_unbroken false files right = schedule_none (bundle_over values look stage.Vehicles) files right
 
   -- the schedule there is accepted over the events of the day

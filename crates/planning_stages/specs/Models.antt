@@ -5,7 +5,7 @@ use Rattle.giv_files.specs.declared.made.MadeFile.{MadeFile}
 use Rattle.giv_files.specs.Settings.{BundleParts}
 use Rattle.line_search.specs.GivenProblems.{problem_faults, problem_of}
 use Rattle.line_search.specs.Judged.{Passes}
-use Rattle.line_search.specs.RightConcepts.{mark_files}
+use Rattle.line_search.specs.ConceptStage.{mark_files}
 use Rattle.pesp_search.specs.Judged.{Passes as KeepsRules}
 use Rattle.pesp_search.specs.TimetableStage.{problem_in, timetable_faults}
 use Rattle.delay_management.specs.DispositionStage.{disposition_faults}

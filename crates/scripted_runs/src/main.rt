@@ -32,7 +32,11 @@
 //! writes | rows            all writes of the run: + NAME for a put, - NAME for a removal; also
 //!                          + made from NAME, the made files from one on, and + keep from NAME
 //! calls COUNT              how many calls on files the run made
-//! called | rows            all calls on files of the run; called COUNT, the first so many of the rows
+//! called | rows            all calls on files of the run; called COUNT, the first so many of the rows;
+//!                          called again, those of the run before
+//! stops WORDS              runs words that only read, once for each call of the last run, where that
+//!                          call fails: no other one comes after it, nothing is written, and the report
+//!                          is `file fault`, written by one call
 //! piece SIZE               the report was written by one call, of so many bytes, or failed by it
 //! made STAGE               the made files up to a stage are there, and no others; with the word
 //!                          unmarked the tree of the concept is not there
@@ -53,6 +57,7 @@ mod names;
 mod player;
 mod spy;
 mod stands;
+mod stops;
 
 use crate::player::Player;
 use script_files::{Play, Trouble, play_files};

@@ -6,6 +6,7 @@ use plan_files::{Files, Sink};
 use plan_num::{Steps, Tally};
 use script_files::{Script, Trouble};
 use std::alloc::{AllocError, Global};
+use std::mem;
 
 // Runs the program. Nothing is promised of this call, so that no proof of a script's command goes
 // over all that the program promises.
@@ -45,6 +46,7 @@ pub(crate) struct Player<'a> {
     pub(crate) noted: SpyFiles,
     pub(crate) writes_before: usize,
     pub(crate) calls_before: u64,
+    pub(crate) lines_before: Vec<u8>,
     pub(crate) sink_kept: Option<u64>,
 }
 
@@ -63,6 +65,7 @@ impl<'a> Player<'a> {
             noted: SpyFiles::new(alloc),
             writes_before: 0,
             calls_before: 0,
+            lines_before: Vec::new(alloc),
             sink_kept: None,
         }
     }
@@ -96,6 +99,7 @@ impl<'a> Player<'a> {
             "" | "//" => Ok(true),
             "run" => self.run(rest),
             "reads" => self.reads(rest, script),
+            "stops" => self.stops_at_each_call(rest),
             "ends" => Ok(self.ends(rest)),
             "piece" => Ok(self.is_one_piece(rest)),
             "calls" => Ok(self.has_called(rest)),
@@ -142,6 +146,7 @@ impl<'a> Player<'a> {
     pub(crate) fn run(&mut self, line: &str) -> Result<bool, Trouble> {
         self.writes_before = self.files.files.write_count();
         self.calls_before = self.files.files.calls();
+        mem::swap(&mut self.lines_before, &mut self.files.lines);
         self.files.lines.clear();
         self.out = SpySink::new(self.alloc);
         if let Some(kept) = self.sink_kept {

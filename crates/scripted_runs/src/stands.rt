@@ -21,14 +21,22 @@ impl Player<'_> {
         }
     }
 
-    // Whether the last run made so many calls on files.
-    pub(crate) fn has_called(&self, count: &str) -> bool {
-        let made = self.files.files.calls().saturating_sub(self.calls_before);
-        count.parse::<u64>() == Ok(made)
+    // How many calls on files the last run made.
+    pub(crate) fn calls_made(&self) -> u64 {
+        self.files.files.calls().saturating_sub(self.calls_before)
     }
 
-    // Whether the last run made the calls of these rows, or so many of them, and no others.
+    // Whether the last run made so many calls on files.
+    pub(crate) fn has_called(&self, count: &str) -> bool {
+        count.parse::<u64>() == Ok(self.calls_made())
+    }
+
+    // Whether the last run made the calls of these rows, or so many of them, or those of the run before,
+    // and no others.
     pub(crate) fn has_made_calls(&self, count: &str, script: &mut Script) -> Result<bool, Trouble> {
+        if count == "again" {
+            return Ok(self.files.lines == self.lines_before);
+        }
         let rows = script.text(self.alloc)?;
         if count.is_empty() {
             return Ok(self.files.lines == rows);

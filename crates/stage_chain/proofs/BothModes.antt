@@ -64,7 +64,7 @@ module _ (S : StageParts) (laws : AreStages S) where
   honest_start mode.Make folder trusts = trusts
   honest_start mode.Fresh folder trusts = fresh_honest folder
 
-started_hand : (by : Mode) (folder : Folder) → hand_of (started by folder) ≡ hand_of folder
+pub started_hand : (by : Mode) (folder : Folder) → hand_of (started by folder) ≡ hand_of folder
 started_hand mode.Make folder = refl
 started_hand mode.Fresh folder = fresh_hand folder
 

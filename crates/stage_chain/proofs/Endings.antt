@@ -1,4 +1,5 @@
--- A chain from scratch ends at a refusal exactly where a stage refuses what it is handed.
+-- A chain ends at a refusal exactly where a stage refuses what it is handed: one from scratch, and one over
+-- what a folder keeps.
 use Rattle.std.proofs.Common.{◌≡◌, ℕ, ℤ, Bool, true, false, cond, All, Contains, List, [], ◌∷◌}
 use Rattle.std.proofs.Common.{◌++◌, Option, Some, None, IfErr, Result, Ok, Err, refl, sym, ◌∙◌}
 use Rattle.std.proofs.Common.{arith}
@@ -15,6 +16,7 @@ use Rattle.giv_files.specs.declared.stage.Stage.{Stage}
 use Rattle.giv_files.specs.FileNames.{file_name}
 use Rattle.giv_files.specs.Settings.{BundleParts, Fits}
 use Rattle.giv_files.specs.Stages.{stage_inputs}
+use Rattle.config_keys.specs.declared.config_fault.ConfigFault.{ConfigFault}
 use Rattle.config_keys.specs.Config.{AreSettings}
 use Rattle.config_keys.specs.Items.{look_in}
 use Rattle.config_keys.proofs.Settling.{effective_settings}
@@ -26,10 +28,11 @@ use Rattle.stage_chain.specs.Built.{cause_of, trace_of}
 use Rattle.stage_chain.specs.Chain.{Halt, Trace, Visit, bundle_told, chain_from, go_on, hand_text, handed}
 use Rattle.stage_chain.specs.Chain.{input_text, is_file, made_text, solved, text_from, texts_of, tried}
 use Rattle.stage_chain.specs.Chain.{visit_of, with_text}
+use Rattle.stage_chain.specs.Kept.{solve_over, trace_over}
 use Rattle.stage_chain.specs.StageParts.{StageParts}
 use Rattle.stage_chain.specs.Laws.{AreStages}
 use Rattle.stage_chain.proofs.MadeRight.{given_fits}
-use Rattle.stage_chain.proofs.Traces.{stages_run, traced}
+use Rattle.stage_chain.proofs.Traces.{stages_run, traced, traced_over}
 
 -- ---- a text that is not there is no refusal of a stage
 
@@ -157,8 +160,20 @@ module _ (run : BundleParts → Result Made Refusal) where
         by (Err why) is free more = none_given why rest free
         by (Ok bundle) is free more = tries more bundle (given_fits (input_text hand before) values at bundle are is) (run bundle) refl
 
+-- a chain whose settings are refused handed nothing to a stage
+unsettled : (run : BundleParts → Result Made Refusal) (reason : ConfigFault)
+    → EndsAtRefusals run (record { visits = []; halt = Some (record { cause = cause.BadConfig reason; given = None }) })
+unsettled run reason =
+    record { all = λ k d inside. absurd (omega (arith, inside)); one = λ at why halt. absurd (cc) }
+
 module _ (S : StageParts) (laws : AreStages S) where
   pub ends_at_refusals : (hand : Folder) → EndsAtRefusals S.run (trace_of S hand)
   ends_at_refusals hand = traced S laws hand (EndsAtRefusals S.run)
-      (λ reason is. record { all = λ k d inside. absurd (omega (arith, inside)); one = λ at why halt. absurd (cc) })
+      (λ reason is. unsettled S.run reason)
       (λ values is. chain_ends S.run values (effective_settings (look_in hand) values is) hand [] (stages_run S laws values))
+
+  pub ends_over_kept : (keep hand : Folder)
+      → EndsAtRefusals (solve_over S keep) (trace_over S keep hand)
+  ends_over_kept keep hand = traced_over S laws keep hand (EndsAtRefusals (solve_over S keep))
+      (λ reason is. unsettled (solve_over S keep) reason)
+      (λ values is. chain_ends (solve_over S keep) values (effective_settings (look_in hand) values is) hand [] (stages_run S laws values))

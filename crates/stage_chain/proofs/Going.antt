@@ -18,9 +18,10 @@ use Rattle.stage_chain.specs.Chain.{Visit, Halt, Trace, go_on, handed, handed_on
 use Rattle.stage_chain.specs.Chain.{chain_from, to_run, stage_place}
 use Rattle.stage_chain.specs.Built.{cause_of}
 use Rattle.stage_chain.specs.Kept.{HasEntry, kept_in, work_over}
-use Rattle.stage_chain.specs.Progress.{SoFar, nothing, with_visit, IsRest, VisitGives, visit_work}
+use Rattle.stage_chain.specs.Progress.{SoFar, nothing, with_visit, VisitGives, visit_work}
 use Rattle.stage_chain.specs.Progress.{IsAll, ChainGives, trace_work}
 use Rattle.stage_chain.specs.StageParts.{StageParts}
+use Rattle.stage_chain.proofs.Rests.{IsRest}
 use Rattle.stage_chain.specs.Laws.{AreStages}
 
 module _ (S : StageParts) (laws : AreStages S) where

@@ -23,7 +23,7 @@ use Rattle.config_keys.specs.Config.{AreSettings}
 use Rattle.config_keys.specs.Items.{look_in}
 use Rattle.config_keys.specs.Values.{effective}
 use Rattle.config_keys.proofs.Settling.{effective_settings}
-use Rattle.stage_keep.specs.Entries.{entry_for, keep_name}
+use Rattle.stage_keep.specs.Entries.{entry_bytes, entry_for, keep_name}
 use Rattle.stage_keep.specs.EntryReading.{read_entry}
 use Rattle.stage_keep.specs.Honest.{IsHonest, kept_for}
 use Rattle.stage_keep.proofs.EntriesRead.{entries_are_read_back}
@@ -32,7 +32,7 @@ use Rattle.stage_chain.specs.Built.{chain_under, files_of}
 use Rattle.stage_chain.specs.Chain.{Halt, Visit, chain_from, input_text, solved}
 use Rattle.stage_chain.specs.Chain.{visit_of}
 use Rattle.stage_chain.specs.Hand.{hand_of, is_among, names_made_by}
-use Rattle.stage_chain.specs.Kept.{HaveEntries, IsKeptHonest, HasEntry, bytes_for, entry_put, kept_in}
+use Rattle.stage_chain.specs.Kept.{HaveEntries, IsKeptHonest, HasEntry, entry_put, kept_in}
 use Rattle.stage_chain.specs.Kept.{kept_or, made_over, new_entries, new_entry, solve_over, trace_over}
 use Rattle.stage_chain.specs.Runs.{after, entries_over, name_of, unmet, with_files}
 use Rattle.stage_chain.specs.Runs.{without_made, writes_for, writes_of}
@@ -107,6 +107,10 @@ module _ (S : StageParts) (laws : AreStages S) where
   unfolding solve_over
   not_kept keep visit none is =
       ap (λ kept. kept_or kept (S.run visit.bundle)) (sym none) ∙ is
+
+-- the bytes of the entry of a stage that was made
+abbrev pub bytes_for : Visit → List ℕ
+bytes_for visit = entry_bytes visit.bundle.stage (entry_for visit.bundle visit.made)
 
 -- an entry is read back
 read_back : (visit : Visit) → HasEntry visit

@@ -14,7 +14,7 @@ pub mod Keeping
 pub mod KeptAfter
 pub mod Left
 pub mod LeftRight
-mod Looked
+pub mod Looked
 pub mod MadeLists
 pub mod MadeParts
 pub mod MadeRight
@@ -25,6 +25,7 @@ pub mod Passed
 pub mod Pieces
 pub mod Placed
 pub mod Refusing
+pub mod Rests
 pub mod RightOver
 pub mod Running
 pub mod Settling

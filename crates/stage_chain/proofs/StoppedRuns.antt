@@ -37,7 +37,7 @@ use Rattle.stage_chain.specs.Built.{files_of}
 use Rattle.stage_chain.specs.Chain.{Halt, Visit, input_text}
 use Rattle.stage_chain.specs.Ends.{file_fault_of}
 use Rattle.stage_chain.specs.Hand.{hand_of, is_hand, keep_names}
-use Rattle.stage_chain.specs.Kept.{HasEntry, HaveEntries, IsKeptHonest, bytes_for, entry_put, kept_in}
+use Rattle.stage_chain.specs.Kept.{HasEntry, HaveEntries, IsKeptHonest, entry_put, kept_in}
 use Rattle.stage_chain.specs.Kept.{made_over, new_entries, new_entry, solve_over, trace_over}
 use Rattle.stage_chain.specs.Progress.{EndGives, SoFar}
 use Rattle.stage_chain.specs.Runs.{AreNotAll, entries_over, is_met, name_of, put_of}
@@ -46,7 +46,7 @@ use Rattle.stage_chain.specs.Stopped.{AddsHarmless, AreHarmless, IsHarmless}
 use Rattle.stage_chain.proofs.BothModes.{IsCleared}
 use Rattle.stage_chain.proofs.HandAlone.{over_alone}
 use Rattle.stage_chain.proofs.HandKept.{writes_outside}
-use Rattle.stage_chain.proofs.KeptAfter.{built_apart_of, not_kept, same_stage}
+use Rattle.stage_chain.proofs.KeptAfter.{built_apart_of, bytes_for, not_kept, same_stage}
 use Rattle.stage_chain.proofs.Keeping.{solve_makes}
 use Rattle.stage_chain.proofs.MadeRight.{given_fits}
 use Rattle.stage_chain.proofs.Running.{noted_both}

@@ -47,10 +47,6 @@ module _ (S : StageParts) where
 
 -- ---- what is kept of the stages that were made
 
--- the bytes of the entry of a stage that was made
-abbrev pub bytes_for : Visit → List ℕ
-bytes_for visit = entry_bytes visit.bundle.stage (entry_for visit.bundle visit.made)
-
 -- the put of an entry
 abbrev pub entry_put : BundleParts → Made → Write
 entry_put bundle made =

@@ -74,17 +74,6 @@ module _ (S : StageParts) where
       pub entries : new_entries keep trace.visits ≡ so_far.entries
       pub have : HaveEntries keep trace.visits
 
-    -- A chain is what was made so far, and then the rest of it. The count of steps rose from one
-    -- value to another by the work so far.
-    pub record IsRest (whole rest : Trace) (so_far : SoFar) (before now : ℕ) : Type 0 where
-      pub files : files_of whole.visits ≡ so_far.files ++ files_of rest.visits
-      pub report : stage_lines whole.visits ≡ so_far.report ++ stage_lines rest.visits
-      pub entries : new_entries keep whole.visits ≡ so_far.entries ++ new_entries keep rest.visits
-      pub have : HaveEntries keep rest.visits → HaveEntries keep whole.visits
-      pub steps : before + sum_by (work_over S keep) (handed whole)
-          ≡ now + sum_by (work_over S keep) (handed rest)
-      pub halt : whole.halt ≡ rest.halt
-
     -- the work of one stage, and that of a whole chain
     abbrev pub visit_work : Result Visit Halt → ℕ
     visit_work told = sum_by (work_over S keep) (handed_once told)

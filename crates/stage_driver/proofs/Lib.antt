@@ -1,3 +1,5 @@
-pub mod AlwaysMarked
 pub mod Planned
+pub mod PlansLeft
+pub mod PlansPassed
+pub mod PlansStand
 pub mod SolvedEnds

@@ -1,3 +1,5 @@
-pub mod Marked
+pub mod BestPlans
+pub mod FeasiblePlans
 pub mod PlanningChain
+pub mod PlansThere
 pub mod SolvedEnds

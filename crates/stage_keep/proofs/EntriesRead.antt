@@ -14,7 +14,7 @@ use Rattle.giv_files.specs.Settings.{BundleParts, Fits}
 use Rattle.giv_files.specs.Stages.{stage_inputs}
 use Rattle.stage_keep.specs.Entries.{Block, EntryParts, IsEntryOf, block_bytes, entry_blocks, entry_bytes, entry_for, first_line, input_block, last_line, made_block, made_head}
 use Rattle.stage_keep.specs.EntryReading.{ReadsEntry, behind, entry_of, entry_with, heads, made_file, read_entry, texts_at}
-use Rattle.stage_keep.specs.Laws.{EntriesAreReadBack, FrontsAreNone, ReadingIsExact}
+use Rattle.stage_keep.proofs.EntryLaws.{EntriesAreReadBack, FrontsAreNone, ReadingIsExact}
 use Rattle.stage_keep.proofs.Blocks.{front_back, front_is}
 use Rattle.stage_keep.proofs.BlocksTold.{blocks_of, found_in, heads_in, texts_back, texts_of, texts_told}
 use Rattle.stage_keep.proofs.EntriesApart.{entries_stand_apart, heads_of}

@@ -15,7 +15,7 @@ use Rattle.giv_files.proofs.SettingsTold.{text_tells}
 use Rattle.stage_keep.specs.Entries.{EntryParts, entry_bytes, entry_for}
 use Rattle.stage_keep.specs.EntryReading.{read_entry}
 use Rattle.stage_keep.specs.Honest.{IsHonest, held_for, kept_for, matches}
-use Rattle.stage_keep.specs.Laws.{FrontsAreHonest, HonestIsMade, WrittenIsEntry, WrittenIsHonest}
+use Rattle.stage_keep.proofs.EntryLaws.{FrontsAreHonest, HonestIsMade, WrittenIsEntry, WrittenIsHonest}
 use Rattle.stage_keep.proofs.EntriesRead.{entries_are_read_back, entry_fits, fronts_are_none, read_makes}
 
 pub texts_decide : (xs ys : List (List ℕ)) → (pointwise bytes_eq xs ys ≡ true → xs ≡ ys)

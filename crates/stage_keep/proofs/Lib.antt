@@ -2,6 +2,7 @@ mod Blocks
 mod BlocksTold
 pub mod EntriesApart
 pub mod EntriesRead
+mod EntryLaws
 pub mod Framing
 pub mod Honesty
 pub mod LastParts

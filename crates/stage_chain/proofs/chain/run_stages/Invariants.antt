@@ -1,7 +1,8 @@
 use Rattle.std.proofs.Common.{false, ◌≤◌, [], IfSome, drop}
 use Rattle.plan_files.specs.Reads.{OnlyReads}
 use Rattle.stage_chain.specs.Kept.{solve_over}
-use Rattle.stage_chain.specs.Progress.{IsRest, NamesNoHand}
+use Rattle.stage_chain.specs.Progress.{NamesNoHand}
+use Rattle.stage_chain.proofs.Rests.{IsRest}
 use Rattle.stage_chain.proofs.Going.{still}
 use Rattle.stage_chain.proofs.chain.run_stages.Given as goal
 

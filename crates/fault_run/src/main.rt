@@ -1,0 +1,9 @@
+//! The program `lintim`, for a stored run over a file that cannot be read.
+#![tactic(auto)]
+
+use lintim_cli::run_program;
+use std::process::ExitCode;
+
+fn main(rt: HostRuntime) -> ExitCode {
+    ExitCode::from(run_program(&rt))
+}

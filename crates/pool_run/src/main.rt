@@ -1,0 +1,9 @@
+//! The program `lintim`, for a stored run that makes a pool.
+#![tactic(auto)]
+
+use lintim_cli::run_program;
+use std::process::ExitCode;
+
+fn main(rt: HostRuntime) -> ExitCode {
+    ExitCode::from(run_program(&rt))
+}
