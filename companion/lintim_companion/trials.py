@@ -2,7 +2,6 @@
 it wrote, and what both say is told beside what `lintim` finds alone."""
 
 import random
-import shutil
 import subprocess
 import sys
 import time
@@ -12,6 +11,7 @@ from typing import NamedTuple
 
 from . import dataset, demos, formats, program
 from .formats import EventDelay
+from .hand import copy_hand_files
 from .trial_problems import TRIAL_PROBLEMS, write_line_problem
 
 COMPANION = Path(__file__).resolve().parents[1]
@@ -155,15 +155,6 @@ def datasets(place: Path) -> Iterator[tuple[str, Path]]:
     for size in (5, 8):
         demos.write_demo(place / f"demo{size}", size)
         yield f"demo {size}", place / f"demo{size}"
-
-
-def copy_hand_files(source: Path, folder: Path) -> None:
-    """Copies what people write of a dataset."""
-    for file in formats.FILES:
-        if not file.stage and (source / file.name).is_file():
-            (folder / file.name).parent.mkdir(parents=True, exist_ok=True)
-            shutil.copy(source / file.name, folder / file.name)
-    shutil.copy(source / formats.CONFIG, folder / formats.CONFIG)
 
 
 def try_plans(place: Path, seconds: int, only: str, say: Say) -> bool:

@@ -9,6 +9,7 @@ import pytest
 from commands import made, run
 from conftest import Folders
 from lintim_companion import dataset, formats, trials
+from lintim_companion.hand import copy_hand_files
 from lintim_companion.waits.core import Core
 from lintim_companion.waits.day import Day, DayEvent, Link, read_day
 from lintim_companion.waits.decision import by_rules, decision
@@ -100,7 +101,7 @@ def test_the_proof_of_a_dear_decision_meets_a_cheaper_one(seed: int, at_once: No
 
 
 def test_a_tree_has_at_most_so_many_nodes(tmp_path: Path, lintim: str) -> None:
-    trials.copy_hand_files(trials.TOWN, tmp_path)
+    copy_hand_files(trials.TOWN, tmp_path)
     made(tmp_path)
     trials.write_delays(tmp_path, 3, 1, 4)
     few = run("lintim-waits", tmp_path, 30, "--nodes", 100)

@@ -12,6 +12,7 @@ from .. import dataset, formats, generators, program, trials
 from ..cells import MILLION
 from ..delays import day_of_delays
 from ..faults import Refused
+from ..hand import copy_hand_files
 from .made_by import made_by
 from .study import Point, lateness_of
 
@@ -107,7 +108,7 @@ def _dataset(run: Run, beside: Path) -> None:
     point = run.point
     settings = {key: point[key] for key in formats.Settings._fields if key in point}
     if "dataset" in point:
-        trials.copy_hand_files(beside / point["dataset"], run.folder)
+        copy_hand_files(beside / point["dataset"], run.folder)
         run.set(**settings)
         return
     network = generators.KINDS[point["kind"]](point["stops"], point["seed"])

@@ -1,6 +1,5 @@
 """Timetables that are good for passengers: where the search begins, what is told, what is written."""
 
-import shutil
 from argparse import Namespace
 from collections.abc import Callable
 from pathlib import Path
@@ -10,6 +9,7 @@ import numpy
 from .. import dataset, files, formats, highs, program
 from ..dataset import Dataset
 from ..faults import Refused
+from ..hand import copy_hand_files
 from ..manners import Deadline, Progress, Talk
 from .improve import Search
 from .network import PeriodicNetwork, Real, Whole, periodic_network, whole
@@ -172,22 +172,10 @@ def _tell_vehicles(folder: Path, start: Whole, best: Whole, talk: Talk) -> None:
 def vehicles(folder: Path, times: Whole) -> int | None:
     """How many vehicles `lintim make` needs with a timetable; none where it ends early."""
     with files.scratch("lintim-timetable-") as copy:
-        for file in formats.FILES:
-            if not file.stage and (folder / file.name).is_file():
-                (copy / file.name).parent.mkdir(parents=True, exist_ok=True)
-                shutil.copy(folder / file.name, copy / file.name)
-        _copy_settings(folder, copy)
+        copy_hand_files(folder, copy)
         dataset.write(copy, formats.PINNED_TIMETABLE, timetable_rows([int(it) for it in times]))
         dataset.write_settings(copy, {"pin_timetable": "yes", "pin_vehicles": "no"})
         if program.run(copy, "make").status != 0:
             return None
         values = {row.key: row.value for row in dataset.read(copy)[formats.STATISTIC]}
         return int(values["vs_vehicles"] // 10**6)
-
-
-def _copy_settings(folder: Path, copy: Path) -> None:
-    """Copies the files of settings, which may be several."""
-    for path in (folder / "basis").glob("*.cnf"):
-        if path.is_file():
-            (copy / "basis").mkdir(parents=True, exist_ok=True)
-            shutil.copy(path, copy / "basis" / path.name)
