@@ -204,7 +204,7 @@ COMMANDS = (
     Command(
         name="lintim-view",
         module="commands.view",
-        says="Draws a plan: one page for a browser, and pictures for paper.",
+        says="Draws a plan: one page for a browser, and pictures for print.",
         about="The network, the line plan, the circle of each stop, space-time diagrams, vehicles,\n"
         "delays and numbers, from whatever files stand in the folder. Pointing at a shape tells\n"
         "its id. Of two folders all is drawn side by side, with what differs. --svg and --png\n"

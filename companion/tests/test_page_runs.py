@@ -10,6 +10,7 @@ from lintim_companion.faults import NoProgram
 from lintim_companion.manners import see_package
 from lintim_companion.page_runs import compare, marks
 from lintim_companion.page_runs.blocks import Block, blocks_of, is_command, spans_of
+from lintim_companion.page_runs.shell import Shell
 from lintim_companion.page_runs.walks import pages, pages_to_run, walk
 from lintim_companion.registry import COMMANDS
 
@@ -56,6 +57,16 @@ def test_most_pages_with_commands_are_run() -> None:
 
 def walkable(text: str) -> int:
     return sum(block.kind in ("command", "hidden") for block in blocks_of(text))
+
+
+def test_what_pages_call_tmp_is_a_folder_of_their_own(tmp_path: Path, lintim: str) -> None:
+    shell = Shell(tmp_path / "it")
+    try:
+        assert shell.run("cd /tmp && mkdir town && cd /tmp/town && pwd").printed == "/tmp/town\n"
+        assert shell.run("cd /tmp").folder == tmp_path / "it/tmp"
+    finally:
+        shell.stop()
+    assert (tmp_path / "it/tmp/town").is_dir()
 
 
 def test_blocks() -> None:

@@ -1,4 +1,4 @@
-"""`lintim-view`: pictures of a plan, as a page and as files for paper."""
+"""`lintim-view`: pictures of a plan, as a page and as files for print."""
 
 import re
 from argparse import Namespace
@@ -21,7 +21,7 @@ SCRIPT = "plotly.js"
 
 
 def run(words: Namespace, talk: Talk) -> int:
-    """Writes the page, and then the files for paper."""
+    """Writes the page, and then the files for print."""
     choice = choice_of(words)
     folders = [words.folder, *(words.other or ())]
     if len(folders) > 2:

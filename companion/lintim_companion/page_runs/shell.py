@@ -1,6 +1,7 @@
 """One shell for a page, in a copy of the pages and examples of a checkout."""
 
 import os
+import re
 import shutil
 import signal
 import subprocess
@@ -83,7 +84,7 @@ class Shell:
     def run(self, commands: str) -> Step:
         """Runs a block, and waits for it."""
         assert self.process.stdin and self.process.stdout
-        commands = commands.replace("/tmp/", f"{self.temporary}/")
+        commands = re.sub(r"(?<![\w.])/tmp\b", str(self.temporary), commands)
         self.block.write_text(commands)
         self.process.stdin.write(
             f". '{self.block}' > '{self.printed}' 2>&1 < /dev/null\n"
@@ -96,10 +97,8 @@ class Shell:
         clock.cancel()
         if not folder:
             raise Refused(f"the shell ended, or took more than {SECONDS} seconds: {commands}")
-        text = self.printed.read_text(errors="replace")
-        return Step(
-            int(status), text.replace(f"{self.temporary}/", "/tmp/"), Path(folder.rstrip("\n"))
-        )
+        text = self.printed.read_text(errors="replace").replace(str(self.temporary), "/tmp")
+        return Step(int(status), text, Path(folder.rstrip("\n")))
 
     def stop(self) -> None:
         """Ends the shell and what it started."""

@@ -1,1 +1,1 @@
-"""Pictures of a plan: what is drawn as data, and two ways to draw it, a page and files for paper."""
+"""Pictures of a plan: what is drawn as data, and two ways to draw it, a page and files for print."""

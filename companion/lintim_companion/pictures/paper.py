@@ -1,4 +1,4 @@
-"""Pictures as files for papers and slides, drawn by matplotlib. In an SVG each shape has its name as
+"""Pictures as files for print and slides, drawn by matplotlib. In an SVG each shape has its name as
 its id. The same picture gives the same bytes."""
 
 import io
