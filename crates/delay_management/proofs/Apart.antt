@@ -1,13 +1,7 @@
--- Two numbers are the same or not, and one is less or not; and what stands in a list where one place was set.
-use Rattle.std.proofs.Common.{arith, ◌≡◌, ◌≢◌, ◌∙◌, ℕ, ◌<◌, ◌≤◌, List, length, get_or, slice_set}
+-- What stands in a list where one place was set.
+use Rattle.std.proofs.Common.{◌≡◌, ◌≢◌, ◌∙◌, ℕ, ◌<◌, List, length, get_or, slice_set}
 use Rattle.std.proofs.Common.{ap}
 use Rattle.std.proofs.lemmas.List.{get_or-set_same, get_or-set_other, set-get_or, set-set}
-
-pub by_same : {P : Type 0} (a b : ℕ) → (a ≡ b → P) → (a ≢ b → P) → P
-by_same {P} a b same apart = grind arith
-
-pub by_less : {P : Type 0} (a b : ℕ) → (a < b → P) → (b ≤ a → P) → P
-by_less {P} a b less most = grind arith
 
 module _ {X : Type 0} (old new : List X) (place : ℕ) (x d : X) (is : new ≡ slice_set old place x) where
   pub set_here : place < length old → get_or new place d ≡ x

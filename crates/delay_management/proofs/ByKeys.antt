@@ -10,7 +10,7 @@ use Rattle.std.proofs.Math.Seq.{get_or-append_right}
 use Rattle.std.proofs.lemmas.List.Elements.{All-append, All-filter, All-nil, All-tail, filter_passes}
 use Rattle.std.proofs.lemmas.List.Sorted.{IsNonDecreasingBy-drop, IsPermutation-append_right, IsPermutation-filter_both, IsPermutation-refl, IsPermutation-trans}
 use Rattle.std.proofs.lemmas.Map.Keys.{IsDistinct-head, IsDistinct-tail}
-use Rattle.delay_management.proofs.Apart.{by_less}
+use Rattle.bit_rows.proofs.Cases.{by_less}
 
 module _ {X : Type 0} (key : X → ℕ) where
   -- the items of a key, and those of other keys

@@ -13,7 +13,7 @@ use Rattle.event_tables.specs.Places.{AreNumbered, IsOneOf}
 use Rattle.event_tables.proofs.RanksRise.{id_at}
 use Rattle.delay_management.specs.declared.step.Activity.{Activity}
 use Rattle.delay_management.specs.Problems.{delay_of, delayed, earliest_of, is_of}
-use Rattle.delay_management.proofs.Places.{told_anew}
+use Rattle.bit_rows.proofs.Places.{told_anew}
 
 abbrev pub by_place : ℕ → List DelayRow → List ℕ
 by_place count rows = map (delay_of rows) (range_with_len 1 count)

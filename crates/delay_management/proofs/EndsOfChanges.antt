@@ -9,7 +9,7 @@ use Rattle.std.proofs.lemmas.List.Sorted.{All-permutation, IsPermutation-sym}
 use Rattle.delay_management.specs.declared.ends.ChangeEnd.{ChangeEnd}
 use Rattle.delay_management.specs.declared.step.Activity.{Activity}
 use Rattle.delay_management.specs.ChangeEnds.{HasEnds, IsFirst}
-use Rattle.delay_management.proofs.Apart.{by_less}
+use Rattle.bit_rows.proofs.Cases.{by_less}
 
 pub first_is : {X : Type 0} (key : X → ℕ) (xs : List X) (least first : ℕ) → first ≤ length xs
     → IsPartitionPoint (λ x. ltb (key x) least ≡ true) (λ x. ltb (key x) least ≡ false) xs first

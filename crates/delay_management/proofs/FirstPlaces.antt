@@ -3,7 +3,7 @@ use Rattle.std.proofs.Common.{◌≡◌, ◌∙◌, ℕ, ◌+◌, List, [], ◌�
 use Rattle.std.proofs.Math.Seq.{get_or-append_seam}
 use Rattle.std.proofs.lemmas.List.{get_or_append_left, length_push}
 use Rattle.delay_management.specs.ChangeEnds.{AreFirst, IsFirst}
-use Rattle.delay_management.proofs.Apart.{by_less}
+use Rattle.bit_rows.proofs.Cases.{by_less}
 
 module _ {X : Type 0} (key : X → ℕ) (xs : List X) (least : ℕ → ℕ) where
   pub no_first : (firsts : List ℕ) → firsts ≡ [] → AreFirst key xs least 0 firsts

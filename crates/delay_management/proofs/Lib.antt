@@ -21,7 +21,6 @@ mod Late
 mod Later
 mod LinksByRank
 mod LinksOut
-mod MarkWords
 mod MarksTell
 mod OnTrialFacts
 mod PassIsLeast

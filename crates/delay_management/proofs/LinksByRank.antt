@@ -22,7 +22,7 @@ use Rattle.delay_management.specs.declared.step.Step.{Step}
 use Rattle.delay_management.specs.Links.{links_of}
 use Rattle.delay_management.specs.Outgoing.{by_ranks, event_of}
 use Rattle.delay_management.specs.Problems.{DelayProblem}
-use Rattle.delay_management.proofs.Apart.{by_same}
+use Rattle.bit_rows.proofs.Cases.{by_same}
 use Rattle.delay_management.proofs.ByKeys.{all_by_keys, by_keys_rise}
 use Rattle.delay_management.proofs.PassIsLeast.{links_all}
 use Rattle.delay_management.proofs.Places.{told_alike}

@@ -5,7 +5,7 @@ use Rattle.std.proofs.lemmas.Bool.{eq-eqb, ne_eqb}
 use Rattle.std.proofs.lemmas.List.{drop_more, get_or-replicate, get_or-set_same, get_or-set_other, get_or_default, length-replicate, length-set}
 use Rattle.delay_management.specs.declared.links.Link.{Link}
 use Rattle.delay_management.specs.Outgoing.{AreChained, IsNextOut, out_of}
-use Rattle.delay_management.proofs.Apart.{by_same}
+use Rattle.bit_rows.proofs.Cases.{by_same}
 
 -- a link out of an event, and the next ones
 pub own_first : (links : List Link) (event at next : ℕ) (d : Link) → at < length links

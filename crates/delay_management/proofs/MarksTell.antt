@@ -8,7 +8,7 @@ use Rattle.std.proofs.lemmas.List.{length-set}
 use Rattle.std.proofs.lemmas.List.Elements.{All-head, All-tail}
 use Rattle.std.proofs.lemmas.List.FromFn.{get_or-map-range_with_len, length-map-range_with_len}
 use Rattle.delay_management.specs.Marks.{marked_by, with_mark}
-use Rattle.delay_management.proofs.Places.{told_anew}
+use Rattle.bit_rows.proofs.Places.{told_anew}
 
 pub or_none : (b : Bool) → (b || false) ≡ b
 or_none true = refl

@@ -11,11 +11,12 @@ use Rattle.delay_management.specs.declared.moved.Moved.{Moved}
 use Rattle.delay_management.specs.declared.step.Step.{Step}
 use Rattle.delay_management.specs.LeastTimes.{IsLeast, asked, later, least_times, time_at}
 use Rattle.delay_management.specs.Links.{IsLinked, counts, head_pushed}
-use Rattle.delay_management.specs.Markings.{IsNext}
+use Rattle.bit_rows.specs.Markings.{IsNext}
 use Rattle.delay_management.specs.OnTrial.{Follows, IsHeld, IsSettling, IsSettlingBut, NoneWaits, Pushes, TrialTimes, WaitBy, rewound}
 use Rattle.delay_management.specs.Problems.{DelayProblem, Joins}
 use Rattle.delay_management.specs.Waiting.{chosen_changes}
-use Rattle.delay_management.proofs.Apart.{by_less, by_same, set_back, set_here, set_there}
+use Rattle.bit_rows.proofs.Cases.{by_less, by_same}
+use Rattle.delay_management.proofs.Apart.{set_back, set_here, set_there}
 use Rattle.delay_management.proofs.ForwardPass.{is_pushed}
 use Rattle.delay_management.proofs.PassIsLeast.{all_join, chosen_are_changes, links_hold, pass_is, steps_hold}
 use Rattle.delay_management.proofs.Rounds.{least_is_one, least_times_are_least}

@@ -20,7 +20,8 @@ use Rattle.delay_management.specs.OnTrial.{AreOnce, AreSaved, DropsNotes, Follow
 use Rattle.delay_management.specs.Problems.{DelayProblem, GoesForward, IsForward}
 use Rattle.delay_management.specs.Trials.{is_decided, is_kept, kept_of, times_of}
 use Rattle.delay_management.specs.Waiting.{chosen_changes}
-use Rattle.delay_management.proofs.Apart.{by_less, by_same, set_back, set_here, set_there}
+use Rattle.bit_rows.proofs.Cases.{by_less, by_same}
+use Rattle.delay_management.proofs.Apart.{set_back, set_here, set_there}
 use Rattle.delay_management.proofs.PassIsLeast.{all_chosen, change_steps, links_all, links_hold, steps_hold}
 use Rattle.delay_management.proofs.Settling.{all_held, is_least, least_small}
 use Rattle.delay_management.proofs.TrialFacts.{dropped_on, kept_less, kept_on, kept_size, least_each, not_kept, open_flag, open_more, starts, trial_least}

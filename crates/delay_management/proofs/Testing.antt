@@ -9,7 +9,8 @@ use Rattle.delay_management.specs.declared.step.Activity.{Activity}
 use Rattle.delay_management.specs.ChangeEnds.{HasEnds, IsFirst}
 use Rattle.delay_management.specs.Lateness.{is_broken}
 use Rattle.delay_management.specs.OnTrial.{AreTested, AreTestedBut}
-use Rattle.delay_management.proofs.Apart.{by_less, by_same, set_here, set_there}
+use Rattle.bit_rows.proofs.Cases.{by_less, by_same}
+use Rattle.delay_management.proofs.Apart.{set_here, set_there}
 
 module _ (changes : List Activity) (times : List ℕ) (open_yet : List Bool) where
   abbrev test : ℕ → Activity → Bool

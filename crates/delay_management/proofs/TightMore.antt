@@ -13,7 +13,7 @@ use Rattle.delay_management.specs.LeastTimes.{asked, time_at}
 use Rattle.delay_management.specs.Reasons.{is_tight, lesser, tight_among}
 use Rattle.delay_management.specs.TightIds.{with_id}
 use Rattle.delay_management.proofs.ChosenChanges.{none_left, taken_at}
-use Rattle.delay_management.proofs.Places.{told_anew}
+use Rattle.bit_rows.proofs.Places.{told_anew}
 
 reduce_more : (ids : List ℕ) (id : ℕ) → reduce lesser (ids ++ id ∷ []) ≡ Some (with_id (reduce lesser ids) id)
 reduce_more [] id = refl

@@ -17,7 +17,8 @@ use Rattle.delay_management.specs.Lateness.{is_broken}
 use Rattle.delay_management.specs.Trials.{TrialParts, first_broken, is_decided, is_kept, kept_of, times_of}
 use Rattle.delay_management.specs.Waiting.{chosen_changes}
 use Rattle.delay_management.proofs.PassIsLeast.{chosen_are_changes, placed_at}
-use Rattle.delay_management.proofs.Places.{told_anew, told_alike}
+use Rattle.bit_rows.proofs.Places.{told_anew}
+use Rattle.delay_management.proofs.Places.{told_alike}
 use Rattle.delay_management.proofs.Rounds.{least_times_are_least}
 
 -- ---- lists from behind

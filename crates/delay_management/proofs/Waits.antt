@@ -5,7 +5,8 @@ use Rattle.std.proofs.lemmas.Bool.{false≢true}
 use Rattle.std.proofs.lemmas.List.{get_or_default, length-set}
 use Rattle.delay_management.specs.declared.links.Link.{Link}
 use Rattle.delay_management.specs.OnTrial.{WaitBy}
-use Rattle.delay_management.proofs.Apart.{by_less, by_same, set_here, set_there}
+use Rattle.bit_rows.proofs.Cases.{by_less, by_same}
+use Rattle.delay_management.proofs.Apart.{set_here, set_there}
 
 pub other_at : (links : List Link) (rank at : ℕ) (e : Link) → (get_or links at e).rank ≢ rank
     → (d : Link) → at < length links → (get_or links at d).rank ≢ rank

@@ -6,7 +6,6 @@ pub mod Lateness
 pub mod Laws
 pub mod LeastTimes
 pub mod Links
-pub mod Markings
 pub mod Marks
 pub mod OnTrial
 pub mod Outgoing

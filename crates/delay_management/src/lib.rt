@@ -13,7 +13,6 @@ mod inputs;
 mod judge;
 mod lateness;
 mod links;
-mod marking;
 mod marks;
 mod moved;
 mod on_trial;

@@ -8,9 +8,9 @@ ghost use Rattle.delay_management.specs.OnTrial.{AreTested, AreTestedBut};
 ghost use Rattle.delay_management.specs.Problems.{Joins};
 
 use crate::ends::ChangeEnd;
-use crate::marking::Marking;
 use crate::step::Activity;
 use crate::times::is_broken;
+use bit_rows::Marking;
 
 /// Marks a change, where it is open and times break it.
 pub(crate) fn test(

@@ -1,6 +1,6 @@
 use Rattle.std.proofs.Common.{◌∙◌, ◌≡◌, None, Some, ap, arith, length, subst, sym}
 use Rattle.delay_management.specs.LeastTimes.{least_times}
-use Rattle.delay_management.specs.Markings.{IsNext}
+use Rattle.bit_rows.specs.Markings.{IsNext}
 use Rattle.delay_management.specs.OnTrial.{IsSettling, TrialTimes}
 use Rattle.delay_management.specs.Problems.{DelayProblem}
 use Rattle.delay_management.specs.Waiting.{chosen_changes}

@@ -1,9 +1,9 @@
 use Rattle.std.proofs.Common.{◌/◌, ◌%◌, ◌+◌, arith, subst}
 use Rattle.bit_rows.specs.Bits.{IsFirstBit}
-use Rattle.delay_management.specs.Markings.{IsNextWord}
-use Rattle.delay_management.proofs.Apart.{by_less}
-use Rattle.delay_management.proofs.MarkWords.{bit_past, bits_empty, bits_end}
-use Rattle.delay_management.proofs.marking.next_bit.Goals as goal
+use Rattle.bit_rows.specs.Markings.{IsNextWord}
+use Rattle.bit_rows.proofs.Cases.{by_less}
+use Rattle.bit_rows.proofs.MarkWords.{bit_past, bits_empty, bits_end}
+use Rattle.bit_rows.proofs.marking.next_bit.Goals as goal
 
 pub returns-in-None : goal.returns-in-None
 returns-in-None c k from =

@@ -1,7 +1,7 @@
 -- No bit stands before the place.
 use Rattle.std.proofs.Common.{length, ◌-◌, ◌*◌, ℕ, ◌≡◌, ◌<◌, ◌≤◌, false}
 use Rattle.bit_rows.specs.Bits.{marked}
-use Rattle.delay_management.proofs.marking.next_bit.Given as goal
+use Rattle.bit_rows.proofs.marking.next_bit.Given as goal
 
 abbrev pub invariant-loop-place : goal.invariant-loop-place
 invariant-loop-place l = record {

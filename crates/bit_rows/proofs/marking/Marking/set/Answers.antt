@@ -1,6 +1,6 @@
 use Rattle.std.proofs.Common.{◌∙◌, ◌<◌, ◌/◌, ap, arith, length, slice_set}
-use Rattle.delay_management.proofs.MarkWords.{marks_put, size_is, still_blocked}
-use Rattle.delay_management.proofs.marking.Marking.set.Goals as goal
+use Rattle.bit_rows.proofs.MarkWords.{marks_put, size_is, still_blocked}
+use Rattle.bit_rows.proofs.marking.Marking.set.Goals as goal
 
 pub put-some-requires : goal.put-some-requires
 put-some-requires c =

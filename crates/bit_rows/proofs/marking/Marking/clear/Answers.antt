@@ -1,7 +1,7 @@
 use Rattle.std.proofs.Common.{◌∙◌, ap, false, length, sym}
 use Rattle.std.specs.Prelude.{replicate}
-use Rattle.delay_management.proofs.MarkWords.{none_marked, size_is}
-use Rattle.delay_management.proofs.marking.Marking.clear.Goals as goal
+use Rattle.bit_rows.proofs.MarkWords.{none_marked, size_is}
+use Rattle.bit_rows.proofs.marking.Marking.clear.Goals as goal
 
 pub returns : goal.returns
 returns c =

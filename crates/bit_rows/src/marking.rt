@@ -1,9 +1,9 @@
 // Marks of places, the next of which is found fast.
 ghost use Rattle.std.specs.Prelude.{ℕ, ◌≡◌, ◌<◌, ◌≤◌, ◌/◌, ◌%◌, false, get_or, length, replicate, slice_set, IfOk};
 ghost use Rattle.bit_rows.specs.Bits.{with_bit};
-ghost use Rattle.delay_management.specs.Markings.{Covers, IsNext, IsNextBit, IsNextWord, IsWithin};
+ghost use Rattle.bit_rows.specs.Markings.{Covers, IsNext, IsNextBit, IsNextWord, IsWithin};
 
-use bit_rows::{first_bit, with_bit};
+use crate::words::{first_bit, with_bit};
 use plan_num::NoMemory;
 use std::alloc::Global;
 use std::marker::Model;
@@ -11,7 +11,7 @@ use std::marker::Model;
 /// Which of some places are marked: bits of words, and a bit for each word, without which no mark
 /// stands in it. Contracts see it as one truth value for each place.
 #[derive(Drop)]
-pub(crate) struct Marking {
+pub struct Marking {
     count: usize,
     words: Vec<u64>,
     blocks: Vec<u64>,
@@ -19,7 +19,7 @@ pub(crate) struct Marking {
 
 impl Model for Marking {
     ghost use Rattle.std.specs.Prelude.{Bool, List};
-    ghost use Rattle.delay_management.specs.Markings.{AreBlocked, marks_of};
+    ghost use Rattle.bit_rows.specs.Markings.{AreBlocked, marks_of};
 
     ghost Value = { List Bool };
 
@@ -30,8 +30,8 @@ impl Model for Marking {
 
 impl Marking {
     /// No place of so many is marked.
-    pub(crate) fn none(alloc: Global, count: usize) -> Result<Marking, NoMemory>
-        requires few { count ≤ 1000000 }
+    pub fn none(alloc: Global, count: usize) -> Result<Marking, NoMemory>
+        requires few { count ≤ 1000000000 }
         ensures { IfOk result (λ marks. marks ≡ replicate count false) }
     {
         let words = count / 64 + 1;
@@ -43,7 +43,7 @@ impl Marking {
     }
 
     /// No place is marked any more.
-    pub(crate) fn clear(&mut self)
+    pub fn clear(&mut self)
         ensures { self.new ≡ replicate (length self.old) false }
     {
         put_zeros(&mut self.words);
@@ -51,7 +51,7 @@ impl Marking {
     }
 
     /// Marks a place, or takes its mark away.
-    pub(crate) fn set(&mut self, place: usize, is: bool)
+    pub fn set(&mut self, place: usize, is: bool)
         requires { place < length self.old }
         ensures { self.new ≡ slice_set self.old place is }
     {
@@ -60,7 +60,7 @@ impl Marking {
     }
 
     /// The first place from one on that is marked.
-    pub(crate) fn next(&self, from: usize) -> Option<usize>
+    pub fn next(&self, from: usize) -> Option<usize>
         ensures { IsNext self.now from result }
     {
         within(next_bit(&self.words, &self.blocks, from), self.count)
@@ -98,7 +98,7 @@ fn put(words: &mut Vec<u64>, place: usize, is: bool) -> bool
 
 // The first bit of words from a place on, where a bit of others stands for each word that has one.
 fn next_bit(words: &[u64], blocks: &[u64], from: usize) -> Option<usize>
-    requires few { length words.now ≤ 15626 }
+    requires few { length words.now ≤ 1000000000 }
     requires covers { Covers words.now blocks.now }
     ensures { IsNextBit words.now from result }
 {
@@ -117,7 +117,7 @@ fn next_bit(words: &[u64], blocks: &[u64], from: usize) -> Option<usize>
 
 // The first word from one on that may have a bit.
 fn next_word(words: &[u64], blocks: &[u64], from: usize) -> Option<usize>
-    requires few { length words.now ≤ 15626 }
+    requires few { length words.now ≤ 1000000000 }
     requires covers { Covers words.now blocks.now }
     ensures { IsNextWord words.now from result }
 {

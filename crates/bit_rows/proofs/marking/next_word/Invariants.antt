@@ -1,6 +1,6 @@
 -- The words so far are 0.
 use Rattle.std.proofs.Common.{length, ◌-◌, ℕ, ◌≡◌, ◌<◌, ◌≤◌, get_or}
-use Rattle.delay_management.proofs.marking.next_word.Given as goal
+use Rattle.bit_rows.proofs.marking.next_word.Given as goal
 
 abbrev pub invariant-loop-word : goal.invariant-loop-word
 invariant-loop-word l = record {

@@ -7,9 +7,9 @@ use Rattle.std.proofs.lemmas.List.{get_or_past, get_or-set_other, get_or-set_sam
 use Rattle.std.proofs.lemmas.List.FromFn.{get_or-map-range_with_len, length-map-range_with_len}
 use Rattle.bit_rows.specs.Bits.{IsFirstBit, has_bit, marked, with_bit}
 use Rattle.bit_rows.proofs.WordBits.{with_other, with_same, zero_bit}
-use Rattle.delay_management.specs.Markings.{AreBlocked, Covers, IsNext, IsNextBit, IsNextWord, IsWithin, marks_of}
-use Rattle.delay_management.proofs.Apart.{by_less, by_same}
-use Rattle.delay_management.proofs.Places.{told_anew}
+use Rattle.bit_rows.specs.Markings.{AreBlocked, Covers, IsNext, IsNextBit, IsNextWord, IsWithin, marks_of}
+use Rattle.bit_rows.proofs.Cases.{by_less, by_same}
+use Rattle.bit_rows.proofs.Places.{told_anew}
 
 -- ---- one place
 

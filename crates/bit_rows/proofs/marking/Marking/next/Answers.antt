@@ -1,7 +1,7 @@
 use Rattle.std.proofs.Common.{subst}
-use Rattle.delay_management.specs.Markings.{IsNext, IsNextBit}
-use Rattle.delay_management.proofs.MarkWords.{next_is}
-use Rattle.delay_management.proofs.marking.Marking.next.Goals as goal
+use Rattle.bit_rows.specs.Markings.{IsNext, IsNextBit}
+use Rattle.bit_rows.proofs.MarkWords.{next_is}
+use Rattle.bit_rows.proofs.marking.Marking.next.Goals as goal
 
 pub returns : goal.returns
 returns c =
