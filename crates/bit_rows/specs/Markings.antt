@@ -7,6 +7,10 @@ use Rattle.bit_rows.specs.Bits.{marked}
 abbrev pub marks_of : List ℕ → ℕ → List Bool
 marks_of words count = map (marked words) (range_with_len 0 count)
 
+-- there are no more places than this
+abbrev pub most_places : ℕ
+most_places = 1000000000
+
 -- each word has a bit, and where that is not set, the word is 0
 abbrev pub Covers : List ℕ → List ℕ → Type 0
 Covers words blocks = (k : ℕ) → k < length words → (k / 64 < length blocks)
@@ -15,7 +19,7 @@ Covers words blocks = (k : ℕ) → k < length words → (k / 64 < length blocks
 -- there are words for so many places, with their bits
 pub record AreBlocked (count : ℕ) (words blocks : List ℕ) : Type 0 where
   pub room : count < 64 * length words
-  pub few : length words ≤ 1000000000
+  pub few : length words ≤ most_places
   pub covers : Covers words blocks
 
 -- the first place from one on that is marked

@@ -7,7 +7,7 @@ pub mod LeastLeft
 pub mod Lowered
 pub mod Mapped
 pub mod Minima
-pub mod MissedEdges
+pub mod EdgeCounts
 pub mod PassSteps
 pub mod Paying
 pub mod Proving

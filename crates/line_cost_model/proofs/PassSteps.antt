@@ -1,21 +1,22 @@
 -- The pass over the edges: before the first one, one edge more, and after the last one.
-use Rattle.std.proofs.Common.{◌≡◌, ◌≢◌, ℕ, suc, ◌+◌, ◌*◌, ◌≤◌, ◌<◌, nat_lt, Bool, true, false}
+use Rattle.std.proofs.Common.{◌≡◌, ◌≢◌, ℕ, zero, suc, ◌+◌, ◌-◌, ◌*◌, ◌≤◌, ◌<◌, nat_lt, Bool, true, false}
 use Rattle.std.proofs.Common.{if◌then◌else◌, List, [], ◌∷◌, ◌++◌, length, map, fold, slice_get}
-use Rattle.std.proofs.Common.{unwrap_or, Some, option_map, All, refl, arith, ap, ◌∙◌}
+use Rattle.std.proofs.Common.{unwrap_or, Some, None, option_map, get_or, All, refl, arith, ap, subst, sym, ◌∙◌}
 use Rattle.std.specs.List.{AllByRecursion}
 use Rattle.std.proofs.lemmas.Bool.{ne_eqb}
 use Rattle.std.proofs.lemmas.List.{append-nil}
 use Rattle.std.proofs.lemmas.List.Elements.{All-push, All-nil}
 use Rattle.std.proofs.lemmas.List.Sums.{sum_by-append}
 use Rattle.std.proofs.lemmas.Nat.{mul-le}
-use Rattle.std.proofs.lemmas.Option.{none-some}
+use Rattle.std.proofs.lemmas.Option.{none-some, slice_get-get_or}
 use Rattle.line_cost_model.specs.declared.multipliers.Multiplier.{Multiplier}
 use Rattle.line_cost_model.specs.declared.range.LineRange.{LineRange}
 use Rattle.line_cost_model.specs.Problems.{CostedLine, ProblemParts, IsCostedLine, IsProblem}
 use Rattle.line_cost_model.specs.Concepts.{cost_of}
-use Rattle.line_cost_model.specs.DualBounds.{bound_by, dual_bound, least_left, left_of, multipliers_of, next_multiplier, shortfall, unless_zero, with_next}
+use Rattle.line_cost_model.specs.DualBounds.{bound_by, dual_bound, least_left, left_of, multipliers_of, next_multiplier, shortfall, shortfall_at, unless_zero, with_next}
 use Rattle.line_cost_model.specs.Multipliers.{IsAfter, IsAmount}
-use Rattle.line_cost_model.specs.Passes.{AreLowered, IsPass}
+use Rattle.line_cost_model.specs.Passes.{AreLowered, IsNextShort, IsPass}
+use Rattle.line_cost_model.specs.RunningSums.{no_bounds}
 use Rattle.line_cost_model.specs.Regions.{least_in}
 use Rattle.line_cost_model.proofs.Feasible.{left_from, left_more, left_none}
 use Rattle.line_cost_model.proofs.Lowered as lowered
@@ -63,6 +64,41 @@ pass_none problem region multipliers left value edge amount pass next none = rec
   rest = pass.rest ∙ fold_more problem region multipliers edge 0 (next ∙ ap Some none)
       ∙ ap (λ some. fold (with_next problem region) some (left_from problem.edges (edge + 1))) (append-nil multipliers);
 }
+
+-- no multiplier of edges on which no drives are missing
+none_next : (problem : ProblemParts) (region : List LineRange) (multipliers : List Multiplier) (edge : ℕ)
+    → edge < length problem.edges → shortfall_at problem region edge ≡ 0
+    → option_map (λ at. next_multiplier problem region multipliers (edge, at)) (slice_get problem.edges edge) ≡ Some 0
+none_next problem region multipliers edge within none =
+    let at = get_or problem.edges edge no_bounds in
+    let there = slice_get-get_or problem.edges edge no_bounds within in
+    let short : shortfall problem.lines region edge at ≡ 0 =
+    sym (ap (λ at. unwrap_or (option_map (shortfall problem.lines region edge) at) 0) there) ∙ none in
+    ap (option_map (λ at. next_multiplier problem region multipliers (edge, at))) there
+    ∙ ap (λ n. Some (if nat_lt 0 n then least_left problem region multipliers edge else 0)) short
+
+pass_over : (problem : ProblemParts) (region : List LineRange) (multipliers : List Multiplier) (left : List ℕ)
+    (value from n : ℕ) → IsPass problem region multipliers left value from
+    → from + n ≤ length problem.edges
+    → ((edge : ℕ) → from ≤ edge → edge < from + n → shortfall_at problem region edge ≡ 0)
+    → IsPass problem region multipliers left value (from + n)
+pass_over problem region multipliers left value from zero pass within none =
+    subst (IsPass problem region multipliers left value) (omega arith) pass
+pass_over problem region multipliers left value from (suc n) pass within none =
+    let next = pass_none problem region multipliers left value from 0 pass
+    (none_next problem region multipliers from (omega (arith, within)) (none from (omega arith) (omega arith))) refl in
+    subst (IsPass problem region multipliers left value) (omega arith)
+    (pass_over problem region multipliers left value (from + 1) n next (omega (arith, within))
+    (λ edge behind before. none edge (omega (arith, behind)) (omega (arith, before))))
+
+pub pass_to : (problem : ProblemParts) (region : List LineRange) (multipliers : List Multiplier) (left : List ℕ)
+    (value from edge : ℕ) → IsPass problem region multipliers left value from
+    → IsNextShort problem region from (Some edge) → IsPass problem region multipliers left value edge
+pass_to problem region multipliers left value from edge pass next =
+    let there : from + (edge - from) ≡ edge = omega (arith, next.0) in
+    subst (IsPass problem region multipliers left value) there
+    (pass_over problem region multipliers left value from (edge - from) pass (omega (arith, there, next.1))
+    (λ k behind before. next.2 k behind (omega (arith, before, there))))
 
 -- the next multiplier is the least that is left, where drives are missing
 next_is : (problem : ProblemParts) (region : List LineRange) (multipliers : List Multiplier) (edge missing amount : ℕ)
@@ -126,7 +162,17 @@ module _ (problem : ProblemParts) (region : List LineRange) (multipliers : List 
 
 -- ---- after the last edge
 
-pub pass_last : (problem : ProblemParts) (region : List LineRange) (multipliers : List Multiplier) (left : List ℕ)
+past_last : (problem : ProblemParts) (region : List LineRange) (multipliers : List Multiplier) (left : List ℕ)
     (value edge : ℕ) → IsPass problem region multipliers left value edge → length problem.edges ≤ edge
     → (multipliers ≡ multipliers_of problem region) × (value ≡ dual_bound problem region)
-pass_last problem region multipliers left value edge pass past = grind (arith, left_none)
+past_last problem region multipliers left value edge pass past = grind (arith, left_none)
+
+pub pass_last : (problem : ProblemParts) (region : List LineRange) (multipliers : List Multiplier) (left : List ℕ)
+    (value from : ℕ) → IsPass problem region multipliers left value from → from ≤ length problem.edges
+    → IsNextShort problem region from None
+    → (multipliers ≡ multipliers_of problem region) × (value ≡ dual_bound problem region)
+pass_last problem region multipliers left value from pass within none =
+    let rest = length problem.edges - from in
+    past_last problem region multipliers left value (from + rest)
+    (pass_over problem region multipliers left value from rest pass (omega (arith, within))
+    (λ edge behind before. none edge behind)) (omega (arith, within))

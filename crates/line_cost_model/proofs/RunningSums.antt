@@ -18,7 +18,7 @@ use Rattle.line_cost_model.specs.declared.range.LineRange.{LineRange}
 use Rattle.line_cost_model.specs.Problems.{CostedLine, ProblemParts, IsProblem}
 use Rattle.line_cost_model.specs.Concepts.{cost_of, frequency_on, goes_over}
 use Rattle.line_cost_model.specs.Regions.{IsRange, greatest_in, least_in, range_of, root_of}
-use Rattle.line_cost_model.specs.RunningSums.{AreCounted, AreDriven, AreMoved, IsSummed, missed_count}
+use Rattle.line_cost_model.specs.RunningSums.{AreCounted, AreDriven, AreMoved, IsOfGreatest, IsOfLeast, IsSummed}
 use Rattle.line_cost_model.proofs.FewLines.{few_lines, no_line}
 use Rattle.line_cost_model.proofs.Lowered.{is_new, or_false, or_true}
 
@@ -138,9 +138,11 @@ zeros (line ∷ lines) most (suc k) = zeros lines most k
 pub root_summed : (problem : ProblemParts) (ranges : List LineRange) (least greatest : List ℕ)
     → IsProblem problem → ranges ≡ root_of problem → All IsRange ranges → least ≡ replicate (length problem.edges) 0
     → AreDriven problem (greatest_in ranges) greatest
-    → (empty : ℕ) → empty ≡ missed_count problem.edges least greatest
-    → IsSummed problem ranges least greatest 0 empty
-root_summed problem ranges least greatest problem_is is sound zero_least greatest_are empty empty_is =
+    → (short : List Bool) (over_count under_count : ℕ) → IsOfLeast problem.edges least short over_count
+    → IsOfGreatest problem.edges greatest under_count
+    → IsSummed problem ranges least greatest short over_count under_count 0
+root_summed problem ranges least greatest problem_is is sound zero_least greatest_are short over_count under_count
+    of_least of_greatest =
     let each : length ranges ≡ length problem.lines = ap length is ∙ length-map problem.lines _ in
     let long : length (least_in ranges) ≡ length problem.lines =
     length-map ranges (λ range. range.lo) ∙ each in
@@ -158,7 +160,8 @@ root_summed problem ranges least greatest problem_is is sound zero_least greates
       };
       greatest_are = greatest_are;
       cost_is = sym (none_cost problem (least_in ranges) long none);
-      empty_is = empty_is;
+      of_least = of_least;
+      of_greatest = of_greatest;
     }
 
 -- ---- sums move edge by edge
@@ -237,20 +240,22 @@ read_at of lines line x is =
 
 pub region_moved : (problem : ProblemParts) (ranges : List LineRange)
     (least greatest least_now greatest_now edges : List ℕ)
-    (cost cost_now empty empty_now line lo hi price : ℕ)
-    → IsSummed problem ranges least greatest cost empty → line < length ranges → lo ≤ hi → hi ≤ 1000
+    (short short_now : List Bool) (over_count over_now under_count under_now : ℕ)
+    (cost cost_now line lo hi price : ℕ)
+    → IsSummed problem ranges least greatest short over_count under_count cost → line < length ranges → lo ≤ hi
+    → hi ≤ 1000
     → option_map (λ at. at.edges) (slice_get problem.lines line) ≡ Some edges
     → option_map (λ at. at.cost) (slice_get problem.lines line) ≡ Some price
     → length least_now ≡ length least → length greatest_now ≡ length greatest
     → AreMoved edges (range_of ranges line).lo lo least least_now
     → AreMoved edges (range_of ranges line).hi hi greatest greatest_now
     → cost_now + price * (range_of ranges line).lo ≡ cost + price * lo
-    → empty_now ≡ missed_count problem.edges least_now greatest_now
-    → IsSummed problem (set ranges line (record { lo = lo; hi = hi })) least_now greatest_now cost_now
-    empty_now
-region_moved problem ranges least greatest least_now greatest_now edges cost cost_now empty empty_now line
-    lo hi price summed there order few edges_are price_is least_size greatest_size least_moved
-    greatest_moved cost_is empty_is =
+    → IsOfLeast problem.edges least_now short_now over_now → IsOfGreatest problem.edges greatest_now under_now
+    → IsSummed problem (set ranges line (record { lo = lo; hi = hi })) least_now greatest_now short_now over_now
+    under_now cost_now
+region_moved problem ranges least greatest least_now greatest_now edges short short_now over_count over_now
+    under_count under_now cost cost_now line lo hi price summed there order few edges_are price_is least_size
+    greatest_size least_moved greatest_moved cost_is of_least of_greatest =
     let range : LineRange = record { lo = lo; hi = hi } in
     let lo_of : LineRange → ℕ = λ range. range.lo in
     let hi_of : LineRange → ℕ = λ range. range.hi in
@@ -287,7 +292,8 @@ region_moved problem ranges least greatest least_now greatest_now edges cost cos
           let whole : cost_now ≡ cost_of problem (set (map lo_of ranges) line lo) =
           omega (arith, moved, before, after, cost_is, summed.cost_is) in
           whole ∙ ap (cost_of problem) lows;
-      empty_is = empty_is;
+      of_least = of_least;
+      of_greatest = of_greatest;
     }
 
 -- the line at an index is counted in the sums of its edges and in the cost, and these are not too great
@@ -322,15 +328,17 @@ cost_counts problem fs cost line price before cost_is same within price_is befor
     let none : of_cost (at, 0) ≡ 0 = omega arith in
     omega (arith, moved, own, none, cost_is)
 
-pub least_cost_few : (problem : ProblemParts) (ranges : List LineRange) (least greatest : List ℕ) (cost : ℕ)
-    (empty : ℕ) → IsSummed problem ranges least greatest cost empty
+pub least_cost_few : (problem : ProblemParts) (ranges : List LineRange) (least greatest : List ℕ)
+    (short : List Bool) (over_count under_count cost : ℕ)
+    → IsSummed problem ranges least greatest short over_count under_count cost
     → cost ≤ 5000000000000000000000000000000000000
-least_cost_few problem ranges least greatest cost empty summed =
+least_cost_few problem ranges least greatest short over_count under_count cost summed =
     grind (arith, few_cost, length-map, least_few)
 
 -- what another range of a line takes off was counted before
-module _ (problem : ProblemParts) (ranges : List LineRange) (least greatest edges : List ℕ) (cost empty line : ℕ)
-    (summed : IsSummed problem ranges least greatest cost empty) (there : line < length ranges)
+module _ (problem : ProblemParts) (ranges : List LineRange) (least greatest edges : List ℕ) (short : List Bool)
+    (over_count under_count cost line : ℕ)
+    (summed : IsSummed problem ranges least greatest short over_count under_count cost) (there : line < length ranges)
     (edges_are : option_map (λ at. at.edges) (slice_get problem.lines line) ≡ Some edges) where
   pub least_counts : AreCounted (range_of ranges line).lo least edges
   least_counts = sums_count problem (least_in ranges) least edges line (range_of ranges line).lo
@@ -345,10 +353,11 @@ module _ (problem : ProblemParts) (ranges : List LineRange) (least greatest edge
       (sym (get_or-map (λ range. range.hi) ranges line no_range 0 there))
 
 pub least_cost_counts : (problem : ProblemParts) (ranges : List LineRange) (least greatest : List ℕ)
-    (cost empty line price : ℕ) → IsSummed problem ranges least greatest cost empty → line < length ranges
+    (short : List Bool) (over_count under_count cost line price : ℕ)
+    → IsSummed problem ranges least greatest short over_count under_count cost → line < length ranges
     → option_map (λ at. at.cost) (slice_get problem.lines line) ≡ Some price
     → price * (range_of ranges line).lo ≤ cost
-least_cost_counts problem ranges least greatest cost empty line price summed there price_is =
+least_cost_counts problem ranges least greatest short over_count under_count cost line price summed there price_is =
     grind (arith, cost_counts, length-map, get_or-map)
 
 -- the edges of a line are there, and each of them once

@@ -6,7 +6,7 @@ use Rattle.line_cost_model.specs.declared.multipliers.Multiplier.{Multiplier}
 use Rattle.line_cost_model.specs.declared.range.LineRange.{LineRange}
 use Rattle.line_cost_model.specs.Problems.{CostedLine, ProblemParts}
 use Rattle.line_cost_model.specs.Crossings.{lines_over}
-use Rattle.line_cost_model.specs.DualBounds.{are_within, bound_by, left_of, multipliers_of, with_next}
+use Rattle.line_cost_model.specs.DualBounds.{are_within, bound_by, left_of, multipliers_of, shortfall_at, with_next}
 use Rattle.line_cost_model.specs.Multipliers.{IsAfter}
 use Rattle.line_cost_model.specs.Regions.{has_several}
 
@@ -19,6 +19,13 @@ AreLowered lines edge amount before after =
 -- what is left of the cost of a line that is open
 abbrev pub if_open : LineRange → ℕ → Option ℕ
 if_open range left = if has_several range then Some left else None
+
+-- the first edge from one on on which the least frequencies of a region leave drives missing
+abbrev pub IsNextShort : ProblemParts → List LineRange → ℕ → Option ℕ → Type 0
+IsNextShort problem region from None =
+    (edge : ℕ) → from ≤ edge → shortfall_at problem region edge ≡ 0
+IsNextShort problem region from (Some next) = (from ≤ next) × (next < length problem.edges)
+    × ((edge : ℕ) → from ≤ edge → edge < next → shortfall_at problem region edge ≡ 0)
 
 -- what is known before an edge: the multipliers of the edges before it, what they leave of the
 -- costs of lines, and what they prove

@@ -1,6 +1,7 @@
 -- Inner words: the running sums of a region. A reader of the contracts of this crate needs none of
 -- them.
-use Rattle.std.specs.Prelude.{◌≡◌, ℕ, pos, ◌||◌, nat_lt, sum_by, ◌+◌, ◌<◌, ◌≤◌, nat_eq, if◌then◌else◌, List, length, get_or, All}
+use Rattle.std.specs.Prelude.{◌≡◌, ℕ, pos, nat_lt, sum_by, ◌+◌, ◌<◌, ◌≤◌, nat_eq, if◌then◌else◌}
+use Rattle.std.specs.Prelude.{Bool, false, List, length, get_or, All}
 use Rattle.std.specs.List.{IsDistinct, list_any, range_with_len}
 use Rattle.line_cost_model.specs.declared.edge.BoundedEdge.{BoundedEdge}
 use Rattle.line_cost_model.specs.declared.range.LineRange.{LineRange}
@@ -32,29 +33,47 @@ AreMoved edges before after sums now =
 abbrev pub no_bounds : BoundedEdge
 no_bounds = record { id = pos 0; least = 0; most = 0 }
 
--- an edge is driven too often by the least frequencies, or not often enough by the greatest: 1 for
--- one that is, and 0 for another
-abbrev pub missed : BoundedEdge → ℕ → ℕ → ℕ
-missed bounds least greatest =
-    if nat_lt bounds.most least || nat_lt greatest bounds.least then 1 else 0
+-- an edge is driven too often by a sum of least frequencies, as a number
+abbrev pub over : BoundedEdge → ℕ → ℕ
+over bounds least = if nat_lt bounds.most least then 1 else 0
 
--- the same of the edge at an index, by sums over edges
-abbrev pub missed_at : List BoundedEdge → List ℕ → List ℕ → ℕ → ℕ
-missed_at edges least greatest edge =
-    missed (get_or edges edge no_bounds) (get_or least edge 0) (get_or greatest edge 0)
+-- an edge is not driven often enough by a sum of greatest frequencies, as a number
+abbrev pub under : BoundedEdge → ℕ → ℕ
+under bounds greatest = if nat_lt greatest bounds.least then 1 else 0
 
--- how many edges are so
-abbrev pub missed_count : List BoundedEdge → List ℕ → List ℕ → ℕ
-missed_count edges least greatest =
-    sum_by (missed_at edges least greatest) (range_with_len 0 (length edges))
+-- a number that is told of the edge at an index and its sum
+abbrev pub at_edge : (BoundedEdge → ℕ → ℕ) → List BoundedEdge → List ℕ → ℕ → ℕ
+at_edge told edges sums edge = told (get_or edges edge no_bounds) (get_or sums edge 0)
+
+-- the sum of that over all edges
+abbrev pub over_edges : (BoundedEdge → ℕ → ℕ) → List BoundedEdge → List ℕ → ℕ
+over_edges told edges sums = sum_by (at_edge told edges sums) (range_with_len 0 (length edges))
+
+-- which edges least frequencies leave short of their minimal frequency, and how many they drive too
+-- often
+pub record IsOfLeast (edges : List BoundedEdge) (sums : List ℕ) (short : List Bool) (over_count : ℕ)
+    : Type 0 where
+  pub size : length sums ≡ length edges
+  pub few : length edges ≤ 1000000000
+  pub marks : length short ≡ length edges
+  pub short_is : (edge : ℕ) → edge < length edges → get_or short edge false
+      ≡ nat_lt (get_or sums edge 0) (get_or edges edge no_bounds).least
+  pub over_is : over_count ≡ over_edges over edges sums
+
+-- how many edges greatest frequencies leave below their minimal frequency
+pub record IsOfGreatest (edges : List BoundedEdge) (sums : List ℕ) (under_count : ℕ) : Type 0 where
+  pub size : length sums ≡ length edges
+  pub few : length edges ≤ 1000000000
+  pub under_is : under_count ≡ over_edges under edges sums
 
 -- what always holds of a region
 pub record IsSummed (problem : ProblemParts) (ranges : List LineRange) (least greatest : List ℕ)
-    (cost empty : ℕ) : Type 0 where
+    (short : List Bool) (over_count under_count cost : ℕ) : Type 0 where
   pub problem_is : IsProblem problem
   pub each : length ranges ≡ length problem.lines
   pub sound : All IsRange ranges
   pub least_are : AreDriven problem (least_in ranges) least
   pub greatest_are : AreDriven problem (greatest_in ranges) greatest
   pub cost_is : cost ≡ cost_of problem (least_in ranges)
-  pub empty_is : empty ≡ missed_count problem.edges least greatest
+  pub of_least : IsOfLeast problem.edges least short over_count
+  pub of_greatest : IsOfGreatest problem.edges greatest under_count

@@ -90,7 +90,9 @@ impl<'a> SummedRegion<'a> {
         bound.multipliers.clear();
         self.renew_costs(&mut bound.left)?;
         let mut value = self.least_millionths();
-        for edge in 0..self.edge_count() {
+        let mut from = 0;
+        while let Some(edge) = self.next_short(from) {
+            from = edge + 1;
             let (missing, amount) = next_multiplier(self, edge, &bound.left);
             if amount == 0 {
                 continue;

@@ -6,10 +6,10 @@
 mod bound;
 mod concept;
 mod edge;
+mod edge_sums;
 mod empty;
 mod evidence;
 mod line;
-mod missed;
 mod multipliers;
 mod pass;
 mod problem;

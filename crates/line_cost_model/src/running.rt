@@ -1,7 +1,7 @@
 // Running sums over edges.
-ghost use Rattle.std.specs.Prelude.{◌≡◌, ◌<◌, ◌≤◌, ◌+◌, ◌*◌, length, IfOk, All};
+ghost use Rattle.std.specs.Prelude.{◌≡◌, ◌≤◌, ◌+◌, ◌*◌, length, IfOk, All};
 ghost use Rattle.line_cost_model.specs.Regions.{HasEachFeasible, IsRange, greatest_in, root_of};
-ghost use Rattle.line_cost_model.specs.RunningSums.{AreCounted, AreDriven, AreMoved};
+ghost use Rattle.line_cost_model.specs.RunningSums.{AreDriven};
 
 use crate::problem::LineProblem;
 use crate::range::LineRange;
@@ -39,20 +39,6 @@ pub(crate) fn greatest_sums(
         sums.push(greatest_on(problem, ranges, edge))?;
     }
     Ok(sums)
-}
-
-/// Sums over edges, where a line over some of them has another frequency.
-pub(crate) fn move_sums(sums: &mut Vec<u64>, edges: &[usize], before: u32, after: u32)
-    requires { AreCounted before sums.old.items edges.now }
-    ensures size { length sums.new.items ≡ length sums.old.items }
-    ensures moved { AreMoved edges.now before after sums.old.items sums.new.items }
-{
-    if before == after {
-        return;
-    }
-    for edge in edges {
-        sums[*edge] = sums[*edge] - u64::from(before) + u64::from(after);
-    }
 }
 
 /// A cost, where a line has another frequency.

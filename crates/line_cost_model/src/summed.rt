@@ -6,17 +6,18 @@ ghost use Rattle.std.specs.List.{list_any};
 ghost use Rattle.line_cost_model.specs.Concepts.{cost_of};
 ghost use Rattle.line_cost_model.specs.DualBounds.{shortfall};
 ghost use Rattle.line_cost_model.specs.EmptySides.{is_empty_on};
+ghost use Rattle.line_cost_model.specs.Passes.{IsNextShort};
 ghost use Rattle.line_cost_model.specs.Problems.{IsProblem};
 ghost use Rattle.line_cost_model.specs.Regions.{HasEachFeasible, IsRange, empty_edge, empty_side};
 ghost use Rattle.line_cost_model.specs.Regions.{has_several};
 ghost use Rattle.line_cost_model.specs.Regions.{least_in, range_of, root_of, with_range};
 
 use crate::edge::BoundedEdge;
-use crate::missed::{missed_among, missed_count};
+use crate::edge_sums::{GreatestSums, LeastSums};
 use crate::problem::LineProblem;
 use crate::range::LineRange;
 use crate::region::Region;
-use crate::running::{cost_moved, greatest_sums, move_sums, root_ranges};
+use crate::running::{cost_moved, root_ranges};
 use crate::side::Side;
 use crate::sums::signed;
 use plan_num::NoMemory;
@@ -24,16 +25,15 @@ use std::alloc::Global;
 use std::marker::Model;
 
 /// A range of frequencies for each line of a problem. Contracts see it as the problem and the list
-/// of these ranges. It keeps how often each edge is driven at least and at most, how many edges
-/// show that there is no feasible concept, and what the least frequencies cost, so that another
-/// range for a line takes some steps for each of its edges alone.
+/// of these ranges. It keeps how often each edge is driven at least and at most, on which edges drives
+/// are missing, how many edges show that there is no feasible concept, and what the least
+/// frequencies cost, so that another range for a line takes some steps for each of its edges alone.
 pub struct SummedRegion<'a> {
     problem: &'a LineProblem,
     ranges: Vec<LineRange>,
-    least: Vec<u64>,
-    greatest: Vec<u64>,
+    least: LeastSums,
+    greatest: GreatestSums,
     least_cost: u128,
-    empty: usize,
 }
 
 impl Drop for SummedRegion<'_> {
@@ -44,7 +44,6 @@ impl Drop for SummedRegion<'_> {
             least: _,
             greatest: _,
             least_cost: _,
-            empty: _,
         } = self;
     }
 }
@@ -57,8 +56,8 @@ impl<'a> Model for SummedRegion<'a> {
 
     ghost view = { λ r. record { problem = r.problem.now; ranges = r.ranges.items } };
 
-    ghost invariant = { λ r. IsSummed r.problem.now r.ranges.items r.least.items r.greatest.items
-        r.least_cost r.empty };
+    ghost invariant = { λ r. IsSummed r.problem.now r.ranges.items r.least.sums.items
+        r.greatest.sums.items r.least.short r.least.over r.greatest.under r.least_cost };
 }
 
 impl<'a> SummedRegion<'a> {
@@ -70,16 +69,14 @@ impl<'a> SummedRegion<'a> {
         ensures each { IfOk result (λ region. HasEachFeasible problem.now region.ranges) }
     {
         let ranges = root_ranges(alloc, problem)?;
-        let least = vec![in alloc; 0; problem.edge_count()]?;
-        let greatest = greatest_sums(alloc, problem, &ranges)?;
-        let empty = missed_count(problem, &least, &greatest);
+        let least = LeastSums::zero(alloc, problem)?;
+        let greatest = GreatestSums::of(alloc, problem, &ranges)?;
         Ok(SummedRegion {
             problem,
             ranges,
             least,
             greatest,
             least_cost: 0,
-            empty,
         })
     }
 
@@ -124,12 +121,9 @@ impl<'a> SummedRegion<'a> {
         let before = self.ranges[line];
         let edges = self.problem.line_edges(line);
         let cost = self.problem.cost_of_line(line);
-        let missed = missed_among(self.problem, &self.least, &self.greatest, edges);
         self.ranges[line] = LineRange { lo, hi };
-        move_sums(&mut self.least, edges, before.lo, lo);
-        move_sums(&mut self.greatest, edges, before.hi, hi);
-        self.empty = self.empty + missed_among(self.problem, &self.least, &self.greatest, edges)
-            - missed;
+        self.least.move_line(self.problem, edges, before.lo, lo);
+        self.greatest.move_line(self.problem, edges, before.hi, hi);
         self.least_cost = cost_moved(self.least_cost, cost, before.lo, lo);
     }
 
@@ -182,11 +176,11 @@ impl<'a> SummedRegion<'a> {
     }
 
     /// Whether no edge shows that the region has no feasible concept.
-    #[tactic(auto, using(crate::proofs::MissedEdges::none_empty))]
+    #[tactic(auto, using(crate::proofs::EdgeCounts::none_empty))]
     pub(crate) fn has_no_empty_edge(&self) -> bool
         ensures { IsTrue result → empty_edge self.now.problem self.now.ranges ≡ None }
     {
-        self.empty == 0
+        self.least.over == 0 && self.greatest.under == 0
     }
 
     /// On which side the edge at an index shows that the region has no feasible concept, where it
@@ -197,7 +191,7 @@ impl<'a> SummedRegion<'a> {
             (slice_get self.now.problem.edges edge) ≡ Some result }
     {
         let bounds = self.problem.bounds_of(edge);
-        side_of(bounds, self.least[edge], self.greatest[edge])
+        side_of(bounds, self.least.sums[edge], self.greatest.sums[edge])
     }
 
     /// Whether the least frequencies drive an edge too often, or the greatest ones not often
@@ -209,9 +203,17 @@ impl<'a> SummedRegion<'a> {
     {
         let bounds = self.problem.bounds_of(edge);
         match side {
-            Side::Over => u64::from(bounds.most) < self.least[edge],
-            Side::Under => self.greatest[edge] < u64::from(bounds.least),
+            Side::Over => u64::from(bounds.most) < self.least.sums[edge],
+            Side::Under => self.greatest.sums[edge] < u64::from(bounds.least),
         }
+    }
+
+    /// The first edge from one on on which the least frequencies leave drives missing.
+    pub(crate) fn next_short(&self, from: usize) -> Option<usize>
+        ensures next { IsNextShort self.now.problem self.now.ranges from result }
+        ensures sound { IsProblem self.now.problem }
+    {
+        self.least.short.next(from)
     }
 
     /// How many drives the least frequencies leave missing on the edge at an index.
@@ -222,7 +224,7 @@ impl<'a> SummedRegion<'a> {
         ensures few { result < 4294967296 }
     {
         let bounds = self.problem.bounds_of(edge);
-        u64::from(bounds.least).saturating_sub(self.least[edge])
+        u64::from(bounds.least).saturating_sub(self.least.sums[edge])
     }
 }
 

@@ -1,8 +1,10 @@
 // How often the ends of ranges drive edges, and which edges that misses.
-ghost use Rattle.std.specs.Prelude.{◌≡◌, ◌<◌, ◌≤◌, false, get_or, length, nat_lt, slice_set, IfOk, All};
+ghost use Rattle.std.specs.Prelude.{◌≡◌, ◌<◌, ◌≤◌, false, get_or, length, nat_lt, replicate};
+ghost use Rattle.std.specs.Prelude.{slice_set, IfOk, All};
+ghost use Rattle.line_cost_model.specs.Problems.{IsProblem};
 ghost use Rattle.line_cost_model.specs.Regions.{IsRange, greatest_in};
 ghost use Rattle.line_cost_model.specs.RunningSums.{AreCounted, AreDriven, AreMoved};
-ghost use Rattle.line_cost_model.specs.RunningSums.{IsOfGreatest, IsOfLeast, over_at, under_at, under_count};
+ghost use Rattle.line_cost_model.specs.RunningSums.{IsOfGreatest, IsOfLeast, over, over_edges, under};
 
 use crate::edge::BoundedEdge;
 use crate::problem::LineProblem;
@@ -28,6 +30,7 @@ impl LeastSums {
             (λ least. least.sums.items ≡ replicate (length problem.now.edges) 0) }
         ensures sound { IfOk result
             (λ least. IsOfLeast problem.now.edges least.sums.items least.short least.over) }
+        ensures problem { IfOk result (λ _. IsProblem problem.now) }
     {
         let count = problem.edge_count();
         let sums = vec![in alloc; 0; count]?;
@@ -152,7 +155,8 @@ impl GreatestSums {
 // How many edges the greatest sums leave below their minimal frequencies.
 fn under_count(problem: &LineProblem, sums: &[u64]) -> usize
     requires { length sums.now ≡ length problem.now.edges }
-    ensures { result ≡ under_count problem.now.edges sums.now }
+    ensures count { result ≡ over_edges under problem.now.edges sums.now }
+    ensures sound { IsProblem problem.now }
 {
     let mut count = 0;
     for edge in 0..problem.edge_count() {

@@ -1,0 +1,266 @@
+-- How many edges show that a region has no feasible concept, and on which drives are missing.
+use Rattle.std.proofs.Common.{◌≡◌, ◌≢◌, ◌∙◌, ℕ, zero, suc, ◌+◌, ◌≤◌, ◌<◌, Bool, true, false, nat_lt}
+use Rattle.std.proofs.Common.{if◌then◌else◌, List, [], ◌∷◌, ◌++◌, length, get_or, slice_get, slice_set}
+use Rattle.std.proofs.Common.{Option, Some, None, option_map, unwrap_or, filter_map, replicate, sum_by}
+use Rattle.std.proofs.Common.{refl, ap, sym, subst, arith, inl, inr, get_or-set_other, get_or-set_same}
+use Rattle.std.specs.List.{range_with_len}
+use Rattle.std.proofs.lemmas.Bool.{cases_eq, cases_lt, le-ltb, ltb-false}
+use Rattle.std.proofs.lemmas.List.{get_or-replicate, length-replicate, length-set}
+use Rattle.std.proofs.lemmas.List.FromFn.{length-range_with_len}
+use Rattle.std.proofs.lemmas.List.Sums.{sum_by-cons, sum_by-le}
+use Rattle.std.proofs.lemmas.Option.{get_or_from_slice_get, slice_get-get_or, slice_get_past}
+use Rattle.bit_rows.specs.Markings.{IsNext}
+use Rattle.line_cost_model.specs.declared.edge.BoundedEdge.{BoundedEdge}
+use Rattle.line_cost_model.specs.declared.range.LineRange.{LineRange}
+use Rattle.line_cost_model.specs.declared.side.Side.{Side}
+use Rattle.line_cost_model.specs.declared.side.Side.TheVariants as side
+use Rattle.line_cost_model.specs.Problems.{ProblemParts}
+use Rattle.line_cost_model.specs.DualBounds.{shortfall, shortfall_at}
+use Rattle.line_cost_model.specs.Passes.{IsNextShort}
+use Rattle.line_cost_model.specs.Regions.{empty_edge, empty_side, least_in}
+use Rattle.line_cost_model.specs.RunningSums.{AreDriven, IsOfGreatest, IsOfLeast, IsSummed, at_edge, no_bounds, over, over_edges, under}
+use Rattle.line_cost_model.proofs.EmptyEdges.{first_from, first_is, first_more}
+use Rattle.line_cost_model.proofs.Feasible.{left_none}
+
+-- ---- sums over numbers in a row
+
+pub range_more : (a n : ℕ) → range_with_len a (n + 1) ≡ range_with_len a n ++ (a + n) ∷ []
+range_more a zero = ap (λ n. n ∷ []) (omega arith)
+range_more a (suc n) = grind (arith, range_more (a + 1) n)
+
+pub zero_plus : (n : ℕ) → 0 + n ≡ n
+zero_plus n = omega arith
+
+same_sums : (f g : ℕ → ℕ) (a n : ℕ) → ((e : ℕ) → a ≤ e → f e ≡ g e)
+    → sum_by f (range_with_len a n) ≡ sum_by g (range_with_len a n)
+same_sums f g a zero same = refl
+same_sums f g a (suc n) same =
+    let left = sum_by-cons f a (range_with_len (a + 1) n) in
+    let right = sum_by-cons g a (range_with_len (a + 1) n) in
+    omega (
+      arith,
+      left,
+      right,
+      same a (omega arith),
+      same_sums f g (a + 1) n (λ e h. same e (omega (arith, h))),
+    )
+
+-- two sums whose terms differ at one number alone
+sums_apart : (f g : ℕ → ℕ) (p a n : ℕ) → ((e : ℕ) → e ≢ p → f e ≡ g e) → a ≤ p → p < a + n
+    → sum_by g (range_with_len a n) + f p ≡ sum_by f (range_with_len a n) + g p
+sums_apart f g p a zero same low high = absurd (omega (arith, low, high))
+sums_apart f g p a (suc n) same low high =
+    let left = sum_by-cons f a (range_with_len (a + 1) n) in
+    let right = sum_by-cons g a (range_with_len (a + 1) n) in
+    elim (cases_eq a p) [
+      | inl here ↦
+          let rest = same_sums f g (a + 1) n (λ e h. same e (λ is. omega (arith, h, is, here))) in
+          omega (arith, left, right, rest, ap f here, ap g here)
+      | inr other ↦
+          let later : a + 1 ≤ p = omega (arith, low, other) in
+          let rest = sums_apart f g p (a + 1) n same later (omega (arith, high)) in
+          omega (arith, left, right, rest, same a other)
+    ]
+
+-- ---- one edge is driven more or less often
+
+at_most : (told : BoundedEdge → ℕ → ℕ) (edges : List BoundedEdge) (sums : List ℕ)
+    → ((bounds : BoundedEdge) (sum : ℕ) → told bounds sum ≤ 1) → over_edges told edges sums ≤ length edges
+at_most told edges sums one =
+    let all = sum_by-le (at_edge told edges sums) 1 (range_with_len 0 (length edges)) (λ k d h. one _ _) in
+    omega (arith, all, length-range_with_len 0 (length edges))
+
+abbrev one_of : Bool → ℕ
+one_of b = if b then 1 else 0
+
+one_where : (b : Bool) → one_of b ≤ 1
+one_where true = omega arith
+one_where false = omega arith
+
+pub few_over : (edges : List BoundedEdge) (sums : List ℕ) → over_edges over edges sums ≤ length edges
+few_over edges sums = at_most over edges sums (λ bounds sum. one_where (nat_lt bounds.most sum))
+
+pub few_under : (edges : List BoundedEdge) (sums : List ℕ) → over_edges under edges sums ≤ length edges
+few_under edges sums = at_most under edges sums (λ bounds sum. one_where (nat_lt sum bounds.least))
+
+-- the sum over all edges, where one sum changes
+pub edge_put : (told : BoundedEdge → ℕ → ℕ) (edges : List BoundedEdge) (sums : List ℕ) (edge sum before : ℕ)
+    (bounds : BoundedEdge) → length sums ≡ length edges → edge < length edges
+    → slice_get edges edge ≡ Some bounds → before ≡ get_or sums edge 0
+    → over_edges told edges (slice_set sums edge sum) + told bounds before
+    ≡ over_edges told edges sums + told bounds sum
+edge_put told edges sums edge sum before bounds size there is before_is =
+    let f = at_edge told edges sums in
+    let g = at_edge told edges (slice_set sums edge sum) in
+    let apart = sums_apart f g edge 0 (length edges)
+    (λ k other. ap (told (get_or edges k no_bounds)) (sym (get_or-set_other sums edge k sum 0 other)))
+    (omega arith) (omega (arith, there)) in
+    let at : get_or edges edge no_bounds ≡ bounds = get_or_from_slice_get edges edge bounds no_bounds is in
+    let old : f edge ≡ told bounds before = λ i. told (at i) (sym before_is i) in
+    let new : g edge ≡ told bounds sum =
+    λ i. told (at i) (get_or-set_same sums edge sum 0 (omega (arith, size, there)) i) in
+    omega (arith, apart, old, new)
+
+pub least_put : (edges : List BoundedEdge) (sums : List ℕ) (short : List Bool)
+    (over_count over_now edge sum before : ℕ) (bounds : BoundedEdge)
+    → IsOfLeast edges sums short over_count → edge < length edges → slice_get edges edge ≡ Some bounds
+    → before ≡ get_or sums edge 0
+    → over_now + over bounds before ≡ over_count + over bounds sum
+    → IsOfLeast edges (slice_set sums edge sum) (slice_set short edge (nat_lt sum bounds.least)) over_now
+least_put edges sums short over_count over_now edge sum before bounds least there is before_is counted =
+    let at : get_or edges edge no_bounds ≡ bounds = get_or_from_slice_get edges edge bounds no_bounds is in
+    record {
+      size = length-set sums edge sum ∙ least.size;
+      few = least.few;
+      marks = length-set short edge (nat_lt sum bounds.least) ∙ least.marks;
+      short_is = λ k within. elim (cases_eq k edge) [
+        | inl same ↦
+            ap (λ k. get_or (slice_set short edge (nat_lt sum bounds.least)) k false) same
+            ∙ get_or-set_same short edge (nat_lt sum bounds.least) false (omega (arith, least.marks, there))
+            ∙ (λ i. nat_lt (sym (get_or-set_same sums edge sum 0 (omega (arith, least.size, there))) i)
+            (sym at i).least)
+            ∙ ap (λ k. nat_lt (get_or (slice_set sums edge sum) k 0) (get_or edges k no_bounds).least) (sym same)
+        | inr other ↦
+            get_or-set_other short edge k (nat_lt sum bounds.least) false other ∙ least.short_is k within
+            ∙ ap (λ n. nat_lt n (get_or edges k no_bounds).least) (sym (get_or-set_other sums edge k sum 0 other))
+      ];
+      over_is =
+          let put = edge_put over edges sums edge sum before bounds least.size there is before_is in
+          omega (arith, counted, put, least.over_is);
+    }
+
+pub greatest_put : (edges : List BoundedEdge) (sums : List ℕ) (under_count under_now edge sum before : ℕ)
+    (bounds : BoundedEdge) → IsOfGreatest edges sums under_count → edge < length edges
+    → slice_get edges edge ≡ Some bounds → before ≡ get_or sums edge 0
+    → under_now + under bounds before ≡ under_count + under bounds sum
+    → IsOfGreatest edges (slice_set sums edge sum) under_now
+greatest_put edges sums under_count under_now edge sum before bounds greatest there is before_is counted = record {
+  size = length-set sums edge sum ∙ greatest.size;
+  few = greatest.few;
+  under_is =
+      let put = edge_put under edges sums edge sum before bounds greatest.size there is before_is in
+      omega (arith, counted, put, greatest.under_is);
+}
+
+no_less : (most : ℕ) → one_of (nat_lt most 0) ≤ 0
+no_less most = subst (λ b. one_of b ≤ 0) (sym (le-ltb most 0 (omega arith))) (omega arith)
+
+-- no edge is driven too often by no drives
+none_over : (edges : List BoundedEdge) (n : ℕ) → over_edges over edges (replicate n 0) ≡ 0
+none_over edges n =
+    let all = sum_by-le (at_edge over edges (replicate n 0)) 0 (range_with_len 0 (length edges))
+    (λ k d h. never (get_or (range_with_len 0 (length edges)) k d)) in
+    omega (arith, all)
+  where
+    zeros : (n k : ℕ) → get_or {A = ℕ} (replicate n 0) k 0 ≡ 0
+    zeros zero k = refl
+    zeros (suc n) zero = refl
+    zeros (suc n) (suc k) = zeros n k
+
+    never : (edge : ℕ) → at_edge over edges (replicate n 0) edge ≤ 0
+    never edge = subst (λ sum. over (get_or edges edge no_bounds) sum ≤ 0) (sym (zeros n edge)) (no_less _)
+
+pub zero_sums : (edges : List BoundedEdge) (sums : List ℕ) (short : List Bool) → length edges ≤ 1000000000
+    → sums ≡ replicate (length edges) 0 → length short ≡ length edges
+    → ((edge : ℕ) → edge < length edges
+    → get_or short edge false ≡ nat_lt 0 (get_or edges edge no_bounds).least)
+    → IsOfLeast edges sums short 0
+zero_sums edges sums short few zero_is marks told = subst (λ sums. IsOfLeast edges sums short 0) (sym zero_is) (record {
+  size = length-replicate (length edges) 0;
+  few = few;
+  marks = marks;
+  short_is = λ edge within.
+      told edge within
+      ∙ ap (λ sum. nat_lt sum (get_or edges edge no_bounds).least) (sym (get_or-replicate (length edges) edge 0 0 within));
+  over_is = sym (none_over edges (length edges));
+})
+
+-- one edge more is told
+pub told_here : (told : BoundedEdge → ℕ → ℕ) (edges : List BoundedEdge) (sums : List ℕ) (edge result before : ℕ)
+    (bounds : BoundedEdge) → slice_get edges edge ≡ Some bounds → before ≡ get_or sums edge 0
+    → result ≡ told bounds before → result ≡ at_edge told edges sums edge
+told_here told edges sums edge result before bounds is before_is result_is =
+    result_is ∙ (λ i. told (sym (get_or_from_slice_get edges edge bounds no_bounds is) i) (before_is i))
+
+-- ---- edges on which drives are missing
+
+not_short : (problem : ProblemParts) (ranges : List LineRange) (sums : List ℕ) (short : List Bool)
+    (over_count : ℕ) → AreDriven problem (least_in ranges) sums
+    → IsOfLeast problem.edges sums short over_count
+    → (edge : ℕ) → get_or short edge false ≡ false → shortfall_at problem ranges edge ≡ 0
+not_short problem ranges sums short over_count driven least edge unmarked =
+    elim (cases_lt edge (length problem.edges)) [
+      | inl within ↦
+          let bounds = get_or problem.edges edge no_bounds in
+          let enough : bounds.least ≤ get_or sums edge 0 =
+          ltb-false (get_or sums edge 0) bounds.least (sym (least.short_is edge within) ∙ unmarked) in
+          ap (λ at. unwrap_or (option_map (shortfall problem.lines ranges edge) at) 0)
+          (slice_get-get_or problem.edges edge no_bounds within)
+          ∙ omega (arith, enough, driven.told edge within)
+      | inr past ↦
+          ap (λ at. unwrap_or (option_map (shortfall problem.lines ranges edge) at) 0)
+          (slice_get_past problem.edges edge past)
+    ]
+
+pub short_next : (problem : ProblemParts) (ranges : List LineRange) (sums : List ℕ) (short : List Bool)
+    (over_count : ℕ) → AreDriven problem (least_in ranges) sums
+    → IsOfLeast problem.edges sums short over_count
+    → (from : ℕ) (result : Option ℕ) → IsNext short from result → IsNextShort problem ranges from result
+short_next problem ranges sums short over_count driven least from None next =
+    λ edge behind. not_short problem ranges sums short over_count driven least edge (next edge behind)
+short_next problem ranges sums short over_count driven least from (Some at) next = (
+  next.0,
+  omega (arith, next.1, least.marks),
+  λ edge behind before.
+      not_short problem ranges sums short over_count driven least edge (next.3 edge behind before),
+)
+
+-- ---- no edge is missed
+
+zero_each : (f : ℕ → ℕ) (a n : ℕ) → sum_by f (range_with_len a n) ≡ 0 → (e : ℕ) → a ≤ e → e < a + n
+    → f e ≡ 0
+zero_each f a zero none e low high = absurd (omega (arith, low, high))
+zero_each f a (suc n) none e low high =
+    let all = sum_by-cons f a (range_with_len (a + 1) n) in
+    elim (cases_eq a e) [
+      | inl same ↦ omega (arith, ap f same, all, none)
+      | inr other ↦ zero_each f (a + 1) n (omega (arith, all, none)) e (omega (arith, low, other))
+          (omega (arith, high))
+    ]
+
+abbrev side_by : Bool → Bool → Option Side
+side_by above below = if above then Some side.Over else (if below then Some side.Under else None)
+
+no_side : (above below : Bool) → one_of above ≡ 0 → one_of below ≡ 0 → side_by above below ≡ None
+no_side true below none not = absurd (omega (arith, none))
+no_side false true none not = absurd (omega (arith, not))
+no_side false false none not = refl
+
+none_from : (problem : ProblemParts) (ranges : List LineRange) (n edge : ℕ)
+    → ((e : ℕ) → e < length problem.edges
+    → empty_side problem.lines ranges e (get_or problem.edges e no_bounds) ≡ None)
+    → edge + n ≡ length problem.edges → first_from problem ranges edge ≡ None
+none_from problem ranges zero edge none all =
+    grind (arith, slice_get, filter_map, option_map, left_none)
+none_from problem ranges (suc n) edge none all =
+    let within : edge < length problem.edges = omega (arith, all) in
+    first_more problem ranges edge None
+    (ap (option_map (empty_side problem.lines ranges edge)) (slice_get-get_or problem.edges edge no_bounds within)
+    ∙ ap Some (none edge within))
+    ∙ none_from problem ranges n (edge + 1) none (omega (arith, all))
+
+pub none_empty : (problem : ProblemParts) (ranges : List LineRange) (least greatest : List ℕ)
+    (short : List Bool) (over_count under_count cost : ℕ)
+    → IsSummed problem ranges least greatest short over_count under_count cost → over_count ≡ 0
+    → under_count ≡ 0 → empty_edge problem ranges ≡ None
+none_empty problem ranges least greatest short over_count under_count cost summed no_over no_under =
+    first_is problem ranges ∙ none_from problem ranges (length problem.edges) 0 (λ e within.
+    let bounds = get_or problem.edges e no_bounds in
+    let over_here = zero_each (at_edge over problem.edges least) 0 (length problem.edges)
+    (sym summed.of_least.over_is ∙ no_over) e (omega arith) (omega (arith, within)) in
+    let under_here = zero_each (at_edge under problem.edges greatest) 0 (length problem.edges)
+    (sym summed.of_greatest.under_is ∙ no_under) e (omega arith) (omega (arith, within)) in
+    (λ i. side_by (nat_lt bounds.most (sym (summed.least_are.told e within) i))
+    (nat_lt (sym (summed.greatest_are.told e within) i) bounds.least))
+    ∙ no_side (nat_lt bounds.most (get_or least e 0)) (nat_lt (get_or greatest e 0) bounds.least) over_here under_here)
+    (omega arith)

@@ -1,0 +1,53 @@
+use Rattle.std.proofs.Common.{◌≡◌, ◌∙◌, ◌+◌, ◌-◌, ap, sym, subst, arith, get_or, nat_lt, false, slice_set, Bool, List, ℕ}
+use Rattle.std.proofs.lemmas.List.{get_or_default}
+use Rattle.std.proofs.lemmas.Option.{get_or_from_slice_get}
+use Rattle.line_cost_model.specs.declared.edge.BoundedEdge.{BoundedEdge}
+use Rattle.line_cost_model.specs.RunningSums.{IsOfLeast, no_bounds, over_edges, over}
+use Rattle.line_cost_model.proofs.EdgeCounts.{edge_put, few_over, least_put}
+use Rattle.line_cost_model.proofs.edge_sums.LeastSums.put.Goals as goal
+
+pub overflow_add-self : goal.overflow_add-self
+overflow_add-self c = record {
+  fits = omega (
+    arith,
+    c.requires.sound.over_is,
+    few_over c.args.problem.now.edges c.args.self.now.sums.items,
+    c.requires.sound.few,
+    c.over.ensures.one,
+  );
+}
+
+pub overflow_sub-self : goal.overflow_sub-self
+overflow_sub-self c =
+    let was = c.index-before.ensures
+    ∙ get_or_default c.args.self.now.sums.items c.args.edge _ _ (omega (arith, c.requires.there, c.requires.sound.size)) in
+    let put = edge_put over c.args.problem.now.edges c.args.self.now.sums.items c.args.edge c.args.sum
+    c.index-before.result.now c.bounds_of-bounds.result c.requires.sound.size c.requires.there
+    c.bounds_of-bounds.ensures was in
+    omega (arith, put, c.requires.sound.over_is, c.over.ensures.over, c.over-2.ensures.over)
+
+pub renew-requires-clause-was : goal.renew-requires-clause-was
+renew-requires-clause-was c =
+    let was = c.index-before.ensures
+    ∙ get_or_default c.args.self.now.sums.items c.args.edge _ _ (omega (arith, c.requires.there, c.requires.sound.size)) in
+    let at = get_or_from_slice_get c.args.problem.now.edges c.args.edge c.bounds_of-bounds.result no_bounds
+    c.bounds_of-bounds.ensures in
+    c.requires.sound.short_is c.args.edge c.requires.there
+    ∙ (λ i. nat_lt (sym was i) (at i).least) ∙ sym c.is_short-was.ensures
+
+pub returns-clause-sound : goal.returns-clause-sound
+returns-clause-sound c =
+    let was = c.index-before.ensures
+    ∙ get_or_default c.args.self.now.sums.items c.args.edge _ _ (omega (arith, c.requires.there, c.requires.sound.size)) in
+    let put = edge_put over c.args.problem.now.edges c.args.self.now.sums.items c.args.edge c.args.sum
+    c.index-before.result.now c.bounds_of-bounds.result c.requires.sound.size c.requires.there
+    c.bounds_of-bounds.ensures was in
+    let edges = c.args.problem.now.edges in
+    let sums = c.args.self.now.sums.items in
+    let now = c.args.self.now.over + c.over.result - c.over-2.result in
+    subst (λ (short : List Bool). IsOfLeast edges (slice_set sums c.args.edge c.args.sum) short now)
+    (sym (c.renew.ensures ∙ ap (slice_set c.args.self.now.short c.args.edge) c.is_short.ensures))
+    (least_put edges sums c.args.self.now.short c.args.self.now.over now c.args.edge c.args.sum
+    c.index-before.result.now c.bounds_of-bounds.result c.requires.sound c.requires.there
+    c.bounds_of-bounds.ensures was
+    (omega (arith, put, c.requires.sound.over_is, c.over.ensures.over, c.over-2.ensures.over)))
