@@ -1,5 +1,5 @@
 -- Marks of places as bits of words, with a bit for each word without which no mark stands in it.
-use Rattle.std.proofs.Common.{◌≡◌, ◌≢◌, ◌∙◌, ℕ, zero, suc, ◌+◌, ◌*◌, ◌/◌, ◌%◌, ◌<◌, ◌≤◌, Bool, true, false, List, ◌∷◌, length, map}
+use Rattle.std.proofs.Common.{◌≡◌, ◌≢◌, ◌∙◌, ℕ, zero, suc, ◌+◌, ◌*◌, ◌/◌, ◌%◌, ◌<◌, ◌≤◌, Bool, false, List, ◌∷◌, length, map}
 use Rattle.std.proofs.Common.{get_or, slice_set, None, Some, Option, refl, ap, sym, arith}
 use Rattle.std.specs.Prelude.{replicate}
 use Rattle.std.specs.List.{range_with_len}
@@ -7,7 +7,7 @@ use Rattle.std.proofs.lemmas.List.{get_or_past, get_or-set_other, get_or-set_sam
 use Rattle.std.proofs.lemmas.List.FromFn.{get_or-map-range_with_len, length-map-range_with_len}
 use Rattle.bit_rows.specs.Bits.{IsFirstBit, has_bit, marked, with_bit}
 use Rattle.bit_rows.proofs.WordBits.{with_other, with_same, zero_bit}
-use Rattle.delay_management.specs.Markings.{AreBlocked, Covers, IsNext, IsNextBit, IsNextWord, IsWithin, marks_of}
+use Rattle.delay_management.specs.Markings.{AreBlocked, IsNext, IsNextBit, IsNextWord, IsWithin, marks_of}
 use Rattle.delay_management.proofs.Apart.{by_less, by_same}
 use Rattle.delay_management.proofs.Places.{told_anew}
 
@@ -120,44 +120,7 @@ module _ (words new : List ℕ) (place : ℕ) (is : Bool)
 
 -- ---- the next word and the next bit
 
-module _ (words blocks : List ℕ) (covers : Covers words blocks) where
-  empty_word : (k : ℕ) → marked blocks k ≡ false → get_or words k 0 ≡ 0
-  empty_word k none =
-      by_less k (length words) (λ inside. (covers k inside).1 none) (λ past. get_or_past words k 0 past)
-
-  -- no word of a block is left
-  pub words_empty : (word end : ℕ) → IsFirstBit (get_or blocks (word / 64) 0) (word % 64) None
-      → (k : ℕ) → word ≤ k → k < word / 64 * 64 + 64 → get_or words k 0 ≡ 0
-  words_empty word end none k from to =
-      let same : k / 64 ≡ word / 64 = omega (arith, from, to) in
-      empty_word k (ap (λ n. has_bit (get_or blocks n 0) (k % 64)) same
-      ∙ none (k % 64) (omega (arith, from, same)) (omega arith))
-
-  pub words_before : (word bit : ℕ) → IsFirstBit (get_or blocks (word / 64) 0) (word % 64) (Some bit)
-      → (k : ℕ) → word ≤ k → k < word / 64 * 64 + bit → get_or words k 0 ≡ 0
-  words_before word bit first k from to =
-      let low = first.1 in
-      let same : k / 64 ≡ word / 64 = omega (arith, from, to, low) in
-      empty_word k (ap (λ n. has_bit (get_or blocks n 0) (k % 64)) same
-      ∙ first.3 (k % 64) (omega (arith, from, same)) (omega (arith, to, same)))
-
 module _ (words : List ℕ) where
-  pub bits_before : (place bit : ℕ) → IsFirstBit (get_or words (place / 64) 0) (place % 64) (Some bit)
-      → (k : ℕ) → place ≤ k → k < place / 64 * 64 + bit → marked words k ≡ false
-  bits_before place bit first k from to =
-      let low = first.1 in
-      let same : k / 64 ≡ place / 64 = omega (arith, from, to, low) in
-      ap (λ n. has_bit (get_or words n 0) (k % 64)) same
-      ∙ first.3 (k % 64) (omega (arith, from, same)) (omega (arith, to, same))
-
-  pub bit_found : (place bit : ℕ) → IsFirstBit (get_or words (place / 64) 0) (place % 64) (Some bit)
-      → marked words (place / 64 * 64 + bit) ≡ true
-  bit_found place bit first =
-      let low = first.1 in
-      let same : (place / 64 * 64 + bit) / 64 ≡ place / 64 = omega (arith, low) in
-      let rest : (place / 64 * 64 + bit) % 64 ≡ bit = omega (arith, low) in
-      (λ i. has_bit (get_or words (same i) 0) (rest i)) ∙ first.2
-
   in_word : (place : ℕ) → IsFirstBit (get_or words (place / 64) 0) (place % 64) None
       → (k : ℕ) → place ≤ k → k / 64 ≡ place / 64 → marked words k ≡ false
   in_word place none k from same =

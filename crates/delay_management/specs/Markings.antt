@@ -1,5 +1,5 @@
 -- Inner words: marks of places as bits of words, and a bit for each word without which no mark stands in it.
-use Rattle.std.specs.Prelude.{ℕ, ◌*◌, ◌/◌, ◌<◌, ◌≤◌, ◌≡◌, Bool, true, false, List, length, map, get_or, Option, Some, None, ⊤}
+use Rattle.std.specs.Prelude.{ℕ, ◌+◌, ◌*◌, ◌/◌, ◌<◌, ◌≤◌, ◌≡◌, Bool, true, false, List, length, map, get_or, Option, Some, None, ⊤}
 use Rattle.std.specs.List.{range_with_len}
 use Rattle.bit_rows.specs.Bits.{marked}
 
@@ -12,10 +12,21 @@ abbrev pub Covers : List ℕ → List ℕ → Type 0
 Covers words blocks = (k : ℕ) → k < length words → (k / 64 < length blocks)
     × (marked blocks k ≡ false → get_or words k 0 ≡ 0)
 
+-- there are no more places than this, no more words with a bit for each place and one more, and no
+-- more bits in the words with a bit for each of these and one more
+abbrev pub most_places : ℕ
+most_places = 1000000
+
+abbrev pub most_words : ℕ
+most_words = most_places / 64 + 1
+
+abbrev pub most_word_bits : ℕ
+most_word_bits = 64 * (most_words / 64 + 1)
+
 -- there are words for so many places, with their bits
 pub record AreBlocked (count : ℕ) (words blocks : List ℕ) : Type 0 where
   pub room : count < 64 * length words
-  pub few : length words ≤ 15626
+  pub few : length words ≤ most_words
   pub covers : Covers words blocks
 
 -- the first place from one on that is marked
@@ -33,7 +44,7 @@ IsNextBit words from (Some at) = (from ≤ at) × (marked words at ≡ true)
 -- all words from one on are 0, or those before another one
 abbrev pub IsNextWord : List ℕ → ℕ → Option ℕ → Type 0
 IsNextWord words from None = (k : ℕ) → from ≤ k → get_or words k 0 ≡ 0
-IsNextWord words from (Some at) = (from ≤ at) × (at ≤ 15680)
+IsNextWord words from (Some at) = (from ≤ at) × (at ≤ most_word_bits)
     × ((k : ℕ) → from ≤ k → k < at → get_or words k 0 ≡ 0)
 
 -- a place that was found counts where it is one of so many

@@ -1,7 +1,7 @@
 // Marks of places, the next of which is found fast.
 ghost use Rattle.std.specs.Prelude.{ℕ, ◌≡◌, ◌<◌, ◌≤◌, ◌/◌, ◌%◌, false, get_or, length, replicate, slice_set, IfOk};
 ghost use Rattle.bit_rows.specs.Bits.{with_bit};
-ghost use Rattle.delay_management.specs.Markings.{Covers, IsNext, IsNextBit, IsNextWord, IsWithin};
+ghost use Rattle.delay_management.specs.Markings.{Covers, IsNext, IsNextBit, IsNextWord, IsWithin, most_places, most_words};
 
 use bit_rows::{first_bit, with_bit};
 use plan_num::NoMemory;
@@ -31,7 +31,7 @@ impl Model for Marking {
 impl Marking {
     /// No place of so many is marked.
     pub(crate) fn none(alloc: Global, count: usize) -> Result<Marking, NoMemory>
-        requires few { count ≤ 1000000 }
+        requires few { count ≤ most_places }
         ensures { IfOk result (λ marks. marks ≡ replicate count false) }
     {
         let words = count / 64 + 1;
@@ -98,7 +98,7 @@ fn put(words: &mut Vec<u64>, place: usize, is: bool) -> bool
 
 // The first bit of words from a place on, where a bit of others stands for each word that has one.
 fn next_bit(words: &[u64], blocks: &[u64], from: usize) -> Option<usize>
-    requires few { length words.now ≤ 15626 }
+    requires few { length words.now ≤ most_words }
     requires covers { Covers words.now blocks.now }
     ensures { IsNextBit words.now from result }
 {
@@ -117,7 +117,7 @@ fn next_bit(words: &[u64], blocks: &[u64], from: usize) -> Option<usize>
 
 // The first word from one on that may have a bit.
 fn next_word(words: &[u64], blocks: &[u64], from: usize) -> Option<usize>
-    requires few { length words.now ≤ 15626 }
+    requires few { length words.now ≤ most_words }
     requires covers { Covers words.now blocks.now }
     ensures { IsNextWord words.now from result }
 {
