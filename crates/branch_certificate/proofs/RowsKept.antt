@@ -2,7 +2,7 @@
 -- row.
 use Rattle.std.proofs.Common.{◌≡◌, ℕ, ℤ, pos, arith, Bool, true, false, cond, not, List, [], ◌∷◌}
 use Rattle.std.proofs.Common.{◌++◌, length, map, slice_get, refl, ap, sym, ◌∙◌, Some, All}
-use Rattle.std.proofs.Common.{append-nil, append_assoc}
+use Rattle.std.proofs.Common.{append-nil, append_assoc, Err, Ok, Result}
 use Rattle.std.specs.List.{AllByRecursion, flat_map}
 use Rattle.std.proofs.lemmas.Bool.{ltb-false, ltb-true, not-false}
 use Rattle.std.proofs.lemmas.Bool.Decides.{Decides-int_eq}
@@ -12,6 +12,8 @@ use Rattle.giv_files.specs.declared.file_id.FileId.TheVariants as file
 use Rattle.giv_files.specs.declared.row_why.RowWhy.TheVariants as why
 use Rattle.giv_files.specs.Columns.{tree_columns}
 use Rattle.giv_files.specs.Inputs.{numbered, records, row_faults}
+use Rattle.giv_files.specs.declared.read_fault.ReadFault.{ReadFault}
+use Rattle.giv_files.specs.declared.read_fault.ReadFault.TheVariants as read
 use Rattle.giv_files.specs.declared.read_fault.RowFault.{RowFault}
 use Rattle.giv_files.specs.Reading.{faults, table_of, table_row}
 use Rattle.giv_files.specs.Rows.{Row}
@@ -28,7 +30,7 @@ use Rattle.branch_certificate.specs.TreeFiles.{ids_of, is_due}
 use Rattle.branch_certificate.specs.TreeFiles.{is_multiplier}
 use Rattle.branch_certificate.specs.TreeFiles.{multiplier_rows, node_of, nodes_of, read_faults}
 use Rattle.branch_certificate.specs.TreeFiles.{tree_input, tree_of, tree_row, tree_rules}
-use Rattle.branch_certificate.specs.TreeTexts.{node_rows}
+use Rattle.branch_certificate.specs.TreeTexts.{CopiesTrees, CopyGives, node_rows}
 use Rattle.branch_certificate.specs.TreeTexts.{tree_header, tree_text}
 use Rattle.branch_certificate.proofs.FaultlessTrees.{row_cells}
 use Rattle.branch_certificate.proofs.ReadSteps.{due_more, inside_first, multiplier_first}
@@ -202,7 +204,7 @@ lines_next old new text cells row left rows pushed same next whole = grind (arit
 
 module _ (problem : ProblemParts) (text : List ℕ) (fine : read_faults problem text ≡ []) where
   -- no cell of it is at fault
-  pub never_refused : (first : RowFault) → slice_get (faults tree_columns text) 0 ≡ Some first → ⊥
+  never_refused : (first : RowFault) → slice_get (faults tree_columns text) 0 ≡ Some first → ⊥
   unfolding read_faults
   never_refused first refused =
       let none = unmapped _ _ (parts_sound (tree_input (ids_of problem)) text fine).0 in
@@ -210,7 +212,14 @@ module _ (problem : ProblemParts) (text : List ℕ) (fine : read_faults problem 
       cc
 
   -- and the copy is the text of its tree
-  pub copied : (made : List ℕ)
+  copied : (made : List ℕ)
       → made ≡ table_text tree_header tree_columns (table_of tree_columns text)
       → made ≡ tree_text problem (tree_of problem text)
   copied made is = is ∙ tree_kept problem text fine
+
+-- so what is copied is copied as each tree that the text is
+pub trees_copied : (text : List ℕ) (result : Result (List ℕ) ReadFault) → CopyGives text result
+    → CopiesTrees text result
+trees_copied text (Ok made) gives = λ problem fine. copied problem text fine made gives.1
+trees_copied text (Err (read.Row first)) gives = λ problem fine. never_refused problem text fine first gives
+trees_copied text (Err read.NoMemory) gives = tt

@@ -1,15 +1,17 @@
 // Writing the text of a tree anew.
-ghost use Rattle.branch_certificate.specs.TreeTexts.{CopyGives};
+ghost use Rattle.branch_certificate.specs.TreeTexts.{CopiesTrees, CopyGives};
 
 use crate::write::header_line;
 use giv_files::{ReadFault, Table, TextRow, TextRows, columns, push_line};
 use plan_num::Text;
 use std::alloc::Global;
 
-/// The text of a tree written anew, as `write_tree` writes the tree that it is, or its first row
-/// with a cell at fault. It goes row by row, with no tree and no table of it.
+/// The text of a table of a tree written anew, or its first row with a cell at fault. Where the text
+/// is a tree, that is what `write_tree` writes of this tree. It goes row by row, with no tree and no
+/// table of it.
 pub fn copy_tree(alloc: Global, bytes: &[u8]) -> Result<Text, ReadFault>
-    ensures { CopyGives bytes.now result }
+    ensures gives { CopyGives bytes.now result }
+    ensures trees { CopiesTrees bytes.now result }
 {
     let mut lines = header_line(alloc)?;
     let mut rows = TextRows::new(alloc, bytes)?;

@@ -154,6 +154,7 @@ module _ (bundle : BundleParts) (none : disposition_faults bundle ≡ []) where
           reasons_text = reasons_text reasons;
           both = refl;
           disposition = (disposition_is_one problem (wait_of bundle.settings) forward).0;
+          only = (disposition_is_one problem (wait_of bundle.settings) forward).1;
           written = refl;
           right = right;
           times_back = times_again times time_fit;

@@ -17,6 +17,7 @@ mod ForwardSteps
 mod InputsSound
 mod JudgedFaults
 mod JudgedTexts
+mod KeptMore
 mod Late
 mod Later
 mod LinksByRank

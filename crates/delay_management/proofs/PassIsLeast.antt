@@ -37,7 +37,7 @@ unmapped_all P f xs all k d inside =
     subst P (get_or-map f xs k d (f d) inside) (all k (f d) (omega (arith, inside, length-map xs f)))
 
 -- what holds of each one that is chosen
-chosen_all : {X : Type 0} (P : X → Type 0) (kept : List Bool) (xs : List X)
+pub chosen_all : {X : Type 0} (P : X → Type 0) (kept : List Bool) (xs : List X)
     → ((k : ℕ) (d : X) → k < length xs → get_or kept k false ≡ true → P (get_or xs k d))
     → All P (items_where_true kept xs)
 chosen_all P [] xs each = All-nil P

@@ -19,7 +19,6 @@ use Rattle.delay_management.specs.declared.reason.Reason.{Reason}
 use Rattle.delay_management.specs.declared.reason.Reason.TheVariants as reason
 use Rattle.delay_management.specs.declared.step.Activity.{Activity}
 use Rattle.delay_management.specs.declared.step.Step.{Step}
-use Rattle.delay_management.specs.Laws.{ReasonsProveLeast}
 use Rattle.delay_management.specs.LeastTimes.{IsFeasible, IsLeast, time_at, asked}
 use Rattle.delay_management.specs.Problems.{DelayProblem, steps_with, event_at, earliest_at, GoesForward, IsForward, AreChanges}
 use Rattle.delay_management.specs.Reasons.{AreRight, is_right, is_tight}
@@ -185,7 +184,10 @@ forward_with problem kept forward among =
     (Contains-append_right (map (λ (at : Activity). at.step) (rides ++ changes)) problem.turns (get_or problem.turns k d)
     (Contains-get_or problem.turns k d within)))
 
-pub reasons_prove_least : ReasonsProveLeast
+pub reasons_prove_least : (problem : DelayProblem) (kept : List Activity) (times : List ℕ)
+    (reasons : List Reason) → IsForward problem → AreChanges problem kept
+    → IsFeasible problem kept times → AreRight problem kept times reasons
+    → IsLeast problem kept times
 reasons_prove_least problem kept times reasons forward among feasible right =
     let steps = forward_with problem kept forward among in
     right_is_least problem kept times (rank problem.events)

@@ -1,5 +1,5 @@
 -- The least times that are computed are the least times, and the only ones.
-use Rattle.std.proofs.Common.{◌≡◌, ℕ, zero, suc, ◌<◌, ◌+◌, ◌==◌, ◌≤◌, cond, Bool, true, false, List}
+use Rattle.std.proofs.Common.{◌≡◌, ℕ, ℤ, zero, suc, ◌<◌, ◌+◌, ◌==◌, ◌≤◌, cond, Bool, true, false, List}
 use Rattle.std.proofs.Common.{[], ◌∷◌, ◌++◌, length, map, get_or, ap, sym, ◌∙◌, refl, arith, ◌⊎◌}
 use Rattle.std.proofs.Common.{inl, inr, subst}
 use Rattle.std.specs.List.{All, Contains, filter}
@@ -9,10 +9,9 @@ use Rattle.std.proofs.lemmas.List.Elements.{All-filter, All-contains_itself, All
 use Rattle.std.proofs.lemmas.List.FromFn.{get_or-map-range_with_len, length-map-range_with_len}
 use Rattle.delay_management.specs.declared.step.Activity.{Activity}
 use Rattle.delay_management.specs.declared.step.Step.{Step}
-use Rattle.delay_management.specs.Laws.{LeastTimesAreLeast, LeastIsOne, TimesGrow, DispositionIsOne}
 use Rattle.delay_management.specs.LeastTimes.{IsLeast, time_at, asked, latest, pushed_at, pushed, pushed_often, least_times}
 use Rattle.delay_management.specs.Problems.{DelayProblem, minutes, steps_with, earliest_at, GoesForward, IsForward, AreChanges}
-use Rattle.delay_management.specs.Waiting.{is_kept, kept_changes, times_alone, disposition}
+use Rattle.delay_management.specs.Waiting.{IsDisposition, is_kept, kept_changes, times_alone, disposition}
 use Rattle.delay_management.proofs.Later.{latest_bounds, latest_reached, shifted}
 use Rattle.delay_management.proofs.ReasonsProve.{mapped, rank, rising, few_before, forward_with}
 
@@ -180,7 +179,8 @@ module _ (problem : DelayProblem) (steps : List Step) where
         (pushed_often problem steps k) event
     fixed k event low within = sym (settled k event low within) ∙ at_next k event within
 
-pub least_times_are_least : LeastTimesAreLeast
+pub least_times_are_least : (problem : DelayProblem) (kept : List Activity) → IsForward problem
+    → AreChanges problem kept → IsLeast problem kept (least_times problem kept)
 unfolding least_times
 least_times_are_least problem kept forward among =
     let steps = steps_with problem kept in let all = forward_with problem kept forward among in
@@ -208,7 +208,8 @@ least_times_are_least problem kept forward among =
           (length problem.events) event within;
     }
 
-pub least_is_one : LeastIsOne
+pub least_is_one : (problem : DelayProblem) (kept : List Activity) (times others : List ℕ)
+    → IsLeast problem kept times → IsLeast problem kept others → times ≡ others
 least_is_one problem kept times others h g =
     ext_get_or (0) times others (h.feasible.each ∙ sym g.feasible.each) (λ event within.
     let inside : event < length problem.events = omega (arith, within, h.feasible.each) in
@@ -234,7 +235,11 @@ steps_fewer P problem fewer more among all =
     (Contains-append_right (map (λ (at : Activity). at.step) (rides ++ more)) problem.turns (get_or problem.turns k d)
     (Contains-get_or problem.turns k d within)))
 
-pub times_grow : TimesGrow
+-- no event is earlier where more changes are kept
+pub times_grow : (problem : DelayProblem) (fewer more : List Activity) (times others : List ℕ)
+    → All (λ change. Contains more change) fewer → IsLeast problem fewer times
+    → IsLeast problem more others → (event : ℕ) → event < length problem.events
+    → time_at times event ≤ time_at others event
 times_grow problem fewer more times later among h g event within =
     h.least later (record {
       each = g.feasible.each;
@@ -248,7 +253,9 @@ pub kept_are_changes : (problem : DelayProblem) (test : Activity → Bool) →
 kept_are_changes problem test =
     All-filter test (Contains problem.changes) problem.changes (All-contains_itself problem.changes)
 
-pub disposition_is_one : DispositionIsOne
+pub disposition_is_one : (problem : DelayProblem) (wait : ℤ) → IsForward problem
+    → IsDisposition problem wait (disposition problem wait)
+    × ((times : List ℕ) → IsDisposition problem wait times → times ≡ disposition problem wait)
 unfolding kept_changes
 disposition_is_one problem wait forward =
     let alone_least = least_times_are_least problem [] forward (λ k d within. absurd (omega arith)) in (

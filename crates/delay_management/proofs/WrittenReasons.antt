@@ -13,10 +13,9 @@ use Rattle.std.proofs.lemmas.Map.Views.{list_any-from_Contains}
 use Rattle.delay_management.specs.declared.reason.Reason.TheVariants as reason
 use Rattle.delay_management.specs.declared.step.Activity.{Activity}
 use Rattle.delay_management.specs.declared.step.Step.{Step}
-use Rattle.delay_management.specs.Laws.{WrittenReasonsAreRight}
-use Rattle.delay_management.specs.LeastTimes.{time_at, asked, pushed_at}
-use Rattle.delay_management.specs.Problems.{DelayProblem, steps_with, earliest_at}
-use Rattle.delay_management.specs.Reasons.{is_right, is_tight, tight_ids, by_activity, lesser, canonical_reason, canonical_reasons}
+use Rattle.delay_management.specs.LeastTimes.{IsLeast, time_at, asked, pushed_at}
+use Rattle.delay_management.specs.Problems.{AreChanges, DelayProblem, IsForward, steps_with, earliest_at}
+use Rattle.delay_management.specs.Reasons.{AreRight, is_right, is_tight, tight_ids, by_activity, lesser, canonical_reason, canonical_reasons}
 use Rattle.delay_management.proofs.Later.{latest_reached, lesser_reached, shifted}
 use Rattle.delay_management.proofs.ReasonsProve.{none}
 use Rattle.delay_management.proofs.Rounds.{in_filter, into_are, no_step, least_is_pushed}
@@ -115,7 +114,9 @@ module _ (problem : DelayProblem) (kept : List Activity) (times : List ℕ) wher
             (pushed_at problem (steps_with problem kept) times event) within) ∙ at.2 ∙ sym equal in
             by_step (get_or xs at.0 no_step) is.0 (tight_is (get_or xs at.0 no_step) is.1 just) nil
 
-pub written_reasons_are_right : WrittenReasonsAreRight
+pub written_reasons_are_right : (problem : DelayProblem) (kept : List Activity) (times : List ℕ)
+    → IsForward problem → AreChanges problem kept → IsLeast problem kept times
+    → AreRight problem kept times (canonical_reasons problem kept times)
 unfolding canonical_reasons
 written_reasons_are_right problem kept times forward among least = record {
   each = length-map-range_with_len (canonical_reason problem kept times) 0 (length problem.events);

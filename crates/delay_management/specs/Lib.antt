@@ -3,7 +3,6 @@ pub mod DispositionStage
 pub mod EarlyEvents
 pub mod Judged
 pub mod Lateness
-pub mod Laws
 pub mod LeastTimes
 pub mod Links
 pub mod Marks
@@ -12,7 +11,6 @@ pub mod Outgoing
 pub mod Problems
 pub mod Reasons
 pub mod RightDispositions
-pub mod TakenParts
 pub mod TightIds
 pub mod Trials
 pub mod Waiting

@@ -18,7 +18,8 @@ use Rattle.delay_management.specs.Waiting.{IsDisposition, wait_of}
 
 -- The files that are made are right: the inputs have no fault, and there are two files. Read again,
 -- the first one has the disposition, so one time for each event in order, and no feasible times are
--- earlier at any event; the second one has the reasons that are written of them, and each is right.
+-- earlier at any event; there is no other disposition. The second one has the reasons that are
+-- written of these times, and each is right.
 -- The two break no rule of a disposition from any hand, and the first one has no fault by the rules
 -- of its kind.
 pub record DispositionFilesAreRight (bundle : BundleParts) (files : List MadeFile) : Type 0 where
@@ -30,6 +31,8 @@ pub record DispositionFilesAreRight (bundle : BundleParts) (files : List MadeFil
   pub both : files ≡ record { file = file.Disposed; text = times_text }
       ∷ record { file = file.Reasons; text = reasons_text } ∷ []
   pub disposition : IsDisposition (problem_in bundle) (wait_of bundle.settings) times
+  pub only : (others : List ℕ)
+      → IsDisposition (problem_in bundle) (wait_of bundle.settings) others → others ≡ times
   pub written : reasons ≡ canonical_reasons (problem_in bundle) (kept_in bundle) times
   pub right : AreRight (problem_in bundle) (kept_in bundle) times reasons
   pub times_back : ReadsAs disposed_columns disposed_time (time_rows times) times_text

@@ -1,5 +1,5 @@
 -- Which changes are kept, and the disposition that keeps them.
-use Rattle.std.specs.Prelude.{ℕ, ℤ, pos, negsuc, zero, suc, ◌+◌, nat_le, Bool, true, false, List, [], filter, unwrap_or}
+use Rattle.std.specs.Prelude.{ℕ, ℤ, pos, negsuc, zero, suc, ◌+◌, ◌<◌, ◌≤◌, ◌≡◌, nat_le, Bool, true, false, List, [], filter, get_or, length, unwrap_or}
 use Rattle.std.specs.List.{items_where_true}
 use Rattle.giv_files.specs.declared.key.Key.TheVariants as key
 use Rattle.giv_files.specs.declared.setting.Setting.{Setting}
@@ -11,6 +11,17 @@ use Rattle.delay_management.specs.Problems.{DelayProblem, planned_at}
 -- the changes that are chosen, by one truth value for each change
 abbrev pub chosen_changes : DelayProblem → List Bool → List Activity
 chosen_changes problem kept = items_where_true kept problem.changes
+
+-- a set of changes keeps all that another one keeps
+abbrev pub KeepsAll : List Bool → List Bool → Type 0
+KeepsAll kept fewer =
+    (change : ℕ) → get_or fewer change false ≡ true → get_or kept change false ≡ true
+
+-- times grow with the set of changes that is kept: no event is earlier than where fewer are kept
+abbrev pub GrowWithKept : DelayProblem → List Bool → List ℕ → Type 0
+GrowWithKept problem kept times = (fewer : List Bool) (others : List ℕ) → KeepsAll kept fewer
+    → IsLeast problem (chosen_changes problem fewer) others
+    → (event : ℕ) → event < length problem.events → time_at others event ≤ time_at times event
 
 -- how long a departure waits: so many minutes, for all changes (-1), or for none (-2)
 abbrev pub wait_of : List Setting → ℤ

@@ -22,6 +22,7 @@ mod propagation;
 mod reason;
 mod reasons;
 mod rows;
+mod settle;
 mod stage;
 mod step;
 mod taken;

@@ -5,7 +5,9 @@ ghost use Rattle.std.specs.List.Sorted.{IsNonDecreasing, IsNonDecreasingBy, IsPe
 ghost use Rattle.event_tables.specs.ForwardRanks.{forward_rank};
 ghost use Rattle.delay_management.specs.ChangeEnds.{AreFirst, IsFirst};
 ghost use Rattle.delay_management.specs.Links.{change_links, link_of, ride_links, turn_links};
+ghost use Rattle.delay_management.specs.OnTrial.{WaitBy};
 
+use crate::marking::Marking;
 use crate::outgoing::Outgoing;
 use crate::step::{Activity, Step};
 use event_tables::{ExpandedEvent, forward_rank};
@@ -171,5 +173,19 @@ fn link_of(events: &[ExpandedEvent], change: Option<u32>, step: &Step) -> Link
         rank: forward_rank(events, step.from),
         step: *step,
         change,
+    }
+}
+
+/// The links of a rank wait, which begin at a place.
+pub(crate) fn wait_behind(waiting: &mut Marking, links: &[Link], first: usize, rank: u64)
+    requires in_order { IsNonDecreasingBy (λ link. link.rank) links.now }
+    requires first { IsFirst (λ link. link.rank) links.now rank first }
+    requires each { length waiting.old ≡ length links.now }
+    ensures { WaitBy (λ link. link.rank ≡ rank) links.now waiting.old waiting.new }
+{
+    let mut at = first;
+    while at < links.len() && links[at].rank == rank {
+        waiting.set(at, true);
+        at += 1;
     }
 }

@@ -1,19 +1,17 @@
 // Times on trial, and what they tell.
-ghost use Rattle.std.specs.Prelude.{◌≡◌, ◌+◌, ◌∷◌, ◌++◌, ◌<◌, ◌≤◌, false, get_or, length, slice_set, List, IfOk, OnErr, OnOk};
-ghost use Rattle.std.specs.List.Sorted.{IsNonDecreasingBy};
+ghost use Rattle.std.specs.Prelude.{◌≡◌, ◌+◌, ◌∷◌, ◌<◌, ◌≤◌, false, get_or, length, slice_set, IfOk, IfSome, OnErr, OnOk};
 ghost use Rattle.event_tables.specs.ForwardRanks.{forward_rank};
-ghost use Rattle.delay_management.specs.declared.moved.Moved.{Moved};
-ghost use Rattle.delay_management.specs.ChangeEnds.{IsFirst};
 ghost use Rattle.delay_management.specs.Lateness.{delay_at};
 ghost use Rattle.delay_management.specs.LeastTimes.{asked, least_times};
 ghost use Rattle.delay_management.specs.Links.{IsLinked};
-ghost use Rattle.delay_management.specs.OnTrial.{Follows, IsLastMoved, IsSettling, IsSettlingBut, NoneWaits, Pushes, StartsTrial, TellsBroken, WaitBy, rewound};
+ghost use Rattle.delay_management.specs.Markings.{IsNext};
+ghost use Rattle.delay_management.specs.OnTrial.{Follows, IsLastMoved, IsSettling, NoneWaits, Pushes, StartsTrial, TellsBroken, WaitBy};
 ghost use Rattle.delay_management.specs.Problems.{Joins};
 ghost use Rattle.delay_management.specs.Waiting.{chosen_changes};
 
 use crate::ends::{ChangeEnd, ends_in_order, first_ends};
 use crate::lateness::{delay_at, more_delay};
-use crate::links::{Link, first_links};
+use crate::links::{Link, first_links, wait_behind};
 use crate::moved::Moved;
 use crate::pass::counts;
 use crate::propagation::Propagation;
@@ -162,8 +160,8 @@ impl<'a> TimesOnTrial<'a> {
         self.broken.next(0)
     }
 
-    // The time of an event is another one.
-    fn set_time(&mut self, event: u32, time: u64)
+    /// The time of an event is another one.
+    pub(crate) fn set_time(&mut self, event: u32, time: u64)
         requires there { event < length self.old.problem.events }
         requires small { time ≤ 1000000000000000000 }
         ensures { self.new ≡ record self.old { times = slice_set self.old.times event time } }
@@ -203,38 +201,18 @@ impl<'a> TimesOnTrial<'a> {
         self.waiting.clear();
     }
 
-    /// The head of a step is no earlier than the step asks, and what follows from it: heads are
-    /// made later until all links that count have their minutes.
-    pub(crate) fn settle_from(&mut self, step: Step, kept: &[bool]) -> Result<(), NoMemory>
-        requires { IsSettlingBut kept.now step self.old }
-        ensures follows { Follows self.old self.new }
-        ensures least { OnOk result (self.new.times
-            ≡ least_times self.old.problem (chosen_changes self.old.problem kept.now)) }
-        ensures none { OnOk result (NoneWaits self.new) }
+    /// The first link from a place on that waits.
+    pub(crate) fn next_waiting(&self, from: usize) -> Option<usize>
+        ensures next { IsNext self.now.waiting from result }
+        ensures there { IfSome result (λ at. at < length self.now.links) }
+        ensures linked { IsLinked self.now.problem self.now.links }
+        ensures each { length self.now.times ≡ length self.now.problem.events }
     {
-        self.push(step)?;
-        self.settle(kept)
+        self.waiting.next(from)
     }
 
-    // Takes the links that wait in their order, and makes heads later where they ask for it, until
-    // none waits.
-    fn settle(&mut self, kept: &[bool]) -> Result<(), NoMemory>
-        requires { IsSettling kept.now self.old 0 }
-        ensures follows { Follows self.old self.new }
-        ensures least { OnOk result (self.new.times
-            ≡ least_times self.old.problem (chosen_changes self.old.problem kept.now)) }
-        ensures none { OnOk result (NoneWaits self.new) }
-    {
-        let mut from = 0;
-        while let Some(at) = self.waiting.next(from) {
-            self.take_link(at, kept)?;
-            from = at + 1;
-        }
-        Ok(())
-    }
-
-    // The link at a place waits no more: its head is no earlier than it asks, where it counts.
-    fn take_link(&mut self, at: usize, kept: &[bool]) -> Result<(), NoMemory>
+    /// The link at a place waits no more: its head is no earlier than it asks, where it counts.
+    pub(crate) fn take_link(&mut self, at: usize, kept: &[bool]) -> Result<(), NoMemory>
         requires there { at < length self.old.links }
         requires settling { IsSettling kept.now self.old at }
         ensures follows { Follows self.old self.new }
@@ -248,8 +226,8 @@ impl<'a> TimesOnTrial<'a> {
         Ok(())
     }
 
-    // The head of a step, no earlier than the step asks.
-    fn push(&mut self, step: Step) -> Result<(), NoMemory>
+    /// The head of a step, no earlier than the step asks.
+    pub(crate) fn push(&mut self, step: Step) -> Result<(), NoMemory>
         requires joins { Joins (length self.old.problem.events) step }
         requires small { asked self.old.times step ≤ 1000000000000000000 }
         ensures ok { OnOk result (Pushes step self.old self.new) }
@@ -285,14 +263,6 @@ impl<'a> TimesOnTrial<'a> {
         self.trail.len()
     }
 
-    /// The last notes are dropped, until so many are left.
-    pub(crate) fn forget_last(&mut self, left: usize)
-        ensures { (top rest : List Moved) → self.old.noted ≡ top ++ rest → length rest ≡ left
-            → self.new ≡ record self.old { noted = rest } }
-    {
-        while let Some(_last) = self.last_moved(left) {}
-    }
-
     /// The least times where some changes are kept, in the place of others.
     pub(crate) fn renew(&mut self, kept: &[bool])
         ensures { self.new ≡ record self.old {
@@ -309,37 +279,13 @@ impl<'a> TimesOnTrial<'a> {
         );
     }
 
-    /// Events that were made later have their times before again, until so many are left.
-    pub(crate) fn undo(&mut self, left: usize)
-        ensures { (top rest : List Moved) → self.old.noted ≡ top ++ rest → length rest ≡ left
-            → self.new ≡ record self.old { times = rewound top self.old.times; noted = rest } }
-    {
-        while let Some(last) = self.last_moved(left) {
-            self.set_time(last.event, last.before);
-        }
-    }
-
-    // The last event that was made later, where more than so many are left; it is no more noted.
-    fn last_moved(&mut self, left: usize) -> Option<Moved>
+    /// The last event that was made later, where more than so many are left; it is no more noted.
+    pub(crate) fn last_moved(&mut self, left: usize) -> Option<Moved>
         ensures { IsLastMoved left self.old self.new result }
     {
         if self.trail.len() <= left {
             return None;
         }
         self.trail.pop()
-    }
-}
-
-// The links of a rank wait, which begin at a place.
-fn wait_behind(waiting: &mut Marking, links: &[Link], first: usize, rank: u64)
-    requires in_order { IsNonDecreasingBy (λ link. link.rank) links.now }
-    requires first { IsFirst (λ link. link.rank) links.now rank first }
-    requires each { length waiting.old ≡ length links.now }
-    ensures { WaitBy (λ link. link.rank ≡ rank) links.now waiting.old waiting.new }
-{
-    let mut at = first;
-    while at < links.len() && links[at].rank == rank {
-        waiting.set(at, true);
-        at += 1;
     }
 }

@@ -1,10 +1,10 @@
 // The least times for a set of kept changes, and what they tell.
-ghost use Rattle.std.specs.Prelude.{ℕ, ◌≡◌, ◌<◌, ◌≤◌, ◌≤ℤ◌, pos, length, map, slice_get, Some, option_map, All, IfOk};
+ghost use Rattle.std.specs.Prelude.{ℕ, List, ◌≡◌, ◌<◌, ◌≤◌, ◌≤ℤ◌, pos, length, map, slice_get, Some, option_map, All, IfOk};
 ghost use Rattle.std.specs.List.Sorted.{IsStrictlyIncreasing};
 ghost use Rattle.delay_management.specs.Lateness.{delay_at, is_broken};
 ghost use Rattle.delay_management.specs.LeastTimes.{IsLeast, least_times, time_at};
 ghost use Rattle.delay_management.specs.Problems.{IsForward, Joins, earliest_at, planned_at};
-ghost use Rattle.delay_management.specs.Waiting.{chosen_changes};
+ghost use Rattle.delay_management.specs.Waiting.{GrowWithKept, chosen_changes};
 
 use crate::lateness::delay_at;
 use crate::propagation::Propagation;
@@ -44,12 +44,16 @@ impl Times {
 impl Propagation {
     /// The least times where some changes are kept, told by one value for each change: no event is
     /// before its earliest time, and each step of a ride, of a turn and of a kept change has its
-    /// minutes.
+    /// minutes. There are no other least times, and no event is earlier than where fewer changes
+    /// are kept.
     pub fn least(&self, alloc: Global, kept: &[bool]) -> Result<Times, NoMemory>
         ensures times { IfOk result
             (λ times. times ≡ least_times self.now (chosen_changes self.now kept.now)) }
         ensures least { IfOk result
             (λ times. IsLeast self.now (chosen_changes self.now kept.now) times) }
+        ensures one { IfOk result (λ times. (others : List ℕ)
+            → IsLeast self.now (chosen_changes self.now kept.now) others → others ≡ times) }
+        ensures grow { IfOk result (GrowWithKept self.now kept.now) }
         ensures each { IfOk result (λ times. length times ≡ length self.now.events) }
         ensures small { IfOk result (λ times. All (λ time. time ≤ 600000000000) times) }
     {

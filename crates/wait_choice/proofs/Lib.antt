@@ -1,4 +1,5 @@
 mod Bounds
+mod Holding
 mod Judging
 mod Listed
 mod Printed

@@ -285,7 +285,7 @@ module _ (problem : DelayProblem) (penalty : ℕ) (text : List ℕ) where
       → IfSome (tree_in nodes) (λ tree. CostsAtLeast problem penalty cost)
   unfolding tree_in
   tree_least [] certified forward = tt
-  tree_least (first ∷ more) certified forward = certified_holds least_times_are_least problem forward penalty cost (first ∷ more) certified
+  tree_least (first ∷ more) certified forward = certified_holds problem forward penalty cost (first ∷ more) certified
 
   some_names : (nodes : List WaitNode) → All (NamesChange (length changes)) nodes → IfSome (tree_in nodes) (All (NamesChange (length changes)))
   unfolding tree_in

@@ -8,7 +8,6 @@ use Rattle.std.proofs.lemmas.Bool.{both_ways, le-leb, leb-true}
 use Rattle.std.proofs.lemmas.List.{length-set, length-replicate, take_all}
 use Rattle.std.proofs.lemmas.List.Elements.{All-append, All-cons, All-nil}
 use Rattle.delay_management.specs.Problems.{DelayProblem, IsForward}
-use Rattle.delay_management.proofs.Rounds.{least_times_are_least}
 use Rattle.wait_choice.specs.declared.decision.Decision.{Decision}
 use Rattle.wait_choice.specs.declared.decision.Decision.TheVariants as decision
 use Rattle.wait_choice.specs.declared.node.WaitNode.{WaitNode}
@@ -49,7 +48,7 @@ module _ (problem : DelayProblem) (forward : IsForward problem) (penalty : ℕ) 
       by true broken is = All-cons GoodEntry cut_off [] tt (All-nil GoodEntry)
       by false None is =
           All-cons GoodEntry (found (choice_in problem penalty region)) []
-          (found_costs least_times_are_least problem forward penalty region size is) (All-nil GoodEntry)
+          (found_costs problem forward penalty region size is) (All-nil GoodEntry)
       by false (Some change) is =
           let keeping = below (decided region change decision.Kept) best in
           let dropping = below (decided region change decision.Dropped) (best_after best keeping) in
@@ -122,7 +121,7 @@ module _ (problem : DelayProblem) (forward : IsForward problem) (penalty : ℕ) 
   right_marked : (choice : Choice) → best_after None (listing problem penalty) ≡ Some choice → IsWritable choice.cost
       → IsRight problem penalty (with_tree (Some (nodes_of (listing problem penalty))) choice)
   right_marked choice is cheap =
-      let best = listing_is_best least_times_are_least problem penalty choice forward is in
+      let best = listing_is_best problem penalty choice forward is in
       record {
         over = record { each = best.0.costs.each; names = names_of choice.cost (nodes_of (listing problem penalty)) best.1 };
         costs = best.0.costs;

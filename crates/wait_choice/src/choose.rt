@@ -7,6 +7,7 @@ ghost use Rattle.giv_files.specs.StageCalls.{TakesSteps};
 ghost use Rattle.delay_management.specs.DispositionStage.{disposition_faults, problem_in};
 ghost use Rattle.wait_choice.specs.ChoiceStage.{FindsSome, IsEnough, IsUnspent, IsWhole, outcome_of, waits_in, waits_refusals, waits_work};
 ghost use Rattle.wait_choice.specs.RightChoices.{IsRight};
+ghost use Rattle.wait_choice.specs.RightListings.{IsListed};
 
 use crate::search::search_waits;
 use crate::waits::Waits;
@@ -33,6 +34,7 @@ pub fn choose_waits<L: Ledger>(
     ensures chosen { UnlessFault (waits_refusals bundle.now penalty budget)
         (λ waits. waits_in bundle.now penalty budget ≡ Some waits) result }
     ensures right { IfOk result (IsRight (problem_in bundle.now) penalty) }
+    ensures listed { IfOk result (IsListed (problem_in bundle.now) penalty budget) }
     ensures finds { FindsSome (problem_in bundle.now) budget → IsUnspent result }
     ensures whole { IsEnough (problem_in bundle.now) budget → IsWhole result }
     ensures steps { TakesSteps (waits_work bundle.now penalty budget) steps.old steps.new result }

@@ -71,7 +71,7 @@ fn costs(
     let kept = kept_in(alloc, choices)?;
     let times = problem.least(alloc, &kept)?;
     let dropped = dropped_count(&kept);
-    Ok(is_sum(problem.delay(&times), penalty, dropped_count(&kept), cost))
+    Ok(is_sum(problem.delay(&times), penalty, dropped, cost))
 }
 
 // Whether a delay and a penalty for each change that is dropped are so much together.

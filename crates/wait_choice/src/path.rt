@@ -1,7 +1,8 @@
 // The way of a search from region to region.
 ghost use Rattle.std.specs.Prelude.{[], ◌≡◌, ◌*◌, ◌≤◌, ◌≤ℤ◌, ◌+ℤ◌, ◌∷◌, pos, true, false, drop, length, slice_get, IfOk, IfSome, OnOk};
+ghost use Rattle.delay_management.specs.Problems.{IsForward};
 ghost use Rattle.wait_choice.specs.Paths.{GoesOn, all_but, region_in};
-ghost use Rattle.wait_choice.specs.Regions.{bound_of, first_broken, greatest_set, is_free_at};
+ghost use Rattle.wait_choice.specs.Regions.{CostsAtLeastIn, bound_of, first_broken, greatest_set, is_free_at};
 
 use delay_management::{Decided, Propagation, Trial};
 use plan_num::NoMemory;
@@ -61,11 +62,13 @@ impl<'a> Path<'a> {
         &self.dropped
     }
 
-    /// The bound of the region at a penalty in minutes.
+    /// The bound of the region at a penalty in minutes: no set of changes in it comes to less.
     pub(crate) fn bound(&self, penalty: u32) -> i128
         ensures value { result ≡ bound_of self.now.problem penalty (region_in self.now) }
         ensures least { pos 0 ≤ℤ result }
         ensures most { penalty ≤ 1000000 → result ≤ℤ pos 1000000000000000000 }
+        ensures holds { CostsAtLeastIn self.now.problem penalty (region_in self.now) result }
+        ensures forward { IsForward self.now.problem }
     {
         let _count = self.trial.change_count();
         with_penalties(self.trial.delay(), penalty, self.dropped.len())

@@ -4,6 +4,7 @@ ghost use Rattle.std.specs.Prelude.{true};
 ghost use Rattle.wait_choice.specs.Budgets.{entries_listed, waits_within, with_tree};
 ghost use Rattle.wait_choice.specs.Listings.{found, found_by, holds_off, listing};
 ghost use Rattle.wait_choice.specs.RightChoices.{IsRight, IsWritable};
+ghost use Rattle.wait_choice.specs.RightListings.{EntryHolds, IsListed};
 ghost use Rattle.wait_choice.specs.Regions.{greatest_set, is_free_at};
 ghost use Rattle.wait_choice.specs.Paths.{region_in};
 ghost use Rattle.wait_choice.specs.Searches.{IsCheap, Leaves, Splits, TakesEntry, best_in, choice_of, entry_of, next_entry};
@@ -64,6 +65,7 @@ pub(crate) fn search_waits<L: Ledger>(
     ensures found { IfOk result
         (λ found. found ≡ waits_within budget (listing problem.now penalty)) }
     ensures right { IfOk result (λ found. IfSome found (IsRight problem.now penalty)) }
+    ensures listed { IfOk result (λ found. IfSome found (IsListed problem.now penalty budget)) }
     ensures steps { OnOk result
         (steps.new ≡ steps.old + entries_listed budget (listing problem.now penalty)) }
     ensures err { OnErr result ((steps.old ≤ steps.new)
@@ -112,13 +114,16 @@ impl<'a> Search<'a> {
         }
     }
 
-    // What is said of the region in hand.
+    // What is said of the region in hand, which holds.
     fn next_entry(&self, alloc: Global, penalty: u32) -> Result<Next, NoMemory>
         requires { penalty ≤ 1000000 }
         ensures next { IfOk result (λ next. entry_of (length self.now.path.problem.changes) next
             ≡ next_entry penalty self.now) }
         ensures cheap { IfOk result (λ next. IsCheap
             (found_by (entry_of (length self.now.path.problem.changes) next))) }
+        ensures holds { IfOk result (λ next. EntryHolds self.now.path.problem penalty
+            (region_in self.now.path) self.now.best
+            (entry_of (length self.now.path.problem.changes) next)) }
     {
         let bound = self.path.bound(penalty);
         if self.is_cut_off(bound) {

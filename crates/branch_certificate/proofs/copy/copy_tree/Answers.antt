@@ -1,4 +1,4 @@
-use Rattle.std.proofs.Common.{◌≡◌, ◌∷◌, ◌++◌, ◌∙◌, [], List, ap, map, subst, sym, append-nil, slice_index_or}
+use Rattle.std.proofs.Common.{◌≡◌, ◌∷◌, ◌++◌, ◌∙◌, [], List, Ok, ap, map, subst, sym, append-nil, slice_index_or}
 use Rattle.std.specs.List.{flat_map}
 use Rattle.std.proofs.lemmas.Result.{err_from_is_err_and}
 use Rattle.giv_files.specs.Columns.{tree_columns}
@@ -7,15 +7,19 @@ use Rattle.giv_files.specs.Tables.{TableRow, no_row}
 use Rattle.giv_files.specs.Writing.{InColumns, line_text}
 use Rattle.giv_files.proofs.Ranges.{row_in_columns}
 use Rattle.giv_files.proofs.RowsLeft.{mark_first, no_mark, row_ends, table_is}
-use Rattle.branch_certificate.proofs.RowsKept.{lines_first, lines_next}
+use Rattle.branch_certificate.proofs.RowsKept.{lines_first, lines_next, trees_copied}
 use Rattle.branch_certificate.proofs.copy.copy_tree.Goals as goal
 
-pub returns-in_err-rows : goal.returns-in_err-rows
-returns-in_err-rows c =
+pub returns-in_err-rows-clause-gives : goal.returns-in_err-rows-clause-gives
+returns-in_err-rows-clause-gives c =
     let p = err_from_is_err_and c.from_residual-in_err-rows.result
     c.from_residual-in_err-rows.ensures.1 in
     rw (p.1, p.2, c.in_err-rows.ensures.1) (mark_first tree_columns c.args.bytes.now
     c.in_err-rows.ensures.0)
+
+pub returns-in_err-rows-clause-trees : goal.returns-in_err-rows-clause-trees
+returns-in_err-rows-clause-trees c =
+    trees_copied c.args.bytes.now _ (returns-in_err-rows-clause-gives c)
 
 pub rows-init : goal.rows-init
 rows-init c = record {
@@ -26,14 +30,18 @@ rows-init c = record {
       ∙ table_is tree_columns c.args.bytes.now);
 }
 
-pub returns-in_err-read_row : goal.returns-in_err-read_row
-returns-in_err-read_row c =
+pub returns-in_err-read_row-clause-gives : goal.returns-in_err-read_row-clause-gives
+returns-in_err-read_row-clause-gives c =
     let next = rw c.if-branch.true at c.in_ok-next_row.ensures in
     let p = err_from_is_err_and c.from_residual-in_err-read_row.result
     c.from_residual-in_err-read_row.ensures.1 in
     rw (p.1, p.2) (row_ends tree_columns c.next_row.new.row c.next_row.new.self _ c.clear.new.self
     c.read_row.new.self (table_of tree_columns c.args.bytes.now) _
     (rw next at c.rows.invariant.cells) c.in_err-read_row.ensures)
+
+pub returns-in_err-read_row-clause-trees : goal.returns-in_err-read_row-clause-trees
+returns-in_err-read_row-clause-trees c =
+    trees_copied c.args.bytes.now _ (returns-in_err-read_row-clause-gives c)
 
 pub push_line-requires : goal.push_line-requires
 push_line-requires c =
@@ -63,8 +71,8 @@ rows-preserved c =
           next c.rows.invariant.whole;
     }
 
-pub returns : goal.returns
-returns c =
+pub returns-clause-gives : goal.returns-clause-gives
+returns-clause-gives c =
     let none = rw c.if-branch.false at c.in_ok-next_row.ensures in (
       sym c.rows.invariant.cells ∙ ap (flat_map (row_faults tree_columns)) none,
       c.from_vec.ensures ∙ sym (append-nil c.rows.lines.items)
@@ -72,3 +80,7 @@ returns c =
           ++ flat_map (line_text tree_columns) (map (table_row tree_columns) rows)) (sym none)
           ∙ c.rows.invariant.whole,
     )
+
+pub returns-clause-trees : goal.returns-clause-trees
+returns-clause-trees c =
+    trees_copied c.args.bytes.now (Ok c.from_vec.result) (returns-clause-gives c)

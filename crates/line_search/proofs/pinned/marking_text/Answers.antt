@@ -1,7 +1,6 @@
 use Rattle.std.proofs.Common.{◌∙◌, ap, cond, sym, subst, is_some, option_map, Err, None, Some}
 use Rattle.branch_certificate.specs.TreeFiles.{tree_of}
-use Rattle.branch_certificate.specs.TreeTexts.{CopyGives, tree_text}
-use Rattle.branch_certificate.proofs.RowsKept.{copied, never_refused}
+use Rattle.branch_certificate.specs.TreeTexts.{CopiesTrees, tree_text}
 use Rattle.line_cost_model.specs.Concepts.{cost_of}
 use Rattle.line_search.proofs.PinnedReads.{no_fault, no_rule}
 use Rattle.line_search.proofs.pinned.marking_text.Goals as goal
@@ -13,7 +12,7 @@ returns-in-Ok c =
     let none = sym c.in_ok-tree_fault.ensures.first
     ∙ no_fault c.in_ok-tree_fault.field-0 (sym c.is_some.ensures ∙ c.if-is_some.false) in
     let fine = (no_rule problem (cost_of problem c.args.frequencies.now) text none).0 in
-    ap (λ text. Some text) (copied problem text fine c.in-Ok.text c.in-Ok.ensures.1)
+    ap (λ text. Some text) (c.in-Ok.ensures.trees problem fine)
     ∙ sym (ap (λ found. option_map (tree_text problem)
     (cond (is_some found) None (Some (tree_of problem text)))) none)
 
@@ -23,7 +22,5 @@ returns-in-Err-Row c =
     let text = c.args.tree.now in
     let none = sym c.in_ok-tree_fault.ensures.first
     ∙ no_fault c.in_ok-tree_fault.field-0 (sym c.is_some.ensures ∙ c.if-is_some.false) in
-    absurd (never_refused problem text
-    (no_rule problem (cost_of problem c.args.frequencies.now) text none).0
-    c.in-Err-Row.field-0-0 (subst (λ fault. CopyGives text (Err fault)) c.in-Err-Row.field-0-is
-    c.in-Err-Row.ensures))
+    absurd (subst (λ fault. CopiesTrees text (Err fault)) c.in-Err-Row.field-0-is c.in-Err-Row.ensures.trees
+    problem (no_rule problem (cost_of problem c.args.frequencies.now) text none).0)

@@ -18,6 +18,7 @@ returns-in_err-problem g c =
     rw (p.1, p.2) (record {
       chosen = inputs_refused bundle c.args.penalty c.args.budget fault read;
       right = tt;
+      listed = tt;
       finds = λ enough. refused_unspent bundle fault read;
       whole = λ enough. refused_whole bundle fault read;
       steps = inputs_steps bundle c.args.penalty c.args.budget _ _ fault read c.tick.ensures;

@@ -2,7 +2,9 @@ use Rattle.std.proofs.Common.{◌≡◌, ◌∙◌, None, IfSome, length, take, 
 use Rattle.wait_choice.specs.Budgets.{waits_within}
 use Rattle.wait_choice.specs.Listings.{best_after, listing}
 use Rattle.wait_choice.specs.RightChoices.{IsRight, IsWritable}
+use Rattle.wait_choice.specs.RightListings.{IsListed}
 use Rattle.wait_choice.specs.Searches.{Between, IsCheap, TakesEntry}
+use Rattle.wait_choice.proofs.Holding.{listed_found}
 use Rattle.wait_choice.proofs.Right.{found_right, still_cheap}
 use Rattle.wait_choice.proofs.Turns.{all_listed, few_listed, inside, last_one, on_err, on_ok, one_more, outcome_by, spent_within, starts, whole_within}
 use Rattle.wait_choice.proofs.search.search_waits.Goals as goal
@@ -38,6 +40,8 @@ returns-then-not-branch g c =
       right = outcome_by _ (λ found. IfSome found (IsRight problem c.args.penalty)) c.whole.result c.whole.ensures
           (λ found is. found_right problem c.change_count-count.ensures.forward c.args.penalty c.args.budget found (is ∙ whole)
           (subst (λ w. IfSome w (λ waits. IsWritable waits.cost)) (sym is) (still_cheap _ best cheap)));
+      listed = outcome_by _ (λ found. IfSome found (IsListed problem c.args.penalty c.args.budget)) c.whole.result c.whole.ensures
+          (λ found is. listed_found problem c.args.penalty c.change_count-count.ensures.forward c.args.budget found (is ∙ whole));
       steps = on_ok _ c.whole.result (omega (arith, c.tick.ensures, c.loop-entry.invariant.steps, all));
       err = on_err _ c.whole.result (
         omega (arith, c.tick.ensures, c.loop-entry.invariant.steps),
@@ -73,3 +77,14 @@ returns-clause-right g c =
     (omega (arith, inside problem c.args.penalty c.loop-entry._entry c.loop-entry.search behind, c.loop-entry.auto._entry-end, c.loop-entry-test.false))
     (behind.best ∙ ap (λ n. best_after None (take n (listing problem c.args.penalty))) same))
     (subst (λ w. IfSome w (λ waits. IsWritable waits.cost)) (sym is) (still_cheap None c.loop-entry.search.best c.loop-entry.invariant.cheap)))
+
+pub returns-clause-listed : goal.returns-clause-listed
+returns-clause-listed g c =
+    let problem = c.args.problem.now in
+    let behind = c.loop-entry.invariant.behind in
+    let same : c.loop-entry._entry ≡ c.args.budget = omega (arith, c.loop-entry.auto._entry-end, c.loop-entry-test.false) in
+    outcome_by _ (λ found. IfSome found (IsListed problem c.args.penalty c.args.budget)) c.spent.result c.spent.ensures
+    (λ found is. listed_found problem c.args.penalty c.change_count-count.ensures.forward c.args.budget found
+    (is ∙ spent_within c.args.budget (listing problem c.args.penalty) c.loop-entry.search.best
+    (omega (arith, inside problem c.args.penalty c.loop-entry._entry c.loop-entry.search behind, c.loop-entry.auto._entry-end, c.loop-entry-test.false))
+    (behind.best ∙ ap (λ n. best_after None (take n (listing problem c.args.penalty))) same)))

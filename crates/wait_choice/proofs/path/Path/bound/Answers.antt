@@ -1,8 +1,11 @@
-use Rattle.std.proofs.Common.{◌≡◌, ◌∙◌, ◌*◌, ◌+ℤ◌, pos, length, to_z, of_z, ap, sym, subst}
+use Rattle.std.proofs.Common.{◌≡◌, ◌∙◌, ◌*◌, ◌+ℤ◌, ◌≤ℤ◌, pos, length, to_z, of_z, ap, sym, subst}
 use Rattle.std.proofs.lemmas.Int.{to_z-of_z}
 use mir.Syntax.{w128}
+use Rattle.delay_management.specs.Problems.{IsForward}
+use Rattle.wait_choice.specs.Choices.{total}
 use Rattle.wait_choice.specs.Paths.{dropped_in, region_in}
 use Rattle.wait_choice.specs.Regions.{bound_of}
+use Rattle.wait_choice.proofs.Bounds.{bound_holds}
 use Rattle.wait_choice.proofs.PathFacts.{bound_is, bound_least, bound_most, few_dropped}
 use Rattle.wait_choice.proofs.path.Path.bound.Goals as goal
 
@@ -25,3 +28,12 @@ pub returns-clause-most : goal.returns-clause-most
 returns-clause-most c small =
     bound_most c.delay.result _ c.args.penalty _ _ (told c) c.delay.ensures.most
     (few_dropped c.self.inside.trial c.self.invariant.once) c.change_count-count.ensures.few small
+
+pub returns-clause-forward : goal.returns-clause-forward
+returns-clause-forward c =
+    subst (λ path. IsForward path.problem) c.self.view_is c.change_count-count.ensures.forward
+
+pub returns-clause-holds : goal.returns-clause-holds
+returns-clause-holds c kept times lies feasible =
+    subst (λ bound. bound ≤ℤ total c.args.self.now.problem c.args.penalty kept times) (sym (returns-clause-value c))
+    (bound_holds c.args.self.now.problem (returns-clause-forward c) c.args.penalty (region_in c.args.self.now) kept times lies feasible)

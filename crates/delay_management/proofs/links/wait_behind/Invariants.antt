@@ -1,7 +1,7 @@
 -- The links of the rank so far wait, and those behind are as they were.
 use Rattle.std.proofs.Common.{◌-◌, length}
 use Rattle.delay_management.proofs.Waits.{WaitTo}
-use Rattle.delay_management.proofs.on_trial.wait_behind.Given as goal
+use Rattle.delay_management.proofs.links.wait_behind.Given as goal
 
 abbrev pub invariant-loop-at : goal.invariant-loop-at
 invariant-loop-at l = WaitTo l.links l.rank l.fn.waiting l.at l.waiting

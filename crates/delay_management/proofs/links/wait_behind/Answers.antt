@@ -1,6 +1,6 @@
 use Rattle.std.proofs.Common.{arith}
 use Rattle.delay_management.proofs.Waits.{all_wait, one_waits, other_at}
-use Rattle.delay_management.proofs.on_trial.wait_behind.Goals as goal
+use Rattle.delay_management.proofs.links.wait_behind.Goals as goal
 
 pub loop-at-preserved : goal.loop-at-preserved
 loop-at-preserved c =
