@@ -7,9 +7,9 @@ ghost use Rattle.delay_management.specs.ChangeEnds.{AreFirst, IsFirst};
 ghost use Rattle.delay_management.specs.Links.{change_links, link_of, ride_links, turn_links};
 ghost use Rattle.delay_management.specs.OnTrial.{WaitBy};
 
-use crate::marking::Marking;
 use crate::outgoing::Outgoing;
 use crate::step::{Activity, Step};
+use bit_rows::Marking;
 use event_tables::{ExpandedEvent, forward_rank};
 use plan_num::NoMemory;
 use std::alloc::Global;

@@ -4,7 +4,7 @@ ghost use Rattle.event_tables.specs.ForwardRanks.{forward_rank};
 ghost use Rattle.delay_management.specs.Lateness.{delay_at};
 ghost use Rattle.delay_management.specs.LeastTimes.{asked, least_times};
 ghost use Rattle.delay_management.specs.Links.{IsLinked};
-ghost use Rattle.delay_management.specs.Markings.{IsNext};
+ghost use Rattle.bit_rows.specs.Markings.{IsNext};
 ghost use Rattle.delay_management.specs.OnTrial.{Follows, IsLastMoved, IsSettling, NoneWaits, Pushes, StartsTrial, TellsBroken, WaitBy};
 ghost use Rattle.delay_management.specs.Problems.{Joins};
 ghost use Rattle.delay_management.specs.Waiting.{chosen_changes};
