@@ -77,6 +77,21 @@ input_faults_only bundle =
     (input_names (λ _. true) (load_input file.Load (network_in bundle).edges) (input_text bundle 3) refl)
     (input_names (λ _. true) (pool_cost_input (lines_in bundle)) (input_text bundle 4) refl)
 
+-- so what is refused and names no input is refused over inputs without a fault
+no_fault : (faults : List Refusal) (outcome : Result Made Refusal) (reason : Refusal)
+    → AllName (λ _. true) faults → ¬ NamesInput (λ _. true) reason
+    → after_faults faults outcome ≡ Err reason → faults ≡ []
+no_fault [] outcome reason named other is = refl
+no_fault (first ∷ more) outcome reason named other is =
+    let same : first ≡ reason = cc in
+    absurd (other (subst (NamesInput (λ _. true)) same named.0))
+
+pub inputs_fine : (bundle : BundleParts) (reason : Refusal) → ¬ NamesInput (λ _. true) reason
+    → concept_stage bundle ≡ Err reason → problem_faults bundle ≡ []
+unfolding concept_stage
+inputs_fine bundle reason other is =
+    no_fault (problem_faults bundle) _ reason (input_faults_only bundle) other is
+
 first_named : (test : FileId → Bool) (faults : List Refusal) (first : Refusal) → AllName test faults
     → slice_get faults 0 ≡ Some first → NamesInput test first
 first_named test [] first all is = absurd (cc)

@@ -1,6 +1,6 @@
 -- No solution is the answer exactly where no concept is feasible and the listing is within the budget.
 use Rattle.std.proofs.Common.{arith, ◌≡◌, ℕ, ◌≤◌, ◌∙◌, ◌⊎◌, Bool, true, false, cond, nat_le, List}
-use Rattle.std.proofs.Common.{[], length, take, ap, subst, refl, inr, Option, Some, None, IfSome}
+use Rattle.std.proofs.Common.{[], length, take, ap, sym, subst, refl, inr, Option, Some, None, IfSome}
 use Rattle.std.proofs.Common.{Result, Ok, Err, option_map}
 use Rattle.std.specs.Prelude.{ok_or}
 use Rattle.std.proofs.lemmas.Bool.{le-leb}
@@ -18,7 +18,8 @@ use Rattle.line_search.specs.Budgets.{last_found, nodes_in, result_within}
 use Rattle.line_search.specs.ConceptStage.{after_faults, budget_of, concept_stage, search_made}
 use Rattle.line_search.specs.GivenProblems.{problem_faults, problem_of}
 use Rattle.line_search.specs.Listings.{Entry, best_after, listing}
-use Rattle.line_search.specs.RightConcepts.{NoneIsFeasible, SaysNone, SearchIsRight, found_by}
+use Rattle.line_search.specs.RightConcepts.{NoneIsFeasible, SaysNone, found_by}
+use Rattle.line_search.proofs.ConceptNames.{inputs_fine}
 use Rattle.line_search.proofs.SearchRight.{search_right}
 use Rattle.line_search.proofs.StageResults.{by_parts}
 
@@ -79,22 +80,32 @@ nothing_found : (problem : ProblemParts) (found : Option (List ℕ)) → IfSome 
 nothing_found problem None chosen none = refl
 nothing_found problem (Some concept) chosen none = absurd (none concept chosen.feasible)
 
-pub none_told : (bundle : BundleParts) (result : Result Made StageFault)
-    → StageGives (concept_stage bundle) result → problem_faults bundle ≡ [] → SaysNone bundle result
+given_outcome : (bundle : BundleParts) → problem_faults bundle ≡ [] → concept_stage bundle
+    ≡ search_made (problem_of bundle) (result_within (budget_of bundle) (listing (problem_of bundle)))
 unfolding concept_stage
-none_told bundle result gives none =
+given_outcome bundle none = ap (λ faults. after_faults faults
+    (search_made (problem_of bundle) (result_within (budget_of bundle) (listing (problem_of bundle))))) none
+
+pub none_told : (bundle : BundleParts) (result : Result Made StageFault)
+    → StageGives (concept_stage bundle) result → SaysNone bundle result
+none_told bundle result gives =
     let problem = problem_of bundle in
     let budget = budget_of bundle in
-    let right : SearchIsRight problem = search_right bundle none in
-    let outcome = search_made problem (result_within budget (listing problem)) in
-    let given : StageGives outcome result =
-    subst (λ faults. StageGives (after_faults faults outcome) result) none gives in
     record {
       only = λ is.
-          let parts = only_none problem budget (listing problem) (subst (StageGives outcome) is given) in
-          record { none = right.none parts.0; within = parts.1 };
+          let said : concept_stage bundle ≡ no_solution =
+          subst (StageGives (concept_stage bundle)) is gives in
+          let inputs = inputs_fine bundle refusal.NoSolution (λ h. h) said in
+          let parts = only_none problem budget (listing problem) (sym (given_outcome bundle inputs) ∙ said)
+          in
+          record {
+            inputs = inputs;
+            none = (search_right bundle inputs).none parts.0;
+            within = parts.1;
+          };
       always = λ has.
           refused refusal.NoSolution result (subst (λ outcome. StageGives outcome result)
-          (always_none problem budget (listing problem)
-          (nothing_found problem (found_by problem) right.chosen has.none) has.within) given);
+          (given_outcome bundle has.inputs ∙ always_none problem budget (listing problem)
+          (nothing_found problem (found_by problem) (search_right bundle has.inputs).chosen has.none)
+          has.within) gives);
     }

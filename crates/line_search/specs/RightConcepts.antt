@@ -1,6 +1,5 @@
 -- What is right about the concept that a search finds, and about the files that are made of it.
 use Rattle.std.specs.Prelude.{◌≡◌, ◌≢◌, ℕ, pos, ◌+◌, ◌*◌, ◌≤◌, List, [], ◌∷◌, length, take, Option}
-use Rattle.std.specs.Prelude.{Some}
 use Rattle.std.specs.Prelude.{None, ◌⊎◌, IfSome, Result, Ok, Err, ⊤}
 use Rattle.giv_files.specs.declared.file_id.FileId.TheVariants as file
 use Rattle.giv_files.specs.declared.made.Made.{Made}
@@ -47,30 +46,34 @@ pub record AreListed (region : List LineRange) : Type 0 where
   pub once : AllPairs (λ concept other. concept ≢ other) (concepts_in region)
   pub many : length (concepts_in region) ≡ concept_count region
 
--- What a search finds is right. What any first entries of a listing find is feasible. What all of
--- them find is the chosen concept: no feasible one costs less, and none of equal cost comes before
--- it; and their nodes certify what it costs. Where they find none, no concept is feasible. And the
--- entries of a region are what is said of it and, behind a split, the entries of both parts:
--- however deep it is split, none are left out. The count of concepts, by which a budget is enough,
--- is that of those that lie in a region.
+-- What a search finds is right: it is the chosen concept, which means that no feasible one costs
+-- less, and none of equal cost comes before it; and the nodes of the listing certify what it costs.
+-- Where it finds none, no concept is feasible.
 pub record SearchIsRight (problem : ProblemParts) : Type 0 where
-  pub feasible : (count : ℕ)
-      → IfSome (best_after None (take count (listing problem))) (IsFeasible problem)
   pub chosen : IfSome (found_by problem) (IsChosen problem)
   pub certified : IfSome (found_by problem)
       (λ concept. Certifies problem (pos (cost_of problem concept)) (nodes_in (listing problem)))
   pub none : found_by problem ≡ None → NoneIsFeasible problem
-  pub unrolls : (region : List LineRange) (best : Option (List ℕ)) → AreOrdered region
+
+-- A listing is whole, whatever the problem. It has levels enough: the entries of a region are what
+-- is said of it and, behind a split, the entries of both parts; however deep it is split, none are
+-- left out. What any first entries find is feasible. The count of concepts, by which a budget is
+-- enough, is that of those that lie in a region.
+pub record ListingIsWhole (problem : ProblemParts) : Type 0 where
+  pub enough_levels : (region : List LineRange) (best : Option (List ℕ)) → AreOrdered region
       → visit problem region best
       ≡ entries_by (visit problem) region best (node_at problem region best)
+  pub feasible : (count : ℕ)
+      → IfSome (best_after None (take count (listing problem))) (IsFeasible problem)
   pub counted : (region : List LineRange) → AreListed region
 
--- no concept is feasible, and the listing is within the budget
+-- the inputs have no fault, no concept is feasible, and the listing is within the budget
 pub record HasNone (bundle : BundleParts) : Type 0 where
+  pub inputs : problem_faults bundle ≡ []
   pub none : NoneIsFeasible (problem_of bundle)
   pub within : length (listing (problem_of bundle)) ≤ budget_of bundle
 
--- no solution is the answer exactly there, where the inputs have no fault; want of memory is free
+-- no solution is the answer exactly there; want of memory is free
 pub record SaysNone (bundle : BundleParts) (result : Result Made StageFault) : Type 0 where
   pub only : result ≡ Err (fault.Refused refusal.NoSolution) → HasNone bundle
   pub always : HasNone bundle → (result ≡ Err (fault.Refused refusal.NoSolution))

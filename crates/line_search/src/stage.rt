@@ -6,7 +6,7 @@ ghost use Rattle.giv_files.specs.StageCalls.{StageGives, TakesSteps};
 ghost use Rattle.line_search.specs.ConceptStage.{budget_of, concept_stage, concept_work};
 ghost use Rattle.line_search.specs.GivenProblems.{problem_faults, problem_of};
 ghost use Rattle.line_search.specs.RightConcepts.{ConceptFilesAreRight, IsEnough, IsWhole};
-ghost use Rattle.line_search.specs.RightConcepts.{SaysNone, SearchIsRight};
+ghost use Rattle.line_search.specs.RightConcepts.{ListingIsWhole, SaysNone, SearchIsRight};
 
 use crate::found::search_made;
 use crate::given::read_problem;
@@ -27,7 +27,8 @@ pub fn make_concept<L: Ledger>(
     requires fits { Fits bundle.now }
     ensures made { StageGives (concept_stage bundle.now) result }
     ensures right { problem_faults bundle.now ≡ [] → SearchIsRight (problem_of bundle.now) }
-    ensures none { problem_faults bundle.now ≡ [] → SaysNone bundle.now result }
+    ensures listed { ListingIsWhole (problem_of bundle.now) }
+    ensures none { SaysNone bundle.now result }
     ensures files { IfOk result (λ made. ConceptFilesAreRight bundle.now made.files) }
     ensures whole { IsEnough (problem_of bundle.now) (budget_of bundle.now) → IsWhole result }
     ensures steps { TakesSteps (concept_work bundle.now) steps.old steps.new result }

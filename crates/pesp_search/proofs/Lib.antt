@@ -7,6 +7,7 @@ mod Families
 mod FirstMarks
 mod FlagBits
 mod FoundTimes
+mod GreatestSets
 mod JudgedTimes
 mod KeptBits
 mod Linked

@@ -15,7 +15,7 @@ use Rattle.pesp_search.proofs.ShrinkingSets.{reduced_several}
 
 -- ---- something is found where a timetable is left
 
-no_empty : (sets : List (List ℕ)) (times : List ℕ) → Holds sets times → list_any is_empty sets ≡ false
+pub no_empty : (sets : List (List ℕ)) (times : List ℕ) → Holds sets times → list_any is_empty sets ≡ false
 no_empty [] [] h = refl
 no_empty [] (time ∷ times) h = absurd h
 no_empty (set ∷ sets) [] h = absurd h

@@ -1,4 +1,4 @@
--- The listing of a problem is right.
+-- The listing of a problem is right, and whole.
 use Rattle.std.proofs.Common.{◌≡◌, ◌∙◌, ℕ, zero, suc, ◌+◌, ◌-◌, ◌≤◌, ◌==◌, true, false, cond, ◌&&◌}
 use Rattle.std.proofs.Common.{List, [], ◌∷◌, length, map, filter, Option, Some, None, is_some, refl, ap, sym}
 use Rattle.std.proofs.Common.{arith}
@@ -7,12 +7,14 @@ use Rattle.std.proofs.lemmas.Bool.{lt-ltb}
 use Rattle.std.proofs.lemmas.List.{length-map}
 use Rattle.std.proofs.lemmas.List.FromFn.{length-range_with_len as range_length}
 use Rattle.pesp_model.specs.Timetables.{IsProblem, IsTimetable, Problem}
-use Rattle.pesp_search.specs.Listings.{ListingIsRight, Tells, first_sets, has_several, listing, most_entries}
+use Rattle.pesp_search.specs.Listings.{ListingIsRight, ListingIsWhole, Tells, first_sets, has_several, listing, most_entries}
 use Rattle.pesp_search.specs.Listings.{several_in, times_at_first}
 use Rattle.pesp_search.proofs.FoundTimes.{AreBelow, are_below, found_is}
+use Rattle.pesp_search.proofs.GreatestSets.{reduced_greatest, reduced_loses_none, rounds_suffice}
 use Rattle.pesp_search.proofs.ListedTimes.{found_from}
 use Rattle.pesp_search.proofs.ShortListings.{AreFew, most, most_grows, short_from}
 use Rattle.pesp_search.proofs.TurnedTimes.{has_first}
+use Rattle.pesp_search.proofs.Unrolled.{unrolls}
 
 range_below : (period from count : ℕ) → from + count ≤ period
     → are_below period (range_with_len from count) ≡ true
@@ -30,6 +32,13 @@ filter_less (set ∷ sets) =
       | true ↦ omega (arith, rest)
       | false ↦ omega (arith, rest)
     ]
+
+pub listing_whole : (problem : Problem) → ListingIsWhole problem
+listing_whole problem = record {
+  enough_branches = unrolls problem;
+  enough_rounds = rounds_suffice problem;
+  greatest = reduced_greatest problem;
+}
 
 module _ (problem : Problem) (sound : IsProblem problem) where
   abbrev period : ℕ
@@ -82,6 +91,7 @@ module _ (problem : Problem) (sound : IsProblem problem) where
       let few : several ≤ problem.events = omega (arith, filter_less (first_sets problem), first_count) in
       record {
         tells = tells_by (listing problem).found refl;
+        loses_none = reduced_loses_none problem sound;
         short = short_grown several few (short_from problem sound.some levels (first_sets problem) several first_few (omega arith));
       }
     where

@@ -27,7 +27,7 @@ any_of test x xs is holds =
     let at = Any-from_list_any (nat_eq x) xs is in
     list_any_at test xs at.0 at.1 at.2 (ap test (at.3 ∙ sym (eqb-true x at.1 at.4)) ∙ holds)
 
-filter_keeps : (test : ℕ → Bool) (x : ℕ) (xs : List ℕ) → is_in x xs ≡ true → test x ≡ true
+pub filter_keeps : (test : ℕ → Bool) (x : ℕ) (xs : List ℕ) → is_in x xs ≡ true → test x ≡ true
     → is_in x (filter test xs) ≡ true
 filter_keeps test x [] is holds = absurd (cc)
 filter_keeps test x (y ∷ xs) is holds = elim (cases_Bool (nat_eq x y)) [

@@ -18,6 +18,7 @@ use Rattle.pesp_search.specs.RightTimetables.{IsNeverSpent, SaysNone}
 use Rattle.pesp_search.specs.TimetableStage.{after_faults, budget_in, problem_in, search_made, timetable_faults}
 use Rattle.pesp_search.specs.TimetableStage.{timetable_stage}
 use Rattle.pesp_search.proofs.ListingRight.{listing_right}
+use Rattle.pesp_search.proofs.TimetableMakes.{inputs_fine}
 use Rattle.pesp_search.proofs.TimetableReads.{is_problem}
 
 -- what a listing comes to within a budget
@@ -75,32 +76,37 @@ gives_always function (Ok made) why gives is = absurd (let both = sym gives ∙ 
 gives_always function (Err fault.NoMemory) why gives is = inr refl
 gives_always function (Err (fault.Refused other)) why gives is = grind arith
 
-module _ (bundle : BundleParts) (own : bundle.stage ≡ stage.Timetable) (fits : Fits bundle)
-    (result : Result Made StageFault) (gives : StageGives (timetable_stage bundle) result)
-    (none : timetable_faults bundle ≡ []) where
+module _ (bundle : BundleParts) (own : bundle.stage ≡ stage.Timetable) (fits : Fits bundle) where
   abbrev all : Listing
   all = listing (problem_in bundle)
 
-  right : ListingIsRight (problem_in bundle)
-  right = listing_right (problem_in bundle) (is_problem bundle own fits none)
+  pub right_listing : timetable_faults bundle ≡ [] → ListingIsRight (problem_in bundle)
+  right_listing none = listing_right (problem_in bundle) (is_problem bundle own fits none)
 
-  stage_is : timetable_stage bundle ≡ outcome (budget_in bundle) all
+  stage_is : timetable_faults bundle ≡ [] → timetable_stage bundle ≡ outcome (budget_in bundle) all
   unfolding timetable_stage
-  stage_is = ap (λ faults. after_faults faults (outcome (budget_in bundle) all)) none
+  stage_is none = ap (λ faults. after_faults faults (outcome (budget_in bundle) all)) none
 
-  pub none_told : SaysNone bundle result
-  none_told = record {
-    only = λ is.
-        let told = none_within (budget_in bundle) (problem_in bundle) all right.tells
-        (sym stage_is ∙ gives_only (timetable_stage bundle) result refusal.NoSolution gives is) in
-        record { none = told.0; within = told.1 };
-    always = λ has.
-        gives_always (timetable_stage bundle) result refusal.NoSolution gives
-        (stage_is ∙ says_none (budget_in bundle) (problem_in bundle) all right.tells has.none has.within);
-  }
+  module _ (result : Result Made StageFault) (gives : StageGives (timetable_stage bundle) result) where
+    pub none_told : SaysNone bundle result
+    none_told = record {
+      only = λ is.
+          let said = gives_only (timetable_stage bundle) result refusal.NoSolution gives is in
+          let none = inputs_fine bundle refusal.NoSolution (λ h. h) said in
+          let told = none_within (budget_in bundle) (problem_in bundle) all (right_listing none).tells
+          (sym (stage_is none) ∙ said) in
+          record { inputs = none; none = told.0; within = told.1 };
+      always = λ has.
+          gives_always (timetable_stage bundle) result refusal.NoSolution gives
+          (stage_is has.inputs ∙ says_none (budget_in bundle) (problem_in bundle) all
+          (right_listing has.inputs).tells has.none has.within);
+    }
 
-  pub spent_never : IsNeverSpent bundle result
-  spent_never enough spent is =
-      let whole = whole_within (budget_in bundle) (problem_in bundle) all right.tells (omega (arith, right.short, enough)) in
-      never_spent_by all.entries all.found spent
-      (sym whole ∙ sym stage_is ∙ gives_only (timetable_stage bundle) result (refusal.Spent spent) gives is)
+    pub spent_never : IsNeverSpent bundle result
+    spent_never enough spent is =
+        let said = gives_only (timetable_stage bundle) result (refusal.Spent spent) gives is in
+        let none = inputs_fine bundle (refusal.Spent spent) (λ h. h) said in
+        let right = right_listing none in
+        let whole = whole_within (budget_in bundle) (problem_in bundle) all right.tells
+        (omega (arith, right.short, enough)) in
+        never_spent_by all.entries all.found spent (sym whole ∙ sym (stage_is none) ∙ said)

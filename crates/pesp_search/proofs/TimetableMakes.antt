@@ -1,6 +1,6 @@
 -- Which files the stage of timetables makes, and which it names where it refuses a row.
 use Rattle.std.proofs.Common.{arith, ◌≡◌, ℕ, Bool, true, List, [], ◌∷◌, Result, Ok, Err, ap, lit<}
-use Rattle.std.proofs.Common.{subst}
+use Rattle.std.proofs.Common.{refl, subst}
 use Rattle.giv_files.specs.declared.file_id.FileId.{FileId}
 use Rattle.giv_files.specs.declared.file_id.FileId.TheVariants as file
 use Rattle.giv_files.specs.declared.made.Made.{Made}
@@ -9,7 +9,7 @@ use Rattle.giv_files.specs.declared.refusal.Refusal.TheVariants as refusal
 use Rattle.giv_files.specs.declared.stage.Stage.TheVariants as stage
 use Rattle.giv_files.specs.Inputs.{input_faults}
 use Rattle.giv_files.specs.MadeLists.{MakesAs, ids_of}
-use Rattle.giv_files.specs.NamedFiles.{NamesOnly}
+use Rattle.giv_files.specs.NamedFiles.{NamesInput, NamesOnly}
 use Rattle.giv_files.specs.Settings.{BundleParts}
 use Rattle.giv_files.specs.StageCalls.{input_text}
 use Rattle.giv_files.proofs.Named.{AllName, input_names, names_both, names_only}
@@ -63,6 +63,21 @@ timetable_faults_name test events activities bundle =
     (input_faults (periodic_activity_input ids) (input_text bundle 1))
     (input_names test periodic_event_input (input_text bundle 0) events)
     (input_names test (periodic_activity_input ids) (input_text bundle 1) activities)
+
+-- what is refused and names no input is refused over inputs without a fault
+no_fault : (faults : List Refusal) (outcome : Result Made Refusal) (reason : Refusal)
+    → AllName (λ _. true) faults → ¬ NamesInput (λ _. true) reason
+    → after_faults faults outcome ≡ Err reason → faults ≡ []
+no_fault [] outcome reason named other is = refl
+no_fault (first ∷ more) outcome reason named other is =
+    let same : first ≡ reason = cc in
+    absurd (other (subst (NamesInput (λ _. true)) same named.0))
+
+pub inputs_fine : (bundle : BundleParts) (reason : Refusal) → ¬ NamesInput (λ _. true) reason
+    → timetable_stage bundle ≡ Err reason → timetable_faults bundle ≡ []
+unfolding timetable_stage
+inputs_fine bundle reason other is = no_fault (timetable_faults bundle) _ reason
+    (timetable_faults_name (λ _. true) refl refl bundle) other is
 
 -- a refusal names what they do
 pub timetable_stage_names : (test : FileId → Bool) (bundle : BundleParts) (reason : Refusal)

@@ -1,6 +1,6 @@
 -- The listing of entries up to the first timetable that is found.
-use Rattle.std.specs.Prelude.{ℕ, zero, suc, ◌≤◌, ◌+◌, ◌^◌, ◌==◌, nat_lt, min, is_some, Bool, true}
-use Rattle.std.specs.Prelude.{false, if◌then◌else◌}
+use Rattle.std.specs.Prelude.{◌≡◌, ℕ, zero, suc, ◌≤◌, ◌+◌, ◌^◌, ◌==◌, nat_lt, min, is_some, Bool}
+use Rattle.std.specs.Prelude.{true, false, if◌then◌else◌}
 use Rattle.std.specs.Prelude.{List, [], ◌∷◌, length, map, filter, position, sum, slice_index_or}
 use Rattle.std.specs.Prelude.{slice_set}
 use Rattle.std.specs.Prelude.{Option, Some, None, Result, Ok, Err}
@@ -8,7 +8,7 @@ use Rattle.std.specs.List.{list_any, range_with_len}
 use Rattle.giv_files.specs.declared.refusal.Refusal.{Refusal}
 use Rattle.giv_files.specs.declared.refusal.Refusal.TheVariants as refusal
 use Rattle.pesp_model.specs.Timetables.{Problem, IsTimetable}
-use Rattle.pesp_search.specs.TimeSets.{left_to, reduced}
+use Rattle.pesp_search.specs.TimeSets.{AreGreatest, LosesNone, RoundsSuffice, left_to, reduced}
 
 -- how many entries are listed, and the times of the entry that is found
 pub record Listing : Type 0 where
@@ -76,6 +76,13 @@ listing_from (suc more) problem sets =
 abbrev pub listing_of : Problem → List (List ℕ) → Listing
 listing_of problem sets = listing_from (several_in sets + 1) problem sets
 
+-- these are branches enough: what is listed from sets on is what their entry lists, with what is
+-- listed from the sets of each child on
+abbrev pub BranchesSuffice : Problem → Type 0
+BranchesSuffice problem = (sets : List (List ℕ)) → listing_of problem sets
+    ≡ entry (reduced problem sets)
+    (λ event time. listing_of problem (with_time (reduced problem sets) event time))
+
 -- the times that are left to an event at first: time 0 to the first one, and all times to every
 -- other one
 abbrev pub times_at_first : ℕ → ℕ → List ℕ
@@ -123,8 +130,22 @@ abbrev pub most_entries : Problem → ℕ
 most_entries problem =
     sum (map (λ events. problem.period ^ events) (range_with_len 0 (problem.events + 1)))
 
--- a listing is right: what it finds is a timetable, it finds nothing only where there is none, and
--- it is never longer than that
+-- sets are dead: the greatest ones within them in which no time is without a partner leave none to
+-- some event
+abbrev pub AreDead : Problem → List (List ℕ) → Type 0
+AreDead problem before = (sets : List (List ℕ)) → AreGreatest problem before sets
+    → list_any is_empty sets ≡ true
+
+-- A listing is right: what it finds is a timetable, it finds nothing only where there is none, and
+-- it is never longer than that. No timetable is lost where sets are reduced.
 pub record ListingIsRight (problem : Problem) : Type 0 where
   pub tells : Tells problem (listing problem).found
   pub short : (listing problem).entries ≤ most_entries problem
+  pub loses_none : (sets : List (List ℕ)) → LosesNone problem sets (reduced problem sets)
+
+-- A listing is whole: it has rounds and branches enough, whatever the problem, and what its rounds
+-- leave are the greatest sets in which no time is without a partner.
+pub record ListingIsWhole (problem : Problem) : Type 0 where
+  pub enough_branches : BranchesSuffice problem
+  pub enough_rounds : RoundsSuffice problem
+  pub greatest : (sets : List (List ℕ)) → AreGreatest problem sets (reduced problem sets)

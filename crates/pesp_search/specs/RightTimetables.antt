@@ -42,12 +42,13 @@ pub record TimetableFilesAreRight (bundle : BundleParts) (files : List MadeFile)
 abbrev pub TimetableIsRight : BundleParts → Made → Type 0
 TimetableIsRight bundle made = TimetableFilesAreRight bundle made.files
 
--- no times at all are a timetable, and the listing is within the budget
+-- the inputs have no fault, no times at all are a timetable, and the listing is within the budget
 pub record HasNone (bundle : BundleParts) : Type 0 where
+  pub inputs : timetable_faults bundle ≡ []
   pub none : (times : List ℕ) → ¬ IsTimetable (problem_in bundle) times
   pub within : (listing (problem_in bundle)).entries ≤ budget_in bundle
 
--- no solution is the answer exactly there, where the inputs have no fault; want of memory is free
+-- no solution is the answer exactly there; want of memory is free
 pub record SaysNone (bundle : BundleParts) (result : Result Made StageFault) : Type 0 where
   pub only : result ≡ Err (fault.Refused refusal.NoSolution) → HasNone bundle
   pub always : HasNone bundle → (result ≡ Err (fault.Refused refusal.NoSolution))

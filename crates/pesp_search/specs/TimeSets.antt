@@ -54,6 +54,11 @@ rounds (suc more) problem sets =
 unfoldable pub reduced : Problem → List (List ℕ) → List (List ℕ)
 reduced problem sets = rounds (times_left sets) problem sets
 
+-- these are rounds enough: one more removes nothing
+abbrev pub RoundsSuffice : Problem → Type 0
+RoundsSuffice problem =
+    (sets : List (List ℕ)) → round problem (reduced problem sets) ≡ reduced problem sets
+
 -- ---- in the words of the subject
 
 -- each event has only times that it had

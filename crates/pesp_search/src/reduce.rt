@@ -1,11 +1,12 @@
 // Sets of times that are reduced by all activities.
-ghost use Rattle.std.specs.Prelude.{◌≡◌, ◌<◌, length, All, IfOk, MatchBool, OnOk};
+ghost use Rattle.std.specs.Prelude.{◌≡◌, ◌<◌, true, false, length, All, IfOk, MatchBool, OnOk};
 ghost use Rattle.pesp_search.specs.Flags.{has_changed};
 ghost use Rattle.std.specs.List.{list_any};
-ghost use Rattle.pesp_search.specs.Listings.{is_empty};
+ghost use Rattle.pesp_search.specs.Listings.{AreDead, is_empty};
 ghost use Rattle.pesp_search.specs.Marks.{is_left, sets_of};
 ghost use Rattle.pesp_search.specs.Revising.{AllFrom, AreLinks, AreLinksAt, BoundUnless, Dies};
 ghost use Rattle.pesp_search.specs.Revising.{IsReady, Reduces, Sweeps, Visits};
+ghost use Rattle.pesp_search.specs.TimeSets.{AreGreatest, LosesNone};
 
 use crate::flags::EventFlags;
 use crate::links::Links;
@@ -31,6 +32,12 @@ pub(crate) fn reduce(
     requires ready { IsReady pesp.now sets.old changed.old }
     ensures each { OnOk result (length changed.new ≡ length changed.old) }
     ensures reduces { OnOk result (Reduces pesp.now sets.old sets.new) }
+    ensures greatest { IfOk result (λ has_empty. has_empty ≡ false
+        → AreGreatest pesp.now (sets_of sets.old.sets) (sets_of sets.new.sets)) }
+    ensures dead { IfOk result (λ has_empty. has_empty ≡ true
+        → AreDead pesp.now (sets_of sets.old.sets)) }
+    ensures loses_none { OnOk result
+        (LosesNone pesp.now (sets_of sets.old.sets) (sets_of sets.new.sets)) }
     ensures empty { IfOk result
         (λ has_empty. has_empty ≡ list_any is_empty (sets_of sets.new.sets)) }
 {

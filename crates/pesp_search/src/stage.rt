@@ -6,6 +6,7 @@ ghost use Rattle.giv_files.specs.Inputs.{UnlessFault};
 ghost use Rattle.giv_files.specs.Keys.{has_key};
 ghost use Rattle.giv_files.specs.Settings.{Fits};
 ghost use Rattle.giv_files.specs.StageCalls.{StageGives, TakesSteps};
+ghost use Rattle.pesp_search.specs.Listings.{ListingIsRight, ListingIsWhole};
 ghost use Rattle.pesp_search.specs.RightTimetables.{IsNeverSpent, SaysNone, TimetableIsRight};
 ghost use Rattle.pesp_search.specs.TimetableStage.{budget_in, period_in, problem_in, timetable_faults};
 ghost use Rattle.pesp_search.specs.TimetableStage.{timetable_stage, timetable_work};
@@ -28,8 +29,10 @@ pub fn make_timetable<L: Ledger>(
     requires fits { Fits bundle.now }
     ensures made { StageGives (timetable_stage bundle.now) result }
     ensures right { IfOk result (TimetableIsRight bundle.now) }
-    ensures none { timetable_faults bundle.now ≡ [] → SaysNone bundle.now result }
-    ensures never_spent { timetable_faults bundle.now ≡ [] → IsNeverSpent bundle.now result }
+    ensures none { SaysNone bundle.now result }
+    ensures never_spent { IsNeverSpent bundle.now result }
+    ensures finds { timetable_faults bundle.now ≡ [] → ListingIsRight (problem_in bundle.now) }
+    ensures listed { ListingIsWhole (problem_in bundle.now) }
     ensures steps { TakesSteps (timetable_work bundle.now) steps.old steps.new result }
 {
     searched_timetable(alloc, bundle, steps)

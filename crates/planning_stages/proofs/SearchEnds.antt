@@ -1,7 +1,7 @@
 -- How a search ends that has a solution or none, within its budget or beyond it.
 use Rattle.std.proofs.Common.{◌≡◌, ◌<◌, ◌⊎◌, inl, inr, ⊎_elim, ℕ, Bool, true, false, cond, nat_le}
-use Rattle.std.proofs.Common.{nat_lt, List, [], ◌∷◌, length, take, Option, Some, None, Result, Ok}
-use Rattle.std.proofs.Common.{Err, refl, ap, sym, subst, ◌∙◌, arith, option_map}
+use Rattle.std.proofs.Common.{nat_lt, List, [], length, take, Option, Some, None, Result, Ok}
+use Rattle.std.proofs.Common.{Err, refl, ap, sym, ◌∙◌, arith, option_map}
 use Rattle.std.specs.Prelude.{ok_or}
 use Rattle.std.proofs.lemmas.Bool.{leb-false, leb-true, lt-ltb, ltb-true}
 use Rattle.giv_files.specs.declared.made.Made.{Made}
@@ -11,28 +11,25 @@ use Rattle.giv_files.specs.declared.refusal.StageFault.{StageFault}
 use Rattle.giv_files.specs.declared.refusal.StageFault.TheVariants as fault
 use Rattle.giv_files.specs.declared.stage.Stage.{Stage}
 use Rattle.giv_files.specs.declared.stage.Stage.TheVariants as stage
-use Rattle.giv_files.specs.NamedFiles.{NamesInput}
 use Rattle.giv_files.specs.Settings.{BundleParts, Fits}
 use Rattle.giv_files.specs.StageCalls.{StageGives}
-use Rattle.giv_files.proofs.Named.{AllName}
 use Rattle.line_cost_model.specs.Problems.{ProblemParts}
 use Rattle.line_search.specs.Budgets.{nodes_in, result_within, spent_result, whole_result}
 use Rattle.line_search.specs.ConceptStage.{after_faults, budget_of, concept_stage, search_made}
 use Rattle.line_search.specs.GivenProblems.{problem_faults, problem_of}
 use Rattle.line_search.specs.Listings.{Entry, best_after, listing}
-use Rattle.line_search.proofs.ConceptNames.{input_faults_only}
+use Rattle.line_search.proofs.ConceptNames.{inputs_fine as concept_fine}
 use Rattle.line_search.proofs.Lengths.{listing_bound}
 use Rattle.line_search.proofs.NoConcepts.{none_told as no_concept}
 use Rattle.pesp_search.specs.Listings.{Listing, listing as times_listed, result_within as times_within, whole_result as whole_times}
 use Rattle.pesp_search.specs.TimetableStage.{after_faults as after_times, budget_in, problem_in, search_made as times_made, timetable_faults, timetable_stage}
 use Rattle.pesp_search.proofs.ListingRight.{listing_right}
 use Rattle.pesp_search.proofs.TimetableEnds.{none_told as no_timetable}
-use Rattle.pesp_search.proofs.TimetableMakes.{timetable_faults_name}
+use Rattle.pesp_search.proofs.TimetableMakes.{inputs_fine as times_fine}
 use Rattle.pesp_search.proofs.TimetableReads.{is_problem}
 use Rattle.planning_stages.specs.Planning.{stage_model}
 use Rattle.planning_stages.specs.Searches.{CanBeFound, HasNoSolution, IsSpent}
 use Rattle.planning_stages.proofs.Laws.{stage_laws}
-use Rattle.planning_stages.proofs.StageLaws.{any}
 
 -- ---- a stage answers as its function says
 
@@ -51,22 +48,6 @@ only_refused (Ok made) reason (inl is) = absurd (cc)
 only_refused (Ok made) reason (inr is) = absurd (cc)
 only_refused (Err other) reason (inl is) = let same : other ≡ reason = cc in ap Err same
 only_refused (Err other) reason (inr is) = absurd (cc)
-
--- ---- faults of the inputs are no end of a search
-
-no_fault : (faults : List Refusal) (outcome : Result Made Refusal) (reason : Refusal)
-    → AllName any faults → ¬ NamesInput any reason
-    → after_faults faults outcome ≡ Err reason → faults ≡ []
-no_fault [] outcome reason named end is = refl
-no_fault (first ∷ more) outcome reason named end is =
-    let same : first ≡ reason = cc in absurd (end (subst (NamesInput any) same named.0))
-
-no_time_fault : (faults : List Refusal) (outcome : Result Made Refusal) (reason : Refusal)
-    → AllName any faults → ¬ NamesInput any reason
-    → after_times faults outcome ≡ Err reason → faults ≡ []
-no_time_fault [] outcome reason named end is = refl
-no_time_fault (first ∷ more) outcome reason named end is =
-    let same : first ≡ reason = cc in absurd (end (subst (NamesInput any) same named.0))
 
 -- ---- line concepts
 
@@ -136,17 +117,6 @@ module _ (bundle : BundleParts) where
   abbrev told : Stage → Result Made Refusal
   told at = (stage_model at).run bundle
 
-  concept_fine : (reason : Refusal) → ¬ NamesInput any reason → concept_stage bundle ≡ Err reason
-      → problem_faults bundle ≡ []
-  unfolding concept_stage
-  concept_fine reason end is = no_fault (problem_faults bundle) _ reason (input_faults_only bundle) end is
-
-  times_fine : (reason : Refusal) → ¬ NamesInput any reason → timetable_stage bundle ≡ Err reason
-      → timetable_faults bundle ≡ []
-  unfolding timetable_stage
-  times_fine reason end is =
-      no_time_fault (timetable_faults bundle) _ reason (timetable_faults_name any refl refl bundle) end is
-
   concept_outcome : problem_faults bundle ≡ [] → concept_stage bundle
       ≡ search_made (problem_of bundle) (result_within (budget_of bundle) (listing (problem_of bundle)))
   unfolding concept_stage
@@ -163,11 +133,9 @@ module _ (bundle : BundleParts) where
         → HasNoSolution at bundle
     unfolding stage_model
     ends_none stage.Concept own is =
-        let fine = concept_fine refusal.NoSolution (λ h. h) is in
-        (fine, (no_concept bundle (Err (fault.Refused refusal.NoSolution)) is fine).only refl)
+        (no_concept bundle (Err (fault.Refused refusal.NoSolution)) is).only refl
     ends_none stage.Timetable own is =
-        let fine = times_fine refusal.NoSolution (λ h. h) is in
-        (fine, (no_timetable bundle own fits (Err (fault.Refused refusal.NoSolution)) is fine).only refl)
+        (no_timetable bundle own fits (Err (fault.Refused refusal.NoSolution)) is).only refl
     ends_none at own is = ⊎_elim (λ searches. absurd searches) (λ input. absurd input) ((stage_laws at).names bundle refusal.NoSolution is)
 
     -- and where there is none it says so
@@ -176,10 +144,10 @@ module _ (bundle : BundleParts) where
     unfolding stage_model
     none_ends stage.Concept own has =
         only_refused (concept_stage bundle) refusal.NoSolution
-        ((no_concept bundle (as_result (concept_stage bundle)) (as_gives (concept_stage bundle)) has.0).always has.1)
+        ((no_concept bundle (as_result (concept_stage bundle)) (as_gives (concept_stage bundle))).always has)
     none_ends stage.Timetable own has =
         only_refused (timetable_stage bundle) refusal.NoSolution
-        ((no_timetable bundle own fits (as_result (timetable_stage bundle)) (as_gives (timetable_stage bundle)) has.0).always has.1)
+        ((no_timetable bundle own fits (as_result (timetable_stage bundle)) (as_gives (timetable_stage bundle))).always has)
     none_ends at own has = absurd has
 
     -- the same of a budget that is spent
@@ -187,11 +155,11 @@ module _ (bundle : BundleParts) where
         → IsSpent at bundle
     unfolding stage_model
     ends_spent stage.Concept own entries is =
-        let fine = concept_fine (refusal.Spent entries) (λ h. h) is in
+        let fine = concept_fine bundle (refusal.Spent entries) (λ h. h) is in
         let both = spent_by (problem_of bundle) (budget_of bundle) (listing (problem_of bundle)) entries (sym (concept_outcome fine) ∙ is) in
         (fine, both.0, both.1)
     ends_spent stage.Timetable own entries is =
-        let fine = times_fine (refusal.Spent entries) (λ h. h) is in
+        let fine = times_fine bundle (refusal.Spent entries) (λ h. h) is in
         (fine, times_spent_by (budget_in bundle) (times_listed (problem_in bundle)) entries (sym (times_outcome fine) ∙ is))
     ends_spent at own entries is = ⊎_elim (λ searches. absurd searches) (λ input. absurd input) ((stage_laws at).names bundle (refusal.Spent entries) is)
 

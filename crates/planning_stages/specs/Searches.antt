@@ -16,8 +16,8 @@ use Rattle.pesp_search.specs.TimetableStage.{budget_in, problem_in, timetable_fa
 -- The inputs of a search have no fault, and it has no solution: no line concept is feasible, or no times
 -- are a timetable; and its whole listing is within the budget. No other stage searches.
 abbrev pub HasNoSolution : Stage → BundleParts → Type 0
-HasNoSolution stage.Concept bundle = (problem_faults bundle ≡ []) × HasNone bundle
-HasNoSolution stage.Timetable bundle = (timetable_faults bundle ≡ []) × HasNoTimetable bundle
+HasNoSolution stage.Concept bundle = HasNone bundle
+HasNoSolution stage.Timetable bundle = HasNoTimetable bundle
 HasNoSolution _ bundle = ⊥
 
 -- The inputs of a search have no fault, and its listing is longer than the budget; of line concepts, so

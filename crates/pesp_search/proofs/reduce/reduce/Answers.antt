@@ -1,6 +1,7 @@
 use Rattle.std.proofs.Common.{◌∙◌, subst, sym}
 use Rattle.pesp_search.specs.Marks.{AreMarks}
 use Rattle.pesp_search.specs.Revising.{Dies, Sweeps}
+use Rattle.pesp_search.proofs.GreatestSets.{stands_dead, stands_greatest, stands_loses_none}
 use Rattle.pesp_search.proofs.ReducedSets.{bound_stands, dead_stands}
 use Rattle.pesp_search.proofs.Sweeping.{all_bound, both_propagate, reducing_begun, reducing_turn}
 use Rattle.std.proofs.lemmas.Bool.{MatchBool-at_false, MatchBool-at_true}
@@ -51,3 +52,24 @@ returns-then-branch-clause-each c =
 
 pub returns-clause-each : goal.returns-clause-each
 returns-clause-each c = c.loop-sets.invariant.each ∙ sym c.requires.ready.each
+
+-- the clauses on the greatest sets follow from how the sets stand
+pub returns-then-branch-clause-dead : goal.returns-then-branch-clause-dead
+returns-then-branch-clause-dead c _ =
+    stands_dead c.args.pesp.now c.args.sets.now c.sweep.new.sets
+    (returns-then-branch-clause-reduces c).stands (sym (returns-then-branch-clause-empty c))
+
+pub returns-then-branch-clause-loses_none : goal.returns-then-branch-clause-loses_none
+returns-then-branch-clause-loses_none c =
+    stands_loses_none c.args.pesp.now c.args.sets.now c.sweep.new.sets c.event_count.ensures.problem
+    (returns-then-branch-clause-reduces c).stands
+
+pub returns-clause-greatest : goal.returns-clause-greatest
+returns-clause-greatest c _ =
+    stands_greatest c.args.pesp.now c.args.sets.now c.loop-sets.sets (returns-clause-reduces c).stands
+    (sym (returns-clause-empty c))
+
+pub returns-clause-loses_none : goal.returns-clause-loses_none
+returns-clause-loses_none c =
+    stands_loses_none c.args.pesp.now c.args.sets.now c.loop-sets.sets c.event_count.ensures.problem
+    (returns-clause-reduces c).stands

@@ -1,5 +1,7 @@
-use Rattle.pesp_search.proofs.TimetableEnds.{none_told, spent_never}
+use Rattle.pesp_search.proofs.ListingRight.{listing_whole}
+use Rattle.pesp_search.proofs.TimetableEnds.{none_told, right_listing, spent_never}
 use Rattle.pesp_search.proofs.TimetableReads.{right_given}
+use Rattle.pesp_search.specs.TimetableStage.{problem_in}
 use Rattle.pesp_search.proofs.stage.make_timetable.Goals as goal
 
 pub returns-clause-right : goal.returns-clause-right
@@ -16,3 +18,9 @@ pub returns-clause-never_spent : goal.returns-clause-never_spent
 returns-clause-never_spent g c =
     spent_never c.args.bundle.now c.requires.stage c.requires.fits c.searched_timetable.result
     c.searched_timetable.ensures.made
+
+pub returns-clause-finds : goal.returns-clause-finds
+returns-clause-finds g c = right_listing c.args.bundle.now c.requires.stage c.requires.fits
+
+pub returns-clause-listed : goal.returns-clause-listed
+returns-clause-listed g c = listing_whole (problem_in c.args.bundle.now)
