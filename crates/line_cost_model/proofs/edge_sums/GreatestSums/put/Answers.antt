@@ -1,8 +1,6 @@
-use Rattle.std.proofs.Common.{◌≡◌, ◌∙◌, ◌+◌, ◌-◌, ap, sym, subst, arith, get_or, nat_lt, false, slice_set, Bool, List, ℕ}
+use Rattle.std.proofs.Common.{◌∙◌, ◌+◌, ◌-◌, arith}
 use Rattle.std.proofs.lemmas.List.{get_or_default}
-use Rattle.std.proofs.lemmas.Option.{get_or_from_slice_get}
-use Rattle.line_cost_model.specs.declared.edge.BoundedEdge.{BoundedEdge}
-use Rattle.line_cost_model.specs.RunningSums.{IsOfGreatest, no_bounds, over_edges, under}
+use Rattle.line_cost_model.specs.RunningSums.{under}
 use Rattle.line_cost_model.proofs.EdgeCounts.{edge_put, few_under, greatest_put}
 use Rattle.line_cost_model.proofs.edge_sums.GreatestSums.put.Goals as goal
 

@@ -1,4 +1,4 @@
-use Rattle.std.proofs.Common.{◌+◌, ◌-◌, ◌∙◌, ◌≡◌, ℕ, List, cond, nat_eq, take, ap, get_or, length, arith}
+use Rattle.std.proofs.Common.{◌+◌, ◌-◌, ◌∙◌, ℕ, List, cond, nat_eq, take, ap, get_or, length, arith}
 use Rattle.std.specs.List.{list_any}
 use Rattle.std.proofs.lemmas.List.{length-set}
 use Rattle.line_cost_model.proofs.RunningSums.{edge_moved, value_is}

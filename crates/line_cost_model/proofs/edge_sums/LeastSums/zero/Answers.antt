@@ -1,7 +1,7 @@
-use Rattle.std.proofs.Common.{◌≡◌, ◌∙◌, ◌+◌, ◌<◌, slice_set, ℕ, nat_lt, get_or, false, replicate, length, ap, sym, subst, arith, inl, inr, List}
+use Rattle.std.proofs.Common.{◌∙◌, ◌<◌, slice_set, nat_lt, get_or, false, replicate, length, ap, sym, arith, inl, inr, List}
 use Rattle.std.proofs.Common.{get_or-set_other, get_or-set_same, Bool}
 use Rattle.std.proofs.lemmas.Bool.{cases_eq}
-use Rattle.std.proofs.lemmas.List.{length-replicate, length-set}
+use Rattle.std.proofs.lemmas.List.{length-set}
 use Rattle.std.proofs.lemmas.Option.{get_or_from_slice_get}
 use Rattle.line_cost_model.specs.declared.edge.BoundedEdge.{BoundedEdge}
 use Rattle.line_cost_model.specs.RunningSums.{no_bounds}
