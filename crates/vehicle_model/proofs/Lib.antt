@@ -3,6 +3,12 @@ mod BehindRows
 mod DeadLookups
 pub mod Costs
 pub mod Counting
+mod Driven
+pub mod DrivenBack
+pub mod DrivenForms
+pub mod DrivenNext
+pub mod DrivenPlans
+pub mod DrivenRows
 pub mod Following
 pub mod Linking
 mod PlanTexts
@@ -14,6 +20,7 @@ pub mod RowsFit
 pub mod Totals
 pub mod Tours
 mod Tried
+mod TriedDriven
 pub mod VehicleRows
 mod TripTexts
 pub mod FaultlessPlans

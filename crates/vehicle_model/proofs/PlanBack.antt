@@ -25,7 +25,7 @@ use Rattle.vehicle_model.proofs.PlanRead.{AreFormed, plan_read}
 use Rattle.vehicle_model.proofs.RowsFit.{plan_fits}
 
 -- rows that have the form that is due have no fault of form
-formed_faultless : (trips : TripsParts) (read : Reading) (rows : List (Numbered ScheduleRow))
+pub formed_faultless : (trips : TripsParts) (read : Reading) (rows : List (Numbered ScheduleRow))
     → AreFormed trips read (map (λ at. at.row) rows) → form_faults trips read rows ≡ []
 unfolding form_faults
 formed_faultless trips read [] all = ap (λ b. cond b [] (fault.Trips 0 ∷ [])) all

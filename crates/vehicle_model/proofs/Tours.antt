@@ -84,7 +84,7 @@ tour_first plan zero i some = absurd (omega (arith, some))
 tour_first plan (suc fuel) i some = grind arith
 
 -- what each number of a range passes, all pass
-all_in_range : (p : ℕ → Bool) (from k : ℕ) → ((i : ℕ) → from ≤ i → i < from + k → p i ≡ true)
+pub all_in_range : (p : ℕ → Bool) (from k : ℕ) → ((i : ℕ) → from ≤ i → i < from + k → p i ≡ true)
     → list_all p (range_with_len from k) ≡ true
 all_in_range p from zero each = refl
 all_in_range p from (suc k) each = both (each from (omega arith) (omega arith))

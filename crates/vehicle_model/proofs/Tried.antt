@@ -38,7 +38,7 @@ network = record { stops = pos 1 ∷ pos 2 ∷ pos 3 ∷ pos 4 ∷ []; edges = e
 abbrev event : ℕ → ℕ → ℕ → TripEnd
 event id stop time = record { event = id; periodic = id; stop = stop; time = time }
 
-abbrev trip : ℕ → ℕ → ℕ → ℕ → ℕ → Trip
+abbrev pub trip : ℕ → ℕ → ℕ → ℕ → ℕ → Trip
 trip number from start to end = record {
   start = event (number * 2) from start;
   end = event (number * 2 + 1)
@@ -46,7 +46,7 @@ trip number from start to end = record {
   line = 1;
 }
 
-abbrev trips : List Trip → ℕ → ℕ → TripsParts
+abbrev pub trips : List Trip → ℕ → ℕ → TripsParts
 trips list turnover empty = record { network = network; trips = list; turnover = turnover; vehicle = 100000000; empty = empty }
 
 -- one trip, and two that may follow it
@@ -85,7 +85,7 @@ unfolding least_sum walks_within least_of
 cost = refl
 
 -- two trips with a dead run between them
-abbrev two : ℕ → TripsParts
+abbrev pub two : ℕ → TripsParts
 two empty = trips (trip 1 1 0 2 10 ∷ trip 2 1 30 2 40 ∷ []) 2 empty
 
 -- a dear one: the gain is below 0, so there are two vehicles
@@ -133,7 +133,7 @@ unfolding trips_faults network_of network_faults stops_of input_faults row_fault
     cells_from cell_of values errors row_whys rows cleaned spelling_of value_of value_at fixed_of whole_of
 broken = refl
 
-abbrev eight : TripsParts
+abbrev pub eight : TripsParts
 eight = trips_of stops_text edges_text trips_text 2 100000000 1000000
 
 abbrev pairs : List (Option ℕ)
@@ -144,7 +144,7 @@ unfolding chosen_plan least_sum walks_within least_of all_lists is_apart trips_o
     table_of cells_from cell_of values rows cleaned spelling_of value_of value_at fixed_of whole_of
 eight_chosen = refl
 
-abbrev schedule : List ℕ
+abbrev pub schedule : List ℕ
 schedule =
     codes "# circulation; vehicle; number; type; start-id; periodic-start-id; start-stop; start-time; end-id; "
     ++ codes "periodic-end-id; end-stop; end-time; line\n"

@@ -1,4 +1,5 @@
 pub mod DeadTables
+pub mod DrivenSchedules
 pub mod PlanFaults
 pub mod Plans
 pub mod ReadSchedules

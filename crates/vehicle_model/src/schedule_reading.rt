@@ -3,6 +3,7 @@ ghost use Rattle.std.specs.Prelude.{◌≡◌, ◌+◌, ◌<◌, length, slice_g
 ghost use Rattle.event_tables.specs.Cells.{schedule_row, AreSmall};
 ghost use Rattle.giv_files.specs.RowsOfTables.{records_by, numbered_by};
 ghost use Rattle.giv_files.specs.Tables.{no_row};
+ghost use Rattle.vehicle_model.specs.DrivenSchedules.{ReadsWhatIsDriven};
 ghost use Rattle.vehicle_model.specs.Plans.{IsPlan};
 ghost use Rattle.vehicle_model.specs.ReadSchedules.{plan_faults, plan_of, plan_by, links_in, nothing_read, row_faults, PlanGives};
 ghost use Rattle.vehicle_model.specs.Trips.{links_of};
@@ -17,11 +18,15 @@ use giv_files::{Table, columns, read_table};
 use std::alloc::Global;
 
 /// The plan of a text over some trips, or its first fault: that it is no table of a schedule, else
-/// that its rows are not those of the trips, else that a trip may not follow the one before it.
+/// that its rows are not those of the trips, else that a trip may not follow the one before it. So it
+/// takes exactly the schedules of vehicles that drive each trip once, in any order of vehicles, and
+/// gives after each trip the one that its vehicle drives next.
 pub fn read_plan(alloc: Global, bytes: &[u8], trips: &Trips) -> Result<Plan, PlanFault>
     ensures read { PlanGives (plan_faults trips.now bytes.now) (plan_of trips.now bytes.now) result }
     ensures plan { IfOk result (IsPlan (links_of trips.now)) }
+    ensures driven { ReadsWhatIsDriven trips.now bytes.now result }
 {
+    let _ = trips.len();
     let table = read_table(alloc, bytes, &columns!(Schedule))?;
     read_rows(alloc, &table, trips)
 }

@@ -1,0 +1,335 @@
+-- Rows have the form that is due exactly where they are the schedule of some vehicles.
+use Rattle.std.proofs.Common.{◌≡◌, ℕ, ◌+◌, ◌<◌, ◌==◌, ◌&&◌, ◌||◌, not, cond, Bool, true, false}
+use Rattle.std.proofs.Common.{List, [], ◌∷◌, ◌++◌, length, map, slice_get, All, Option, Some, None}
+use Rattle.std.proofs.Common.{flat_map, refl, ap, sym, ◌∙◌, subst, arith, inl, inr, position}
+use Rattle.std.specs.List.{concat, list_all, range_with_len}
+use Rattle.std.specs.Option.{option_to_list}
+use Rattle.std.proofs.lemmas.Bool.{false≢true, eqb-true, and_parts, ne_eqb, cases_Bool}
+use Rattle.std.proofs.lemmas.List.Elements.{All-nil, All-cons}
+use Rattle.std.proofs.lemmas.Option.{none-some}
+use Rattle.event_tables.specs.declared.schedule_row.ScheduleRow.{ScheduleRow}
+use Rattle.event_tables.specs.Schedules.{is_trip_row, is_empty_row}
+use Rattle.vehicle_model.specs.DrivenSchedules.{as_told}
+use Rattle.vehicle_model.specs.ReadSchedules.{Reading, nothing_read, one_more, trip_in, last_vehicle, begins, is_next_row, follows_trip, follows_empty, is_new, is_ride, leads_to, trip_fits, empty_fits, last_seen, has_seen, has_form, same_run}
+use Rattle.vehicle_model.specs.Schedules.{trip_row, empty_row, rows_behind, rows_from}
+use Rattle.vehicle_model.specs.Trips.{TripsParts}
+use Rattle.vehicle_model.proofs.DrivenRows.{trip_found, trip_row_is, trip_told, ride_told}
+use Rattle.vehicle_model.proofs.PlanRead.{AreFormed}
+use Rattle.vehicle_model.proofs.Tours.{has}
+
+-- each of some trips is there and not among those before it, and with all of them every trip has come
+abbrev pub AreFresh : ℕ → List ℕ → List ℕ → Type 0
+AreFresh n seen [] = list_all (has seen) (range_with_len 0 n) ≡ true
+AreFresh n seen (i ∷ more) = (i < n) × (has seen i ≡ false) × AreFresh n (i ∷ seen) more
+
+-- the links of a vehicle behind a trip, and those of vehicles
+abbrev pub links_behind : ℕ → List ℕ → List (ℕ × ℕ)
+links_behind i [] = []
+links_behind i (j ∷ more) = (i, j) ∷ links_behind j more
+
+abbrev pub vehicle_links : List ℕ → List (ℕ × ℕ)
+vehicle_links [] = []
+vehicle_links (i ∷ more) = links_behind i more
+
+abbrev pub driven_links : List (List ℕ) → List (ℕ × ℕ)
+driven_links vehicles = flat_map vehicle_links vehicles
+
+-- every vehicle has a trip
+abbrev pub AreBusy : List (List ℕ) → Type 0
+AreBusy vehicles = All (λ driven. 0 < length driven) vehicles
+
+module _ (trips : TripsParts) where
+  abbrev n : ℕ
+  n = length trips.trips
+
+  -- rows are those of vehicles from a number on
+  pub record AreVehicles (vehicle : ℕ) (seen : List ℕ) (rows : List ScheduleRow) : Type 0 where
+    pub vehicles : List (List ℕ)
+    pub busy : AreBusy vehicles
+    pub fresh : AreFresh (length trips.trips) seen (concat vehicles)
+    pub told : map (as_told trips) rows ≡ rows_from trips vehicle vehicles
+
+  -- the same behind a trip of a vehicle
+  pub record AreRest (vehicle number i : ℕ) (seen : List ℕ) (rows : List ScheduleRow) : Type 0 where
+    pub more : List ℕ
+    pub vehicles : List (List ℕ)
+    pub busy : AreBusy vehicles
+    pub fresh : AreFresh (length trips.trips) seen (more ++ concat vehicles)
+    pub told : map (as_told trips) rows
+        ≡ rows_behind trips vehicle number i more ++ rows_from trips (vehicle + 1) vehicles
+
+  -- ---- from the form of rows to vehicles
+
+  -- a row of a trip that has the form that is due
+  record IsDue (read : Reading) (row : ScheduleRow) : Type 0 where
+    j : ℕ
+    same : row.circulation ≡ row.vehicle
+    place : (begins read.before row || follows_empty read.before row) ≡ true
+    repeated : trip_in trips row ≡ Some j
+    within : j < length trips.trips
+    new : has read.seen j ≡ false
+
+  new_is : (has_come : ℕ → Bool) (at : Option ℕ) → is_new has_come at ≡ true
+      → (j : ℕ) × ((at ≡ Some j) × (has_come j ≡ false))
+  new_is has_come None h = cc
+  new_is has_come (Some j) h = (j, (refl, not_true (has_come j) h))
+    where
+      not_true : (b : Bool) → not b ≡ true → b ≡ false
+      not_true true h = cc
+      not_true false h = refl
+
+  due : (read : Reading) (row : ScheduleRow) (after : Option ScheduleRow) → is_empty_row row ≡ false
+      → has_form trips read row after ≡ true → IsDue read row
+  due read row after trip form =
+      let both = and_parts (row.circulation == row.vehicle) _ form in
+      let fits : trip_fits trips read.before (has_seen read) row ≡ true =
+      sym (ap (λ b. cond b (empty_fits trips read.before (last_seen read) row after)
+      (trip_fits trips read.before (has_seen read) row)) trip) ∙ both.1 in
+      let parts = and_parts (begins read.before row || follows_empty read.before row) _ fits in
+      let found = new_is (has_seen read) (trip_in trips row) parts.1 in
+      record {
+        j = found.0;
+        same = eqb-true row.circulation row.vehicle both.0;
+        place = parts.0;
+        repeated = found.1.0;
+        within = (trip_found trips row found.0 found.1.0).0;
+        new = found.1.1;
+      }
+
+  -- a vehicle begins at a row
+  begun : (read : Reading) (row : ScheduleRow) (rows : List ScheduleRow) (it : IsDue read row)
+      → begins read.before row ≡ true
+      → AreRest row.vehicle row.number it.j (it.j ∷ read.seen) rows
+      → AreVehicles (last_vehicle read.before + 1) read.seen (row ∷ rows)
+  unfolding rows_from
+  begun read row rows it first rest =
+      let parts = and_parts (row.vehicle == last_vehicle read.before + 1) (row.number == 1) first in
+      let vehicle : row.vehicle ≡ last_vehicle read.before + 1 =
+      eqb-true row.vehicle (last_vehicle read.before + 1) parts.0 in
+      let number : row.number ≡ 1 = eqb-true row.number 1 parts.1 in
+      let found = trip_found trips row it.j it.repeated in
+      record {
+        vehicles = (it.j ∷ rest.more) ∷ rest.vehicles;
+        busy = All-cons (λ driven. 0 < length driven) (it.j ∷ rest.more) rest.vehicles (omega arith) rest.busy;
+        fresh = (it.within, it.new, rest.fresh);
+        told = ap (λ at. at ∷ map (as_told trips) rows) (trip_told trips row found.1)
+            ∙ ap (λ at. at ∷ map (as_told trips) rows) (trip_row_is trips row it.j it.same it.repeated)
+            ∙ ap (λ at. trip_row trips row.vehicle row.number it.j ∷ at) rest.told
+            ∙ ap (λ v. trip_row trips v row.number it.j
+            ∷ (rows_behind trips v row.number it.j rest.more ++ rows_from trips (v + 1) rest.vehicles)) vehicle
+            ∙ ap (λ k. trip_row trips (last_vehicle read.before + 1) k it.j
+            ∷ (rows_behind trips (last_vehicle read.before + 1) k it.j rest.more
+            ++ rows_from trips (last_vehicle read.before + 1 + 1) rest.vehicles)) number;
+      }
+
+  -- no trip comes in the row of an empty ride
+  pub empty_repeats : (row : ScheduleRow) → is_empty_row row ≡ true → trip_in trips row ≡ None
+  empty_repeats row empty = ap (λ b. cond b None (position (same_run row.run) trips.trips)) empty
+
+  -- behind a row of a trip
+  pub more_is : (read : Reading) (row : ScheduleRow) (j : ℕ) → trip_in trips row ≡ Some j
+      → one_more trips read row ≡ record { before = Some row; seen = j ∷ read.seen }
+  more_is read row j is =
+      ap (λ at. record { before = Some row; seen = option_to_list at ++ read.seen }) is
+
+  -- behind a row of an empty ride
+  pub none_more : (read : Reading) (row : ScheduleRow) → is_empty_row row ≡ true
+      → one_more trips read row ≡ record { before = Some row; seen = read.seen }
+  none_more read row empty =
+      ap (λ at. record { before = Some row; seen = option_to_list at ++ read.seen }) (empty_repeats row empty)
+
+  -- an empty ride and a trip go on with a vehicle
+  record GoesOn (before : ScheduleRow) (i : ℕ) (seen : List ℕ) (ride row : ScheduleRow) : Type 0 where
+    j : ℕ
+    repeated : trip_in trips row ≡ Some j
+    kind : is_empty_row row ≡ false
+    within : j < length trips.trips
+    new : has (i ∷ seen) j ≡ false
+    vehicle : row.vehicle ≡ before.vehicle
+    number : row.number ≡ before.number + 2
+    ridden : as_told trips ride ≡ empty_row trips before.vehicle (before.number + 1) i j
+    driven : as_told trips row ≡ trip_row trips before.vehicle (before.number + 2) j
+
+  -- the row of an empty ride that has the form that is due leads to a row
+  led : (last : Option ℕ) (row : ScheduleRow) (after : Option ScheduleRow)
+      → leads_to trips last row after ≡ true → (next : ScheduleRow) × (after ≡ Some next)
+  led None row after h = cc
+  led (Some i) row None h = cc
+  led (Some i) row (Some next) h = (next, refl)
+
+  rides : (before : ScheduleRow) (i : ℕ) (seen : List ℕ) (ride : ScheduleRow) (after : Option ScheduleRow)
+      → is_empty_row ride ≡ true
+      → has_form trips (record { before = Some before; seen = i ∷ seen }) ride after ≡ true
+      → leads_to trips (Some i) ride after ≡ true
+  rides before i seen ride after empty form =
+      (and_parts (follows_trip (Some before) ride) _
+      (sym (ap (λ b. cond b (empty_fits trips (Some before) (Some i) ride after)
+      (trip_fits trips (Some before) (has (i ∷ seen)) ride)) empty)
+      ∙ (and_parts (ride.circulation == ride.vehicle) _ form).1)).1
+
+  goes_on : (before : ScheduleRow) (i : ℕ) (seen : List ℕ) (ride row : ScheduleRow) (after : Option ScheduleRow)
+      → is_trip_row before ≡ true → is_empty_row ride ≡ true
+      → has_form trips (record { before = Some before; seen = i ∷ seen }) ride (Some row) ≡ true
+      → has_form trips (record { before = Some ride; seen = i ∷ seen }) row after ≡ true
+      → GoesOn before i seen ride row
+  goes_on before i seen ride row after kind empty rides drives =
+      let both = and_parts (ride.circulation == ride.vehicle) _ rides in
+      let fits : empty_fits trips (Some before) (Some i) ride (Some row) ≡ true =
+      sym (ap (λ b. cond b (empty_fits trips (Some before) (Some i) ride (Some row))
+      (trip_fits trips (Some before) (has (i ∷ seen)) ride)) empty) ∙ both.1 in
+      let parts = and_parts (follows_trip (Some before) ride) _ fits in
+      let behind = and_parts (is_trip_row before) _ parts.0 in
+      let next_row = and_parts (ride.vehicle == before.vehicle) (ride.number == before.number + 1) behind.1 in
+      let ride_vehicle : ride.vehicle ≡ before.vehicle = eqb-true ride.vehicle before.vehicle next_row.0 in
+      let ride_number : ride.number ≡ before.number + 1 =
+      eqb-true ride.number (before.number + 1) next_row.1 in
+      let leads = and_parts ((row.vehicle == ride.vehicle) && is_trip_row row) _ parts.1 in
+      let kinds = and_parts (row.vehicle == ride.vehicle) (is_trip_row row) leads.0 in
+      let row_vehicle : row.vehicle ≡ ride.vehicle = eqb-true row.vehicle ride.vehicle kinds.0 in
+      let trip : is_empty_row row ≡ false = not_false (is_empty_row row) kinds.1 in
+      let it = due (record { before = Some ride; seen = i ∷ seen }) row after trip drives in
+      let place : follows_empty (Some ride) row ≡ true =
+      second (begins (Some ride) row) it.place (not_begun row_vehicle) in
+      let next_number = and_parts (is_empty_row ride) _ place in
+      let row_number : row.number ≡ ride.number + 1 = eqb-true row.number (ride.number + 1)
+      (and_parts (row.vehicle == ride.vehicle) (row.number == ride.number + 1) next_number.1).1 in
+      let number : row.number ≡ before.number + 2 = omega (arith, row_number, ride_number) in
+      record {
+        j = it.j;
+        repeated = it.repeated;
+        kind = trip;
+        within = it.within;
+        new = it.new;
+        vehicle = row_vehicle ∙ ride_vehicle;
+        number = number;
+        ridden = ride_told trips ride i it.j (eqb-true ride.circulation ride.vehicle both.0) empty
+            (ap (is_ride trips i ride.run) (sym it.repeated) ∙ leads.1)
+            ∙ ap (λ v. empty_row trips v ride.number i it.j) ride_vehicle
+            ∙ ap (λ k. empty_row trips before.vehicle k i it.j) ride_number;
+        driven = trip_told trips row trip ∙ trip_row_is trips row it.j it.same it.repeated
+            ∙ ap (λ v. trip_row trips v row.number it.j) (row_vehicle ∙ ride_vehicle)
+            ∙ ap (λ k. trip_row trips before.vehicle k it.j) number;
+      }
+    where
+      not_false : (b : Bool) → not b ≡ true → b ≡ false
+      not_false true h = cc
+      not_false false h = refl
+
+      second : (a : Bool) {b : Bool} → (a || b) ≡ true → a ≡ false → b ≡ true
+      second true h e = cc
+      second false h e = h
+
+      apart : {v w : ℕ} → v ≡ w → v ≡ w + 1 → ⊥
+      apart e f = omega (arith, e, f)
+
+      not_begun : row.vehicle ≡ ride.vehicle → begins (Some ride) row ≡ false
+      not_begun e = ap (λ b. b && (row.number == 1)) (ne_eqb row.vehicle (ride.vehicle + 1) (apart e))
+
+  went_on : (before : ScheduleRow) (i : ℕ) (seen : List ℕ) (ride row : ScheduleRow) (rows : List ScheduleRow)
+      (it : GoesOn before i seen ride row)
+      → AreRest row.vehicle row.number it.j (it.j ∷ i ∷ seen) rows
+      → AreRest before.vehicle before.number i (i ∷ seen) (ride ∷ row ∷ rows)
+  unfolding rows_behind
+  went_on before i seen ride row rows it rest = record {
+    more = it.j ∷ rest.more;
+    vehicles = rest.vehicles;
+    busy = rest.busy;
+    fresh = (it.within, it.new, rest.fresh);
+    told = ap (λ at. at ∷ as_told trips row ∷ map (as_told trips) rows) it.ridden
+        ∙ ap (λ at. empty_row trips before.vehicle (before.number + 1) i it.j ∷ at ∷ map (as_told trips) rows) it.driven
+        ∙ ap (λ at. empty_row trips before.vehicle (before.number + 1) i it.j
+        ∷ trip_row trips before.vehicle (before.number + 2) it.j ∷ at) (rest.told
+        ∙ ap (λ v. rows_behind trips v row.number it.j rest.more ++ rows_from trips (v + 1) rest.vehicles) it.vehicle
+        ∙ ap (λ k. rows_behind trips before.vehicle k it.j rest.more
+        ++ rows_from trips (before.vehicle + 1) rest.vehicles) it.number);
+  }
+
+  -- a vehicle that ends with a trip
+  no_more : (vehicle number i : ℕ) (seen : List ℕ) (rows : List ScheduleRow)
+      → AreVehicles (vehicle + 1) seen rows → AreRest vehicle number i seen rows
+  unfolding rows_behind
+  no_more vehicle number i seen rows are = record {
+    more = [];
+    vehicles = are.vehicles;
+    busy = are.busy;
+    fresh = are.fresh;
+    told = are.told;
+  }
+
+  no_rows : (vehicle : ℕ) (seen : List ℕ) → AreFresh (length trips.trips) seen [] → AreVehicles vehicle seen []
+  unfolding rows_from
+  no_rows vehicle seen fresh = record {
+    vehicles = [];
+    busy = All-nil (λ driven. 0 < length driven);
+    fresh = fresh;
+    told = refl;
+  }
+
+  -- the place of a row of a trip that is due behind the row of a trip
+  begins_there : (before row : ScheduleRow) → is_trip_row before ≡ true
+      → (begins (Some before) row || follows_empty (Some before) row) ≡ true → begins (Some before) row ≡ true
+  begins_there before row kind place = first (begins (Some before) row) place
+      (ap (λ b. b && is_next_row before row) (not_true (is_empty_row before) kind))
+    where
+      not_true : (b : Bool) → not b ≡ true → b ≡ false
+      not_true true h = cc
+      not_true false h = refl
+
+      first : (a : Bool) {b : Bool} → (a || b) ≡ true → b ≡ false → a ≡ true
+      first true h e = refl
+      first false h e = cc
+
+  -- rows behind the row of a trip
+  rest_of : (rows : List ScheduleRow) (before : ScheduleRow) (i : ℕ) (seen : List ℕ) → is_trip_row before ≡ true
+      → AreFormed trips (record { before = Some before; seen = i ∷ seen }) rows
+      → AreRest before.vehicle before.number i (i ∷ seen) rows
+  rest_of [] before i seen kind formed =
+      no_more before.vehicle before.number i (i ∷ seen) [] (no_rows (before.vehicle + 1) (i ∷ seen) formed)
+  rest_of (row ∷ []) before i seen kind formed = elim (cases_Bool (is_empty_row row)) [
+    | inl empty ↦ absurd (none-some _ (led (Some i) row None (rides before i seen row None empty formed.0)).1)
+    | inr trip ↦
+        let it = due (record { before = Some before; seen = i ∷ seen }) row None trip formed.0 in
+        no_more before.vehicle before.number i (i ∷ seen) (row ∷ [])
+        (begun (record { before = Some before; seen = i ∷ seen }) row [] it (begins_there before row kind it.place)
+        (rest_of [] row it.j (i ∷ seen) (ap not trip)
+        (subst (λ at. AreFormed trips at [])
+        (more_is (record { before = Some before; seen = i ∷ seen }) row it.j it.repeated) formed.1)))
+  ]
+  rest_of (row ∷ next ∷ rows) before i seen kind formed = elim (cases_Bool (is_empty_row row)) [
+    | inl empty ↦
+        let behind = subst (λ at. AreFormed trips at (next ∷ rows))
+        (none_more (record { before = Some before; seen = i ∷ seen }) row empty) formed.1 in
+        let it = goes_on before i seen row next (slice_get rows 0) kind empty formed.0 behind.0 in
+        went_on before i seen row next rows it
+        (rest_of rows next it.j (i ∷ seen) (ap not it.kind)
+        (subst (λ at. AreFormed trips at rows)
+        (more_is (record { before = Some row; seen = i ∷ seen }) next it.j it.repeated) behind.1))
+    | inr trip ↦
+        let it = due (record { before = Some before; seen = i ∷ seen }) row (Some next) trip formed.0 in
+        no_more before.vehicle before.number i (i ∷ seen) (row ∷ next ∷ rows)
+        (begun (record { before = Some before; seen = i ∷ seen }) row (next ∷ rows) it
+        (begins_there before row kind it.place)
+        (rest_of (next ∷ rows) row it.j (i ∷ seen) (ap not trip)
+        (subst (λ at. AreFormed trips at (next ∷ rows))
+        (more_is (record { before = Some before; seen = i ∷ seen }) row it.j it.repeated) formed.1)))
+  ]
+
+  -- all rows
+  pub vehicles_of : (rows : List ScheduleRow) → AreFormed trips nothing_read rows → AreVehicles 1 [] rows
+  vehicles_of [] formed = no_rows 1 [] formed
+  vehicles_of (row ∷ rows) formed = elim (cases_Bool (is_empty_row row)) [
+    | inl empty ↦ absurd (false≢true (and_parts (follows_trip None row)
+        (leads_to trips None row (slice_get rows 0))
+        (sym (ap (λ b. cond b (empty_fits trips None None row (slice_get rows 0))
+        (trip_fits trips None (has []) row)) empty)
+        ∙ (and_parts (row.circulation == row.vehicle) _ formed.0).1)).0)
+    | inr trip ↦
+        let it = due nothing_read row (slice_get rows 0) trip formed.0 in
+        begun nothing_read row rows it (only (begins None row) it.place)
+        (rest_of rows row it.j [] (ap not trip)
+        (subst (λ at. AreFormed trips at rows) (more_is nothing_read row it.j it.repeated) formed.1))
+  ]
+    where
+      only : (a : Bool) → (a || false) ≡ true → a ≡ true
+      only true h = refl
+      only false h = h

@@ -1,0 +1,147 @@
+-- The links of vehicles make the plan of the vehicles.
+use Rattle.std.proofs.Common.{◌≡◌, ◌≢◌, ℕ, zero, suc, ◌+◌, ◌<◌, ◌≤◌, ◌==◌, ◌||◌, nat_eq}
+use Rattle.std.proofs.Common.{Bool, true, false, cond, List, [], ◌∷◌, ◌++◌, length, filter}
+use Rattle.std.proofs.Common.{slice_get, All, Some, refl, ap, sym, ◌∙◌}
+use Rattle.std.proofs.Common.{arith, eq-eqb}
+use Rattle.std.specs.List.{list_all, range_with_len}
+use Rattle.std.proofs.lemmas.Bool.{false≢true, ne_eqb, eqb-true, and_parts, or_parts}
+use Rattle.std.proofs.lemmas.List.Elements.{All-nil, All-cons, All-head, All-tail}
+use Rattle.std.proofs.lemmas.Option.{none-some, same_Some}
+use Rattle.vehicle_model.specs.DrivenSchedules.{AreEachOnce}
+use Rattle.vehicle_model.proofs.DrivenForms.{AreFresh}
+use Rattle.vehicle_model.proofs.Linking.{by_number}
+use Rattle.vehicle_model.proofs.Tours.{has, all_in_range}
+
+-- ---- each trip once
+
+-- how often a number stands in a list
+abbrev times : ℕ → List ℕ → ℕ
+times i numbers = length (filter (nat_eq i) numbers)
+
+times_more : (i j : ℕ) (more : List ℕ) → times i (j ∷ more) ≡ cond (i == j) 1 0 + times i more
+times_more i j more = split (i == j)
+  where
+    split : (b : Bool) → length (cond b (j ∷ filter (nat_eq i) more) (filter (nat_eq i) more))
+        ≡ cond b 1 0 + times i more
+    split true = omega arith
+    split false = omega arith
+
+counted : (b s : Bool) (t : ℕ) → t ≡ cond (b || s) 0 1 → (b ≡ true → s ≡ false) → cond b 1 0 + t ≡ cond s 0 1
+counted true true t e h = absurd (false≢true (sym (h refl)))
+counted true false t e h = omega (arith, e)
+counted false s t e h = omega (arith, e)
+
+counted_back : (b s : Bool) (t : ℕ) → cond b 1 0 + t ≡ cond s 0 1 → t ≡ cond (b || s) 0 1
+counted_back true true t e = omega (arith, e)
+counted_back true false t e = omega (arith, e)
+counted_back false s t e = omega (arith, e)
+
+all_at : (p : ℕ → Bool) (from k : ℕ) → list_all p (range_with_len from k) ≡ true
+    → (i : ℕ) → from ≤ i → i < from + k → p i ≡ true
+all_at p from zero h i low high = absurd (omega (arith, low, high))
+all_at p from (suc k) h i low high =
+    let parts = and_parts (p from) (list_all p (range_with_len (from + 1) k)) h in
+    by_number i from (λ same. ap p same ∙ parts.0)
+    (λ apart. all_at p (from + 1) k parts.1 i (omega (arith, low, apart)) (omega (arith, high)))
+
+pub fresh_once : (n : ℕ) (numbers seen : List ℕ) → AreFresh n seen numbers
+    → All (λ i. i < n) numbers × ((i : ℕ) → i < n → times i numbers ≡ cond (has seen i) 0 1)
+fresh_once n [] seen all = (
+  All-nil (λ i. i < n),
+  λ i within. ap (λ b. cond b 0 1) (sym (all_at (has seen) 0 n all i (omega arith) (omega (arith, within)))),
+)
+fresh_once n (j ∷ more) seen fresh =
+    let rest = fresh_once n more (j ∷ seen) fresh.2 in (
+      All-cons (λ i. i < n) j more fresh.0 rest.0,
+      λ i within. times_more i j more ∙ counted (i == j) (has seen i) (times i more) (rest.1 i within)
+          (λ same. ap (has seen) (eqb-true i j same) ∙ fresh.1),
+    )
+
+pub once_fresh : (n : ℕ) (numbers seen : List ℕ) → All (λ i. i < n) numbers
+    → ((i : ℕ) → i < n → times i numbers ≡ cond (has seen i) 0 1) → AreFresh n seen numbers
+once_fresh n [] seen below once = all_in_range (has seen) 0 n
+    (λ i low high. none_left (has seen i) (once i (omega (arith, high))))
+  where
+    none_left : (b : Bool) → ◌≡◌ {A = ℕ} 0 (cond b 0 1) → b ≡ true
+    none_left true e = refl
+    none_left false e = absurd (omega (arith, e))
+once_fresh n (j ∷ more) seen below once =
+    let within = All-head (λ i. i < n) j more below in (
+      within,
+      new (has seen j) (sym (times_more j j more ∙ ap (λ b. cond b 1 0 + times j more) (eq-eqb j j refl))
+          ∙ once j within),
+      once_fresh n more (j ∷ seen) (All-tail (λ i. i < n) j more below)
+          (λ i inside. counted_back (i == j) (has seen i) (times i more)
+          (sym (times_more i j more) ∙ once i inside)),
+    )
+  where
+    new : (b : Bool) → 1 + times j more ≡ cond b 0 1 → b ≡ false
+    new true e = absurd (omega (arith, e))
+    new false e = refl
+
+pub each_once : (n : ℕ) (numbers : List ℕ) → AreFresh n [] numbers → AreEachOnce n numbers
+each_once n numbers fresh =
+    let parts = fresh_once n numbers [] fresh in record { below = parts.0; once = parts.1 }
+
+pub all_fresh : (n : ℕ) (numbers : List ℕ) → AreEachOnce n numbers → AreFresh n [] numbers
+all_fresh n numbers are = once_fresh n numbers [] are.below are.once
+
+-- ---- what was seen does not come again
+
+pub has_more : (seen : List ℕ) (j p : ℕ) → has seen p ≡ true → has (j ∷ seen) p ≡ true
+has_more seen j p h = later (p == j) h
+  where
+    later : (b : Bool) {c : Bool} → c ≡ true → (b || c) ≡ true
+    later true e = refl
+    later false e = e
+
+pub has_first : (seen : List ℕ) (j : ℕ) → has (j ∷ seen) j ≡ true
+has_first seen j = ap (λ b. b || has seen j) (eq-eqb j j refl)
+
+not_both : {b : Bool} → b ≡ true → b ≡ false → ⊥
+not_both e f = false≢true (sym f ∙ e)
+
+-- a number that is not among some is none of them
+pub apart_from : (j p : ℕ) (more : List ℕ) → has (j ∷ more) p ≡ false → (p ≢ j) × (has more p ≡ false)
+apart_from j p more h =
+    let parts = or_parts (p == j) (has more p) h in ((λ same. not_both (eq-eqb p j same) parts.0), parts.1)
+
+pub seen_apart : (n : ℕ) (numbers seen : List ℕ) (p : ℕ) → AreFresh n seen numbers → has seen p ≡ true
+    → has numbers p ≡ false
+seen_apart n [] seen p fresh h = refl
+seen_apart n (j ∷ more) seen p fresh h =
+    ap (λ b. b || has more p) (ne_eqb p j (λ same. not_both (sym (ap (has seen) same) ∙ h) fresh.1))
+    ∙ seen_apart n more (j ∷ seen) p fresh.2 (has_more seen j p h)
+
+pub front_apart : (xs ys : List ℕ) (p : ℕ) → has (xs ++ ys) p ≡ false → has xs p ≡ false
+front_apart [] ys p h = refl
+front_apart (x ∷ xs) ys p h =
+    let parts = or_parts (p == x) (has (xs ++ ys) p) h in
+    ap (λ b. b || has xs p) parts.0 ∙ front_apart xs ys p parts.1
+
+-- all that were seen behind some more
+abbrev pub after : List ℕ → List ℕ → List ℕ
+after seen [] = seen
+after seen (i ∷ more) = after (i ∷ seen) more
+
+pub fresh_after : (n : ℕ) (xs ys seen : List ℕ) → AreFresh n seen (xs ++ ys) → AreFresh n (after seen xs) ys
+fresh_after n [] ys seen fresh = fresh
+fresh_after n (x ∷ xs) ys seen fresh = fresh_after n xs ys (x ∷ seen) fresh.2
+
+pub after_none : (xs seen : List ℕ) (p : ℕ) → has (after seen xs) p ≡ false
+    → (has seen p ≡ false) × (has xs p ≡ false)
+after_none [] seen p h = (h, refl)
+after_none (x ∷ xs) seen p h =
+    let rest = after_none xs (x ∷ seen) p h in
+    let first = or_parts (p == x) (has seen p) rest.0 in
+    (first.1, ap (λ b. b || has xs p) first.0 ∙ rest.1)
+
+pub after_seen : (xs seen : List ℕ) (p : ℕ) → has seen p ≡ true → has (after seen xs) p ≡ true
+after_seen [] seen p h = h
+after_seen (x ∷ xs) seen p h = after_seen xs (x ∷ seen) p (has_more seen x p h)
+
+pub after_at : (xs seen : List ℕ) (k p : ℕ) → slice_get xs k ≡ Some p → has (after seen xs) p ≡ true
+after_at [] seen k p e = absurd (none-some p e)
+after_at (x ∷ xs) seen zero p e = after_seen xs (x ∷ seen) p
+    (ap (λ at. has (at ∷ seen) p) (same_Some x p e) ∙ has_first seen p)
+after_at (x ∷ xs) seen (suc k) p e = after_at xs (x ∷ seen) k p e
