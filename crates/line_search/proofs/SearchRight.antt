@@ -12,6 +12,7 @@ use Rattle.line_search.specs.RightConcepts.{ListingIsWhole, SearchIsRight, found
 use Rattle.line_search.proofs.ChosenFound.{best_feasible, found_is_chosen, listing_finds}
 use Rattle.line_search.proofs.ChosenFound.{nodes_certify, none_is_feasible, some_find}
 use Rattle.line_search.proofs.ConceptsListed.{concepts_listed}
+use Rattle.line_search.proofs.Lengths.{root_ordered}
 use Rattle.line_search.proofs.Levels.{visit_unrolls}
 use Rattle.line_search.proofs.SoundProblems.{problem_sound}
 
@@ -22,6 +23,7 @@ where_found P (Some x) h = h x refl
 
 pub listing_whole : (problem : ProblemParts) → ListingIsWhole problem
 listing_whole problem = record {
+  ordered = root_ordered problem.edges problem.lines;
   enough_levels = visit_unrolls problem;
   feasible = λ count. best_feasible problem None (take count (listing problem)) tt
       (some_find problem count (listing problem) (listing_finds problem));

@@ -55,11 +55,12 @@ pub record SearchIsRight (problem : ProblemParts) : Type 0 where
       (λ concept. Certifies problem (pos (cost_of problem concept)) (nodes_in (listing problem)))
   pub none : found_by problem ≡ None → NoneIsFeasible problem
 
--- A listing is whole, whatever the problem. It has levels enough: the entries of a region are what
--- is said of it and, behind a split, the entries of both parts; however deep it is split, none are
--- left out. What any first entries find is feasible. The count of concepts, by which a budget is
--- enough, is that of those that lie in a region.
+-- A listing is whole, whatever the problem. It has levels enough: the entries of a region, as the
+-- root is, are what is said of it and, behind a split, the entries of both parts; however deep it is
+-- split, none are left out. What any first entries find is feasible. The count of concepts, by which
+-- a budget is enough, is that of those that lie in a region.
 pub record ListingIsWhole (problem : ProblemParts) : Type 0 where
+  pub ordered : AreOrdered (root_of problem)
   pub enough_levels : (region : List LineRange) (best : Option (List ℕ)) → AreOrdered region
       → visit problem region best
       ≡ entries_by (visit problem) region best (node_at problem region best)
