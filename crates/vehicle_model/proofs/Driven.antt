@@ -211,9 +211,13 @@ module _ (trips : TripsParts) (are : AreTrips trips) (text : List ℕ) where
   is_fault why e = elim (or_first (map (λ first. fault.Row first) (faults schedule_columns text))
       (row_faults trips numbered) why e) [
         | inl at ↦ record { told = inl at }
-        | inr rest ↦ record { told = inr (map_none (λ first. fault.Row first) (faults schedule_columns text) rest.0,
+        | inr rest ↦ record {
+          told = inr (
+            map_none (λ first. fault.Row first) (faults schedule_columns text) rest.0,
             or_first (form_faults trips nothing_read numbered)
-            (follow_faults trips (links_in trips nothing_read (map (λ at. at.row) numbered))) why rest.1) }
+                (follow_faults trips (links_in trips nothing_read (map (λ at. at.row) numbered))) why rest.1,
+          );
+        }
       ]
 
   no_table : (first : RowFault) → IsFault (fault.Row first) → ReadsWhatIsDriven trips text (Err (fault.Row first))
@@ -264,10 +268,10 @@ module _ (trips : TripsParts) (are : AreTrips trips) (text : List ℕ) where
           let found = form_first trips nothing_read numbered (fault.Follow j) form in
           absurd (trips_no_follow found.0 j (sym found.1))
       | inr follow ↦ (
-          (let all = schedule_is follow.0 in (all.0, record { table = rest.0; schedule = all.1 })),
-          λ vehicles is. late_in vehicles is.schedule (follow_first trips
-              (links_in trips nothing_read (map (λ at. at.row) numbered)) (fault.Follow j) follow.1),
-        )
+        (let all = schedule_is follow.0 in (all.0, record { table = rest.0; schedule = all.1 })),
+        λ vehicles is. late_in vehicles is.schedule (follow_first trips
+            (links_in trips nothing_read (map (λ at. at.row) numbered)) (fault.Follow j) follow.1),
+      )
     ]
   ]
     where
