@@ -15,3 +15,4 @@ mod Steps
 mod Tables
 pub mod TablesBack
 mod Tried
+mod Walking

@@ -6,3 +6,4 @@ pub mod Potentials
 pub mod PotentialTables
 pub mod Residual
 pub mod Rounds
+pub mod Walks

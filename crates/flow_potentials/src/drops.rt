@@ -84,7 +84,9 @@ impl Drops {
     }
 
     /// The number of the left node of a trip; 0 where there is no such trip.
-    pub(crate) fn left_or(&self, i: usize) -> u64 {
+    pub(crate) fn left_or(&self, i: usize) -> u64
+        ensures { result ≡ get_or self.now.left i 0 }
+    {
         self.left.get(i).copied().unwrap_or(0)
     }
 

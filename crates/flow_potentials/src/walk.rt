@@ -1,7 +1,8 @@
 // One walk over all nodes of the residual graph of a plan, along potentials that are valid for it.
-ghost use Rattle.std.specs.Prelude.{◌<◌, length, OnOk};
+ghost use Rattle.std.specs.Prelude.{◌≡◌, ◌<◌, [], length, HoldsAt, IfOk, MatchOption, OnOk};
 ghost use Rattle.flow_potentials.specs.Drops.{IsSearched};
 ghost use Rattle.flow_potentials.specs.LinkRows.{IsLinkOf};
+ghost use Rattle.flow_potentials.specs.Walks.{reach, all_waiting, IsFurthest, IsTakenOut, LeavesOthers};
 ghost use Rattle.vehicle_model.specs.Trips.{links_of};
 
 use crate::drops::Drops;
@@ -39,11 +40,20 @@ impl Drops {
     {
         let mut waiting = all_nodes(alloc, valid)?;
         for _turn in 0..waiting.len() {
-            if let Some(node) = take_furthest(self, &mut waiting) {
-                self.relax_node(trips, plan, node.trip);
-            }
+            self.walk_on(trips, plan, &mut waiting);
         }
         Ok(())
+    }
+
+    // Goes on from the node that reaches furthest, if one waits.
+    fn walk_on(&mut self, trips: &LinkTable, plan: &LinkedPlan, waiting: &mut Vec<Waiting>)
+        requires { IsSearched (links_of trips.now) plan.now self.old }
+        ensures known { IsSearched (links_of trips.now) plan.now self.new }
+        ensures taken { LeavesOthers self.old waiting.old.items waiting.new.items }
+    {
+        if let Some(node) = take_furthest(self, waiting) {
+            self.relax_node(trips, plan, node.trip);
+        }
     }
 
     // The arcs from a node may make better walks.
@@ -130,7 +140,9 @@ impl Drops {
     }
 
     // The number and the height of a node together.
-    fn reach(&self, node: Waiting) -> u64 {
+    fn reach(&self, node: Waiting) -> u64
+        ensures { result ≡ reach self.now node }
+    {
         let number = match node.trip {
             Some(i) => self.left_or(i),
             None => self.root(),
@@ -139,8 +151,11 @@ impl Drops {
     }
 }
 
-// Takes out the node that stands furthest.
-fn take_furthest(drops: &Drops, waiting: &mut Vec<Waiting>) -> Option<Waiting> {
+// Takes out the node that reaches furthest.
+fn take_furthest(drops: &Drops, waiting: &mut Vec<Waiting>) -> Option<Waiting>
+    ensures { MatchOption result ((waiting.old.items ≡ []) × (waiting.new.items ≡ []))
+        (IsTakenOut drops.now waiting.old.items waiting.new.items) }
+{
     let place = furthest(drops, waiting);
     if place < waiting.len() {
         Some(waiting.swap_remove(place))
@@ -150,11 +165,14 @@ fn take_furthest(drops: &Drops, waiting: &mut Vec<Waiting>) -> Option<Waiting> {
 }
 
 // The place of the node whose number and height together are greatest.
-fn furthest(drops: &Drops, waiting: &[Waiting]) -> usize {
+fn furthest(drops: &Drops, waiting: &[Waiting]) -> usize
+    ensures within { 0 < length waiting.now → result < length waiting.now }
+    ensures furthest { HoldsAt (IsFurthest drops.now waiting.now) waiting.now result }
+{
     let mut best = 0;
     let mut most = 0;
-    for (place, at) in waiting.iter().enumerate() {
-        let reach = drops.reach(*at);
+    for place in 0..waiting.len() {
+        let reach = drops.reach(waiting[place]);
         if reach > most {
             most = reach;
             best = place;
@@ -164,7 +182,9 @@ fn furthest(drops: &Drops, waiting: &[Waiting]) -> usize {
 }
 
 // All nodes from which arcs are looked over.
-fn all_nodes(alloc: Global, valid: &Potentials) -> Result<Vec<Waiting>, NoMemory> {
+fn all_nodes(alloc: Global, valid: &Potentials) -> Result<Vec<Waiting>, NoMemory>
+    ensures { IfOk result (λ nodes. nodes.items ≡ all_waiting valid.now.u) }
+{
     let mut nodes = Vec::new(alloc);
     nodes.push(Waiting {
         trip: None,

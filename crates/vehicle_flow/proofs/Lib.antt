@@ -24,6 +24,7 @@ pub mod LeastPotentials
 pub mod LinkLooks
 pub mod LinkSlacks
 pub mod LinkTies
+mod MovedOne
 pub mod Moves
 pub mod NearPlaces
 pub mod NearSlacks

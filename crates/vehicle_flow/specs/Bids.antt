@@ -1,6 +1,6 @@
 -- Inner words of the first plan: what a trip offers for a place.
-use Rattle.std.specs.Prelude.{ℕ, ◌≡◌, ◌+◌, ◌≤◌, max, if◌then◌else◌, Bool, List, Option, Some, IfSome}
-use Rattle.vehicle_model.specs.Plans.{next}
+use Rattle.std.specs.Prelude.{ℕ, ◌≡◌, ◌+◌, ◌≤◌, ◌&&◌, max, not, if◌then◌else◌, Bool, false, List, Option, Some, None, IfSome}
+use Rattle.vehicle_model.specs.Plans.{next, is_next}
 use Rattle.vehicle_model.specs.Trips.{Links}
 use Rattle.flow_potentials.specs.Potentials.{PotentialParts, at, AreOver}
 use Rattle.vehicle_flow.specs.declared.bid.Offer.{Offer}
@@ -22,6 +22,11 @@ abbrev pub next_offer : Offer → Link → ℕ → Bool → Offer
 next_offer offer link rest wins =
     if wins then record { best = Some link; most = rest; rest = offer.most }
     else record { best = offer.best; most = offer.most; rest = max offer.rest rest }
+
+-- a place has no trip, and that of a link has one
+abbrev pub is_freer : List (Option ℕ) → Option Link → ℕ → Bool
+is_freer plan None place = false
+is_freer plan (Some link) place = not (is_next plan place) && is_next plan link.to
 
 -- all links of a trip but one gain no more than a number beyond the potentials of their places
 abbrev pub AreOthersBelow : Links → PotentialParts → ℕ → ℕ → ℕ → Type 0

@@ -4,6 +4,8 @@ pub mod Choices
 pub mod ClaimablePlaces
 pub mod Claims
 pub mod Growing
+pub mod Hints
+pub mod Moved
 pub mod Nears
 pub mod Parting
 pub mod Places

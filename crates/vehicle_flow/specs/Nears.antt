@@ -1,5 +1,5 @@
 -- How near places are, and the slacks alone, which are asked most.
-use Rattle.std.specs.Prelude.{ℕ, ◌≡◌, ◌+◌, ◌-◌, ◌<◌, ◌≤◌, false, List, length, get_or, slice_get, Option, Some, None}
+use Rattle.std.specs.Prelude.{ℕ, ◌≡◌, ◌+◌, ◌-◌, ◌<◌, ◌≤◌, ◌==◌, Bool, false, List, length, get_or, slice_get, Option, Some, None}
 use Rattle.flow_potentials.specs.Potentials.{at}
 use Rattle.flow_potentials.specs.declared.link_table.Link.{Link}
 use Rattle.vehicle_flow.specs.Growing.{is_nearer}
@@ -9,6 +9,11 @@ use Rattle.vehicle_flow.specs.declared.near.Near.{Near}
 abbrev pub slack_or_most : Option Near → ℕ
 slack_or_most None = 18446744073709551615
 slack_or_most (Some near) = near.slack
+
+-- something is as near as can be
+abbrev pub is_exact : Option Near → Bool
+is_exact None = false
+is_exact (Some near) = near.slack == 0
 
 -- the slacks at all places
 pub record AreSlacks (nears : List (Option Near)) (slacks : List ℕ) : Type 0 where

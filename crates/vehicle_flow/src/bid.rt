@@ -3,7 +3,7 @@ ghost use Rattle.std.specs.Prelude.{ℕ, ◌≡◌, ◌+◌, ◌<◌, ◌≤◌,
 ghost use Rattle.flow_potentials.specs.Potentials.{at, AreOver};
 ghost use Rattle.vehicle_model.specs.Plans.{next, is_next};
 ghost use Rattle.vehicle_model.specs.Trips.{links_of};
-ghost use Rattle.vehicle_flow.specs.Bids.{next_offer, AreOthersBelow, IsBid, IsTakenBut};
+ghost use Rattle.vehicle_flow.specs.Bids.{next_offer, is_freer, AreOthersBelow, IsBid, IsTakenBut};
 ghost use Rattle.vehicle_flow.specs.Growing.{IsTaken};
 ghost use Rattle.flow_potentials.specs.LinkRows.{IsLinkOf};
 
@@ -87,7 +87,9 @@ fn wins(assignment: &Assignment, offer: Offer, rest: u64, place: usize) -> bool
 }
 
 // Whether a place has no trip, and that of a link has one.
-fn is_freer(assignment: &Assignment, best: Option<Link>, place: usize) -> bool {
+fn is_freer(assignment: &Assignment, best: Option<Link>, place: usize) -> bool
+    ensures { result ≡ is_freer assignment.now best place }
+{
     match best {
         Some(link) => assignment.is_free(place) && !assignment.is_free(link.to),
         None => false,

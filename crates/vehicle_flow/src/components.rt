@@ -1,11 +1,14 @@
 // The strongly connected components of a graph, by one walk over its arcs.
+ghost use Rattle.std.specs.Prelude.{◌≡◌, get_or};
 
 use crate::cells::{at, set, zeros};
 use plan_num::NoMemory;
 use std::alloc::Global;
+use std::marker::Model;
 
-/// The components so far. The number of one is no less than those of the components to which its
-/// nodes lead. Nothing is promised of them: who takes them looks whether they serve.
+/// The components so far. Contracts see them as the number of each node. That of a component is no
+/// less than those of the components to which its nodes lead; this is not promised: who takes the
+/// numbers looks whether they serve.
 pub(crate) struct Components {
     // The number of the component of each node, from 1; 0 where it has none so far.
     numbers: Vec<usize>,
@@ -36,6 +39,14 @@ impl Drop for Components {
     }
 }
 
+impl Model for Components {
+    ghost use Rattle.std.specs.Prelude.{List, ℕ};
+
+    ghost Value = { List ℕ };
+
+    ghost view = { λ components. components.numbers.items };
+}
+
 impl Components {
     /// So many nodes, of which none was reached.
     pub(crate) fn new(alloc: Global, nodes: usize) -> Result<Components, NoMemory> {
@@ -51,8 +62,10 @@ impl Components {
         })
     }
 
-    /// The number of the component of a node.
-    pub(crate) fn number(&self, node: usize) -> u64 {
+    /// The number of the component of a node; 0 where there is no such node.
+    pub(crate) fn number(&self, node: usize) -> u64
+        ensures { result ≡ get_or self.now node 0 }
+    {
         at(&self.numbers, node) as u64
     }
 

@@ -4,6 +4,7 @@
 // place, and to those that have one which needs no trip.
 ghost use Rattle.std.specs.Prelude.{◌≡◌, ◌<◌, length};
 ghost use Rattle.flow_potentials.specs.Potentials.{AreOver};
+ghost use Rattle.vehicle_flow.specs.Moved.{IsNodeAt};
 
 use crate::assignment::Assignment;
 use crate::components::Components;
@@ -127,6 +128,8 @@ fn next_of_none(
 }
 
 /// The node of the trip that has a place, or that of none.
-pub(crate) fn node_at(assignment: &Assignment, place: usize) -> usize {
+pub(crate) fn node_at(assignment: &Assignment, place: usize) -> usize
+    ensures { IsNodeAt assignment.now place result }
+{
     assignment.trip_at(place).unwrap_or(assignment.len())
 }

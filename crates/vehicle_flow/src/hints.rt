@@ -1,16 +1,20 @@
 // Places that may be nearest.
+ghost use Rattle.std.specs.Prelude.{◌≡◌};
+ghost use Rattle.vehicle_flow.specs.Hints.{put_before, IsPutAt};
 
+use crate::assignment::Assignment;
 use crate::cells::{at, set, zeros};
 use flow_potentials::LinkTable;
 use plan_num::NoMemory;
 use std::alloc::Global;
+use std::marker::Model;
 
 // Trips whose counts of links differ by less count as equal.
 const ALIKE: usize = 64;
 
 /// Places that were as near as can be when they were put here. One of those whose trips have the
 /// most links comes first, since such a trip finds a place without one soonest, and among these the
-/// last one. The list promises nothing: who takes a place looks whether it still is the nearest.
+/// last one. What is taken promises nothing: who takes a place looks whether it still is the nearest.
 pub(crate) struct Hints {
     // The group of each trip, by how many links it has.
     groups: Vec<usize>,
@@ -31,6 +35,19 @@ impl Drop for Hints {
             most: _,
         } = self;
     }
+}
+
+impl Model for Hints {
+    ghost use Rattle.vehicle_flow.specs.Hints.{HintParts};
+
+    ghost Value = { HintParts };
+
+    ghost view = { λ hints. record {
+      groups = hints.groups.items;
+      last = hints.last.items;
+      before = hints.before.items;
+      most = hints.most;
+    } };
 }
 
 impl Hints {
@@ -58,12 +75,23 @@ impl Hints {
     }
 
     /// Puts the place of a trip before the others of its group.
-    pub(crate) fn put(&mut self, place: usize, trip: usize) {
+    pub(crate) fn put(&mut self, place: usize, trip: usize)
+        ensures { self.new ≡ put_before place trip self.old }
+    {
         let group = at(&self.groups, trip);
         let before = at(&self.last, group);
         set(&mut self.before, place, before);
         set(&mut self.last, group, place.saturating_add(1));
         self.most = self.most.max(group);
+    }
+
+    /// Keeps a place in mind, where it has a trip.
+    pub(crate) fn put_at(&mut self, assignment: &Assignment, place: usize)
+        ensures { IsPutAt assignment.now place self.old self.new }
+    {
+        if let Some(trip) = assignment.trip_at(place) {
+            self.put(place, trip);
+        }
     }
 
     /// The next place.

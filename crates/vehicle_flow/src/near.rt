@@ -3,7 +3,7 @@ ghost use Rattle.std.specs.Prelude.{ℕ, ◌≡◌, ◌+◌, ◌<◌, ◌≤◌,
 ghost use Rattle.flow_potentials.specs.Potentials.{AreOver};
 ghost use Rattle.vehicle_flow.specs.Claims.{claim_at};
 ghost use Rattle.vehicle_flow.specs.Growing.{looked, is_nearer, shifted, AreAsBefore, AreLooked, IsFreeAt};
-ghost use Rattle.vehicle_flow.specs.Nears.{slack_or_most, AreNearLinks, ArePassed};
+ghost use Rattle.vehicle_flow.specs.Nears.{slack_or_most, is_exact, AreNearLinks, ArePassed};
 ghost use Rattle.vehicle_model.specs.Plans.{is_next};
 ghost use Rattle.vehicle_flow.specs.Slacks.{Covers};
 ghost use Rattle.vehicle_model.specs.Trips.{links_of};
@@ -261,20 +261,15 @@ pub(crate) fn shift_nears(
         let near = shifted(claims, place, slack, nears.at(place));
         nears.set(place, near);
         if is_exact(near) && !claims.is_claimed(place) {
-            hint(assignment, hints, place);
+            hints.put_at(assignment, place);
         }
     }
 }
 
-// Keeps the place of a trip in mind.
-fn hint(assignment: &Assignment, hints: &mut Hints, place: usize) {
-    if let Some(trip) = assignment.trip_at(place) {
-        hints.put(place, trip);
-    }
-}
-
 // Whether something is as near as can be.
-fn is_exact(near: Option<Near>) -> bool {
+fn is_exact(near: Option<Near>) -> bool
+    ensures { result ≡ is_exact near }
+{
     match near {
         Some(near) => near.slack == 0,
         None => false,

@@ -2,6 +2,7 @@
 ghost use Rattle.std.specs.Prelude.{ℕ, pos, ◌≡◌, ◌+◌, ◌<◌, ◌≤◌, true, length, Some, None, IfOk, MatchOption};
 ghost use Rattle.flow_potentials.specs.Potentials.{at, AreOver};
 ghost use Rattle.vehicle_flow.specs.Growing.{IsTaken};
+ghost use Rattle.vehicle_flow.specs.Moved.{between, AreMoved};
 ghost use Rattle.vehicle_flow.specs.Parting.{AreMet, IsMet};
 ghost use Rattle.vehicle_flow.specs.Slacks.{Covers};
 ghost use Rattle.vehicle_model.specs.Plans.{next};
@@ -54,7 +55,9 @@ fn moved(
     found: &Components,
 ) -> Result<Potentials, NoMemory>
     requires { AreOver (length assignment.now) potentials.now }
-    ensures { IfOk result (AreOver (length assignment.now)) }
+    ensures over { IfOk result (AreOver (length assignment.now)) }
+    ensures moved { IfOk result
+        (λ moved. AreMoved found.now assignment.now potentials.now moved (length assignment.now)) }
 {
     let count = assignment.len();
     let none = found.number(count);
@@ -71,7 +74,8 @@ fn moved(
 
 // A number and another one without a third, within the range of potentials.
 fn between(number: u64, more: u64, less: u64) -> u64
-    ensures { result ≤ 1000000000000000000 }
+    ensures value { result ≡ between number more less }
+    ensures small { result ≤ 1000000000000000000 }
 {
     number.saturating_add(more).saturating_sub(less).min(MOST)
 }

@@ -3,7 +3,7 @@ ghost use Rattle.std.specs.Prelude.{◌≡◌, IfOk};
 ghost use Rattle.giv_files.specs.declared.stage.Stage.TheVariants as stages;
 ghost use Rattle.giv_files.specs.Settings.{Fits};
 ghost use Rattle.giv_files.specs.StageCalls.{StageGives, TakesSteps};
-ghost use Rattle.vehicle_flow.specs.RightVehicles.{VehicleFilesAreRight};
+ghost use Rattle.vehicle_flow.specs.RightVehicles.{VehiclesAreMadeRight};
 ghost use Rattle.vehicle_flow.specs.VehicleStage.{vehicles_stage};
 
 use crate::given::given_trips;
@@ -23,7 +23,7 @@ pub fn make_vehicles<L: Ledger>(
     requires stage { bundle.now.stage ≡ stages.Vehicles }
     requires fits { Fits bundle.now }
     ensures made { StageGives (vehicles_stage bundle.now) result }
-    ensures right { IfOk result (λ made. VehicleFilesAreRight bundle.now made.files) }
+    ensures right { IfOk result (VehiclesAreMadeRight bundle.now) }
     ensures steps { TakesSteps 1 steps.old steps.new result }
 {
     steps.tick();
