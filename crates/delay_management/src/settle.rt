@@ -1,4 +1,4 @@
-// Times on trial behind a decision: what follows from it, and the way back.
+// Times on trial after a decision: what follows from it, and the way back.
 ghost use Rattle.std.specs.Prelude.{◌≡◌, ◌++◌, length, List, OnOk};
 ghost use Rattle.delay_management.specs.declared.moved.Moved.{Moved};
 ghost use Rattle.delay_management.specs.LeastTimes.{least_times};
