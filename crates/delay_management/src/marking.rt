@@ -1,5 +1,5 @@
 // Marks of places, the next of which is found fast.
-ghost use Rattle.std.specs.Prelude.{◌≡◌, ◌<◌, ◌≤◌, ◌/◌, ◌%◌, false, get_or, length, replicate, slice_set, IfOk};
+ghost use Rattle.std.specs.Prelude.{ℕ, ◌≡◌, ◌<◌, ◌≤◌, ◌/◌, ◌%◌, false, get_or, length, replicate, slice_set, IfOk};
 ghost use Rattle.bit_rows.specs.Bits.{with_bit};
 ghost use Rattle.delay_management.specs.Markings.{Covers, IsNext, IsNextBit, IsNextWord, IsWithin, most_places, most_words};
 
