@@ -31,7 +31,7 @@ EntryHolds problem penalty region best (found choice) =
 EntryHolds problem penalty region best (split change) =
     (is_free_at region change ≡ true) × PartsCover region change
 
--- A waiting decision is that of a listing. The entries of a region are its own one and, behind a
+-- A waiting decision is that of a listing. The entries of a region are its own one and, after a
 -- split, those of both parts: however deep it is split, none are left out. What each entry says
 -- holds. The listing is that of the region in which no change is decided.
 pub record IsListed (problem : DelayProblem) (penalty budget : ℕ) (waits : Waits) : Type 0 where

@@ -1,10 +1,10 @@
 // The choice of a waiting decision.
-ghost use Rattle.std.specs.Prelude.{◌≡◌, ◌≤◌, [], Some, IfOk, IfSome};
+ghost use Rattle.std.specs.Prelude.{◌≡◌, ◌≤◌, Some, IfOk};
 ghost use Rattle.giv_files.specs.declared.stage.Stage.TheVariants as stages;
 ghost use Rattle.giv_files.specs.Inputs.{UnlessFault};
 ghost use Rattle.giv_files.specs.Settings.{Fits};
 ghost use Rattle.giv_files.specs.StageCalls.{TakesSteps};
-ghost use Rattle.delay_management.specs.DispositionStage.{disposition_faults, problem_in};
+ghost use Rattle.delay_management.specs.DispositionStage.{problem_in};
 ghost use Rattle.wait_choice.specs.ChoiceStage.{FindsSome, IsEnough, IsUnspent, IsWhole, outcome_of, waits_in, waits_refusals, waits_work};
 ghost use Rattle.wait_choice.specs.RightChoices.{IsRight};
 ghost use Rattle.wait_choice.specs.RightListings.{IsListed};

@@ -1,5 +1,5 @@
 // The rules of a waiting decision from any hand, in their order.
-ghost use Rattle.std.specs.Prelude.{◌≡◌, ◌*◌, ◌+ℤ◌, ◌<◌, List, pos, length, map, slice_get, true, All, IfOk};
+ghost use Rattle.std.specs.Prelude.{◌≡◌, ◌*◌, ◌+ℤ◌, ◌<◌, List, pos, map, slice_get, IfOk};
 ghost use Rattle.std.specs.Ordering.{int_eq};
 ghost use Rattle.std.specs.List.Sorted.{IsStrictlyIncreasing};
 ghost use Rattle.delay_management.specs.declared.step.Activity.{Activity};

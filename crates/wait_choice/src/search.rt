@@ -1,5 +1,5 @@
 // The search for a best waiting decision within a budget of entries.
-ghost use Rattle.std.specs.Prelude.{◌≡◌, ◌≤◌, ◌+◌, ◌++◌, ◌∷◌, [], length, None, Some, IfOk, IfSome, OnErr, OnOk, option_map};
+ghost use Rattle.std.specs.Prelude.{◌≡◌, ◌≤◌, ◌+◌, [], length, None, Some, IfOk, IfSome, OnErr, OnOk, option_map};
 ghost use Rattle.std.specs.Prelude.{true};
 ghost use Rattle.wait_choice.specs.Budgets.{entries_listed, waits_within, with_tree};
 ghost use Rattle.wait_choice.specs.Listings.{found, found_by, holds_off, listing};
