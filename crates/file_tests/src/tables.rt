@@ -113,6 +113,7 @@ const GOOD: &str = "aa||~\
     aa|1: 1 -5.|1; -5.00\n~\
     aa|1: 1000000000000000000 -1000000000000000000.|1000000000000000000; -1000000000000000000~\
     aa|1: 7 8.|7;\"8\"#;9\n~\
+    aa|1: 1 2.3: 3 4.|1;2#\n#\n3;4 #\r\n~\
     sa|1: 0 8.|\"7\"\"\";8~\
     ii|1: 1000000000 1.|1000000000; 1~\
     li|1: 123456 1.|0.1234567; 1~\
@@ -134,6 +135,7 @@ const REFUSED: &str = "aa|row 1: 1 fields|\r\r\n~\
     aa|row 1: column 2 is not a number|1;\"\"~\
     aa|row 1: column 2 is not a number|1;\" 2 \"~\
     aa|row 1: column 2 is not a number|1;\"\"2\"\"~\
+    aa|row 1: column 2 is not a number|1;2\r#~\
     aa|row 1: column 2 is not a number|1;+5~\
     aa|row 1: column 2 is not a number|1;1e3~\
     aa|row 1: column 2 is not a number|1;2\0~\
@@ -165,14 +167,14 @@ fn read_each(rt: &(impl AllocGlobal + Abort), script: &str) -> Result<usize, Fai
 #[test]
 fn good_texts(rt: HostRuntime) -> Result<(), Fail> {
     let count = read_each(&rt, GOOD)?;
-    assert_eq!(rt; count, 15);
+    assert_eq!(rt; count, 16);
     Ok(())
 }
 
 #[test]
 fn refused_texts(rt: HostRuntime) -> Result<(), Fail> {
     let count = read_each(&rt, REFUSED)?;
-    assert_eq!(rt; count, 29);
+    assert_eq!(rt; count, 30);
     // and a byte that no text of characters has
     let told = told(rt.alloc(), b"1;2\xFF", &[ANY, ANY])?;
     same(&rt, told.as_str(), "row 1: column 2 is not a number", "");

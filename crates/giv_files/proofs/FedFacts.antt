@@ -2,20 +2,19 @@
 use Rattle.std.proofs.Common.{◌≡◌, ◌≢◌, ℕ, ◌+◌, ◌-◌, ◌<◌, List, [], ◌∷◌, ◌++◌, length, take, drop}
 use Rattle.std.proofs.Common.{map, get_or, refl, ap, sym, ◌∙◌, Bool, true, false, eqb, All, arith}
 use Rattle.std.proofs.Common.{append_assoc, append-nil, length-append, length-take, cond, ne_eqb}
-use Rattle.std.proofs.Common.{eqb-true, add-one, drop-cons, get_or-take, length-drop, filter, not}
-use Rattle.std.proofs.Common.{Option, Some, None, length-take-le}
+use Rattle.std.proofs.Common.{eqb-true, add-one, drop-cons, get_or-take, length-drop, filter}
+use Rattle.std.proofs.Common.{Option, Some, None, zero, suc}
 use Rattle.std.specs.List.{onto_first, position_or_len}
-use Rattle.std.proofs.lemmas.Bool.{eqb-false, le-ltb, lt-leb}
+use Rattle.std.proofs.lemmas.Bool.{eqb-false, le-ltb, lt-leb, lt-ltb}
 use Rattle.std.specs.Option.{IfSome}
 use Rattle.std.proofs.lemmas.List.{take-append-drop, take_rest}
 use Rattle.std.proofs.Math.Seq.{take-suc}
-use Rattle.std.proofs.lemmas.List.Elements.{All-cons, All-head, All-push, All-tail}
-use Rattle.std.proofs.lemmas.List.Sums.{prefix_len-le-length}
+use Rattle.std.proofs.lemmas.List.Elements.{All-cons, All-head, All-push, All-tail, All-take}
 use Rattle.std.proofs.lemmas.List.Sums.{fails_before_first, passes_at_first}
 use Rattle.std.proofs.lemmas.List.Splits.{slice_split_at, slice_split_none}
 use Rattle.giv_files.specs.Rows.{before_comment, has_byte, parts_of}
 use Rattle.giv_files.specs.Told.{handed, is_odd}
-use Rattle.giv_files.specs.Handed.{AreLines, fed}
+use Rattle.giv_files.specs.Handed.{AreLines, Stops, fed}
 use Rattle.giv_files.proofs.Lines.{not_commented}
 use Rattle.giv_files.proofs.SplitFacts.{onto, onto_byte, onto_nothing}
 
@@ -26,7 +25,8 @@ is_feed byte = eqb byte 10
 pub handed_plain : (line : List ℕ) → All (λ byte. byte ≢ 35) line → length line < 4096
     → handed line ≡ line
 unfolding handed is_odd
-handed_plain line bare short = grind (arith, lt-leb, not_commented, le-ltb)
+handed_plain line bare short =
+    rw (← not_commented line bare, lt-leb 4096 (length line) short, le-ltb (length line) (length line) (omega arith)) refl
 
 pub fed_first : (line : List ℕ) (parts : List (List ℕ))
     → fed (line ∷ parts) ≡ line ++ 10 ∷ fed parts
@@ -98,11 +98,6 @@ pub handed_none : handed [] ≡ []
 unfolding handed is_odd
 handed_none = refl
 
--- a text is over, or it goes on with a line feed
-Stops : List ℕ → Type 0
-Stops [] = Unit {0}
-Stops (byte ∷ more) = byte ≡ 10
-
 stops_at : (text : List ℕ) (end : ℕ) → end ≡ position_or_len is_feed text → (rest : List ℕ)
     → drop end text ≡ rest → Stops rest
 unfolding Stops
@@ -118,6 +113,11 @@ starts_with_feed : (text : List ℕ) (end : ℕ) → end ≡ position_or_len is_
     → Stops (drop end text)
 unfolding Stops
 starts_with_feed text end is = stops_at text end is (drop end text) refl
+
+-- so does what is left of a text from a line feed on
+pub stops_rest : (text : List ℕ) (end : ℕ) → end ≡ position_or_len is_feed text
+    → Stops (take (length text - end) (drop end text))
+stops_rest text end is = rw (take_rest text end) (starts_with_feed text end is)
 
 first_of : (line rest : List ℕ) → All (λ byte. is_feed byte ≡ false) line → Stops rest
     → fed (map handed (parts_of (line ++ rest))) ≡ handed line ++ fed (map handed (parts_of rest))
@@ -142,22 +142,16 @@ first_fed text end is =
     ∙ ap (λ (left : List ℕ). handed line ++ fed (map handed (parts_of left)))
     (sym (take_rest text end))
 
-handed_if : (line : List ℕ) → 0 < length line → (t : Bool) → is_odd line ≡ t
-    → 0 < length (handed line)
-unfolding handed
-handed_if line some true e = rw e (omega arith)
-handed_if line some false e = rw e some
+-- where something stands for a line that is not odd, something stands before its comment
+not_nothing : (line : List ℕ) → 0 < length line → is_odd line ≡ false
+    → (n : ℕ) → length (before_comment line) ≡ n → 0 < n
+unfolding is_odd
+not_nothing line some e zero none = grind (arith, lt-ltb)
+not_nothing line some e (suc n) is = omega arith
 
--- what stands for a line with a byte has one
-pub handed_some : (line : List ℕ) → 0 < length line → 0 < length (handed line)
-handed_some line some =
-    handed_if line some (is_odd line) refl
-
--- how much stands before a comment
-pub before_size : (line : List ℕ)
-    → length (before_comment line) ≡ position_or_len (λ byte. eqb byte 35) line
-before_size line =
-    length-take-le (position_or_len (λ byte. eqb byte 35) line) line (prefix_len-le-length (λ x. not (eqb x 35)) line)
+pub told_some : (line : List ℕ) → 0 < length line → is_odd line ≡ false
+    → 0 < length (before_comment line)
+told_some line some e = not_nothing line some e (length (before_comment line)) refl
 
 -- a line feed alone is handed out last
 pub empty_fed : (text : List ℕ) → length text ≡ 0 → fed (map handed (parts_of text)) ≡ 10 ∷ fed []
@@ -174,6 +168,25 @@ feed_fed (byte ∷ text) some is =
     (omega (arith, is)))) in
     front_fed (byte ∷ text) 0 some feed (omega arith) (λ k d h. absurd (omega arith))
     ∙ ap (λ n. n ∷ fed (map handed (parts_of (take (length (byte ∷ text) - 1) text)))) feed
+
+-- so is that at which a text stops
+pub stop_fed : (text : List ℕ) → Stops text → 0 < length text
+    → fed (map handed (parts_of text))
+    ≡ 10 ∷ fed (map handed (parts_of (take (length text - 1) (drop 1 text))))
+unfolding Stops
+stop_fed [] stops some = absurd (omega arith)
+stop_fed (byte ∷ text) stops some = feed_fed (byte ∷ text) some (rw stops refl)
+
+-- the sign of a comment, with the line feed after it
+pub sign_fed : (line rest after : List ℕ) → is_odd line ≡ true → rest ≡ 10 ∷ after
+    → handed line ++ rest ≡ (35 ∷ 10 ∷ []) ++ after
+unfolding handed
+sign_fed line rest after odd is = rw (odd, is) refl
+
+-- and any other line before it
+pub told_fed : (line : List ℕ) → is_odd line ≡ false → handed line ≡ before_comment line
+unfolding handed
+told_fed line e = rw e refl
 
 abbrev ArePlain : List (List ℕ) → Type 0
 ArePlain parts = All (λ part. All (λ byte. byte ≢ 10) part) parts
@@ -198,7 +211,8 @@ line_plain : (line : List ℕ) (t : Bool) → is_odd line ≡ t → All (λ byte
     → All (λ byte. byte ≢ 10) (handed line)
 unfolding handed
 line_plain line true e plain = grind arith
-line_plain line false e plain = rw e plain
+line_plain line false e plain =
+    rw e (All-take (λ byte. byte ≢ 10) (position_or_len (λ byte. eqb byte 35) line) line plain)
 
 lines_plain : (parts : List (List ℕ)) → ArePlain parts → ArePlain (map handed parts)
 lines_plain [] plain = plain
@@ -213,7 +227,15 @@ same_byte : (line : List ℕ) (t : Bool) → is_odd line ≡ t
 unfolding handed
 same_byte [] t e = ap (λ (line : List ℕ). eqb (length line) 0) handed_none
 same_byte (byte ∷ line) true e = rw e (sym (ne_eqb (length (byte ∷ line)) 0 (omega arith)))
-same_byte (byte ∷ line) false e = rw e refl
+same_byte (byte ∷ line) false e =
+    rw (
+      e,
+      ne_eqb (length (before_comment (byte ∷ line))) 0 (omega (
+        arith,
+        told_some (byte ∷ line)
+            (omega arith) e,
+      )),
+    ) (sym (ne_eqb (length (byte ∷ line)) 0 (omega arith)))
 
 same_if : (line : List ℕ) (parts : List (List ℕ)) (t : Bool) → eqb (length line) 0 ≡ t
     → filter has_byte (map handed parts) ≡ map handed (filter has_byte parts)

@@ -1,10 +1,10 @@
 -- The pieces of a line without a comment are those of its row.
 use Rattle.std.proofs.Common.{◌≡◌, ◌≢◌, ℕ, ◌+◌, ◌-◌, ◌≤◌, List, [], ◌∷◌, length, take, map, cond}
 use Rattle.std.proofs.Common.{get_or, refl, ap, sym, ◌∙◌, Bool, true, false, eqb, All, arith, zero}
-use Rattle.std.proofs.Common.{suc, ne_eqb, not, slice_index}
+use Rattle.std.proofs.Common.{suc, ne_eqb, not, slice_index, ltb, ◌<◌, one-add}
 use Rattle.std.specs.List.{list_all, onto_first, position_or_len}
 use Rattle.std.specs.Str.Lines.{strip_carriage_return}
-use Rattle.std.proofs.lemmas.Bool.{eqb-false, eqb-true, false≢true}
+use Rattle.std.proofs.lemmas.Bool.{eqb-false, eqb-true, false≢true, ltb-false, ltb-true}
 use Rattle.std.proofs.lemmas.List.{length-take, take_all}
 use Rattle.std.proofs.lemmas.List.Elements.{All-take}
 use Rattle.std.proofs.lemmas.List.Splits.{join_with_byte-slice_split, length-slice_split}
@@ -127,14 +127,15 @@ not_blank : (line : List ℕ) → 2 ≤ length (pieces line) → (t : Bool) → 
 not_blank line long true e = absurd (omega (arith, blank_piece line e))
 not_blank line long false e = e
 
-not_empty : (line : List ℕ) → list_all is_blank line ≡ false → eqb (length line) 0 ≡ false
+not_empty : (line : List ℕ) → list_all is_blank (before_comment line) ≡ false
+    → eqb (length line) 0 ≡ false
 not_empty [] some = absurd (false≢true (sym some))
 not_empty (byte ∷ line) some = ne_eqb (length (byte ∷ line)) 0 (omega arith)
 
--- a line that is not odd has no comment
-not_odd : (line : List ℕ) → is_odd line ≡ false → before_comment line ≡ line
-unfolding is_odd
-not_odd line e = grind (arith, take_all, length-take)
+-- where nothing is cut off there is no comment
+before_comment_all : (line : List ℕ) → length line ≤ length (before_comment line)
+    → before_comment line ≡ line
+before_comment_all line e = grind (arith, take_all, length-take)
 
 bare_line : (line : List ℕ) → before_comment line ≡ line → All (λ byte. byte ≢ 35) line
 bare_line line is = λ k d h. eqb-false _ 35 (fails_before_first (λ byte. eqb byte 35) line k d
@@ -150,18 +151,70 @@ stripped_bare : (line : List ℕ) → before_comment line ≡ line
     → before_comment (strip_carriage_return line) ≡ strip_carriage_return line
 stripped_bare line is = grind (arith, not_commented, stripped_if, bare_line)
 
+-- ---- a carriage return at the end of a line with a comment belongs to the comment
+
+kept_one : (c : ℕ) (t : Bool) → eqb c 35 ≡ t → length (before_comment (c ∷ [])) < 1
+    → before_comment (strip_carriage_return (c ∷ [])) ≡ before_comment (c ∷ [])
+kept_one c true e less = let is = eqb-true c 35 e in rw is refl
+kept_one c false e less = absurd (omega (arith, rw e at less))
+
+next_told : (c : ℕ) (rest : List ℕ) → eqb c 35 ≡ false
+    → before_comment (c ∷ rest) ≡ c ∷ before_comment rest
+next_told c rest e = rw (e, one-add) refl
+
+kept_next : (c : ℕ) (more rest : List ℕ) (t : Bool) → eqb c 35 ≡ t
+    → (length (before_comment rest) < length rest → before_comment more ≡ before_comment rest)
+    → length (before_comment (c ∷ rest)) < length (c ∷ rest)
+    → before_comment (c ∷ more) ≡ before_comment (c ∷ rest)
+kept_next c more rest true e same less = rw e refl
+kept_next c more rest false e same less =
+    next_told c more e
+    ∙ ap (λ (line : List ℕ). c ∷ line)
+    (same (omega (arith, less, ap length (next_told c rest e))))
+    ∙ sym (next_told c rest e)
+
+comment_kept : (line : List ℕ) → length (before_comment line) < length line
+    → before_comment (strip_carriage_return line) ≡ before_comment line
+comment_kept [] less = absurd (omega arith)
+comment_kept (c ∷ []) less = kept_one c (eqb c 35) refl less
+comment_kept (c ∷ b ∷ rest) less =
+    rw (strip_next c b rest)
+    (kept_next c (strip_carriage_return (b ∷ rest)) (b ∷ rest) (eqb c 35) refl
+    (comment_kept (b ∷ rest)) less)
+
+-- ---- a line that csv gives as two pieces or more
+
 -- without a carriage return its pieces are those of a row
 record IsPlain (line : List ℕ) (found : List (List ℕ)) : Type 0 where
-  pieces : unreturned found ≡ pieces (strip_carriage_return line)
-  bare : before_comment (strip_carriage_return line) ≡ strip_carriage_return line
-  some : list_all is_blank (strip_carriage_return line) ≡ false
+  pieces : unreturned found ≡ pieces (before_comment (strip_carriage_return line))
+  some : list_all is_blank (before_comment (strip_carriage_return line)) ≡ false
+
+-- what is told of a line, without a carriage return where it has no comment
+stands_as : (line : List ℕ) → is_odd line ≡ false → (t : Bool)
+    → ltb (length (before_comment line)) (length line) ≡ t
+    → before_comment (strip_carriage_return line) ≡ strip_carriage_return (before_comment line)
+unfolding is_odd
+stands_as line e true f =
+    comment_kept line (ltb-true _ _ f) ∙ sym (grind (arith, e, f))
+stands_as line e false f =
+    let is = before_comment_all line (ltb-false _ _ f) in
+    stripped_bare line is ∙ ap strip_carriage_return (sym is)
 
 plain_if : (line : List ℕ) (found : List (List ℕ)) (t : Bool) → is_odd line ≡ t
     → found ≡ pieces (handed line) → 2 ≤ length found → IsPlain line found
 unfolding handed
 plain_if line found true e is long = grind arith
 plain_if line found false e is long =
-    grind (arith, pieces_stripped, stripped_bare, not_odd, not_blank, length_unreturned)
+    let told = before_comment line in
+    let same = stands_as line e (ltb (length told) (length line)) refl in
+    let given : found ≡ pieces told = rw e at is in
+    let split : unreturned found ≡ pieces (before_comment (strip_carriage_return line)) =
+    ap unreturned given ∙ sym (pieces_stripped told) ∙ ap (λ (line : List ℕ). pieces line) (sym same) in
+    record {
+      pieces = split;
+      some = not_blank (before_comment (strip_carriage_return line))
+          (omega (arith, ap length split, length_unreturned found, long)) _ refl;
+    }
 
 -- such pieces make the next row
 pub plain_row : (number : ℕ) (line : List ℕ) (found left more : List (List ℕ))
@@ -173,11 +226,10 @@ plain_row number line found left more is given long =
     let stripped = strip_carriage_return line in
     let first = told_first number line stripped left more (told_left number left) is refl refl
     (not_empty stripped plain.some)
-    (ap not (ap (list_all is_blank) plain.bare ∙ plain.some)) in
+    (ap not plain.some) in
     let row : List (List ℕ) → List Row =
     λ fields. record { number = number + 1; fields = fields }
     ∷ map row_told (told_left (number + 1) more) in (
-      ap (map row_told) first
-          ∙ ap row (ap (λ line. cleaned (pieces line)) plain.bare ∙ ap cleaned (sym plain.pieces)),
+      ap (map row_told) first ∙ ap row (ap cleaned (sym plain.pieces)),
       omega (arith, ap length is),
     )

@@ -1,8 +1,8 @@
 -- The rows of the lines that are left of a text.
-use Rattle.std.proofs.Common.{◌≡◌, ℕ, ◌+◌, ◌<◌, List, [], ◌∷◌, ◌++◌, length, map, filter, refl}
-use Rattle.std.proofs.Common.{true, false, eqb, arith, Bor, Option, Some, None, Err}
+use Rattle.std.proofs.Common.{◌≡◌, ℕ, ◌+◌, List, [], ◌∷◌, ◌++◌, length, map, filter, refl}
+use Rattle.std.proofs.Common.{true, false, eqb, Bor, Option, Some, None, Err}
 use Rattle.std.specs.List.{flat_map, enumerate_from, slice_get}
-use Rattle.std.specs.Option.{IfSome, option_copied}
+use Rattle.std.specs.Option.{option_copied}
 use Rattle.std.specs.Str.Lines.{strip_carriage_return}
 use Rattle.giv_files.specs.declared.column.ColumnKind.{ColumnKind}
 use Rattle.giv_files.specs.declared.row_why.RowWhy.TheVariants as why
@@ -11,7 +11,6 @@ use Rattle.giv_files.specs.declared.read_fault.ReadFault.{ReadFault}
 use Rattle.giv_files.specs.declared.read_fault.ReadFault.TheVariants as fault
 use Rattle.giv_files.specs.Rows.{Row, row_of, has_byte, parts_of, parts_left, rows}
 use Rattle.giv_files.specs.Tables.{TableRow}
-use Rattle.giv_files.specs.Told.{left_size}
 use Rattle.giv_files.specs.Reading.{row_faults, table_row, faults, table_of, has_mark, ReadGives}
 use Rattle.giv_files.specs.Reading.{RowGives}
 
@@ -33,13 +32,6 @@ numbered_line : (number : ℕ) (part : List ℕ) (parts : List (List ℕ))
     ++ rows_left (number + 1) parts
 unfolding rows_left
 numbered_line number part parts e = rw e refl
-
--- what comes behind a part is less
-pub rest_smaller : (rest : Option (Bor (List ℕ))) (text : List ℕ)
-    → IfSome rest (λ after. length after.now < length text)
-    → left_size (option_copied rest) < left_size (Some text)
-rest_smaller None text h = omega arith
-rest_smaller (Some after) text h = omega (arith, h)
 
 -- the first of some faults is the first of all
 pub first_stays : {X : Type 0} (some more : List X) (first : X) → slice_get some 0 ≡ Some first

@@ -1,7 +1,7 @@
 -- Inner words: what csv is given of a text, and how it reads that. A reader of the contracts of
 -- this crate needs none of them.
 use Rattle.std.specs.Prelude.{ℕ, ◌≡◌, ◌≢◌, List, [], ◌∷◌, ◌++◌, All, filter, map, Option, Some, None}
-use Rattle.std.specs.Prelude.{false, true}
+use Rattle.std.specs.Prelude.{false, true, ⊤}
 use Rattle.std.specs.Option.{option_copied}
 use Rattle.csv.specs.Reading.{Ready, has_failed, is_flexible, reader_config, reader_state}
 use Rattle.csv.specs.Reading.{reader_trim, source_of}
@@ -18,6 +18,11 @@ use Rattle.giv_files.specs.Told.{handed}
 unfoldable pub fed : List (List ℕ) → List ℕ
 fed [] = []
 fed (line ∷ more) = line ++ 10 ∷ fed more
+
+-- a text is over, or it goes on with a line feed
+unfoldable pub Stops : List ℕ → Type 0
+Stops [] = ⊤
+Stops (byte ∷ more) = byte ≡ 10
 
 -- what is left to hand out: what is ready, and then what csv is given of the text that is left
 abbrev pub unread : Handed → List ℕ

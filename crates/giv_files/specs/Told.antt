@@ -1,6 +1,6 @@
 -- Inner words: the lines of a text that have rows. A reader of the contracts of this crate needs
 -- none of them.
-use Rattle.std.specs.Prelude.{ℕ, ◌≡◌, ◌≤◌, ◌+◌, ◌-◌, ◌==◌, ◌||◌, nat_le, nat_lt, if◌then◌else◌}
+use Rattle.std.specs.Prelude.{ℕ, ◌≡◌, ◌≤◌, ◌+◌, ◌-◌, ◌==◌, ◌||◌, ◌&&◌, nat_le, nat_lt, if◌then◌else◌}
 use Rattle.std.specs.Prelude.{List, [], ◌∷◌, ◌++◌, length, filter, map, get_or, slice_index, Bool}
 use Rattle.std.specs.Prelude.{Option}
 use Rattle.std.specs.Prelude.{Some, None}
@@ -38,13 +38,21 @@ abbrev pub left_size : Option (List ℕ) → ℕ
 left_size None = 0
 left_size (Some text) = length text + 1
 
--- a line has a comment, or it is too long for csv
-unfoldable pub is_odd : List ℕ → Bool
-is_odd line = nat_le 4096 (length line) || nat_lt (length (before_comment line)) (length line)
+-- the last byte of a piece is a carriage return
+abbrev pub returns : List ℕ → Bool
+returns piece = slice_index piece (length piece - 1) == 13
 
--- what csv is given of a line: the line, or the sign of a comment alone
+-- what stands before a comment is too long for csv, or a comment comes where csv would not see that
+-- there is a line, or would take what stands before it for the end of the line
+unfoldable pub is_odd : List ℕ → Bool
+is_odd line =
+    let told = before_comment line in
+    nat_le 4096 (length told)
+    || (nat_lt (length told) (length line) && ((length told == 0) || returns told))
+
+-- what csv is given of a line: what stands before a comment, or the sign of a comment alone
 unfoldable pub handed : List ℕ → List ℕ
-handed line = if is_odd line then 35 ∷ [] else line
+handed line = if is_odd line then 35 ∷ [] else before_comment line
 
 -- pieces of which the last has no carriage return at its end
 unfoldable pub unreturned : List (List ℕ) → List (List ℕ)
@@ -58,10 +66,6 @@ abbrev pub pieces_of : Stands → List (List ℕ) → List (List ℕ)
 pieces_of stands.Apart parts = parts
 pieces_of stands.Returned parts = unreturned parts
 pieces_of (stands.Told line) parts = pieces line.now
-
--- the last byte of a piece is a carriage return
-abbrev pub returns : List ℕ → Bool
-returns piece = slice_index piece (length piece - 1) == 13
 
 -- the lines of a text that have a byte: those that were read of late, and those that are left
 pub record LinesRead : Type 0 where

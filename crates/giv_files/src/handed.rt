@@ -1,14 +1,15 @@
 // What csv is given of a text.
 ghost use Rattle.std.specs.Prelude.{◌≡◌, ◌≢◌, ◌<◌, ◌≤◌, ◌+◌, ◌++◌, ◌∷◌, ◌||◌, [], ℕ, All};
-ghost use Rattle.std.specs.Prelude.{Some, IsOk, IfSome, get_or, length, map, min, nat_le, take, drop};
+ghost use Rattle.std.specs.Prelude.{Some, IsOk, IfSome, get_or, length, map, min, take, drop};
 ghost use Rattle.std.specs.Option.{option_copied};
 ghost use Rattle.std.specs.Io.{ReadsAtMost};
 ghost use Rattle.std.specs.Io.KnownBytes.{ReadConsumes};
-ghost use Rattle.giv_files.specs.Rows.{parts_left, parts_of};
+ghost use Rattle.giv_files.specs.Rows.{before_comment, parts_left, parts_of};
 ghost use Rattle.giv_files.specs.Told.{handed, is_odd};
-ghost use Rattle.giv_files.specs.Handed.{fed, handed_left, unread};
+ghost use Rattle.giv_files.specs.Handed.{Stops, fed, handed_left, unread};
 
 use crate::find::place_of_byte;
+use crate::line::{before_comment, returns};
 use std::io;
 use std::io::Read;
 
@@ -16,8 +17,8 @@ use std::io::Read;
 const LONG: usize = 4_096;
 
 /// What is left of what csv is given of a text: its lines as they stand, as many at a time as there
-/// is room for. In the place of a line with a comment, and of a long one, stands the sign of a
-/// comment alone.
+/// is room for, and of a line with a comment what stands before that. Where that is nothing, or
+/// long, or has a carriage return at its end, the sign of a comment alone stands in its place.
 #[derive(Drop)]
 pub(crate) struct Handed<'a> {
     ready: &'a [u8],
@@ -132,24 +133,47 @@ fn first_line(text: &[u8]) -> (&[u8], Option<&[u8]>)
     } else if end == 0 {
         (b"\n", Some(&text[1..]))
     } else {
-        (handed_line(&text[..end]), Some(&text[end..]))
+        line_and_rest(&text[..end], &text[end..])
     }
 }
 
-// What csv is given of a line.
-#[tactic(auto, unfolding(crate::specs::Told::handed))]
-fn handed_line(line: &[u8]) -> &[u8]
-    ensures { result.now ≡ handed line.now }
+// What stands for a line, and what is left of the text after that. After the sign of a comment the
+// line feed is handed out with it.
+fn line_and_rest<'a>(line: &'a [u8], rest: &'a [u8]) -> (&'a [u8], Option<&'a [u8]>)
+    requires some { 0 < length line.now }
+    requires stops { Stops rest.now }
+    ensures same { handed line.now ++ fed (map handed (parts_of rest.now))
+        ≡ result.0.now ++ fed (map handed (parts_left (option_copied result.1))) }
+    ensures some { 0 < length result.0.now }
 {
-    if is_odd(line) { b"#" } else { line }
+    let told = before_comment(line);
+    if is_odd(line, told) {
+        (b"#\n", behind_feed(rest))
+    } else {
+        (told, Some(rest))
+    }
 }
 
-// Whether a line has a comment, or is too long for csv.
-#[tactic(auto, using(crate::proofs::FedFacts::before_size), unfolding(crate::specs::Told::is_odd))]
-fn is_odd(line: &[u8]) -> bool
+// What is left of a text behind the line feed at its front.
+fn behind_feed(text: &[u8]) -> Option<&[u8]>
+    requires { Stops text.now }
+    ensures { fed (map handed (parts_of text.now))
+        ≡ 10 ∷ fed (map handed (parts_left (option_copied result))) }
+{
+    if text.is_empty() {
+        None
+    } else {
+        Some(&text[1..])
+    }
+}
+
+// Whether csv is not given what stands before a comment of a line.
+#[tactic(auto, unfolding(crate::specs::Told::is_odd))]
+fn is_odd(line: &[u8], told: &[u8]) -> bool
+    requires { told.now ≡ before_comment line.now }
     ensures { result ≡ is_odd line.now }
 {
-    line.len() >= LONG || place_of_byte(line, b'#') < line.len()
+    told.len() >= LONG || (told.len() < line.len() && (told.is_empty() || returns(told)))
 }
 
 impl Read for Handed<'_> {

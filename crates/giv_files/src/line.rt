@@ -6,6 +6,7 @@ ghost use Rattle.std.specs.List.{find, list_all, prefix_len};
 ghost use Rattle.std.specs.Str.Lines.{strip_carriage_return};
 ghost use Rattle.giv_files.specs.Rows.{is_blank, parts_left, parts_of, without_blanks};
 ghost use Rattle.giv_files.specs.Rows.{without_quotes, before_comment};
+ghost use Rattle.giv_files.specs.Told.{returns};
 
 use crate::find::place_of_byte;
 
@@ -41,6 +42,13 @@ pub(crate) fn without_return(line: &[u8]) -> &[u8]
         [front @ .., b'\r'] => front,
         _ => line,
     }
+}
+
+/// Whether the last byte of a piece is a carriage return.
+pub(crate) fn returns(piece: &[u8]) -> bool
+    ensures { result ≡ returns piece.now }
+{
+    matches!(piece, [.., b'\r'])
 }
 
 /// What stands before a comment.

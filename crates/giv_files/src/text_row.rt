@@ -3,10 +3,11 @@ ghost use Rattle.std.specs.Prelude.{◌≡◌, ◌+◌, ◌<◌, ◌≤◌, ◌^
 ghost use Rattle.std.specs.Prelude.{slice_index_or};
 ghost use Rattle.csv.specs.Records.{fields_of};
 ghost use Rattle.giv_files.specs.Rows.{cleaned};
-ghost use Rattle.giv_files.specs.Told.{LineGives, pieces_of, returns, unreturned};
+ghost use Rattle.giv_files.specs.Told.{LineGives, pieces_of, unreturned};
 
 use crate::line::{
-    before_comment, has_row, is_empty_field, without_blanks, without_quotes, without_return,
+    before_comment, has_row, is_empty_field, returns, without_blanks, without_quotes,
+    without_return,
 };
 use crate::line_pieces::{count_pieces, piece_at};
 use crate::line_reader::LineReader;
@@ -16,7 +17,8 @@ use std::alloc::Global;
 use std::marker::Model;
 
 /// A row of a text, which is read in the place of the row before it. Contracts see it as its number
-/// and the list of its fields. A line with a comment, and a long one, is looked up where it stands.
+/// and the list of its fields. A line of which csv is not given all that it tells, and one of a
+/// single field, is looked up where it stands.
 pub struct TextRow<'a> {
     number: u64,
     stands: Stands<'a>,
@@ -160,13 +162,6 @@ fn standing<'a>(pieces: &ByteRecord) -> Stands<'a>
     } else {
         Stands::Apart
     }
-}
-
-// Whether the last byte of a piece is a carriage return.
-fn returns(piece: &[u8]) -> bool
-    ensures { result ≡ returns piece.now }
-{
-    matches!(piece, [.., b'\r'])
 }
 
 // The piece at a place.
