@@ -17,7 +17,7 @@ use Rattle.pesp_search.specs.Marks.{Tracked, sets_of}
 use Rattle.pesp_search.specs.Revising.{Stands}
 use Rattle.pesp_search.specs.TimeSets.{AreGreatest, AreLeft, ArePartnered, AreWithin, LosesNone}
 use Rattle.pesp_search.specs.TimeSets.{RoundsSuffice, has_partner, has_partners, has_second}
-use Rattle.pesp_search.specs.TimeSets.{left_to, reduced, round, times_left}
+use Rattle.pesp_search.specs.TimeSets.{left_to, reduced, times_left}
 use Rattle.pesp_search.proofs.ListedTimes.{no_empty}
 use Rattle.pesp_search.proofs.RoundsKeep.{Holds, filter_keeps, is_in, reduced_keeps}
 use Rattle.pesp_search.proofs.ShrinkingSets.{reduced_partnered, rounded, rounds_leave}

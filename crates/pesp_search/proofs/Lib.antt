@@ -1,5 +1,7 @@
 mod AnyBelow
 mod Changes
+mod Classed
+mod Closing
 mod Crowded
 mod EmptySets
 mod Entries
@@ -28,6 +30,7 @@ mod ShortListings
 mod ShrinkingSets
 mod StageResults
 mod Sweeping
+mod Ties
 mod TimesAccepted
 mod Tried
 mod TurnedTimes

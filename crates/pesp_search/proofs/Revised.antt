@@ -110,7 +110,7 @@ module _ (before after : Tracked) (kept : ℕ) (test : ℕ → Bool) (changes : 
   and_all true y is = is
   and_all false y is = refl
 
-  side_untouched : (e : ℕ) → (e ≡ kept → changes ≡ false) → new e ≡ old e
+  pub side_untouched : (e : ℕ) → (e ≡ kept → changes ≡ false) → new e ≡ old e
   side_untouched e same = elim (cases_eq e kept) [
     | inl own ↦ ap (λ (tracked : Tracked). is_left tracked.sets e) (so.same (same own))
     | inr other ↦ λ i t. (at e t ∙ and_all (old e t) _ (passes_elsewhere kept test e t other)) i

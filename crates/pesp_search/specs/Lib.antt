@@ -1,3 +1,4 @@
+pub mod Cycles
 pub mod Flags
 pub mod Judged
 pub mod Listings

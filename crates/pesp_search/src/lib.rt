@@ -4,9 +4,12 @@
 
 mod check;
 mod children;
+mod close;
+mod cycles;
 mod fault;
 mod files;
 mod flags;
+mod graph;
 mod judge;
 mod links;
 mod marks;

@@ -4,12 +4,14 @@ ghost use Rattle.pesp_search.specs.Flags.{has_changed};
 ghost use Rattle.std.specs.List.{list_any};
 ghost use Rattle.pesp_search.specs.Listings.{AreDead, is_empty};
 ghost use Rattle.pesp_search.specs.Marks.{is_left, sets_of};
-ghost use Rattle.pesp_search.specs.Revising.{AllFrom, AreLinks, AreLinksAt, BoundUnless, Dies};
+ghost use Rattle.pesp_search.specs.Cycles.{IsGraph};
+ghost use Rattle.pesp_search.specs.Revising.{AllFrom, AreLinksAt, BoundUnless, Dies};
 ghost use Rattle.pesp_search.specs.Revising.{IsReady, Reduces, Sweeps, Visits};
 ghost use Rattle.pesp_search.specs.TimeSets.{AreGreatest, LosesNone};
 
+use crate::close::close;
 use crate::flags::EventFlags;
-use crate::links::Links;
+use crate::graph::ConstraintGraph;
 use crate::revise::revise;
 use crate::time_sets::TimeSets;
 use pesp_model::Pesp;
@@ -18,17 +20,17 @@ use plan_num::NoMemory;
 /// Takes times out of the sets of events until each time that is left has its partners on all
 /// activities, or no time is left to some event. The activities at an event are revised, and again,
 /// where its set has changed; flags say which have at first. This is arc consistency, by AC-3 with
-/// a worklist of events in the place of one of activities. Tells whether no time is left to some
-/// event.
+/// a worklist of events in the place of one of activities. What cycles of exact activities would
+/// take out of a set minute by minute goes at once. Tells whether no time is left to some event.
 pub(crate) fn reduce(
     pesp: &Pesp,
-    links: &Links,
+    graph: &ConstraintGraph,
     sets: &mut TimeSets,
     changed: &mut EventFlags,
 ) -> Result<bool, NoMemory>
     requires period { sets.old.sets.columns ≡ pesp.now.period }
     requires events { sets.old.sets.rows ≡ pesp.now.events }
-    requires links { AreLinks pesp.now (length pesp.now.activities) links.now }
+    requires graph { IsGraph pesp.now graph.now }
     requires ready { IsReady pesp.now sets.old changed.old }
     ensures each { OnOk result (length changed.new ≡ length changed.old) }
     ensures reduces { OnOk result (Reduces pesp.now sets.old sets.new) }
@@ -43,7 +45,7 @@ pub(crate) fn reduce(
 {
     let _ = pesp.event_count();
     while changed.has_some() {
-        if sweep(pesp, links, sets, changed)? {
+        if sweep(pesp, graph, sets, changed)? {
             return Ok(true);
         }
     }
@@ -55,13 +57,13 @@ pub(crate) fn reduce(
 // event to the first. Stops where no time is left to some event, and tells so.
 fn sweep(
     pesp: &Pesp,
-    links: &Links,
+    graph: &ConstraintGraph,
     sets: &mut TimeSets,
     changed: &mut EventFlags,
 ) -> Result<bool, NoMemory>
     requires period { sets.old.sets.columns ≡ pesp.now.period }
     requires events { sets.old.sets.rows ≡ pesp.now.events }
-    requires links { AreLinks pesp.now (length pesp.now.activities) links.now }
+    requires graph { IsGraph pesp.now graph.now }
     requires each { length changed.old ≡ pesp.now.events }
     requires revised { AllFrom pesp.now.activities
         (BoundUnless pesp.now.period (is_left sets.old.sets) (has_changed changed.old)) 0 }
@@ -71,7 +73,7 @@ fn sweep(
 {
     let mut end = changed.events();
     while let Some(event) = changed.last(end) {
-        if visit(pesp, links.at(event), event, sets, changed)? {
+        if visit(pesp, graph, event, sets, changed)? {
             return Ok(true);
         }
         end = event;
@@ -79,9 +81,36 @@ fn sweep(
     Ok(false)
 }
 
+// Closes the set of an event that has a flag, which it loses, and revises the sets by the
+// activities at it. Stops where no time is left to some event, and tells so.
+fn visit(
+    pesp: &Pesp,
+    graph: &ConstraintGraph,
+    event: usize,
+    sets: &mut TimeSets,
+    changed: &mut EventFlags,
+) -> Result<bool, NoMemory>
+    requires period { sets.old.sets.columns ≡ pesp.now.period }
+    requires events { sets.old.sets.rows ≡ pesp.now.events }
+    requires event { event < pesp.now.events }
+    requires graph { IsGraph pesp.now graph.now }
+    requires each { length changed.old ≡ pesp.now.events }
+    requires flag { has_changed changed.old event ≡ true }
+    requires revised { AllFrom pesp.now.activities
+        (BoundUnless pesp.now.period (is_left sets.old.sets) (has_changed changed.old)) 0 }
+    ensures visits { IfOk result (λ is_dead. MatchBool is_dead (Dies pesp.now sets.old sets.new)
+        (Visits pesp.now event sets.old sets.new changed.old changed.new)) }
+    ensures each { OnOk result (length changed.new ≡ length changed.old) }
+{
+    if close(sets, event, graph.shifts[event])? {
+        return Ok(true);
+    }
+    visit_links(pesp, graph.links.at(event), event, sets, changed)
+}
+
 // Revises the sets by the activities at an event, which loses its flag. Stops where no time is left
 // to some event, and tells so.
-fn visit(
+fn visit_links(
     pesp: &Pesp,
     indexes: &[usize],
     event: usize,

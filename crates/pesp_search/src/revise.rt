@@ -111,8 +111,8 @@ fn revise_second(
     Ok(is_emptied(sets.sets(), activity.to, is_changed))
 }
 
-// Whether no time is left to an event whose set has changed.
-fn is_emptied(sets: &TimeMarks, event: usize, is_changed: bool) -> bool
+/// Whether no time is left to an event whose set has changed.
+pub(crate) fn is_emptied(sets: &TimeMarks, event: usize, is_changed: bool) -> bool
     requires { event < sets.now.rows }
     ensures empty { result ≡ true → HasEmpty sets.now }
     ensures some { result ≡ false → is_changed ≡ true
@@ -209,8 +209,8 @@ pub(crate) fn width_of(activity: PespActivity, period: usize) -> usize
     ((activity.upper - activity.lower) as usize).min(period - 1)
 }
 
-// How far behind a first time the window of its second ones opens, up to whole periods.
-fn ahead(activity: PespActivity, period: usize) -> usize
+/// How far behind a first time the window of its second ones opens, up to whole periods.
+pub(crate) fn ahead(activity: PespActivity, period: usize) -> usize
     requires some { 1 ≤ period }
     requires low { pos 0 ≤ℤ activity.lower }
     ensures ahead { result ≡ ahead period activity }
@@ -219,8 +219,8 @@ fn ahead(activity: PespActivity, period: usize) -> usize
     activity.lower as usize % period
 }
 
-// How far behind a second time the window of its first ones opens, up to whole periods.
-fn behind(activity: PespActivity, period: usize, width: usize) -> usize
+/// How far behind a second time the window of its first ones opens, up to whole periods.
+pub(crate) fn behind(activity: PespActivity, period: usize, width: usize) -> usize
     requires some { 1 ≤ period }
     requires low { pos 0 ≤ℤ activity.lower }
     requires high { activity.lower ≤ℤ pos 100000 }

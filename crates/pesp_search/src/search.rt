@@ -4,12 +4,13 @@ ghost use Rattle.giv_files.specs.StageCalls.{TakesSteps};
 ghost use Rattle.std.specs.List.{list_any};
 ghost use Rattle.pesp_search.specs.Listings.{entries_listed, is_empty, listing, result_within};
 ghost use Rattle.pesp_search.specs.Marks.{IsSettled, sets_of};
-ghost use Rattle.pesp_search.specs.Revising.{AreLinks, IsReady};
+ghost use Rattle.pesp_search.specs.Cycles.{IsGraph};
+ghost use Rattle.pesp_search.specs.Revising.{IsReady};
 ghost use Rattle.pesp_search.specs.Searches.{AreFirst, Branches, SearchGives, TakesEntry};
 
 use crate::children::{keep_time, next_child};
 use crate::flags::EventFlags;
-use crate::links::Links;
+use crate::graph::ConstraintGraph;
 use crate::marks::TimeMarks;
 use crate::reduce::reduce;
 use crate::standing::{first_open, first_times};
@@ -50,12 +51,12 @@ pub(crate) fn search_times<L: Ledger>(
         result }
 {
     let mut sets = first_sets(alloc, pesp, period)?;
-    let links = Links::new(alloc, pesp, period as usize)?;
+    let graph = ConstraintGraph::new(alloc, pesp, period as usize)?;
     let mut changed = EventFlags::all(alloc, pesp.event_count())?;
     let mut from = 0;
     for entry in 0..budget {
         steps.tick();
-        match take_entry(alloc, pesp, &links, &mut sets, &mut changed, from)? {
+        match take_entry(alloc, pesp, &graph, &mut sets, &mut changed, from)? {
             Entry::Found(times) => return Ok(FoundTimes {
                 times,
                 entries: entry + 1,
@@ -85,19 +86,19 @@ fn first_sets(alloc: Global, pesp: &Pesp, period: u32) -> Result<TimeSets, NoMem
 fn take_entry(
     alloc: Global,
     pesp: &Pesp,
-    links: &Links,
+    graph: &ConstraintGraph,
     sets: &mut TimeSets,
     changed: &mut EventFlags,
     from: usize,
 ) -> Result<Entry, NoMemory>
     requires period { sets.old.sets.columns ≡ pesp.now.period }
     requires events { sets.old.sets.rows ≡ pesp.now.events }
-    requires links { AreLinks pesp.now (length pesp.now.activities) links.now }
+    requires graph { IsGraph pesp.now graph.now }
     requires ready { IsReady pesp.now sets.old changed.old }
     requires settled { IsSettled sets.old.sets from }
     ensures { IfOk result (TakesEntry pesp.now sets.old sets.new changed.new) }
 {
-    let has_empty = reduce(pesp, links, sets, changed)?;
+    let has_empty = reduce(pesp, graph, sets, changed)?;
     if let Some(times) = branch(alloc, sets, has_empty, from)? {
         return Ok(Entry::Found(times));
     }

@@ -1,6 +1,5 @@
 use Rattle.std.proofs.Common.{◌∙◌, sym}
 use Rattle.pesp_search.specs.Revising.{Dies, Visits}
-use Rattle.pesp_search.proofs.Linked.{links_at}
 use Rattle.pesp_search.proofs.Sweeping.{sweep_begun, sweep_died, sweep_ended, sweep_turn}
 use Rattle.std.proofs.lemmas.Bool.{MatchBool-at_false, MatchBool-at_true}
 use Rattle.pesp_search.proofs.reduce.sweep.Goals as goal
@@ -10,10 +9,8 @@ loop-event-init c =
     sweep_begun c.args.pesp.now c.args.sets.now c.args.changed.now c.events-end.result
     c.events-end.ensures.value c.requires.each c.requires.revised
 
-pub visit-requires-clause-links : goal.visit-requires-clause-links
-visit-requires-clause-links c =
-    links_at c.args.pesp.now c.in-Some.event c.args.links.now c.at.result.now c.requires.links
-    c.at.ensures
+pub visit-requires-clause-flag : goal.visit-requires-clause-flag
+visit-requires-clause-flag c = c.in-Some.ensures.1
 
 pub returns-then-branch-clause-sweeps : goal.returns-then-branch-clause-sweeps
 returns-then-branch-clause-sweeps c =

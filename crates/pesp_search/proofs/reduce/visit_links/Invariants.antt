@@ -2,7 +2,7 @@
 use Rattle.std.proofs.Common.{◌≡◌, length}
 use Rattle.pesp_search.specs.Marks.{times_from}
 use Rattle.pesp_search.proofs.Visiting.{IsVisited}
-use Rattle.pesp_search.proofs.reduce.visit.Given as goal
+use Rattle.pesp_search.proofs.reduce.visit_links.Given as goal
 
 abbrev pub invariant-loop-index : goal.invariant-loop-index
 invariant-loop-index l = record {
