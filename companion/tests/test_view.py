@@ -75,11 +75,13 @@ def test_a_missing_file_leaves_its_sections_out(file: File[Any], town: Path) -> 
     assert all(f"{file.name}" in it and "missing" in it for it in why.values())
 
 
+@pytest.mark.usefixtures("lintim")
 def test_a_folder_without_files(tmp_path: Path) -> None:
     (tmp_path / "empty/basis").mkdir(parents=True)
     assert tuple(drawn(tmp_path / "empty").why_left_out()) == SECTIONS
 
 
+@pytest.mark.usefixtures("lintim")
 def test_what_people_write_is_drawn_before_there_are_plans(tmp_path: Path) -> None:
     demos.write_demo(tmp_path / "grid", 4)
     page = drawn(tmp_path / "grid")
