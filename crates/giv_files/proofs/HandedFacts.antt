@@ -1,14 +1,15 @@
 -- Handing out what is ready piece by piece.
 use Rattle.std.proofs.Common.{◌≡◌, ℕ, ◌+◌, ◌≤◌, List, [], ◌++◌, length, take, drop, ap, sym, ◌∙◌}
-use Rattle.std.proofs.Common.{append_assoc, arith, length-append, map, min, ◌-◌, Bor, Option, Some}
+use Rattle.std.proofs.Common.{append_assoc, arith, false, length-append, min, ◌-◌, Bor, Option, Some}
 use Rattle.std.proofs.Common.{refl}
 use Rattle.std.specs.Option.{option_copied}
 use Rattle.std.proofs.lemmas.List.{length-take-le, take-append-le, take-append-drop, take_all, take_rest}
 use Rattle.std.proofs.Math.Seq.{take-append-add}
 use borrow.Rule.Slice.PartMut.{put_mid}
 use Rattle.giv_files.specs.Rows.{parts_left}
-use Rattle.giv_files.specs.Told.{handed}
+use Rattle.giv_files.specs.Told.{given}
 use Rattle.giv_files.specs.Handed.{fed}
+use Rattle.giv_files.proofs.GivenFacts.{given_none}
 use Rattle.giv_files.proofs.RowsLeft.{no_parts}
 
 fed_none : fed [] ≡ []
@@ -18,8 +19,8 @@ fed_none = refl
 -- where nothing is ready and no text is left, nothing is left
 pub nothing_left : (ready : List ℕ) (left : Option (Bor (List ℕ))) → ready ≡ []
     → ((text : Bor (List ℕ)) → left ≡ Some text → ⊥)
-    → ready ++ fed (map handed (parts_left (option_copied left))) ≡ []
-nothing_left ready left none over = rw (none, no_parts left over) fed_none
+    → ready ++ fed (given false (parts_left (option_copied left))) ≡ []
+nothing_left ready left none over = rw (none, no_parts left over, given_none false) fed_none
 
 -- what is put behind the bytes so far comes next
 module _ (buffer behind : List ℕ) (filled room count : ℕ) (within : filled ≤ length buffer)

@@ -8,7 +8,9 @@ pub mod FedFacts
 pub mod FieldFacts
 pub mod FileFaults
 pub mod Found
+pub mod GivenFacts
 pub mod HandedFacts
+pub mod HandedLines
 pub mod Headers
 pub mod Inputs
 pub mod InTurn

@@ -1,6 +1,6 @@
 -- The lines that have rows, one after the other.
 use Rattle.std.proofs.Common.{◌≡◌, ℕ, ◌+◌, List, [], ◌∷◌, ◌++◌, length, map, refl, sym, ◌∙◌, Bool}
-use Rattle.std.proofs.Common.{true, false, not, eqb, arith, filter}
+use Rattle.std.proofs.Common.{true, false, not, eqb, arith, filter, ap, get_or, ne_eqb, suc, take, ◌-◌}
 use Rattle.std.specs.List.{flat_map, enumerate_from, list_all}
 use Rattle.std.specs.Str.Lines.{strip_carriage_return}
 use Rattle.std.proofs.lemmas.Bool.{eqb-true, false≢true, not-true, not-false}
@@ -90,3 +90,28 @@ told_some (part ∷ parts) number =
 pub none_told : (number : ℕ) → told_left number [] ≡ []
 unfolding told_left
 none_told number = refl
+
+last_place : (n : ℕ) → suc (suc n) - 1 ≡ suc n
+last_place n = omega arith
+
+sign_kept_if : (rest : List ℕ) (t : Bool) → eqb (get_or (35 ∷ rest) (length (35 ∷ rest) - 1) 0) 13 ≡ t
+    → (kept : List ℕ) × (strip_carriage_return (35 ∷ rest) ≡ 35 ∷ kept)
+sign_kept_if rest false e = (rest, rw e refl)
+sign_kept_if [] true e = absurd (false≢true e)
+sign_kept_if (byte ∷ rest) true e =
+    (take (length rest) (byte ∷ rest), rw e (rw (last_place (length rest)) refl))
+
+-- without a carriage return at its end a line still begins with the sign of a comment
+pub sign_kept : (rest : List ℕ) → (kept : List ℕ) × (strip_carriage_return (35 ∷ rest) ≡ 35 ∷ kept)
+sign_kept rest = sign_kept_if rest (eqb (get_or (35 ∷ rest) (length (35 ∷ rest) - 1) 0) 13) refl
+
+-- such a line has no row, and a number
+pub told_sign : (number byte : ℕ) (line : List ℕ) (parts : List (List ℕ)) → byte ≡ 35
+    → told_left number ((byte ∷ line) ∷ parts) ≡ told_left (number + 1) parts
+told_sign number byte line parts is =
+    let kept = sign_kept line in
+    rw is (
+    numbered_told number (35 ∷ line) parts
+    (rw kept.1 (ne_eqb (suc (length kept.0)) 0 (λ e. omega arith)))
+    ∙ ap (λ (line : List ℕ). told_of (number + 1) line ++ told_left (number + 1) parts) kept.1
+    )

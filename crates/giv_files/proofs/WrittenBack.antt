@@ -11,6 +11,7 @@ use Rattle.giv_files.specs.Reading.{row_faults, table_row, has_mark}
 use Rattle.giv_files.specs.Writing.{cell_texts, joined, line_text, table_text, CanWrite, InColumns, IsHeader, ReadsBack}
 use Rattle.giv_files.proofs.RowFacts.{whys_are}
 use Rattle.giv_files.proofs.RowsLeft.{rows_left, all_left, numbered_step, no_mark, table_is}
+use Rattle.giv_files.proofs.ToldFacts.{sign_kept}
 use Rattle.giv_files.proofs.WriteFacts.{texts_length}
 use Rattle.giv_files.proofs.PlainBytes.{AreCells, is_quiet, cells_quiet, quiet_stripped, line_some, cells_row, line_cut, quiet_line}
 use Rattle.giv_files.proofs.CellTexts.{texts_are_cells, texts_back}
@@ -64,18 +65,9 @@ module _ (kinds : List ColumnKind) (some : 0 < length kinds) (can : All CanWrite
       let inside = All-head (λ (row : TableRow). InColumns kinds row.cells) row rows h in
       rw ((texts_back 1 kinds row.cells can inside).1, same_cells (number + 1) rows (All-tail (λ (row : TableRow). InColumns kinds row.cells) row rows h)) refl
 
-last_place : (n : ℕ) → suc (suc n) - 1 ≡ suc n
-last_place n = omega arith
-
--- a header without a carriage return at its end still begins with a comment sign
-header_kept : (rest : List ℕ) (t : Bool) → eqb (get_or (35 ∷ rest) (length (35 ∷ rest) - 1) 0) 13 ≡ t → (kept : List ℕ) × (cond t (take (length (35 ∷ rest) - 1) (35 ∷ rest)) (35 ∷ rest) ≡ 35 ∷ kept)
-header_kept rest false e = (rest, refl)
-header_kept [] true e = absurd (false≢true e)
-header_kept (byte ∷ rest) true e = (take (length rest) (byte ∷ rest), rw (last_place (length rest)) refl)
-
 -- a header has no row
 header_row : (rest : List ℕ) → (row_of 1 (strip_carriage_return (35 ∷ rest)) ≡ []) × (eqb (length (strip_carriage_return (35 ∷ rest))) 0 ≡ false)
-header_row rest = let kept = header_kept rest (eqb (get_or (35 ∷ rest) (length (35 ∷ rest) - 1) 0) 13) refl in (rw kept.1 refl, rw kept.1 (ne_eqb (suc (length kept.0)) 0 (λ e. omega arith)))
+header_row rest = let kept = sign_kept rest in (rw kept.1 refl, rw kept.1 (ne_eqb (suc (length kept.0)) 0 (λ e. omega arith)))
 
 behind_header : (header rest : List ℕ) → IsHeader header → (rows_left 0 (parts_of (header ++ 10 ∷ rest)) ≡ rows_left 1 (parts_of rest)) × (has_mark (header ++ 10 ∷ rest) ≡ false)
 behind_header [] rest h = absurd (let e = h.0 in cc)

@@ -1,6 +1,6 @@
 -- Inner words: what csv is given of a text, and how it reads that. A reader of the contracts of
 -- this crate needs none of them.
-use Rattle.std.specs.Prelude.{ℕ, ◌≡◌, ◌≢◌, List, [], ◌∷◌, ◌++◌, All, filter, map, Option, Some, None}
+use Rattle.std.specs.Prelude.{ℕ, ◌≡◌, ◌≢◌, List, [], ◌∷◌, ◌++◌, All, filter, Option, Some, None}
 use Rattle.std.specs.Prelude.{false, true, ⊤}
 use Rattle.std.specs.Option.{option_copied}
 use Rattle.csv.specs.Reading.{Ready, has_failed, is_flexible, reader_config, reader_state}
@@ -12,7 +12,7 @@ use Rattle.csv.specs.declared.reader.Reader.{Reader}
 use Rattle.csv.specs.declared.reader.Trim.TheVariants as trim
 use Rattle.giv_files.specs.declared.handed.Handed.{Handed}
 use Rattle.giv_files.specs.Rows.{has_byte, parts_left, pieces}
-use Rattle.giv_files.specs.Told.{handed}
+use Rattle.giv_files.specs.Told.{given}
 
 -- lines, each before a line feed
 unfoldable pub fed : List (List ℕ) → List ℕ
@@ -26,11 +26,11 @@ Stops (byte ∷ more) = byte ≡ 10
 
 -- what is left to hand out: what is ready, and then what csv is given of the text that is left
 abbrev pub unread : Handed → List ℕ
-unread given = given.ready.now ++ fed (map handed (parts_left (option_copied given.left)))
+unread bytes = bytes.ready.now ++ fed (given false (parts_left (option_copied bytes.left)))
 
 -- what csv is still given
 abbrev pub handed_left : Handed → Option (List ℕ)
-handed_left given = Some (unread given)
+handed_left bytes = Some (unread bytes)
 
 -- semicolons between fields, no quotes, and only a line feed ends a record
 abbrev pub table_config : Config

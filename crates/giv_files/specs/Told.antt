@@ -1,11 +1,12 @@
 -- Inner words: the lines of a text that have rows. A reader of the contracts of this crate needs
 -- none of them.
-use Rattle.std.specs.Prelude.{ℕ, ◌≡◌, ◌≤◌, ◌+◌, ◌-◌, ◌==◌, ◌||◌, ◌&&◌, nat_le, nat_lt, if◌then◌else◌}
-use Rattle.std.specs.Prelude.{List, [], ◌∷◌, ◌++◌, length, filter, map, get_or, slice_index, Bool}
-use Rattle.std.specs.Prelude.{Option}
-use Rattle.std.specs.Prelude.{Some, None}
+use Rattle.std.specs.Prelude.{ℕ, ◌≡◌, ◌<◌, ◌≤◌, ◌+◌, ◌-◌, ◌==◌, ◌||◌, ◌&&◌, nat_le, nat_lt, not, if◌then◌else◌}
+use Rattle.std.specs.Prelude.{List, [], ◌∷◌, length, filter, map, slice_index, Bool, false, true}
+use Rattle.std.specs.Prelude.{Option, Some, None}
 use Rattle.std.specs.List.{list_all, flat_map, enumerate_from}
 use Rattle.std.specs.Str.Lines.{strip_carriage_return}
+use Rattle.giv_files.specs.declared.text_lines.LineTaken.{LineTaken}
+use Rattle.giv_files.specs.declared.text_lines.LineTaken.TheVariants as taken
 use Rattle.giv_files.specs.declared.text_row.LineRead.{LineRead}
 use Rattle.giv_files.specs.declared.text_row.LineRead.TheVariants as line
 use Rattle.giv_files.specs.declared.text_row.Stands.{Stands}
@@ -54,6 +55,30 @@ is_odd line =
 unfoldable pub handed : List ℕ → List ℕ
 handed line = if is_odd line then 35 ∷ [] else before_comment line
 
+-- the last byte of a front is part of what a line tells
+unfoldable pub is_told : List ℕ → Bool
+is_told front =
+    let last = slice_index front (length front - 1) in
+    nat_lt 0 (length front) && not ((last == 10) || (last == 13))
+
+-- a line begins with the sign of a comment
+unfoldable pub begins : List ℕ → Bool
+begins [] = false
+begins (byte ∷ more) = byte == 35
+
+-- what csv is given of lines: after one that begins with the sign of a comment, those that begin so
+-- too are left out, and empty ones among them
+unfoldable pub given : Bool → List (List ℕ) → List (List ℕ)
+given signed [] = []
+given signed (line ∷ more) =
+    if signed && ((length line == 0) || begins line) then given true more else
+    handed line ∷ given (begins line) more
+
+-- and what it is given after the first of them
+abbrev pub given_after : List (List ℕ) → List (List ℕ)
+given_after [] = []
+given_after (line ∷ more) = given (begins line) more
+
 -- pieces of which the last has no carriage return at its end
 unfoldable pub unreturned : List (List ℕ) → List (List ℕ)
 unreturned [] = []
@@ -67,28 +92,34 @@ pieces_of stands.Apart parts = parts
 pieces_of stands.Returned parts = unreturned parts
 pieces_of (stands.Told line) parts = pieces line.now
 
--- the lines of a text that have a byte: those that were read of late, and those that are left
-pub record LinesRead : Type 0 where
-  pub passed : List (List ℕ)
-  pub left : List (List ℕ)
+-- so many lines that begin with the sign of a comment are passed over: those that are left have the
+-- same rows, numbered on
+pub record PassesComments (old new : List (List ℕ)) (count : ℕ) : Type 0 where
+  pub told : (number : ℕ) → told_left number old ≡ told_left (number + count) new
+  pub lines : length old ≡ length new + count
 
--- the line that was read last
-abbrev pub last_line : LinesRead → List ℕ
-last_line read = get_or read.passed (length read.passed - 1) []
+-- csv gives the pieces of the next line, two at least
+pub record HasPieces (old new found : List (List ℕ)) : Type 0 where
+  pub line : List ℕ
+  pub left : old ≡ line ∷ new
+  pub pieces : found ≡ pieces (handed line)
+  pub some : 2 ≤ length found
 
--- reading the pieces of what csv is given of the next line
-pub record TakesLine (old new : LinesRead) (found : List (List ℕ)) : Type 0 where
-  pub left : old.left ≡ last_line new ∷ new.left
-  pub pieces : found ≡ pieces (handed (last_line new))
-  pub passed : new.passed ≡ old.passed ++ last_line new ∷ []
+-- what reading the next of the lines that are left does: csv gives its pieces, or it is looked up
+-- where it stands, or it is passed over with those that begin as it does, or nothing was left
+abbrev pub TakesLine : List (List ℕ) → List (List ℕ) → List (List ℕ) → LineTaken → Type 0
+TakesLine old new found taken.Apart = HasPieces old new found
+TakesLine old new found (taken.Stands line) = old ≡ line.now ∷ new
+TakesLine old new found (taken.Comments count) = PassesComments old new count × (0 < count)
+TakesLine old new found taken.Nothing = old ≡ []
 
 -- what a line that was read is, of those that were left after so many that were numbered: a row,
--- or one that is passed over, with how many are numbered then, or nothing was left
+-- or passed over, with how many are numbered then, or nothing was left
 abbrev pub LineGives : ℕ → List (List ℕ) → List (List ℕ) → Row → LineRead → Type 0
 LineGives number left more row line.Row =
     (map row_told (told_left number left) ≡ row ∷ map row_told (told_left (number + 1) more))
     × (length left ≡ length more + 1)
 LineGives number left more row (line.Passed now) =
-    (told_left number left ≡ told_left now more) × (now ≤ number + 1)
-    × (length left ≡ length more + 1)
+    (told_left number left ≡ told_left now more)
+    × (now + length more ≤ number + length left) × (length more < length left)
 LineGives number left more row line.Nothing = left ≡ []

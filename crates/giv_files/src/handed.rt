@@ -1,15 +1,16 @@
 // What csv is given of a text.
-ghost use Rattle.std.specs.Prelude.{◌≡◌, ◌≢◌, ◌<◌, ◌≤◌, ◌+◌, ◌++◌, ◌∷◌, ◌||◌, [], ℕ, All};
-ghost use Rattle.std.specs.Prelude.{Some, IsOk, IfSome, get_or, length, map, min, take, drop};
+ghost use Rattle.std.specs.Prelude.{◌≡◌, ◌≢◌, ◌<◌, ◌≤◌, ◌++◌, ◌∷◌, ◌||◌, List, [], ℕ, All, Some, IsOk};
+ghost use Rattle.std.specs.Prelude.{IfSome};
+ghost use Rattle.std.specs.Prelude.{drop, false, get_or, length, min, take};
 ghost use Rattle.std.specs.Option.{option_copied};
 ghost use Rattle.std.specs.Io.{ReadsAtMost};
 ghost use Rattle.std.specs.Io.KnownBytes.{ReadConsumes};
 ghost use Rattle.giv_files.specs.Rows.{before_comment, parts_left, parts_of};
-ghost use Rattle.giv_files.specs.Told.{handed, is_odd};
+ghost use Rattle.giv_files.specs.Told.{given, is_odd, is_told};
 ghost use Rattle.giv_files.specs.Handed.{Stops, fed, handed_left, unread};
 
 use crate::find::place_of_byte;
-use crate::line::{before_comment, returns};
+use crate::line::{before_comment, begins, behind_comments, returns};
 use std::io;
 use std::io::Read;
 
@@ -28,7 +29,7 @@ pub(crate) struct Handed<'a> {
 impl<'a> Handed<'a> {
     /// What csv is given of a text. An empty line comes first, so that it finds no byte order mark.
     pub(crate) fn new(text: &'a [u8]) -> Handed<'a>
-        ensures { handed_left result ≡ Some (fed ([] ∷ map handed (parts_of text.now))) }
+        ensures { handed_left result ≡ Some (fed ([] ∷ given false (parts_of text.now))) }
     {
         Handed {
             ready: b"\n",
@@ -83,27 +84,41 @@ fn copy_front(from: &[u8], to: &mut [u8]) -> usize
 // What stands for the first lines of a text, and the text after them. It may be that the line feed
 // after a line is left.
 fn front_lines(text: &[u8]) -> (&[u8], Option<&[u8]>)
-    ensures same { fed (map handed (parts_of text.now))
-        ≡ result.0.now ++ fed (map handed (parts_left (option_copied result.1))) }
+    ensures same { fed (given false (parts_of text.now))
+        ≡ result.0.now ++ fed (given false (parts_left (option_copied result.1))) }
     ensures some { 0 < length result.0.now }
 {
-    match plain_lines(text) {
+    let bare = bare_front(text);
+    if bare.len() < LONG && bare.len() < text.len() && is_told(bare) {
+        let comment = &text[bare.len()..];
+        return (bare, Some(&comment[place_of_byte(comment, b'\n')..]));
+    }
+    match last_feed(bare) {
         Some(end) => (&text[..end + 1], Some(&text[end + 1..])),
         None => first_line(text),
     }
 }
 
-// Where the line feed after the last of the lines stands that csv may be given as they are, of the
-// lines at the front of a text.
-fn plain_lines(text: &[u8]) -> Option<usize>
-    ensures within { IfSome result (λ end. end < length text.now) }
-    ensures feed { IfSome result (λ end. get_or text.now end 0 ≡ 10) }
-    ensures short { IfSome result (λ end. end < 4096) }
-    ensures bare { IfSome result (λ end. All (λ byte. byte ≢ 35) (take end text.now)) }
+// What stands at the front of a text before the first sign of a comment, as far as it is not long.
+fn bare_front(text: &[u8]) -> &[u8]
+    ensures front { result.now ≡ take (length result.now) text.now }
+    ensures short { length result.now ≤ 4096 }
+    ensures bare { All (λ byte. byte ≢ 35) result.now }
+    ensures comment { length result.now < 4096 → length result.now < length text.now
+        → get_or text.now (length result.now) 0 ≡ 35 }
 {
-    let front = &text[..text.len().min(LONG)];
-    let bare = &front[..place_of_byte(front, b'#')];
-    last_feed(bare)
+    before_comment(&text[..text.len().min(LONG)])
+}
+
+// Whether the last byte is part of what a line tells: neither a line feed, nor a carriage return
+// that csv could take for one.
+fn is_told(front: &[u8]) -> bool
+    ensures { result ≡ is_told front.now }
+{
+    match front {
+        [] => false,
+        [.., last] => *last != b'\n' && *last != b'\r',
+    }
 }
 
 // Where the last line feed stands.
@@ -123,32 +138,33 @@ fn last_feed(text: &[u8]) -> Option<usize>
 
 // What stands for the first line of a text, and the text after that.
 fn first_line(text: &[u8]) -> (&[u8], Option<&[u8]>)
-    ensures same { fed (map handed (parts_of text.now))
-        ≡ result.0.now ++ fed (map handed (parts_left (option_copied result.1))) }
+    ensures same { fed (given false (parts_of text.now))
+        ≡ result.0.now ++ fed (given false (parts_left (option_copied result.1))) }
     ensures some { 0 < length result.0.now }
 {
     let end = place_of_byte(text, b'\n');
-    if text.is_empty() {
-        (b"\n", None)
-    } else if end == 0 {
-        (b"\n", Some(&text[1..]))
-    } else {
-        line_and_rest(&text[..end], &text[end..])
-    }
+    line_and_rest(&text[..end], &text[end..])
 }
 
-// What stands for a line, and what is left of the text after that. After the sign of a comment the
-// line feed is handed out with it.
+// What stands for a line, and what is left of the text after that. Lines that begin with the sign of
+// a comment have one sign, and the line feed is handed out with it.
 fn line_and_rest<'a>(line: &'a [u8], rest: &'a [u8]) -> (&'a [u8], Option<&'a [u8]>)
-    requires some { 0 < length line.now }
+    requires plain { All (λ byte. byte ≢ 10) line.now }
     requires stops { Stops rest.now }
-    ensures same { handed line.now ++ fed (map handed (parts_of rest.now))
-        ≡ result.0.now ++ fed (map handed (parts_left (option_copied result.1))) }
+    ensures same { fed (given false (parts_of (line.now ++ rest.now)))
+        ≡ result.0.now ++ fed (given false (parts_left (option_copied result.1))) }
     ensures some { 0 < length result.0.now }
 {
+    let after = behind_feed(rest);
+    if line.is_empty() {
+        return (b"\n", after);
+    }
+    if begins(line) {
+        return (b"#\n", behind_comments(after).0);
+    }
     let told = before_comment(line);
     if is_odd(line, told) {
-        (b"#\n", behind_feed(rest))
+        (b"#\n", after)
     } else {
         (told, Some(rest))
     }
@@ -157,8 +173,8 @@ fn line_and_rest<'a>(line: &'a [u8], rest: &'a [u8]) -> (&'a [u8], Option<&'a [u
 // What is left of a text behind the line feed at its front.
 fn behind_feed(text: &[u8]) -> Option<&[u8]>
     requires { Stops text.now }
-    ensures { fed (map handed (parts_of text.now))
-        ≡ 10 ∷ fed (map handed (parts_left (option_copied result))) }
+    ensures { (line : List ℕ) → All (λ byte. byte ≢ 10) line
+        → parts_of (line ++ text.now) ≡ line ∷ parts_left (option_copied result) }
 {
     if text.is_empty() {
         None

@@ -1,12 +1,13 @@
 // Parts of a line, and of its fields.
-ghost use Rattle.std.specs.Prelude.{◌≡◌, ◌≢◌, ◌==◌, ◌<◌, ◌∷◌, All, IfSome, length, position, true};
+ghost use Rattle.std.specs.Prelude.{◌≡◌, ◌≢◌, ◌==◌, ◌<◌, ◌∷◌, All, IfSome, filter, length, position};
+ghost use Rattle.std.specs.Prelude.{false, true};
 ghost use Rattle.std.specs.Prelude.{drop, not, reverse, take_while};
 ghost use Rattle.std.specs.Option.{option_copied};
 ghost use Rattle.std.specs.List.{find, list_all, prefix_len};
 ghost use Rattle.std.specs.Str.Lines.{strip_carriage_return};
-ghost use Rattle.giv_files.specs.Rows.{is_blank, parts_left, parts_of, without_blanks};
+ghost use Rattle.giv_files.specs.Rows.{has_byte, is_blank, parts_left, parts_of, without_blanks};
 ghost use Rattle.giv_files.specs.Rows.{without_quotes, before_comment};
-ghost use Rattle.giv_files.specs.Told.{returns};
+ghost use Rattle.giv_files.specs.Told.{PassesComments, begins, given, returns};
 
 use crate::find::place_of_byte;
 
@@ -42,6 +43,36 @@ pub(crate) fn without_return(line: &[u8]) -> &[u8]
         [front @ .., b'\r'] => front,
         _ => line,
     }
+}
+
+/// Whether a line begins with the sign of a comment.
+#[tactic(auto, unfolding(crate::specs::Told::begins))]
+pub(crate) fn begins(line: &[u8]) -> bool
+    ensures { result ≡ begins line.now }
+{
+    matches!(line, [b'#', ..])
+}
+
+/// What is left of a text behind the lines at its front that begin with the sign of a comment, and
+/// how many these are. Empty lines among them are passed over too.
+pub(crate) fn behind_comments(text: Option<&[u8]>) -> (Option<&[u8]>, u64)
+    ensures given { given true (parts_left (option_copied text.entry))
+        ≡ given false (parts_left (option_copied result.0)) }
+    ensures passed { PassesComments (filter has_byte (parts_left (option_copied text.entry)))
+        (filter has_byte (parts_left (option_copied result.0))) result.1 }
+{
+    let mut left = text;
+    let mut count = 0;
+    'lines: while let Some(text) = left {
+        let (line, rest) = first_part(text);
+        if begins(line) {
+            count += 1;
+        } else if !line.is_empty() {
+            return (left, count);
+        }
+        left = rest;
+    }
+    (None, count)
 }
 
 /// Whether the last byte of a piece is a carriage return.

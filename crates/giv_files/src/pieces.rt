@@ -1,8 +1,8 @@
 // The pieces of the lines of a text, as csv splits them.
-ghost use Rattle.std.specs.Prelude.{◌≡◌, ◌∷◌, [], List, IfOk, MatchBool, filter, map, ℕ};
+ghost use Rattle.std.specs.Prelude.{◌≡◌, ◌∷◌, [], List, IfOk, MatchBool, false, filter, ℕ};
 ghost use Rattle.csv.specs.Records.{fields_of};
 ghost use Rattle.giv_files.specs.Rows.{has_byte, parts_of};
-ghost use Rattle.giv_files.specs.Told.{handed};
+ghost use Rattle.giv_files.specs.Told.{given};
 ghost use Rattle.giv_files.specs.Handed.{Awaits, ReadsLine};
 
 use crate::handed::Handed;
@@ -12,7 +12,7 @@ use std::alloc::Global;
 
 /// A reader of the lines of a text.
 pub(crate) fn pieces_reader(alloc: Global, text: &[u8]) -> Reader<Handed<'_>>
-    ensures { Awaits result (map handed (filter has_byte (parts_of text.now))) }
+    ensures { Awaits result (given false (filter has_byte (parts_of text.now))) }
 {
     ReaderBuilder::new()
         .delimiter(b';')

@@ -1,10 +1,22 @@
 // The lines of a text, as they stand.
-ghost use Rattle.std.specs.Prelude.{◌≡◌, ◌+◌, ◌∷◌, [], drop, filter, MatchOption, slice_get};
+ghost use Rattle.std.specs.Prelude.{◌≡◌, ◌+◌, ◌<◌, ◌≤◌, ◌^◌, ◌∷◌, [], drop, false, filter, length, true};
+ghost use Rattle.std.specs.Prelude.{MatchOption, slice_get};
 ghost use Rattle.std.specs.Option.{option_copied};
 ghost use Rattle.giv_files.specs.Rows.{has_byte, parts_of};
+ghost use Rattle.giv_files.specs.Told.{PassesComments, TakesLine, given, given_after};
 
-use crate::line::first_part;
+use crate::line::{begins, behind_comments, first_part};
 use std::marker::Model;
+
+/// How the next line of a text is taken: csv gives its pieces, or it is at hand as it stands, or so
+/// many are passed over that begin with the sign of a comment, or there was none.
+#[derive(Clone, Copy)]
+pub(crate) enum LineTaken<'a> {
+    Apart,
+    Stands(&'a [u8]),
+    Comments(u64),
+    Nothing,
+}
 
 /// The lines of a text that have a byte. Contracts see those that are left.
 #[derive(Drop)]
@@ -54,5 +66,34 @@ impl<'a> TextLines<'a> {
             self.next();
         }
         self.next()
+    }
+
+    /// Passes over the lines at the front that begin with the sign of a comment, and returns how
+    /// many these are.
+    pub(crate) fn pass_comments(&mut self) -> u64
+        ensures given { given true self.old ≡ given false self.new }
+        ensures passed { PassesComments self.old self.new result }
+    {
+        let (left, count) = behind_comments(self.left);
+        self.left = left;
+        count
+    }
+
+    /// Takes the next one after so many others: as it stands, or, where it begins with the sign of
+    /// a comment, with those after it that begin so too.
+    #[inline(never)]
+    pub(crate) fn take_after(&mut self, count: u64) -> LineTaken<'a>
+        requires there { count < length self.old }
+        requires few { length self.old < 2 ^ 64 }
+        ensures given { given_after (drop count self.old) ≡ given false self.new }
+        ensures less { length self.new ≤ length (drop count self.old) }
+        ensures taken { TakesLine (drop count self.old) self.new [] result }
+    {
+        let line = self.skip(count).unwrap_or(&[]);
+        if begins(line) {
+            LineTaken::Comments(self.pass_comments() + 1)
+        } else {
+            LineTaken::Stands(line)
+        }
     }
 }

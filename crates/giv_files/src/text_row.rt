@@ -11,6 +11,7 @@ use crate::line::{
 };
 use crate::line_pieces::{count_pieces, piece_at};
 use crate::line_reader::LineReader;
+use crate::text_lines::LineTaken;
 use csv::ByteRecord;
 use plan_num::NoMemory;
 use std::alloc::Global;
@@ -118,19 +119,20 @@ impl<'a> TextRow<'a> {
         number: u64,
         lines: &mut LineReader<'a>,
     ) -> Result<LineRead, NoMemory>
-        requires { number + length lines.old.left < 2 ^ 64 }
-        ensures gives { IfOk result (LineGives number lines.old.left lines.new.left self.new) }
-        ensures less { length lines.new.left ≤ length lines.old.left }
+        requires { number + length lines.old < 2 ^ 64 }
+        ensures gives { IfOk result (LineGives number lines.old lines.new self.new) }
+        ensures less { length lines.new ≤ length lines.old }
     {
-        if !lines.next(&mut self.pieces)? {
-            return Ok(LineRead::Nothing);
+        match lines.next(&mut self.pieces)? {
+            LineTaken::Apart => {
+                self.number = number + 1;
+                self.stands = standing(&self.pieces);
+                Ok(LineRead::Row)
+            }
+            LineTaken::Stands(line) => Ok(self.take_line(number, line)),
+            LineTaken::Comments(count) => Ok(LineRead::Passed(number + count)),
+            LineTaken::Nothing => Ok(LineRead::Nothing),
         }
-        if self.pieces.len() >= 2 {
-            self.number = number + 1;
-            self.stands = standing(&self.pieces);
-            return Ok(LineRead::Row);
-        }
-        Ok(self.take_line(number, lines.last()))
     }
 
     // Takes a line as it stands.

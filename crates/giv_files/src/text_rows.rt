@@ -26,9 +26,9 @@ impl<'a> Model for TextRows<'a> {
 
     ghost Value = { List Row };
 
-    ghost view = { λ rows. map row_told (told_left rows.number rows.lines.left) };
+    ghost view = { λ rows. map row_told (told_left rows.number rows.lines) };
 
-    ghost invariant = { λ rows. rows.number + length rows.lines.left < 2 ^ 64 };
+    ghost invariant = { λ rows. rows.number + length rows.lines < 2 ^ 64 };
 }
 
 impl<'a> TextRows<'a> {

@@ -1,21 +1,21 @@
-use Rattle.std.proofs.Common.{sym, ◌∙◌, arith, length-take}
-use Rattle.giv_files.proofs.FedFacts.{empty_fed, feed_fed, first_fed, stops_rest}
+use Rattle.std.proofs.Common.{◌∙◌, ◌++◌, List, ap, drop, false, sym, take, ℕ}
+use Rattle.std.proofs.lemmas.List.{take-append-drop, take_rest}
+use Rattle.giv_files.specs.Handed.{fed}
+use Rattle.giv_files.specs.Rows.{parts_of}
+use Rattle.giv_files.specs.Told.{given}
+use Rattle.giv_files.proofs.FedFacts.{first_plain, stops_rest}
 use Rattle.giv_files.proofs.handed.first_line.Goals as goal
-
-pub returns-then-is_empty-clause-same : goal.returns-then-is_empty-clause-same
-returns-then-is_empty-clause-same c = empty_fed c.args.text.now (grind arith)
-
-pub returns-then-end-eq0-clause-same : goal.returns-then-end-eq0-clause-same
-returns-then-end-eq0-clause-same c =
-    feed_fed c.args.text.now (grind arith) (sym c.if-end-eq0.true ∙ c.place_of_byte-end.ensures.place)
 
 pub line_and_rest-requires : goal.line_and_rest-requires
 line_and_rest-requires c = record {
-  some = grind (arith, length-take);
+  plain = first_plain c.args.text.now c.place_of_byte-end.result c.place_of_byte-end.ensures.place;
   stops = stops_rest c.args.text.now c.place_of_byte-end.result c.place_of_byte-end.ensures.place;
 }
 
-pub returns-else-end-eq0-clause-same : goal.returns-else-end-eq0-clause-same
-returns-else-end-eq0-clause-same c =
-    first_fed c.args.text.now c.place_of_byte-end.result c.place_of_byte-end.ensures.place
+pub returns-clause-same : goal.returns-clause-same
+returns-clause-same c =
+    let line = take c.place_of_byte-end.result c.args.text.now in
+    ap (λ (text : List ℕ). fed (given false (parts_of text)))
+    (sym (take-append-drop c.place_of_byte-end.result c.args.text.now)
+    ∙ ap (λ (rest : List ℕ). line ++ rest) (sym (take_rest c.args.text.now c.place_of_byte-end.result)))
     ∙ c.line_and_rest.ensures.same

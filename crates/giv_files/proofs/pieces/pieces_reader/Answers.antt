@@ -1,9 +1,9 @@
-use Rattle.std.proofs.Common.{◌∙◌, List, ℕ, Some, inr, refl, ap, [], ◌∷◌, map}
+use Rattle.std.proofs.Common.{◌∙◌, List, ℕ, Some, inr, refl, ap, [], ◌∷◌, false}
 use Rattle.std.specs.Option.{option_map}
 use Rattle.csv.specs.Reading.{strip_bom}
 use Rattle.giv_files.specs.Rows.{parts_of}
-use Rattle.giv_files.specs.Told.{handed}
-use Rattle.giv_files.proofs.FedFacts.{lines_handed}
+use Rattle.giv_files.specs.Told.{given}
+use Rattle.giv_files.proofs.FedFacts.{lines_given}
 use Rattle.giv_files.proofs.SplitFacts.{no_mark_first}
 use Rattle.giv_files.proofs.pieces.pieces_reader.Goals as goal
 
@@ -38,8 +38,8 @@ returns c =
         made.headers,
       ));
       fine = made.fresh;
-      parts = [] ∷ map handed (parts_of c.args.text.now);
-      are = lines_handed c.args.text.now;
+      parts = [] ∷ given false (parts_of c.args.text.now);
+      are = lines_given c.args.text.now;
       source = made.source ∙ ap (option_map strip_bom) c.new-2.ensures
           ∙ ap (λ (bytes : List ℕ). Some bytes) (no_mark_first _);
     }

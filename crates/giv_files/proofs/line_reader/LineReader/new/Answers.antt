@@ -1,6 +1,6 @@
-use Rattle.std.proofs.Common.{◌<◌, ◌^◌, ◌+◌, ap, arith, length, map, rules, subst, sym}
+use Rattle.std.proofs.Common.{◌<◌, ◌^◌, ◌+◌, ap, arith, false, length, rules, subst, sym}
 use Rattle.giv_files.specs.Handed.{Awaits}
-use Rattle.giv_files.specs.Told.{handed}
+use Rattle.giv_files.specs.Told.{given}
 use Rattle.giv_files.proofs.LinesRead.{lines_few}
 use Rattle.giv_files.proofs.line_reader.LineReader.new.Goals as goal
 
@@ -10,7 +10,7 @@ invariant_of-result c =
     record {
       within = omega arith;
       few = omega (arith, lines_few c.args.text.now, ap length c.new.ensures, bound);
-      awaits = λ open_. subst (λ lines. Awaits c.pieces_reader.result (map handed lines))
+      awaits = λ open_. subst (λ lines. Awaits c.pieces_reader.result (given false lines))
           (sym c.new.ensures) c.pieces_reader.ensures;
       over = λ never. cc;
     }

@@ -1,18 +1,14 @@
-use Rattle.std.proofs.Common.{arith}
 use Rattle.csv.specs.Records.{fields_of}
-use Rattle.giv_files.specs.Told.{last_line}
 use Rattle.giv_files.proofs.PlainRows.{plain_row}
 use Rattle.giv_files.proofs.text_row.TextRow.read_line.Goals as goal
 
-pub returns-then-len-ge2-clause-gives : goal.returns-then-len-ge2-clause-gives
-returns-then-len-ge2-clause-gives c =
-    let took = rw c.if-not-branch.false at c.in_ok-next.ensures.read in
-    rw c.standing-self-inside.ensures (plain_row c.args.number (last_line c.next.new.self)
-    (fields_of c.next.new.pieces) c.args.lines.now.left c.next.new.self.left took.left took.pieces
-    (omega (arith, c.len.ensures, c.if-len-ge2.true)))
+pub returns-in-Apart-clause-gives : goal.returns-in-Apart-clause-gives
+returns-in-Apart-clause-gives c =
+    let read = rw c.in-Apart.is at c.in_ok-next.ensures.read in
+    rw c.standing-self-inside.ensures (plain_row c.args.number read.line
+    (fields_of c.next.new.pieces) c.args.lines.now c.next.new.self read.left read.pieces read.some)
 
-pub returns-clause-gives : goal.returns-clause-gives
-returns-clause-gives c =
-    let took = rw c.if-not-branch.false at c.in_ok-next.ensures.read in
-    rw (took.left, c.last.ensures.left, ← c.last.ensures.line)
-    (c.take_line.ensures c.next.new.self.left)
+pub returns-in-Stands-clause-gives : goal.returns-in-Stands-clause-gives
+returns-in-Stands-clause-gives c =
+    let left = rw c.in-Stands.is at c.in_ok-next.ensures.read in
+    rw left (c.take_line.ensures c.next.new.self)
