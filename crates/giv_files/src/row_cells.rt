@@ -116,5 +116,10 @@ fn cell_in(row: &TextRow, kind: &ColumnKind, index: usize) -> Result<i64, RowWhy
     requires narrow { index + 1 < 2 ^ 32 }
     ensures { result ≡ cell_of kind.now (index + 1) (slice_index_or row.now.fields index []) }
 {
+    if let Some(pieces) = row.apart() {
+        if let Some(cell) = cell_apart(pieces, kind, index) {
+            return Ok(cell);
+        }
+    }
     cell_of(*kind, index as u32 + 1, row.field(index))
 }
