@@ -26,12 +26,6 @@ same_row width r i row index low small same =
     ∙ div-mul-add row width index small in
     (own, let rest = ap (λ r. r * width) own in omega (arith, same, rest))
 
--- no bit is set outside of the rows
-pub none_outside : (bits : Bits) (row column : ℕ) → AreBits bits → bits.rows ≤ row
-    → has bits row column ≡ false
-none_outside bits row column are past =
-    grind (arith, mul-le-mul_right, and_right, nat_lt, get_or_past, zero_bit)
-
 -- up to the end of its last word a row has the bits of its words
 pub bit_is : (bits : Bits) (row column : ℕ) → AreBits bits → row < bits.rows
     → column < 64 * words_of bits.columns → has bits row column ≡ bit_there bits row column

@@ -22,13 +22,6 @@ ids_left words = ids_in (map string_bytes words)
 abbrev pub IsIds : List (String Global) → List ℤ → List (String Global) → Type 0
 IsIds words ids left = ids_left words ≡ option_map (λ more. ids ++ more) (ids_left left)
 
-pub ids_start : (words : List (String Global)) → IsIds words [] words
-ids_start words = by (ids_left words)
-  where
-    by : (told : Option (List ℤ)) → told ≡ option_map (λ more. [] ++ more) told
-    by None = refl
-    by (Some ids) = refl
-
 module _ (words : List (String Global)) (i : ℕ) (word : String Global) (ids : List ℤ) (inside : i < length words) (is : word ≡ slice_index_or words i word) (so_far : IsIds words ids (drop i words)) where
   next_left : ids_left words ≡ option_map (λ more. ids ++ more) (with_id (id_in (string_bytes word)) (ids_left (drop (i + 1) words)))
   next_left =
@@ -51,12 +44,6 @@ module _ (words : List (String Global)) (i : ℕ) (word : String Global) (ids : 
   pub ids_none : None ≡ id_in (string_bytes word) → None ≡ ids_left words
   ids_none found =
       sym (next_left ∙ ap (λ told. option_map (λ more. ids ++ more) (with_id told (ids_left (drop (i + 1) words)))) (sym found))
-
-pub ids_end : (words : List (String Global)) (i : ℕ) (ids : List ℤ) → length words ≤ i
-    → IsIds words ids (drop i words) → Some ids ≡ ids_left words
-ids_end words i ids past so_far =
-    sym (so_far ∙ at_drop_all (λ left. option_map (λ more. ids ++ more) (ids_left left)) words i past
-    ∙ ap Some (append-nil ids))
 
 -- three words after the first are no form
 pub none_of_three : (first : List ℕ) (words : List (String Global)) → 3 ≤ length words

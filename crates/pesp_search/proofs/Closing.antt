@@ -22,17 +22,6 @@ use Rattle.pesp_search.proofs.Sweeping.{both_propagate, carried}
 left_low : (sets : Marks) (event time : ℕ) → is_left sets event time ≡ true → time < sets.columns
 left_low sets event time is = ltb-true _ _ (and_parts (nat_lt time sets.columns) _ is).0
 
-pub closes_nothing : (sets : Tracked) (event minutes : ℕ) → Closes sets sets event minutes
-closes_nothing sets event minutes = record {
-  period = λ _. sets.sets.columns;
-  events = λ _. sets.sets.rows;
-  saved = λ _. sets.saved;
-  within = λ e t is. is;
-  others = λ other apart. λ _. is_left sets.sets other;
-  keeps = λ left again inside. inside;
-  no_more = omega arith;
-}
-
 -- one turn more
 module _ (before now after : Tracked) (event minutes by : ℕ) (changes : Bool)
     (so : Closes before now event minutes)
