@@ -5,7 +5,6 @@
 #include <cstdio>
 #include <cstring>
 #include <fstream>
-#include <iterator>
 #include <string>
 #include <string_view>
 #include <unordered_map>
@@ -109,8 +108,9 @@ static size_t config(string_view text) {
 
 int main(int count, char** words) {
     if (count != 3) return 1;
-    std::ifstream file(words[2], std::ios::binary);
-    std::string text((std::istreambuf_iterator<char>(file)), std::istreambuf_iterator<char>());
+    std::ifstream file(words[2], std::ios::binary | std::ios::ate);
+    std::string text(file.tellg(), '\0');
+    file.seekg(0).read(text.data(), text.size());
     auto read = words[1] == string_view("table") ? table : config;
     long long least = -1;
     size_t rows = 0;
