@@ -1,5 +1,6 @@
-// The same search as make_concept on the same files, plainly: list_concepts BUDGET. Prints what the stage says, and writes
-// the concept, and the tree where the search is whole.
+// The same search as make_concept on the same files, as a good plain program does it: list_concepts BUDGET. It keeps the
+// sums of each edge, how many edges are missed, and the edges that fall short as bits in words of 64, over which alone the
+// bound goes. Prints what the stage says, and writes the concept, and the tree where the search is whole.
 #include <cstdio>
 #include <cstdlib>
 #include <cstring>
@@ -35,12 +36,26 @@ static ll millionths(const std::string &text) {
 static std::vector<Edge> edges;
 static std::vector<Line> lines;
 static std::vector<int> order, low, high;
-static std::vector<ll> least, greatest, left_over;
+static std::vector<ll> least, greatest, left_over, costs;
+static std::vector<unsigned long long> is_short;
+static int over = 0, under = 0;
 static std::vector<Multiplier> multipliers;
 static wide low_cost = 0, best_cost = -1;
 static std::vector<int> best;
 static void set_range(int line, int lo, int hi) {
-    for (int e : lines[line].edges) { least[e] += lo - low[line]; greatest[e] += hi - high[line]; }
+    int more_least = lo - low[line], more_greatest = hi - high[line];
+    if (more_least != 0) for (int e : lines[line].edges) {
+        over -= edges[e].most < least[e];
+        least[e] += more_least;
+        over += edges[e].most < least[e];
+        unsigned long long bit = 1ULL << e % 64, &word = is_short[e / 64];
+        word = least[e] < edges[e].least ? word | bit : word & ~bit;
+    }
+    if (more_greatest != 0) for (int e : lines[line].edges) {
+        under -= greatest[e] < edges[e].least;
+        greatest[e] += more_greatest;
+        under += greatest[e] < edges[e].least;
+    }
     low_cost += (wide)lines[line].cost * (lo - low[line]);
     low[line] = lo;
     high[line] = hi;
@@ -48,21 +63,20 @@ static void set_range(int line, int lo, int hi) {
 static wide bound() {
     wide value = low_cost;
     multipliers.clear();
-    for (size_t i = 0; i < lines.size(); i++) left_over[i] = lines[i].cost;
-    for (size_t e = 0; e < edges.size(); e++) {
-        ll missing = edges[e].least - least[e];
-        if (missing <= 0) continue;
-        ll amount = -1;
+    left_over = costs;
+    for (size_t w = 0; w < is_short.size(); w++) for (unsigned long long rest = is_short[w]; rest; rest &= rest - 1) {
+        int e = 64 * w + __builtin_ctzll(rest);
+        ll missing = edges[e].least - least[e], amount = -1;
         for (int i : edges[e].lines) if (low[i] < high[i] && (amount < 0 || left_over[i] < amount)) amount = left_over[i];
         if (amount <= 0) continue;
-        multipliers.push_back({(int)e, amount});
+        multipliers.push_back({e, amount});
         value += (wide)amount * missing;
         for (int i : edges[e].lines) left_over[i] = std::max(0LL, left_over[i] - amount);
     }
     return value;
 }
 static Node node_here() {
-    for (size_t e = 0; e < edges.size(); e++) {
+    if (over + under) for (size_t e = 0; e < edges.size(); e++) {
         if (edges[e].most < least[e]) return {1, (int)e, 0, {}};
         if (greatest[e] < edges[e].least) return {1, (int)e, 1, {}};
     }
@@ -92,9 +106,14 @@ int main(int argc, char **argv) {
     for (auto &r : rows("pool.giv")) lines[line_of[atoll(r[0].c_str())]].edges.push_back(edge_of[atoll(r[2].c_str())]);
     least.assign(edges.size(), 0);
     greatest.assign(edges.size(), 0);
+    is_short.assign(edges.size() / 64 + 1, 0);
+    for (size_t e = 0; e < edges.size(); e++) {
+        under += 0 < edges[e].least;
+        if (0 < edges[e].least) is_short[e / 64] |= 1ULL << e % 64;
+    }
     low.assign(lines.size(), 0);
     high.assign(lines.size(), 0);
-    left_over.assign(lines.size(), 0);
+    for (Line &line : lines) costs.push_back(line.cost);
     for (size_t i = 0; i < lines.size(); i++) {
         int most = 1000;
         for (int e : lines[i].edges) { edges[e].lines.push_back(i); most = std::min(most, edges[e].most); }
