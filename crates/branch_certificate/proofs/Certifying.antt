@@ -10,7 +10,6 @@ use Rattle.line_cost_model.specs.declared.range.LineRange.{LineRange}
 use Rattle.line_cost_model.specs.Problems.{CostedLine, ProblemParts}
 use Rattle.line_cost_model.specs.Regions.{most_of, part_from, part_up_to, root_of}
 use Rattle.branch_certificate.specs.declared.fault.TreeFault.{TreeFault}
-use Rattle.branch_certificate.specs.declared.fault.TreeFault.TheVariants as fault
 use Rattle.branch_certificate.specs.declared.node.Node.{Node}
 use Rattle.branch_certificate.specs.declared.node.Node.TheVariants as node
 use Rattle.branch_certificate.specs.Certified.{Certifies, TreeCertifies}

@@ -30,11 +30,17 @@ use Rattle.branch_certificate.specs.declared.read_so_far.ReadSoFar.{ReadSoFar}
 use Rattle.branch_certificate.specs.declared.row_says.RowSays.{RowSays}
 use Rattle.branch_certificate.specs.declared.row_says.RowSays.TheVariants as says
 use Rattle.branch_certificate.specs.declared.tree_row.TreeRow.{TreeRow}
-use Rattle.branch_certificate.specs.ReadRows.{AreRising, IsReadSoFar, IsRefused, IsSoundNode, IsTreeRow, Says, SaysBound, SaysNode, first_why, closed, takes_row, with_row}
-use Rattle.branch_certificate.specs.TreeFiles.{NamedIds, ids_of, is_due, side_of, tree_input, tree_of, tree_row, tree_rules, read_faults}
+use Rattle.branch_certificate.specs.ReadRows.{AreRising, IsReadSoFar, IsRefused, IsSoundNode}
+use Rattle.branch_certificate.specs.ReadRows.{IsTreeRow, Says, SaysBound, SaysNode, first_why}
+use Rattle.branch_certificate.specs.ReadRows.{closed, takes_row, with_row}
+use Rattle.branch_certificate.specs.TreeFiles.{NamedIds, ids_of, is_due, side_of, tree_input}
+use Rattle.branch_certificate.specs.TreeFiles.{tree_of, tree_row, tree_rules, read_faults}
 use Rattle.branch_certificate.specs.TreeTexts.{CanBeWritten, NamesWhatIs}
 use Rattle.branch_certificate.proofs.ReadIds.{rises}
-use Rattle.branch_certificate.proofs.ReadRules.{empty_aside, empty_says, empty_stray, empty_unknown, multiplier_of_0, multiplier_says, multiplier_stray, multiplier_unknown, or_true, split_says, split_stray, split_unknown}
+use Rattle.branch_certificate.proofs.ReadRules.{empty_aside, empty_says, empty_stray}
+use Rattle.branch_certificate.proofs.ReadRules.{empty_unknown, multiplier_of_0, multiplier_says}
+use Rattle.branch_certificate.proofs.ReadRules.{multiplier_stray, multiplier_unknown, or_true}
+use Rattle.branch_certificate.proofs.ReadRules.{split_says, split_stray, split_unknown}
 use Rattle.branch_certificate.proofs.ReadSteps.{due_told}
 use Rattle.branch_certificate.proofs.ReadTaken.{taken}
 use Rattle.branch_certificate.proofs.ReadTexts.{tree_read}
@@ -63,7 +69,8 @@ module _ (ids : NamedIds) (row : TreeRow) where
 
 -- ---- what a row says that is not refused
 
-pub by_kind : (kind : ℤ) → pos 0 ≤ℤ kind → kind ≤ℤ pos 4 → (Goal : Type 0) → (kind ≡ pos 0 → Goal) → (kind ≡ pos 1 → Goal)
+pub by_kind : (kind : ℤ) → pos 0 ≤ℤ kind → kind ≤ℤ pos 4 → (Goal : Type 0) → (kind ≡ pos 0 → Goal)
+    → (kind ≡ pos 1 → Goal)
     → (kind ≡ pos 2 → Goal) → (kind ≡ pos 3 → Goal) → (kind ≡ pos 4 → Goal) → Goal
 by_kind (pos zero) low high Goal a b c d e = a refl
 by_kind (pos (suc zero)) low high Goal a b c d e = b refl
@@ -73,13 +80,15 @@ by_kind (pos (suc (suc (suc (suc zero))))) low high Goal a b c d e = e refl
 by_kind (pos (suc (suc (suc (suc (suc n)))))) low high Goal a b c d e = absurd (omega (arith, ints, high))
 by_kind (negsuc n) low high Goal a b c d e = absurd (omega (arith, ints, low))
 
-module _ (ids : NamedIds) (small : length ids.edges ≤ 2 ^ 63) (row : TreeRow) (cells : IsTreeRow row) (before : List TreeRow)
+module _ (ids : NamedIds) (small : length ids.edges ≤ 2 ^ 63) (row : TreeRow)
+    (cells : IsTreeRow row) (before : List TreeRow)
     (kept : first_why ids before row ≡ None) (Goal : Type 0) (go : (said : RowSays) → Says ids row said → Goal) where
   never : (why : RowWhy) → IsRefused ids row why → Goal
   never why refused = absurd (none-some why (sym kept ∙ refused before))
 
   out : (first_why ids before row ≡ cond (is_due before || true) (Some why.OrderGap) None) → Goal
-  out is = absurd (none-some why.OrderGap (sym kept ∙ is ∙ ap (λ b. cond b (Some why.OrderGap) None) (or_true (is_due before))))
+  out is = absurd (none-some why.OrderGap
+      (sym kept ∙ is ∙ ap (λ b. cond b (Some why.OrderGap) None) (or_true (is_due before))))
 
   as_split : row.kind ≡ pos 0 → Goal
   as_split kind = by (position (int_eq row.id) ids.lines) refl
@@ -133,9 +142,11 @@ module _ (ids : NamedIds) (small : length ids.edges ≤ 2 ^ 63) (row : TreeRow) 
               (multiplier_says ids row kind edge row.multiplier is (omega (arith, within, small)) none some cells refl)
 
   as_point : row.kind ≡ pos 4 → Goal
-  as_point kind = by (not (int_eq row.multiplier (pos 0))) (not (int_eq row.value (pos 0))) (not (int_eq row.id (pos 0))) refl refl refl
+  as_point kind = by (not (int_eq row.multiplier (pos 0))) (not (int_eq row.value (pos 0)))
+      (not (int_eq row.id (pos 0))) refl refl refl
     where
-      by : (a b c : Bool) → not (int_eq row.multiplier (pos 0)) ≡ a → not (int_eq row.value (pos 0)) ≡ b → not (int_eq row.id (pos 0)) ≡ c → Goal
+      by : (a b c : Bool) → not (int_eq row.multiplier (pos 0)) ≡ a
+          → not (int_eq row.value (pos 0)) ≡ b → not (int_eq row.id (pos 0)) ≡ c → Goal
       by true b c some other id = out (point_place ids row kind true b c true some other id refl before)
       by false true c some other id = out (point_place ids row kind false true c true some other id refl before)
       by false false true some other id = out (point_place ids row kind false false true true some other id refl before)
@@ -168,7 +179,9 @@ module _ (ids : NamedIds) (up : AreRising ids) (small : length ids.edges ≤ 2 ^
   abbrev input : Input TreeRow
   input = tree_input ids
 
-  keeps : (i : ℕ) → i < length table → broken_whys (tree_rules ids) (records input (take i table)) (tree_row (get_or table i no_row).cells) ≡ []
+  keeps : (i : ℕ) → i < length table
+      → broken_whys (tree_rules ids) (records input (take i table))
+      (tree_row (get_or table i no_row).cells) ≡ []
   keeps = none_breaks (λ row. row.number) (λ row. tree_row row.cells) file.Tree (tree_rules ids) [] table no_row none
 
   is_taken : (goes : Bool) → None ≡ cond goes None (Some why.OrderGap) → goes ≡ true
@@ -180,10 +193,12 @@ module _ (ids : NamedIds) (up : AreRising ids) (small : length ids.edges ≤ 2 ^
   rows_read zero i so_far sound known few =
       go so_far (subst (λ rows. IsReadSoFar ids rows so_far) (records_all input table i (omega (arith, few))) known)
   rows_read (suc left) i so_far sound known few =
-      by (nat_lt i (length table)) refl (λ more sound known. rows_read left (i + 1) more sound known (omega (arith, few)))
+      by (nat_lt i (length table)) refl
+      (λ more sound known. rows_read left (i + 1) more sound known (omega (arith, few)))
     where
       by : (more : Bool) → nat_lt i (length table) ≡ more
-          → ((more : ReadSoFar) → SoundBefore input table (i + 1) → IsReadSoFar ids (records input (take (i + 1) table)) more → Goal) → Goal
+          → ((more : ReadSoFar) → SoundBefore input table (i + 1)
+          → IsReadSoFar ids (records input (take (i + 1) table)) more → Goal) → Goal
       by false past on = go so_far (subst (λ rows. IsReadSoFar ids rows so_far)
           (records_all input table i (ltb-false i (length table) past)) known)
       by true here on =
@@ -194,7 +209,8 @@ module _ (ids : NamedIds) (up : AreRising ids) (small : length ids.edges ≤ 2 ^
           what_it_says ids small row (row_cells _ (cells i no_row inside)) before free Goal (λ said is.
           let step = taken ids before row so_far up known said is in
           let goes = is_taken (takes_row so_far said) (sym free ∙ step.0) in
-          let next = next_row ids table i so_far row inside refl sound known up said is true (sym goes) refl (with_row so_far said) refl in
+          let next = next_row ids table i so_far row inside refl sound known up said is true
+          (sym goes) refl (with_row so_far said) refl in
           on (with_row so_far said) next.sound next.known)
 
   all_rows : Goal
@@ -213,7 +229,8 @@ at_least : (ids : List ℤ) → IsStrictlySortedBy int_cmp ids → All IsId ids 
 at_least ids up each zero h = let low = (each 0 (pos 0) h).low in omega (arith, ints, low)
 at_least ids up each (suc k) h =
     let before = at_least ids up each k (omega (arith, h)) in
-    let rise : get_or ids k (pos 0) <ℤ get_or ids (suc k) (pos 0) = less _ _ (rises ids up k (suc k) (pos 0) (omega arith) h) in
+    let rise : get_or ids k (pos 0) <ℤ get_or ids (suc k) (pos 0) = less _ _
+    (rises ids up k (suc k) (pos 0) (omega arith) h) in
     omega (arith, ints, before, rise)
 
 few_ids : (ids : List ℤ) → IsStrictlySortedBy int_cmp ids → All IsId ids → length ids ≤ 1000000000
@@ -244,5 +261,6 @@ faultless_tree problem text is_problem none =
     let last = (whole_rule_sound input table is_due why.OrderGap [] sound.2).0 in
     all_rows ids up small table (table_in_columns tree_columns text (unmapped _ _ parts.0)) sound.1 _ (λ so_far known.
     let told = due_told ids (records input table) so_far.nodes so_far.bound known.behind in
-    let is = tree_read problem text table parts.0 refl ids refl sound.1 so_far known false (sym last ∙ told) refl (closed so_far.nodes so_far.bound) refl in
+    let is = tree_read problem text table parts.0 refl ids refl sound.1 so_far known false
+    (sym last ∙ told) refl (closed so_far.nodes so_far.bound) refl in
     (subst (All (NamesWhatIs problem)) is.1 is.2, subst (All CanBeWritten) is.1 is.3))

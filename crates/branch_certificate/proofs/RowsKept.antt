@@ -104,7 +104,8 @@ module _ (problem : ProblemParts) where
         arith,
         one_written,
         append_assoc,
-        rows_written rows cells.1 (before ++ row ∷ []) keep.1 (ap due_after (append_assoc before (row ∷ []) rows) ∙ ends),
+        rows_written rows cells.1 (before ++ row ∷ []) keep.1
+            (ap due_after (append_assoc before (row ∷ []) rows) ∙ ends),
       )
 
   -- ---- texts

@@ -55,7 +55,8 @@ unfolding tree_text
 text_back problem sound nodes named can text is =
     subst (ReadsBackAs problem nodes) (sym is)
     (nodes_back problem sound nodes named can (tree_text problem nodes)
-    (written_back tree_header tree_columns (flat_map (node_rows problem) nodes) (omega arith) (columns_written tree_columns refl)
+    (written_back tree_header tree_columns (flat_map (node_rows problem) nodes) (omega arith)
+    (columns_written tree_columns refl)
     (rows_inside problem sound nodes named can) (refl, plain_header tree_header refl)))
 
 -- the splits of nodes that can be written are not too great

@@ -1,5 +1,7 @@
 -- The faults for which nodes do not certify a cost, in the order in which they are looked for.
-use Rattle.std.specs.Prelude.{ℕ, ℤ, pos, ◌-◌, ◌&&◌, ◌||◌, ◌==◌, not, nat_lt, nat_le, int_le, if◌then◌else◌, Bool, false, List, [], ◌∷◌, ◌++◌, length, slice_get, Some, None, option_map, unwrap_or}
+use Rattle.std.specs.Prelude.{ℕ, ℤ, pos, ◌-◌, ◌&&◌, ◌||◌, ◌==◌, not, nat_lt, nat_le, int_le}
+use Rattle.std.specs.Prelude.{if◌then◌else◌, Bool, false, List, [], ◌∷◌, ◌++◌, length, slice_get}
+use Rattle.std.specs.Prelude.{Some, None, option_map, unwrap_or}
 use Rattle.std.specs.List.{list_any, enumerate_from, flat_map}
 use Rattle.line_cost_model.specs.declared.range.LineRange.{LineRange}
 use Rattle.line_cost_model.specs.Problems.{ProblemParts}

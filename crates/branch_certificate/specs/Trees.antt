@@ -1,5 +1,6 @@
 -- Trees of nodes: each is a leaf, or a split with a tree on either side.
-use Rattle.std.specs.Prelude.{ℕ, zero, suc, ◌+◌, List, [], ◌∷◌, ◌++◌, Option, Some, None, option_map, option_and_then, Bool, true, false}
+use Rattle.std.specs.Prelude.{ℕ, zero, suc, ◌+◌, List, [], ◌∷◌, ◌++◌, Option, Some, None}
+use Rattle.std.specs.Prelude.{option_map, option_and_then, Bool, true, false}
 use Rattle.line_cost_model.specs.declared.range.LineRange.{LineRange}
 use Rattle.line_cost_model.specs.Regions.{part_up_to, part_from}
 use Rattle.branch_certificate.specs.declared.node.Node.{Node}

@@ -1,6 +1,7 @@
 -- Inner words: the nodes of a tree one by one, each with its region, and the first place of each
 -- kind of fault so far. A reader of the contracts of this crate needs none of them.
-use Rattle.std.specs.Prelude.{ℕ, ℤ, ◌+◌, ◌≤◌, ◌<◌, if◌then◌else◌, Bool, List, [], ◌∷◌, length, ⊤, Option, Some, None, option_map}
+use Rattle.std.specs.Prelude.{ℕ, ℤ, ◌+◌, ◌≤◌, ◌<◌, if◌then◌else◌, Bool, List, [], ◌∷◌, length, ⊤}
+use Rattle.std.specs.Prelude.{Option, Some, None, option_map}
 use Rattle.std.specs.Option.{option_or}
 use Rattle.line_cost_model.specs.declared.range.LineRange.{LineRange}
 use Rattle.line_cost_model.specs.Problems.{ProblemParts}

@@ -25,7 +25,7 @@ pub(crate) fn node_fault(
         (placed_faults problem.now best (walked (root_of problem.now ∷ []) tree.now)) 0) }
     ensures each { IfOk result (λ _. HasEachFeasible problem.now (root_of problem.now)) }
 {
-    let mut walk = RegionWalk::new(alloc, problem)?;
+    let mut walk = RegionWalk::without_sums(alloc, problem)?;
     let mut firsts = FirstFaults::new();
     let mut left = Vec::new(alloc);
     for place in 0..tree.len() {

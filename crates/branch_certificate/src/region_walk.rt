@@ -72,6 +72,25 @@ impl<'a> RegionWalk<'a> {
         })
     }
 
+    /// The same, where few edges of its regions are asked for: they keep no sums of edges.
+    pub(crate) fn without_sums(
+        alloc: Global,
+        problem: &'a LineProblem,
+    ) -> Result<RegionWalk<'a>, NoMemory>
+        ensures root { IfOk result (λ walk. walk ≡ record {
+          problem = problem.now;
+          region = root_of problem.now;
+          waiting = [];
+        }) }
+        ensures each { IfOk result (λ _. HasEachFeasible problem.now (root_of problem.now)) }
+    {
+        let region = SummedRegion::root_without_sums(alloc, problem)?;
+        Ok(RegionWalk {
+            region,
+            splits: Vec::new(alloc),
+        })
+    }
+
     /// The region of the node.
     pub fn region(&self) -> &SummedRegion<'a>
         ensures problem { result.now.problem ≡ self.now.problem }

@@ -67,12 +67,34 @@ within_from first most (line ∷ lines) edge h =
 
 pub over_within : (lines : List CostedLine) (edge : ℕ) → All (λ line. line < length lines) (lines_over lines edge)
 unfolding lines_over
-over_within lines edge = all_from_each (λ line. line < length lines) (over_from 0 lines edge) (within_from 0 (length lines) lines edge (omega arith))
+over_within lines edge = all_from_each (λ line. line < length lines) (over_from 0 lines edge)
+    (within_from 0 (length lines) lines edge (omega arith))
   where
     all_from_each : (P : ℕ → Type 0) (xs : List ℕ) → AllByRecursion P xs → All P xs
     all_from_each P [] all k d h = absurd (omega (arith, h))
     all_from_each P (x ∷ xs) all zero d h = all.0
     all_from_each P (x ∷ xs) all (suc k) d h = all_from_each P xs all.1 k d (omega (arith, h))
+
+-- an edge has no more lines over it than there are
+few_gated : (goes : Bool) (index : ℕ) (line : CostedLine) (rest : List (ℕ × CostedLine))
+    → length (map (λ at. at.0) (cond goes ((index, line) ∷ rest) rest)) ≤ length (map (λ at. at.0) rest) + 1
+few_gated true index line rest = omega arith
+few_gated false index line rest = omega arith
+
+few_from : (first : ℕ) (lines : List CostedLine) (edge : ℕ)
+    → length (over_from first lines edge) ≤ length lines
+few_from first [] edge = omega arith
+few_from first (line ∷ lines) edge =
+    omega (
+      arith,
+      few_gated (goes_over edge line) first line
+          (filter (λ at. goes_over edge at.1) (enumerate_from (first + 1) lines)),
+      few_from (first + 1) lines edge,
+    )
+
+pub few_over : (lines : List CostedLine) (edge : ℕ) → length (lines_over lines edge) ≤ length lines
+unfolding lines_over
+few_over lines edge = few_from 0 lines edge
 
 -- the sum of the ends of ranges over the lines of an edge is how often these ends drive it
 pub end_sum : (end : LineRange → ℕ) (ranges region : List LineRange)

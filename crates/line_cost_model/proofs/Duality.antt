@@ -11,7 +11,8 @@ use Rattle.line_cost_model.specs.declared.range.LineRange.{LineRange}
 use Rattle.line_cost_model.specs.Problems.{CostedLine, ProblemParts}
 use Rattle.line_cost_model.specs.Concepts.{IsFeasible, goes_over, frequency_on}
 use Rattle.line_cost_model.specs.DualBounds.{taken_off, open_lines, are_within, bound_by, shortfall_at, CostsAtLeastIn}
-use Rattle.line_cost_model.specs.Regions.{IsWithin, LiesIn, HasNoFeasible, IsEmptyAt, least_in, greatest_in, has_several, part_up_to, part_from}
+use Rattle.line_cost_model.specs.Regions.{IsWithin, LiesIn, HasNoFeasible, IsEmptyAt, least_in}
+use Rattle.line_cost_model.specs.Regions.{greatest_in, has_several, part_up_to, part_from}
 use Rattle.line_cost_model.specs.declared.edge.BoundedEdge.{BoundedEdge}
 use Rattle.line_cost_model.specs.declared.side.Side.{Side}
 use Rattle.line_cost_model.specs.declared.side.Side.TheVariants as side

@@ -1,24 +1,23 @@
 -- How many edges show that a region has no feasible concept, and on which drives are missing.
 use Rattle.std.proofs.Common.{◌≡◌, ◌≢◌, ◌∙◌, ℕ, zero, suc, ◌+◌, ◌≤◌, ◌<◌, Bool, true, false, nat_lt}
 use Rattle.std.proofs.Common.{if◌then◌else◌, List, [], ◌∷◌, ◌++◌, length, get_or, slice_get, slice_set}
-use Rattle.std.proofs.Common.{Option, Some, None, option_map, unwrap_or, filter_map, replicate, sum_by}
+use Rattle.std.proofs.Common.{Option, Some, None, option_map, filter_map, replicate, sum_by}
 use Rattle.std.proofs.Common.{refl, ap, sym, subst, arith, inl, inr, get_or-set_other, get_or-set_same}
 use Rattle.std.specs.List.{range_with_len}
-use Rattle.std.proofs.lemmas.Bool.{cases_eq, cases_lt, le-ltb, ltb-false}
+use Rattle.std.proofs.lemmas.Bool.{cases_eq, le-ltb}
 use Rattle.std.proofs.lemmas.List.{get_or-replicate, length-replicate, length-set}
 use Rattle.std.proofs.lemmas.List.FromFn.{length-range_with_len}
 use Rattle.std.proofs.lemmas.List.Sums.{sum_by-cons, sum_by-le}
-use Rattle.std.proofs.lemmas.Option.{get_or_from_slice_get, slice_get-get_or, slice_get_past}
-use Rattle.bit_rows.specs.Markings.{IsNext}
+use Rattle.std.proofs.lemmas.Option.{get_or_from_slice_get, slice_get-get_or}
 use Rattle.line_cost_model.specs.declared.edge.BoundedEdge.{BoundedEdge}
+use Rattle.line_cost_model.specs.declared.edge_sums.EdgeSums.{EdgeSums}
 use Rattle.line_cost_model.specs.declared.range.LineRange.{LineRange}
 use Rattle.line_cost_model.specs.declared.side.Side.{Side}
 use Rattle.line_cost_model.specs.declared.side.Side.TheVariants as side
 use Rattle.line_cost_model.specs.Problems.{ProblemParts}
-use Rattle.line_cost_model.specs.DualBounds.{shortfall, shortfall_at}
-use Rattle.line_cost_model.specs.Passes.{IsNextShort}
-use Rattle.line_cost_model.specs.Regions.{empty_edge, empty_side, least_in}
-use Rattle.line_cost_model.specs.RunningSums.{AreDriven, IsOfGreatest, IsOfLeast, IsSummed, at_edge, no_bounds, over, over_edges, under}
+use Rattle.line_cost_model.specs.Regions.{empty_edge, empty_side}
+use Rattle.line_cost_model.specs.RunningSums.{AreSums, IsOfGreatest, IsOfLeast, at_edge, no_bounds}
+use Rattle.line_cost_model.specs.RunningSums.{over, over_edges, under}
 use Rattle.line_cost_model.proofs.EmptyEdges.{first_from, first_is, first_more}
 use Rattle.line_cost_model.proofs.Feasible.{left_none}
 
@@ -171,7 +170,8 @@ zero_sums edges sums short few zero_is marks told = subst (λ sums. IsOfLeast ed
   marks = marks;
   short_is = λ edge within.
       told edge within
-      ∙ ap (λ sum. nat_lt sum (get_or edges edge no_bounds).least) (sym (get_or-replicate (length edges) edge 0 0 within));
+      ∙ ap (λ sum. nat_lt sum (get_or edges edge no_bounds).least)
+      (sym (get_or-replicate (length edges) edge 0 0 within));
   over_is = sym (none_over edges (length edges));
 })
 
@@ -181,39 +181,6 @@ pub told_here : (told : BoundedEdge → ℕ → ℕ) (edges : List BoundedEdge) 
     → result ≡ told bounds before → result ≡ at_edge told edges sums edge
 told_here told edges sums edge result before bounds is before_is result_is =
     result_is ∙ (λ i. told (sym (get_or_from_slice_get edges edge bounds no_bounds is) i) (before_is i))
-
--- ---- edges on which drives are missing
-
-not_short : (problem : ProblemParts) (ranges : List LineRange) (sums : List ℕ) (short : List Bool)
-    (over_count : ℕ) → AreDriven problem (least_in ranges) sums
-    → IsOfLeast problem.edges sums short over_count
-    → (edge : ℕ) → get_or short edge false ≡ false → shortfall_at problem ranges edge ≡ 0
-not_short problem ranges sums short over_count driven least edge unmarked =
-    elim (cases_lt edge (length problem.edges)) [
-      | inl within ↦
-          let bounds = get_or problem.edges edge no_bounds in
-          let enough : bounds.least ≤ get_or sums edge 0 =
-          ltb-false (get_or sums edge 0) bounds.least (sym (least.short_is edge within) ∙ unmarked) in
-          ap (λ at. unwrap_or (option_map (shortfall problem.lines ranges edge) at) 0)
-          (slice_get-get_or problem.edges edge no_bounds within)
-          ∙ omega (arith, enough, driven.told edge within)
-      | inr past ↦
-          ap (λ at. unwrap_or (option_map (shortfall problem.lines ranges edge) at) 0)
-          (slice_get_past problem.edges edge past)
-    ]
-
-pub short_next : (problem : ProblemParts) (ranges : List LineRange) (sums : List ℕ) (short : List Bool)
-    (over_count : ℕ) → AreDriven problem (least_in ranges) sums
-    → IsOfLeast problem.edges sums short over_count
-    → (from : ℕ) (result : Option ℕ) → IsNext short from result → IsNextShort problem ranges from result
-short_next problem ranges sums short over_count driven least from None next =
-    λ edge behind. not_short problem ranges sums short over_count driven least edge (next edge behind)
-short_next problem ranges sums short over_count driven least from (Some at) next = (
-  next.0,
-  omega (arith, next.1, least.marks),
-  λ edge behind before.
-      not_short problem ranges sums short over_count driven least edge (next.3 edge behind before),
-)
 
 -- ---- no edge is missed
 
@@ -249,18 +216,19 @@ none_from problem ranges (suc n) edge none all =
     ∙ ap Some (none edge within))
     ∙ none_from problem ranges n (edge + 1) none (omega (arith, all))
 
-pub none_empty : (problem : ProblemParts) (ranges : List LineRange) (least greatest : List ℕ)
-    (short : List Bool) (over_count under_count cost : ℕ)
-    → IsSummed problem ranges least greatest short over_count under_count cost → over_count ≡ 0
-    → under_count ≡ 0 → empty_edge problem ranges ≡ None
-none_empty problem ranges least greatest short over_count under_count cost summed no_over no_under =
+pub none_empty : (problem : ProblemParts) (ranges : List LineRange) (sums : EdgeSums)
+    → AreSums problem ranges sums → sums.least.over ≡ 0 → sums.greatest.under ≡ 0
+    → empty_edge problem ranges ≡ None
+none_empty problem ranges sums are no_over no_under =
+    let least = sums.least.sums.items in
+    let greatest = sums.greatest.sums.items in
     first_is problem ranges ∙ none_from problem ranges (length problem.edges) 0 (λ e within.
     let bounds = get_or problem.edges e no_bounds in
     let over_here = zero_each (at_edge over problem.edges least) 0 (length problem.edges)
-    (sym summed.of_least.over_is ∙ no_over) e (omega arith) (omega (arith, within)) in
+    (sym are.of_least.over_is ∙ no_over) e (omega arith) (omega (arith, within)) in
     let under_here = zero_each (at_edge under problem.edges greatest) 0 (length problem.edges)
-    (sym summed.of_greatest.under_is ∙ no_under) e (omega arith) (omega (arith, within)) in
-    (λ i. side_by (nat_lt bounds.most (sym (summed.least_are.told e within) i))
-    (nat_lt (sym (summed.greatest_are.told e within) i) bounds.least))
+    (sym are.of_greatest.under_is ∙ no_under) e (omega arith) (omega (arith, within)) in
+    (λ i. side_by (nat_lt bounds.most (sym (are.least_are.told e within) i))
+    (nat_lt (sym (are.greatest_are.told e within) i) bounds.least))
     ∙ no_side (nat_lt bounds.most (get_or least e 0)) (nat_lt (get_or greatest e 0) bounds.least) over_here under_here)
     (omega arith)

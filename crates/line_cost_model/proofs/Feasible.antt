@@ -26,7 +26,9 @@ left_none edges edge past = ap (enumerate_from edge) (drop_all edge edges past)
 pub feasible_first : (problem : ProblemParts) (f : List ℕ) → length f ≡ length problem.lines
     → is_feasible problem f ≡ list_all (keeps_bounds problem.lines f) (enumerate_from 0 problem.edges)
 unfolding is_feasible
-feasible_first problem f same = ap (λ b. b && list_all (keeps_bounds problem.lines f) (enumerate_from 0 problem.edges)) (eq-eqb (length f) (length problem.lines) same)
+feasible_first problem f same = ap
+    (λ b. b && list_all (keeps_bounds problem.lines f) (enumerate_from 0 problem.edges))
+    (eq-eqb (length f) (length problem.lines) same)
 
 -- edges keep their bounds from an index on
 abbrev KeepFrom : ProblemParts → List ℕ → ℕ → List BoundedEdge → Type 0
@@ -39,15 +41,21 @@ kept problem f edge at h = grind arith
 
 shown : (problem : ProblemParts) (f : List ℕ) (edge : ℕ) (at : BoundedEdge)
     → KeepsBounds problem.lines f edge at → keeps_bounds problem.lines f (edge, at) ≡ true
-shown problem f edge at keeps = rw (le-leb at.least (frequency_on problem.lines f edge) keeps.enough, le-leb (frequency_on problem.lines f edge) at.most keeps.few) refl
+shown problem f edge at keeps = rw (
+  le-leb at.least (frequency_on problem.lines f edge) keeps.enough,
+  le-leb
+      (frequency_on problem.lines f edge) at.most keeps.few,
+) refl
 
 tested_from : (problem : ProblemParts) (f : List ℕ) (first : ℕ) (edges : List BoundedEdge)
     → list_all (keeps_bounds problem.lines f) (enumerate_from first edges) ≡ true → KeepFrom problem f first edges
 tested_from problem f first [] h edge at there = absurd (none-some at there)
 tested_from problem f first (one ∷ edges) h zero at there = grind arith
 tested_from problem f first (one ∷ edges) h (suc edge) at there =
-    let both = and_parts (keeps_bounds problem.lines f (first, one)) (list_all (keeps_bounds problem.lines f) (enumerate_from (first + 1) edges)) h in
-    subst (λ n. KeepsBounds problem.lines f n at) (omega arith) (tested_from problem f (first + 1) edges both.1 edge at there)
+    let both = and_parts (keeps_bounds problem.lines f (first, one))
+    (list_all (keeps_bounds problem.lines f) (enumerate_from (first + 1) edges)) h in
+    subst (λ n. KeepsBounds problem.lines f n at) (omega arith)
+    (tested_from problem f (first + 1) edges both.1 edge at there)
 
 test_from : (problem : ProblemParts) (f : List ℕ) (first : ℕ) (edges : List BoundedEdge)
     → KeepFrom problem f first edges → list_all (keeps_bounds problem.lines f) (enumerate_from first edges) ≡ true
@@ -63,13 +71,18 @@ pub test_means : (problem : ProblemParts) (f : List ℕ) (answer : Bool) → ans
 unfolding is_feasible
 test_means problem f answer is = (
   λ yes.
-      let both = and_parts (length f == length problem.lines) (list_all (keeps_bounds problem.lines f) (enumerate_from 0 problem.edges)) (sym is ∙ yes) in
+      let both = and_parts (length f == length problem.lines)
+      (list_all (keeps_bounds problem.lines f) (enumerate_from 0 problem.edges))
+      (sym is ∙ yes) in
       record {
         each = eqb-true (length f) (length problem.lines) both.0;
-        bounds = λ edge at there. subst (λ n. KeepsBounds problem.lines f n at) (omega arith) (tested_from problem f 0 problem.edges both.1 edge at there);
+        bounds = λ edge at there. subst (λ n. KeepsBounds problem.lines f n at) (omega arith)
+            (tested_from problem f 0 problem.edges both.1 edge at there);
       },
   λ feasible.
-      let all = test_from problem f 0 problem.edges (λ edge at there. subst (λ n. KeepsBounds problem.lines f n at) (omega arith) (feasible.bounds edge at there)) in
+      let all = test_from problem f 0 problem.edges
+      (λ edge at there. subst (λ n. KeepsBounds problem.lines f n at) (omega arith)
+      (feasible.bounds edge at there)) in
       is ∙ rw (eq-eqb (length f) (length problem.lines) feasible.each, all) refl,
 )
 

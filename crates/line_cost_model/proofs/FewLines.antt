@@ -43,7 +43,11 @@ unfolding IsStrictlySortedBy
 few_between low high [] h rise all = omega (arith, h)
 few_between low high (id ∷ ids) h rise all =
     let room : low ≤ high = omega (arith, ints, all.0.0, all.0.1) in
-    omega (arith, few_between (low + 1) high ids (omega (arith, room)) rise.1 (behind low high id ids all.0 rise.0 all.1))
+    omega (
+      arith,
+      few_between (low + 1) high ids (omega (arith, room)) rise.1
+          (behind low high id ids all.0 rise.0 all.1),
+    )
 
 ids_between : (edges : ℕ) (lines : List CostedLine) → All (IsCostedLine edges) lines
     → AllByRecursion (LiesBetween 1 1000000000) (map (λ line. line.id) lines)
@@ -101,7 +105,11 @@ pub adds_little : (problem : ProblemParts) (line cost times : ℕ) → IsProblem
     → option_map (λ at. at.cost) (slice_get problem.lines line) ≡ Some cost → times < 4294967296
     → cost * times ≤ 4294967296000000000000000000
 adds_little problem line cost times sound is few =
-    omega (arith, mul-le cost times 1000000000000000000 4294967295 (cheap_line problem line cost sound is) (omega (arith, few)))
+    omega (
+      arith,
+      mul-le cost times 1000000000000000000 4294967295
+          (cheap_line problem line cost sound is) (omega (arith, few)),
+    )
 
 -- the cost of some first lines
 abbrev cost_up_to : ProblemParts → List ℕ → ℕ → ℕ
@@ -124,4 +132,6 @@ cost_more problem fs line cost times same is times_is =
 pub cost_whole : (problem : ProblemParts) (fs : List ℕ) (count line : ℕ) → length fs ≡ length problem.lines
     → count ≡ length problem.lines → count ≤ line → cost_up_to problem fs line ≡ cost_of problem fs
 cost_whole problem fs count line same all past =
-    ap (sum_by (λ at. at.0.cost * at.1)) (take_all line (zip problem.lines fs) (omega (arith, same, all, past, length-zip problem.lines fs)))
+    ap (sum_by (λ at. at.0.cost * at.1))
+    (take_all line (zip problem.lines fs)
+    (omega (arith, same, all, past, length-zip problem.lines fs)))

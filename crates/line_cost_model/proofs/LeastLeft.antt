@@ -42,7 +42,8 @@ picked_more false false number index left line range rest edge cost others is co
 
 at_behind : (number : ℕ → Option ℕ) (first : ℕ) (range : LineRange) (region : List LineRange) (one : ℕ) (left : List ℕ)
     → AreAt number first (range ∷ region) (one ∷ left) → AreAt number (first + 1) region left
-at_behind number first range region one left are i within = ap number (omega arith) ∙ are (suc i) (omega (arith, within))
+at_behind number first range region one left are i within = ap number (omega arith)
+    ∙ are (suc i) (omega (arith, within))
 
 picked_from : (number : ℕ → Option ℕ) (first : ℕ) (lines : List CostedLine) (region : List LineRange) (edge : ℕ)
     (cost : CostedLine → ℕ) → length region ≡ length lines → AreAt number first region (map cost lines)
@@ -68,7 +69,8 @@ picked_whole problem region ranges multipliers left over edge ranges_are left_is
     grind (arith, filter_map, over_from, picked_from)
 
 -- the least over all lines of the edge
-pub least_whole : (problem : ProblemParts) (region ranges : List LineRange) (multipliers : List Multiplier) (left over : List ℕ)
+pub least_whole : (problem : ProblemParts) (region ranges : List LineRange)
+    (multipliers : List Multiplier) (left over : List ℕ)
     (edge index : ℕ) (least : Option ℕ) → ranges ≡ region → left ≡ map (left_of multipliers) problem.lines
     → over ≡ lines_over problem.lines edge → length over ≤ index → length region ≡ length problem.lines
     → least ≡ reduce min (filter_map (left_at ranges left) (take index over))
@@ -78,19 +80,23 @@ least_whole problem region ranges multipliers left over edge index least ranges_
 
 -- one line more
 least_taken : (some : List ℕ) (range : LineRange) (left : ℕ) → reduce min (some ++ cons_option (if_open range left) [])
-    ≡ (if has_several range then Some (option_map_or (λ least. min least left) (reduce min some) left) else reduce min some)
+    ≡ (if has_several range then Some
+    (option_map_or (λ least. min least left) (reduce min some) left) else reduce min some)
 least_taken some range left = grind (arith, reduce_push, append-nil)
 
-pub least_more : (ranges : List LineRange) (left over : List ℕ) (index line own : ℕ) (least after : Option ℕ) → index < length over
+pub least_more : (ranges : List LineRange) (left over : List ℕ) (index line own : ℕ)
+    (least after : Option ℕ) → index < length over
     → line ≡ get_or over index 0 → own ≡ get_or left line 0
     → least ≡ reduce min (filter_map (left_at ranges left) (take index over))
-    → after ≡ (if has_several (range_of ranges line) then Some (option_map_or (λ least. min least own) least own) else least)
+    → after ≡ (if has_several (range_of ranges line) then Some
+    (option_map_or (λ least. min least own) least own) else least)
     → after ≡ reduce min (filter_map (left_at ranges left) (take (index + 1) over))
 least_more ranges left over index line own least after within line_is own_is so_far is =
     let number = left_at ranges left in
     let some = filter_map number (take index over) in
     is
-    ∙ ap (λ (least : Option ℕ). if has_several (range_of ranges line) then Some (option_map_or (λ least. min least own) least own) else least) so_far
+    ∙ ap (λ (least : Option ℕ). if has_several (range_of ranges line) then Some
+    (option_map_or (λ least. min least own) least own) else least) so_far
     ∙ sym (least_taken some (range_of ranges line) own)
     ∙ ap (λ own. reduce min (some ++ cons_option (if_open (range_of ranges line) own) [])) own_is
     ∙ ap (λ line. reduce min (some ++ cons_option (number line) [])) line_is

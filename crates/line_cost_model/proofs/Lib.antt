@@ -8,12 +8,15 @@ pub mod Lowered
 pub mod Mapped
 pub mod Minima
 pub mod EdgeCounts
+pub mod EdgesMoved
 pub mod PassSteps
 pub mod Paying
 pub mod Proving
 pub mod Pushed
 pub mod Rising
+pub mod RootSums
 pub mod Roots
 pub mod RunningSums
+pub mod WholeProblems
 pub mod Within
 mod Tried

@@ -1,5 +1,5 @@
 -- An amount is taken off what is left of the costs of the lines over an edge, line by line.
-use Rattle.std.proofs.Common.{◌≡◌, ℕ, zero, suc, ◌+◌, ◌-◌, ◌<◌, ◌≤◌, Bool, true, false, ◌||◌, cond}
+use Rattle.std.proofs.Common.{◌≡◌, ℕ, zero, suc, ◌+◌, ◌-◌, ◌<◌, Bool, true, false, ◌||◌, cond}
 use Rattle.std.proofs.Common.{nat_eq, List, [], ◌∷◌, ◌++◌, length, get_or, set, map, filter, take}
 use Rattle.std.proofs.Common.{refl, ap, subst, sym, ◌∙◌, arith, inl, inr, get_or-set_other}
 use Rattle.std.proofs.Common.{get_or-set_same}
@@ -7,7 +7,7 @@ use Rattle.std.specs.List.{AllByRecursion, IsDistinct, enumerate_from, list_any}
 use Rattle.std.proofs.lemmas.Bool.{ne_eqb, eq-eqb, cases_eq}
 use Rattle.std.proofs.lemmas.Cmp.{nat_eq_equiv}
 use Rattle.std.proofs.lemmas.Grind.{get_or_default_zero, same_number_lists}
-use Rattle.std.proofs.lemmas.List.{get_or-take, length-take-le, length-map, get_or-map, take_all}
+use Rattle.std.proofs.lemmas.List.{get_or-take, length-take-le, length-map, get_or-map}
 use Rattle.std.proofs.lemmas.List.Elements.{All-from_get_or}
 use Rattle.std.proofs.lemmas.List.Folds.{list_any_none, list_any_more}
 use Rattle.std.proofs.lemmas.List.Sums.{sum_by-append}
@@ -40,7 +40,8 @@ unfolding IsDistinct
 none_apart = tt
 
 distinct_gated : (goes : Bool) (first : ℕ) (line : CostedLine) (rest : List (ℕ × CostedLine))
-    → AllByRecursion (λ line. nat_eq first line ≡ false) (map (λ at. at.0) rest) → IsDistinct nat_eq (map (λ at. at.0) rest)
+    → AllByRecursion (λ line. nat_eq first line ≡ false) (map (λ at. at.0) rest)
+    → IsDistinct nat_eq (map (λ at. at.0) rest)
     → IsDistinct nat_eq (map (λ at. at.0) (cond goes ((first, line) ∷ rest) rest))
 distinct_gated true first line rest behind apart = IsDistinct-cons nat_eq first (map (λ at. at.0) rest) behind apart
 distinct_gated false first line rest behind apart = apart
@@ -48,7 +49,8 @@ distinct_gated false first line rest behind apart = apart
 distinct_from : (first : ℕ) (lines : List CostedLine) (edge : ℕ) → IsDistinct nat_eq (over_from first lines edge)
 distinct_from first [] edge = none_apart
 distinct_from first (line ∷ lines) edge =
-    distinct_gated (goes_over edge line) first line (filter (λ at. goes_over edge at.1) (enumerate_from (first + 1) lines))
+    distinct_gated (goes_over edge line) first line
+    (filter (λ at. goes_over edge at.1) (enumerate_from (first + 1) lines))
     (later first (first + 1) lines edge (omega arith)) (distinct_from (first + 1) lines edge)
 
 pub over_distinct : (lines : List CostedLine) (edge : ℕ) → IsDistinct nat_eq (lines_over lines edge)
@@ -68,7 +70,8 @@ any_first true first line rest behind = rw (eq-eqb first first refl) refl
 any_first false first line rest behind = none_of (nat_eq first) (map (λ at. at.0) rest) behind
 
 any_behind : (goes : Bool) (first other : ℕ) (line : CostedLine) (rest : List (ℕ × CostedLine)) → first < other
-    → list_any (nat_eq other) (map (λ at. at.0) (cond goes ((first, line) ∷ rest) rest)) ≡ list_any (nat_eq other) (map (λ at. at.0) rest)
+    → list_any (nat_eq other) (map (λ at. at.0) (cond goes ((first, line) ∷ rest) rest))
+    ≡ list_any (nat_eq other) (map (λ at. at.0) rest)
 any_behind true first other line rest h = rw (ne_eqb other first (λ same. omega (arith, h, same))) refl
 any_behind false first other line rest h = refl
 
@@ -91,7 +94,8 @@ any_from first (one ∷ lines) edge (suc line) d h =
 pub is_over : (lines : List CostedLine) (edge line : ℕ) (d : CostedLine) → line < length lines
     → list_any (nat_eq line) (lines_over lines edge) ≡ goes_over edge (get_or lines line d)
 unfolding lines_over
-is_over lines edge line d h = ap (λ n. list_any (nat_eq n) (over_from 0 lines edge)) (omega arith) ∙ any_from 0 lines edge line d h
+is_over lines edge line d h = ap (λ n. list_any (nat_eq n) (over_from 0 lines edge)) (omega arith)
+    ∙ any_from 0 lines edge line d h
 
 -- ---- one line more
 
@@ -110,36 +114,44 @@ module _ (over : List ℕ) (k : ℕ) (apart : IsDistinct nat_eq over) (h : k < l
       let size : length (take k over) ≡ k = length-take-le k over (omega arith) in
       list_any_none (nat_eq (get_or over k 0)) (take k over)
       (All-from_get_or (λ other. nat_eq (get_or over k 0) other ≡ false) (take k over) 0 (λ i lt.
-      ap (nat_eq (get_or over k 0)) (get_or-take k over i 0 (omega arith)) ∙ nat_eq_equiv.symm (get_or over k 0) (get_or over i 0) ∙ apart_from_distinct nat_eq over i k 0 apart (omega arith) h))
+      ap (nat_eq (get_or over k 0)) (get_or-take k over i 0 (omega arith))
+      ∙ nat_eq_equiv.symm (get_or over k 0) (get_or over i 0)
+      ∙ apart_from_distinct nat_eq over i k 0 apart (omega arith) h))
 
-  module _ (left old : List ℕ) (amount value : ℕ) (size : length left ≡ length old) (there : get_or over k 0 < length old) (so_far : (at : ℕ) → at < length old → get_or left at 0 ≡ get_or old at 0 - cond (list_any (nat_eq at) (take k over)) amount 0) (read : value ≡ get_or left (get_or over k 0) value) where
+  module _ (left old : List ℕ) (amount value : ℕ) (size : length left ≡ length old)
+      (there : get_or over k 0 < length old)
+      (so_far : (at : ℕ) → at < length old
+      → get_or left at 0 ≡ get_or old at 0 - cond (list_any (nat_eq at) (take k over)) amount 0)
+      (read : value ≡ get_or left (get_or over k 0) value) where
     -- what was left of its cost before
     value_is : value ≡ get_or old (get_or over k 0) 0
     value_is = grind (arith, get_or, get_or_default_zero, is_new)
 
-    pub line_lowered : (at : ℕ) → at < length old → get_or (set left (get_or over k 0) (value - amount)) at 0 ≡ get_or old at 0 - cond (list_any (nat_eq at) (take (k + 1) over)) amount 0
+    pub line_lowered : (at : ℕ) → at < length old
+        → get_or (set left (get_or over k 0) (value - amount)) at 0 ≡ get_or old at 0 - cond
+        (list_any (nat_eq at) (take (k + 1) over)) amount 0
     line_lowered at within =
         let line = get_or over k 0 in
         let here : line < length left = omega arith in
-        let more : list_any (nat_eq at) (take (k + 1) over) ≡ (list_any (nat_eq at) (take k over) || nat_eq at line) = list_any_more (nat_eq at) over k 0 h in
+        let more : list_any (nat_eq at) (take (k + 1) over)
+        ≡ (list_any (nat_eq at) (take k over) || nat_eq at line) = list_any_more (nat_eq at)
+        over k 0 h in
         elim (cases_eq at line) [
           | inl same ↦
-              let now : list_any (nat_eq at) (take (k + 1) over) ≡ true = more ∙ ap (λ b. list_any (nat_eq at) (take k over) || b) (eq-eqb at line same) ∙ or_true (list_any (nat_eq at) (take k over)) in
+              let now : list_any (nat_eq at) (take (k + 1) over) ≡ true = more
+              ∙ ap (λ b. list_any (nat_eq at) (take k over) || b) (eq-eqb at line same)
+              ∙ or_true (list_any (nat_eq at) (take k over)) in
               subst (λ stop. get_or (set left line (value - amount)) stop 0 ≡ get_or old stop 0 - amount) (sym same)
               (get_or-set_same left line (value - amount) 0 here ∙ ap (λ n. n - amount) value_is)
               ∙ sym (ap (λ b. get_or old at 0 - cond b amount 0) now)
           | inr other ↦
-              let now : list_any (nat_eq at) (take (k + 1) over) ≡ list_any (nat_eq at) (take k over) = more ∙ ap (λ b. list_any (nat_eq at) (take k over) || b) (ne_eqb at line other) ∙ or_false (list_any (nat_eq at) (take k over)) in
-              get_or-set_other left line at (value - amount) 0 other ∙ so_far at within ∙ sym (ap (λ b. get_or old at 0 - cond b amount 0) now)
+              let now : list_any (nat_eq at) (take (k + 1) over) ≡ list_any (nat_eq at)
+              (take k over) = more
+              ∙ ap (λ b. list_any (nat_eq at) (take k over) || b) (ne_eqb at line other)
+              ∙ or_false (list_any (nat_eq at) (take k over)) in
+              get_or-set_other left line at (value - amount) 0 other ∙ so_far at within
+              ∙ sym (ap (λ b. get_or old at 0 - cond b amount 0) now)
         ]
-
--- all lines of the edge
-pub all_lowered : (lines : List CostedLine) (edge amount index : ℕ) (over before after : List ℕ) → over ≡ lines_over lines edge
-    → length over ≤ index
-    → ((at : ℕ) → at < length before → get_or after at 0 ≡ get_or before at 0 - cond (list_any (nat_eq at) (take index over)) amount 0)
-    → AreLowered lines edge amount before after
-all_lowered lines edge amount index over before after is past so_far at within =
-    so_far at within ∙ ap (λ some. get_or before at 0 - cond (list_any (nat_eq at) some) amount 0) (take_all index over past ∙ is)
 
 -- ---- what is left, with one multiplier more
 
@@ -149,7 +161,8 @@ off_more : (multipliers : List Multiplier) (edge amount : ℕ) (line : CostedLin
 off_more multipliers edge amount line = grind (arith, sum_by-append)
 
 pub left_more : (lines : List CostedLine) (multipliers : List Multiplier) (edge amount : ℕ) (before after : List ℕ)
-    → before ≡ map (left_of multipliers) lines → length after ≡ length before → AreLowered lines edge amount before after
+    → before ≡ map (left_of multipliers) lines → length after ≡ length before
+    → AreLowered lines edge amount before after
     → after ≡ map (left_of (multipliers ++ record { edge = edge; amount = amount } ∷ [])) lines
 left_more lines multipliers edge amount before after is size lowered =
     let more = multipliers ++ record { edge = edge; amount = amount } ∷ [] in

@@ -1,26 +1,31 @@
 -- The least of some numbers, with one more at the end.
-use Rattle.std.proofs.Common.{◌≡◌, ℕ, ◌+◌, ◌<◌, ◌≤◌, min, List, [], ◌∷◌, ◌++◌, length, get_or, take, filter_map, slice_get, refl, ap, sym, ◌∙◌, Option, Some, option_map}
+use Rattle.std.proofs.Common.{◌≡◌, ℕ, ◌+◌, ◌<◌, min, List, [], ◌∷◌, ◌++◌, length, get_or}
+use Rattle.std.proofs.Common.{take, filter_map, slice_get, refl, ap, sym, ◌∙◌, Option, Some}
+use Rattle.std.proofs.Common.{option_map}
 use Rattle.std.specs.List.{reduce, cons_option}
 use Rattle.std.specs.Option.{option_map_or}
-use Rattle.std.proofs.lemmas.List.{take_more, take_all}
+use Rattle.std.proofs.lemmas.List.{take_more}
 use Rattle.std.proofs.lemmas.List.Sums.{fold_push}
 use Rattle.std.proofs.lemmas.List.Elements.{filter_map-append}
 use Rattle.line_cost_model.specs.declared.edge.BoundedEdge.{BoundedEdge}
 use Rattle.line_cost_model.specs.Regions.{most_on}
 
-pub reduce_push : (xs : List ℕ) (x : ℕ) → reduce min (xs ++ x ∷ []) ≡ Some (option_map_or (λ some. min some x) (reduce min xs) x)
+pub reduce_push : (xs : List ℕ) (x : ℕ)
+    → reduce min (xs ++ x ∷ []) ≡ Some (option_map_or (λ some. min some x) (reduce min xs) x)
 reduce_push [] x = refl
 reduce_push (y ∷ xs) x = ap Some (fold_push min y xs x)
 
 -- one edge more
-pub most_more : (all : List BoundedEdge) (edges : List ℕ) (i : ℕ) (least after : Option ℕ) (bounds : BoundedEdge) → i < length edges → slice_get all (get_or edges i 0) ≡ Some bounds → least ≡ reduce min (filter_map (most_on all) (take i edges)) → after ≡ Some (option_map_or (λ some. min some bounds.most) least bounds.most)
+pub most_more : (all : List BoundedEdge) (edges : List ℕ) (i : ℕ) (least after : Option ℕ)
+    (bounds : BoundedEdge) → i < length edges → slice_get all (get_or edges i 0) ≡ Some bounds
+    → least ≡ reduce min (filter_map (most_on all) (take i edges))
+    → after ≡ Some (option_map_or (λ some. min some bounds.most) least bounds.most)
     → after ≡ reduce min (filter_map (most_on all) (take (i + 1) edges))
 most_more all edges i least after bounds h there so_far is =
     let some = filter_map (most_on all) (take i edges) in
     let shown : filter_map (most_on all) (take (i + 1) edges) ≡ some ++ bounds.most ∷ [] =
-    ap (filter_map (most_on all)) (take_more edges i 0 h) ∙ filter_map-append (most_on all) (take i edges) (get_or edges i 0 ∷ [])
+    ap (filter_map (most_on all)) (take_more edges i 0 h)
+    ∙ filter_map-append (most_on all) (take i edges) (get_or edges i 0 ∷ [])
     ∙ ap (λ (at : Option BoundedEdge). some ++ cons_option (option_map (λ at. at.most) at) []) there in
-    is ∙ ap (λ o. Some (option_map_or (λ some. min some bounds.most) o bounds.most)) so_far ∙ sym (reduce_push some bounds.most) ∙ sym (ap (reduce min) shown)
-
-pub most_all : (all : List BoundedEdge) (edges : List ℕ) (i : ℕ) → length edges ≤ i → reduce min (filter_map (most_on all) (take i edges)) ≡ reduce min (filter_map (most_on all) edges)
-most_all all edges i h = ap (λ some. reduce min (filter_map (most_on all) some)) (take_all i edges h)
+    is ∙ ap (λ o. Some (option_map_or (λ some. min some bounds.most) o bounds.most)) so_far
+    ∙ sym (reduce_push some bounds.most) ∙ sym (ap (reduce min) shown)

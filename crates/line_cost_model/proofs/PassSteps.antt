@@ -13,7 +13,9 @@ use Rattle.line_cost_model.specs.declared.multipliers.Multiplier.{Multiplier}
 use Rattle.line_cost_model.specs.declared.range.LineRange.{LineRange}
 use Rattle.line_cost_model.specs.Problems.{CostedLine, ProblemParts, IsCostedLine, IsProblem}
 use Rattle.line_cost_model.specs.Concepts.{cost_of}
-use Rattle.line_cost_model.specs.DualBounds.{bound_by, dual_bound, least_left, left_of, multipliers_of, next_multiplier, shortfall, shortfall_at, unless_zero, with_next}
+use Rattle.line_cost_model.specs.DualBounds.{bound_by, dual_bound, least_left, left_of}
+use Rattle.line_cost_model.specs.DualBounds.{multipliers_of, next_multiplier, shortfall}
+use Rattle.line_cost_model.specs.DualBounds.{shortfall_at, unless_zero, with_next}
 use Rattle.line_cost_model.specs.Multipliers.{IsAfter, IsAmount}
 use Rattle.line_cost_model.specs.Passes.{AreLowered, IsNextShort, IsPass}
 use Rattle.line_cost_model.specs.RunningSums.{no_bounds}
@@ -41,7 +43,8 @@ pass_first problem region left value left_is value_is few =
 -- ---- one edge more
 
 fold_more : (problem : ProblemParts) (region : List LineRange) (multipliers : List Multiplier) (edge amount : ℕ)
-    → option_map (λ at. next_multiplier problem region multipliers (edge, at)) (slice_get problem.edges edge) ≡ Some amount
+    → option_map (λ at. next_multiplier problem region multipliers (edge, at))
+    (slice_get problem.edges edge) ≡ Some amount
     → fold (with_next problem region) multipliers (left_from problem.edges edge)
     ≡ fold (with_next problem region) (multipliers ++ unless_zero edge amount) (left_from problem.edges (edge + 1))
 fold_more problem region multipliers edge amount is =
@@ -53,7 +56,8 @@ later multipliers edge after k d h = let before = after k d h in omega (arith, b
 -- no multiplier
 pub pass_none : (problem : ProblemParts) (region : List LineRange) (multipliers : List Multiplier) (left : List ℕ)
     (value edge amount : ℕ) → IsPass problem region multipliers left value edge
-    → option_map (λ at. next_multiplier problem region multipliers (edge, at)) (slice_get problem.edges edge) ≡ Some amount
+    → option_map (λ at. next_multiplier problem region multipliers (edge, at))
+    (slice_get problem.edges edge) ≡ Some amount
     → amount ≡ 0 → IsPass problem region multipliers left value (edge + 1)
 pass_none problem region multipliers left value edge amount pass next none = record {
   left_is = pass.left_is;
@@ -103,7 +107,8 @@ pass_to problem region multipliers left value from edge pass next =
 -- the next multiplier is the least that is left, where drives are missing
 next_is : (problem : ProblemParts) (region : List LineRange) (multipliers : List Multiplier) (edge missing amount : ℕ)
     → option_map (shortfall problem.lines region edge) (slice_get problem.edges edge) ≡ Some missing
-    → option_map (λ at. next_multiplier problem region multipliers (edge, at)) (slice_get problem.edges edge) ≡ Some amount
+    → option_map (λ at. next_multiplier problem region multipliers (edge, at))
+    (slice_get problem.edges edge) ≡ Some amount
     → amount ≡ (if nat_lt 0 missing then least_left problem region multipliers edge else 0)
 next_is problem region multipliers edge missing amount short next = grind arith
 
@@ -120,7 +125,8 @@ cheap_lines edges (line ∷ lines) all =
 module _ (problem : ProblemParts) (region : List LineRange) (multipliers : List Multiplier) (edge missing amount : ℕ)
     (sound : IsProblem problem)
     (short : option_map (shortfall problem.lines region edge) (slice_get problem.edges edge) ≡ Some missing)
-    (next : option_map (λ at. next_multiplier problem region multipliers (edge, at)) (slice_get problem.edges edge) ≡ Some amount)
+    (next : option_map (λ at. next_multiplier problem region multipliers (edge, at))
+    (slice_get problem.edges edge) ≡ Some amount)
     (some : amount ≢ 0) where
   least_is : amount ≡ least_left problem region multipliers edge
   least_is = some_left (nat_lt 0 missing) (least_left problem region multipliers edge) amount
@@ -128,14 +134,16 @@ module _ (problem : ProblemParts) (region : List LineRange) (multipliers : List 
 
   few_amount : amount ≤ 1000000000000000000
   few_amount =
-      let few = few_left problem region multipliers edge (cheap_lines (length problem.edges) problem.lines sound.lines) in
+      let few = few_left problem region multipliers edge
+      (cheap_lines (length problem.edges) problem.lines sound.lines) in
       omega (arith, few, least_is)
 
   pub is_amount : IsAmount amount
   is_amount = record { some = omega (arith, some); few = few_amount }
 
   pub adds : missing < 4294967296 → amount * missing ≤ 4294967296000000000000000000
-  adds few = let most = mul-le amount missing 1000000000000000000 4294967295 few_amount (omega (arith, few)) in omega (arith, most)
+  adds few = let most = mul-le amount missing 1000000000000000000 4294967295 few_amount
+      (omega (arith, few)) in omega (arith, most)
 
   value_more : (value : ℕ) → value ≡ bound_by problem region multipliers
       → value + amount * missing ≡ bound_by problem region (multipliers ++ record { edge = edge; amount = amount } ∷ [])
@@ -143,21 +151,27 @@ module _ (problem : ProblemParts) (region : List LineRange) (multipliers : List 
   value_more value is = grind (arith, sum_by-append, unwrap_or)
 
   unless_some : (amount : ℕ) → amount ≢ 0 → unless_zero edge amount ≡ record { edge = edge; amount = amount } ∷ []
-  unless_some amount some = ap (λ none. if none then [] else record { edge = edge; amount = amount } ∷ []) (ne_eqb amount 0 some)
+  unless_some amount some = ap
+      (λ none. if none then [] else record { edge = edge; amount = amount } ∷ [])
+      (ne_eqb amount 0 some)
 
   -- one multiplier
-  pub pass_some : (left after : List ℕ) (value : ℕ) → missing < 4294967296 → IsPass problem region multipliers left value edge
+  pub pass_some : (left after : List ℕ) (value : ℕ) → missing < 4294967296
+      → IsPass problem region multipliers left value edge
       → length after ≡ length left → AreLowered problem.lines edge amount left after
-      → IsPass problem region (multipliers ++ record { edge = edge; amount = amount } ∷ []) after (value + amount * missing) (edge + 1)
+      → IsPass problem region (multipliers ++ record { edge = edge; amount = amount } ∷ []) after
+      (value + amount * missing) (edge + 1)
   pass_some left after value few pass size lower = record {
     left_is = lowered.left_more problem.lines multipliers edge amount left after pass.left_is size lower;
     value_is = value_more value pass.value_is;
     few = let little = pass.few in omega (arith, little, adds few);
     within = within_more problem region multipliers edge amount least_is pass.within;
-    after = All-push (λ (multiplier : Multiplier). multiplier.edge < edge + 1) multipliers (record { edge = edge; amount = amount })
+    after = All-push (λ (multiplier : Multiplier). multiplier.edge < edge + 1) multipliers
+        (record { edge = edge; amount = amount })
         (later multipliers edge pass.after) (omega arith);
     rest = pass.rest ∙ fold_more problem region multipliers edge amount next
-        ∙ ap (λ one. fold (with_next problem region) (multipliers ++ one) (left_from problem.edges (edge + 1))) (unless_some amount some);
+        ∙ ap (λ one. fold (with_next problem region) (multipliers ++ one)
+        (left_from problem.edges (edge + 1))) (unless_some amount some);
   }
 
 -- ---- after the last edge

@@ -1,26 +1,27 @@
 -- Running sums: what another frequency of a line changes, and how great they are.
-use Rattle.std.proofs.Common.{◌≡◌, ℕ, zero, suc, ◌+◌, ◌*◌, ◌≤◌, ◌<◌, ◌∙◌, Bool, true, false, ◌||◌}
+use Rattle.std.proofs.Common.{◌≡◌, ℕ, zero, suc, ◌+◌, ◌*◌, ◌≤◌, ◌<◌, ◌∙◌, Bool, true, false}
 use Rattle.std.proofs.Common.{cond, if◌then◌else◌, nat_eq, List, [], ◌∷◌, length, get_or, set, map}
-use Rattle.std.proofs.Common.{take, replicate, zip, sum_by, slice_get, Some, option_map, unwrap_or}
-use Rattle.std.proofs.Common.{All, refl, ap, subst, sym, arith, inl, inr, get_or-set_other}
+use Rattle.std.proofs.Common.{zip, sum_by, slice_get, Some, option_map, unwrap_or}
+use Rattle.std.proofs.Common.{All, Option, IfSome, ap, subst, sym, arith, get_or-set_other}
 use Rattle.std.proofs.Common.{get_or-set_same}
-use Rattle.std.specs.List.{IsDistinct, list_any}
-use Rattle.std.proofs.lemmas.Bool.{ne_eqb, eq-eqb, cases_eq}
-use Rattle.std.proofs.lemmas.Grind.{get_or_default_zero}
-use Rattle.std.proofs.lemmas.List.{take_all, length-map, length-set, get_or-map, get_or_default, get_or-replicate, length-replicate, map-set}
+use Rattle.std.specs.List.{IsDistinct}
+use Rattle.std.proofs.lemmas.Bool.{eq-eqb, cases_eq}
+use Rattle.std.proofs.lemmas.List.{length-map, length-set, get_or-map, get_or_default}
+use Rattle.std.proofs.lemmas.List.{map-set}
 use Rattle.std.proofs.lemmas.List.Elements.{All-set}
-use Rattle.std.proofs.lemmas.List.Folds.{list_any_at, list_any_more}
+use Rattle.std.proofs.lemmas.List.Folds.{list_any_at}
 use Rattle.std.proofs.lemmas.List.Sums.{sum_by-cons, sum_by-le}
 use Rattle.std.proofs.lemmas.Nat.{mul-le}
 use Rattle.std.proofs.lemmas.Option.{get_or_from_slice_get, none-some}
 use Rattle.std.proofs.lemmas.Slice.Zip.{get_or-zip, length-zip}
+use Rattle.line_cost_model.specs.declared.edge_sums.EdgeSums.{EdgeSums}
 use Rattle.line_cost_model.specs.declared.range.LineRange.{LineRange}
 use Rattle.line_cost_model.specs.Problems.{CostedLine, ProblemParts, IsProblem}
 use Rattle.line_cost_model.specs.Concepts.{cost_of, frequency_on, goes_over}
-use Rattle.line_cost_model.specs.Regions.{IsRange, greatest_in, least_in, range_of, root_of}
-use Rattle.line_cost_model.specs.RunningSums.{AreCounted, AreDriven, AreMoved, IsOfGreatest, IsOfLeast, IsSummed}
+use Rattle.line_cost_model.specs.Regions.{IsRange, greatest_in, least_in, range_of}
+use Rattle.line_cost_model.specs.RunningSums.{AreCounted, AreDriven, AreMoved, AreSums, IsOfGreatest}
+use Rattle.line_cost_model.specs.RunningSums.{IsOfLeast, IsSummed}
 use Rattle.line_cost_model.proofs.FewLines.{few_lines, no_line}
-use Rattle.line_cost_model.proofs.Lowered.{is_new, or_false, or_true}
 
 -- ---- a line has another frequency
 
@@ -92,14 +93,14 @@ few_cost problem fs sound same few =
     omega (arith, most)) in
     omega (arith, all, few_lines problem sound)
 
-none_driven : (lines : List CostedLine) (fs : List ℕ) (edge : ℕ) → length fs ≡ length lines
+pub none_driven : (lines : List CostedLine) (fs : List ℕ) (edge : ℕ) → length fs ≡ length lines
     → ((k : ℕ) → get_or fs k 0 ≡ 0) → frequency_on lines fs edge ≡ 0
 none_driven lines fs edge same none =
     let all = few_sum (of_edge edge) 0 lines fs same (λ k h.
     gated_few (goes_over edge (get_or lines k no_line)) (get_or fs k 0) 0 (omega (arith, none k))) in
     omega (arith, all)
 
-none_cost : (problem : ProblemParts) (fs : List ℕ) → length fs ≡ length problem.lines
+pub none_cost : (problem : ProblemParts) (fs : List ℕ) → length fs ≡ length problem.lines
     → ((k : ℕ) → get_or fs k 0 ≡ 0) → cost_of problem fs ≡ 0
 none_cost problem fs same none =
     let all = few_sum of_cost 0 problem.lines fs same (λ k h.
@@ -127,94 +128,6 @@ greatest_few ranges sound k d h =
     let range : IsRange (get_or ranges k no_range) = sound k no_range within in
     omega (arith, get_or-map hi_of ranges k no_range d within, range.few)
 
--- ---- the root
-
-zeros : (lines : List CostedLine) (most : CostedLine → ℕ) (k : ℕ)
-    → get_or (least_in (map (λ line. record { lo = 0; hi = most line }) lines)) k 0 ≡ 0
-zeros [] most k = refl
-zeros (line ∷ lines) most zero = refl
-zeros (line ∷ lines) most (suc k) = zeros lines most k
-
-pub root_summed : (problem : ProblemParts) (ranges : List LineRange) (least greatest : List ℕ)
-    → IsProblem problem → ranges ≡ root_of problem → All IsRange ranges → least ≡ replicate (length problem.edges) 0
-    → AreDriven problem (greatest_in ranges) greatest
-    → (short : List Bool) (over_count under_count : ℕ) → IsOfLeast problem.edges least short over_count
-    → IsOfGreatest problem.edges greatest under_count
-    → IsSummed problem ranges least greatest short over_count under_count 0
-root_summed problem ranges least greatest problem_is is sound zero_least greatest_are short over_count under_count
-    of_least of_greatest =
-    let each : length ranges ≡ length problem.lines = ap length is ∙ length-map problem.lines _ in
-    let long : length (least_in ranges) ≡ length problem.lines =
-    length-map ranges (λ range. range.lo) ∙ each in
-    let none : (k : ℕ) → get_or (least_in ranges) k 0 ≡ 0 =
-    λ k. ap (λ (ranges : List LineRange). get_or (least_in ranges) k 0) is ∙ zeros problem.lines _ k in
-    record {
-      problem_is = problem_is;
-      each = each;
-      sound = sound;
-      least_are = record {
-        size = ap length zero_least ∙ length-replicate (length problem.edges) 0;
-        told = λ edge h. ap (λ sums. get_or sums edge 0) zero_least
-            ∙ get_or-replicate (length problem.edges) edge 0 0 h
-            ∙ sym (none_driven problem.lines (least_in ranges) edge long none);
-      };
-      greatest_are = greatest_are;
-      cost_is = sym (none_cost problem (least_in ranges) long none);
-      of_least = of_least;
-      of_greatest = of_greatest;
-    }
-
--- ---- sums move edge by edge
-
-module _ (edges : List ℕ) (k : ℕ) (apart : IsDistinct nat_eq edges) (h : k < length edges)
-    (now old : List ℕ) (before after value : ℕ) (size : length now ≡ length old)
-    (there : get_or edges k 0 < length old)
-    (so_far : (at : ℕ) → at < length old
-    → get_or now at 0 + cond (list_any (nat_eq at) (take k edges)) before 0
-    ≡ get_or old at 0 + cond (list_any (nat_eq at) (take k edges)) after 0)
-    (read : value ≡ get_or now (get_or edges k 0) value) where
-  pub value_is : value ≡ get_or old (get_or edges k 0) 0
-  value_is = grind (arith, get_or, is_new, nat_eq, get_or_default_zero)
-
-  pub edge_moved : (moved : ℕ) → moved + before ≡ value + after → (at : ℕ) → at < length old
-      → get_or (set now (get_or edges k 0) moved) at 0
-      + cond (list_any (nat_eq at) (take (k + 1) edges)) before 0
-      ≡ get_or old at 0 + cond (list_any (nat_eq at) (take (k + 1) edges)) after 0
-  edge_moved moved is at within =
-      let edge = get_or edges k 0 in
-      let more : list_any (nat_eq at) (take (k + 1) edges)
-      ≡ (list_any (nat_eq at) (take k edges) || nat_eq at edge) = list_any_more (nat_eq at) edges k 0 h in
-      elim (cases_eq at edge) [
-        | inl same ↦
-            let now_over : list_any (nat_eq at) (take (k + 1) edges) ≡ true =
-            more ∙ ap (λ b. list_any (nat_eq at) (take k edges) || b) (eq-eqb at edge same)
-            ∙ or_true (list_any (nat_eq at) (take k edges)) in
-            let here : get_or (set now edge moved) at 0 ≡ moved =
-            ap (λ n. get_or (set now edge moved) n 0) same
-            ∙ get_or-set_same now edge moved 0 (omega (arith, size, there)) in
-            let old_is : get_or old at 0 ≡ value = ap (λ n. get_or old n 0) same ∙ sym value_is in
-            let own : cond (list_any (nat_eq at) (take (k + 1) edges)) before 0 ≡ before =
-            ap (λ b. cond b before 0) now_over in
-            let later : cond (list_any (nat_eq at) (take (k + 1) edges)) after 0 ≡ after =
-            ap (λ b. cond b after 0) now_over in
-            omega (arith, here, old_is, own, later, is)
-        | inr other ↦
-            let as_before : list_any (nat_eq at) (take (k + 1) edges) ≡ list_any (nat_eq at) (take k edges) =
-            more ∙ ap (λ b. list_any (nat_eq at) (take k edges) || b) (ne_eqb at edge other)
-            ∙ or_false (list_any (nat_eq at) (take k edges)) in
-            subst (λ b. get_or (set now edge moved) at 0 + cond b before 0 ≡ get_or old at 0 + cond b after 0)
-            (sym as_before)
-            (ap (λ n. n + cond (list_any (nat_eq at) (take k edges)) before 0)
-            (get_or-set_other now edge at moved 0 other) ∙ so_far at within)
-      ]
-
-pub all_moved : (edges : List ℕ) (k : ℕ) (before after : ℕ) (now old : List ℕ) → length edges ≤ k
-    → ((at : ℕ) → at < length old
-    → get_or now at 0 + cond (list_any (nat_eq at) (take k edges)) before 0
-    ≡ get_or old at 0 + cond (list_any (nat_eq at) (take k edges)) after 0)
-    → AreMoved edges before after old now
-all_moved edges k before after now old past so_far = grind (arith, get_or, nat_eq, take_all)
-
 -- ---- the sums of a region
 
 driven_after : (problem : ProblemParts) (fs sums now : List ℕ) (line f : ℕ) → AreDriven problem fs sums
@@ -238,62 +151,73 @@ read_at of lines line x is =
       get_or_from_slice_get,
     )
 
-pub region_moved : (problem : ProblemParts) (ranges : List LineRange)
-    (least greatest least_now greatest_now edges : List ℕ)
-    (short short_now : List Bool) (over_count over_now under_count under_now : ℕ)
-    (cost cost_now line lo hi price : ℕ)
-    → IsSummed problem ranges least greatest short over_count under_count cost → line < length ranges → lo ≤ hi
-    → hi ≤ 1000
-    → option_map (λ at. at.edges) (slice_get problem.lines line) ≡ Some edges
-    → option_map (λ at. at.cost) (slice_get problem.lines line) ≡ Some price
-    → length least_now ≡ length least → length greatest_now ≡ length greatest
-    → AreMoved edges (range_of ranges line).lo lo least least_now
-    → AreMoved edges (range_of ranges line).hi hi greatest greatest_now
-    → cost_now + price * (range_of ranges line).lo ≡ cost + price * lo
-    → IsOfLeast problem.edges least_now short_now over_now → IsOfGreatest problem.edges greatest_now under_now
-    → IsSummed problem (set ranges line (record { lo = lo; hi = hi })) least_now greatest_now short_now over_now
-    under_now cost_now
-region_moved problem ranges least greatest least_now greatest_now edges short short_now over_count over_now
-    under_count under_now cost cost_now line lo hi price summed there order few edges_are price_is least_size
-    greatest_size least_moved greatest_moved cost_is of_least of_greatest =
-    let range : LineRange = record { lo = lo; hi = hi } in
+-- the sums of edges, where a line has another range
+pub sums_moved : (problem : ProblemParts) (ranges : List LineRange) (sums now : EdgeSums) (edges : List ℕ)
+    (line : ℕ) (range : LineRange) → AreSums problem ranges sums → length ranges ≡ length problem.lines
+    → line < length ranges → option_map (λ at. at.edges) (slice_get problem.lines line) ≡ Some edges
+    → length now.least.sums.items ≡ length sums.least.sums.items
+    → length now.greatest.sums.items ≡ length sums.greatest.sums.items
+    → AreMoved edges (range_of ranges line).lo range.lo sums.least.sums.items now.least.sums.items
+    → AreMoved edges (range_of ranges line).hi range.hi sums.greatest.sums.items now.greatest.sums.items
+    → IsOfLeast problem.edges now.least.sums.items now.least.short now.least.over
+    → IsOfGreatest problem.edges now.greatest.sums.items now.greatest.under
+    → AreSums problem (set ranges line range) now
+sums_moved problem ranges sums now edges line range are each there edges_are least_size greatest_size least_moved
+    greatest_moved of_least of_greatest =
     let lo_of : LineRange → ℕ = λ range. range.lo in
     let hi_of : LineRange → ℕ = λ range. range.hi in
-    let within : line < length problem.lines = omega (arith, there, summed.each) in
+    let within : line < length problem.lines = omega (arith, there, each) in
     let at = get_or problem.lines line no_line in
     let edges_of : edges ≡ at.edges = read_at (λ (at : CostedLine). at.edges) problem.lines line edges edges_are in
-    let price_of : price ≡ at.cost = read_at (λ (at : CostedLine). at.cost) problem.lines line price price_is in
     let lo_is = sym (get_or-map lo_of ranges line no_range 0 there) in
     let hi_is = sym (get_or-map hi_of ranges line no_range 0 there) in
-    let lows = sym (map-set lo_of ranges line range) in
-    let highs = sym (map-set hi_of ranges line range) in
-    let low_long : length (map lo_of ranges) ≡ length problem.lines = length-map ranges lo_of ∙ summed.each in
-    let high_long : length (map hi_of ranges) ≡ length problem.lines = length-map ranges hi_of ∙ summed.each in
+    let least = sums.least.sums.items in
+    let greatest = sums.greatest.sums.items in
+    record {
+      least_are = subst (λ fs. AreDriven problem fs now.least.sums.items) (sym (map-set lo_of ranges line range))
+          (driven_after problem (map lo_of ranges) least now.least.sums.items line range.lo are.least_are
+          (length-map ranges lo_of ∙ each) within least_size
+          (subst (λ n. AreMoved at.edges n range.lo least now.least.sums.items) lo_is
+          (subst (λ edges. AreMoved edges (range_of ranges line).lo range.lo least now.least.sums.items) edges_of
+          least_moved)));
+      greatest_are = subst (λ fs. AreDriven problem fs now.greatest.sums.items)
+          (sym (map-set hi_of ranges line range))
+          (driven_after problem (map hi_of ranges) greatest now.greatest.sums.items line range.hi are.greatest_are
+          (length-map ranges hi_of ∙ each) within greatest_size
+          (subst (λ n. AreMoved at.edges n range.hi greatest now.greatest.sums.items) hi_is
+          (subst (λ edges. AreMoved edges (range_of ranges line).hi range.hi greatest now.greatest.sums.items)
+          edges_of greatest_moved)));
+      of_least = of_least;
+      of_greatest = of_greatest;
+    }
+
+pub region_moved : (problem : ProblemParts) (ranges : List LineRange) (sums now : Option EdgeSums)
+    (cost cost_now line lo hi price : ℕ) → IsSummed problem ranges sums cost → line < length ranges → lo ≤ hi
+    → hi ≤ 1000 → option_map (λ at. at.cost) (slice_get problem.lines line) ≡ Some price
+    → cost_now + price * (range_of ranges line).lo ≡ cost + price * lo
+    → IfSome now (AreSums problem (set ranges line (record { lo = lo; hi = hi })))
+    → IsSummed problem (set ranges line (record { lo = lo; hi = hi })) now cost_now
+region_moved problem ranges sums now cost cost_now line lo hi price summed there order few price_is cost_is are =
+    let range : LineRange = record { lo = lo; hi = hi } in
+    let lo_of : LineRange → ℕ = λ range. range.lo in
+    let within : line < length problem.lines = omega (arith, there, summed.each) in
+    let at = get_or problem.lines line no_line in
+    let price_of : price ≡ at.cost = read_at (λ (at : CostedLine). at.cost) problem.lines line price price_is in
+    let lo_is = sym (get_or-map lo_of ranges line no_range 0 there) in
     record {
       problem_is = summed.problem_is;
       each = length-set ranges line range ∙ summed.each;
       sound = All-set IsRange ranges line range (record { in_order = order; few = few }) summed.sound;
-      least_are = subst (λ fs. AreDriven problem fs least_now) lows
-          (driven_after problem (map lo_of ranges) least least_now line lo summed.least_are low_long within
-          least_size
-          (subst (λ n. AreMoved at.edges n lo least least_now) lo_is
-          (subst (λ edges. AreMoved edges (range_of ranges line).lo lo least least_now) edges_of least_moved)));
-      greatest_are = subst (λ fs. AreDriven problem fs greatest_now) highs
-          (driven_after problem (map hi_of ranges) greatest greatest_now line hi summed.greatest_are high_long
-          within greatest_size
-          (subst (λ n. AreMoved at.edges n hi greatest greatest_now) hi_is
-          (subst (λ edges. AreMoved edges (range_of ranges line).hi hi greatest greatest_now) edges_of
-          greatest_moved)));
       cost_is =
-          let moved = sum_moved of_cost problem.lines (map lo_of ranges) line lo within low_long in
+          let moved = sum_moved of_cost problem.lines (map lo_of ranges) line lo within
+          (length-map ranges lo_of ∙ summed.each) in
           let before : of_cost (at, get_or (map lo_of ranges) line 0) ≡ price * (range_of ranges line).lo =
           (λ i. sym price_of i * sym lo_is i) in
           let after : of_cost (at, lo) ≡ price * lo = ap (λ n. n * lo) (sym price_of) in
           let whole : cost_now ≡ cost_of problem (set (map lo_of ranges) line lo) =
           omega (arith, moved, before, after, cost_is, summed.cost_is) in
-          whole ∙ ap (cost_of problem) lows;
-      of_least = of_least;
-      of_greatest = of_greatest;
+          whole ∙ ap (cost_of problem) (sym (map-set lo_of ranges line range));
+      sums_are = are;
     }
 
 -- the line at an index is counted in the sums of its edges and in the cost, and these are not too great
@@ -328,36 +252,32 @@ cost_counts problem fs cost line price before cost_is same within price_is befor
     let none : of_cost (at, 0) ≡ 0 = omega arith in
     omega (arith, moved, own, none, cost_is)
 
-pub least_cost_few : (problem : ProblemParts) (ranges : List LineRange) (least greatest : List ℕ)
-    (short : List Bool) (over_count under_count cost : ℕ)
-    → IsSummed problem ranges least greatest short over_count under_count cost
-    → cost ≤ 5000000000000000000000000000000000000
-least_cost_few problem ranges least greatest short over_count under_count cost summed =
-    grind (arith, few_cost, length-map, least_few)
+pub least_cost_few : (problem : ProblemParts) (ranges : List LineRange) (sums : Option EdgeSums) (cost : ℕ)
+    → IsSummed problem ranges sums cost → cost ≤ 5000000000000000000000000000000000000
+least_cost_few problem ranges sums cost summed = grind (arith, few_cost, length-map, least_few)
 
 -- what another range of a line takes off was counted before
-module _ (problem : ProblemParts) (ranges : List LineRange) (least greatest edges : List ℕ) (short : List Bool)
-    (over_count under_count cost line : ℕ)
-    (summed : IsSummed problem ranges least greatest short over_count under_count cost) (there : line < length ranges)
+module _ (problem : ProblemParts) (ranges : List LineRange) (sums : EdgeSums) (edges : List ℕ) (line : ℕ)
+    (problem_is : IsProblem problem) (each : length ranges ≡ length problem.lines) (sound : All IsRange ranges)
+    (are : AreSums problem ranges sums) (there : line < length ranges)
     (edges_are : option_map (λ at. at.edges) (slice_get problem.lines line) ≡ Some edges) where
-  pub least_counts : AreCounted (range_of ranges line).lo least edges
-  least_counts = sums_count problem (least_in ranges) least edges line (range_of ranges line).lo
-      summed.least_are summed.problem_is (length-map ranges (λ range. range.lo) ∙ summed.each)
-      (least_few ranges summed.sound) (omega (arith, there, summed.each)) edges_are
+  pub least_counts : AreCounted (range_of ranges line).lo sums.least.sums.items edges
+  least_counts = sums_count problem (least_in ranges) sums.least.sums.items edges line (range_of ranges line).lo
+      are.least_are problem_is (length-map ranges (λ range. range.lo) ∙ each)
+      (least_few ranges sound) (omega (arith, there, each)) edges_are
       (sym (get_or-map (λ range. range.lo) ranges line no_range 0 there))
 
-  pub greatest_counts : AreCounted (range_of ranges line).hi greatest edges
-  greatest_counts = sums_count problem (greatest_in ranges) greatest edges line (range_of ranges line).hi
-      summed.greatest_are summed.problem_is (length-map ranges (λ range. range.hi) ∙ summed.each)
-      (greatest_few ranges summed.sound) (omega (arith, there, summed.each)) edges_are
+  pub greatest_counts : AreCounted (range_of ranges line).hi sums.greatest.sums.items edges
+  greatest_counts = sums_count problem (greatest_in ranges) sums.greatest.sums.items edges line
+      (range_of ranges line).hi are.greatest_are problem_is (length-map ranges (λ range. range.hi) ∙ each)
+      (greatest_few ranges sound) (omega (arith, there, each)) edges_are
       (sym (get_or-map (λ range. range.hi) ranges line no_range 0 there))
 
-pub least_cost_counts : (problem : ProblemParts) (ranges : List LineRange) (least greatest : List ℕ)
-    (short : List Bool) (over_count under_count cost line price : ℕ)
-    → IsSummed problem ranges least greatest short over_count under_count cost → line < length ranges
+pub least_cost_counts : (problem : ProblemParts) (ranges : List LineRange) (sums : Option EdgeSums)
+    (cost line price : ℕ) → IsSummed problem ranges sums cost → line < length ranges
     → option_map (λ at. at.cost) (slice_get problem.lines line) ≡ Some price
     → price * (range_of ranges line).lo ≤ cost
-least_cost_counts problem ranges least greatest short over_count under_count cost line price summed there price_is =
+least_cost_counts problem ranges sums cost line price summed there price_is =
     grind (arith, cost_counts, length-map, get_or-map)
 
 -- the edges of a line are there, and each of them once

@@ -72,7 +72,8 @@ unfolding empty_edge
 none = refl
 
 -- where an edge is missed on both sides, too many drives are told
-both : empty_edge (record { edges = edge 1 3 0 ∷ []; lines = line 1 1 (0 ∷ []) ∷ [] }) (range 1 1 ∷ []) ≡ Some (0, side.Over)
+both : empty_edge (record { edges = edge 1 3 0 ∷ []; lines = line 1 1 (0 ∷ []) ∷ [] })
+    (range 1 1 ∷ []) ≡ Some (0, side.Over)
 unfolding empty_edge
 both = refl
 
@@ -95,7 +96,12 @@ raised : are_within loose (range 1 1 ∷ range 0 3 ∷ []) (record { edge = 0; a
 raised = refl
 
 -- a line over both edges pays for both, and what the first takes the second has no more
-shared : multipliers_of (record { edges = edge 1 2 9 ∷ edge 2 3 9 ∷ []; lines = line 1 10 (0 ∷ 1 ∷ []) ∷ line 2 7 (0 ∷ []) ∷ [] }) (range 0 9 ∷ range 0 9 ∷ [])
+shared : multipliers_of
+    (record {
+      edges = edge 1 2 9 ∷ edge 2 3 9 ∷ [];
+      lines = line 1 10 (0 ∷ 1 ∷ []) ∷ line 2 7
+          (0 ∷ []) ∷ [];
+    }) (range 0 9 ∷ range 0 9 ∷ [])
     ≡ record { edge = 0; amount = 7 } ∷ record { edge = 1; amount = 3 } ∷ []
 unfolding multipliers_of
 shared = refl

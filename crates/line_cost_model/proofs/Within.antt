@@ -54,11 +54,13 @@ paid_more : (multipliers : List Multiplier) (edge amount : ℕ) (lines : List Co
 paid_more multipliers edge amount [] paid left = refl
 paid_more multipliers edge amount (line ∷ lines) paid left =
     let parts = and_parts (is_paid multipliers line) (list_all (is_paid multipliers) lines) paid in
-    let over = first_over (goes_over edge line) (λ line. amount ≤ left_of multipliers line) line (filter (goes_over edge) lines) left in
+    let over = first_over (goes_over edge line) (λ line. amount ≤ left_of multipliers line) line
+    (filter (goes_over edge) lines) left in
     let own = pays_more (goes_over edge line) (taken_off multipliers line) line.cost amount
     (leb-true (taken_off multipliers line) line.cost parts.0) over.0 in
     let more = taken_more multipliers edge amount line in
-    rw (le-leb (taken_off (multipliers ++ record { edge = edge; amount = amount } ∷ []) line) line.cost (omega (arith, own, more)))
+    rw (le-leb (taken_off (multipliers ++ record { edge = edge; amount = amount } ∷ []) line)
+    line.cost (omega (arith, own, more)))
     (paid_more multipliers edge amount lines parts.1 over.1)
 
 pub within_more : (problem : ProblemParts) (region : List LineRange) (multipliers : List Multiplier) (edge amount : ℕ)
@@ -66,7 +68,8 @@ pub within_more : (problem : ProblemParts) (region : List LineRange) (multiplier
     → are_within problem region (multipliers ++ record { edge = edge; amount = amount } ∷ []) ≡ true
 within_more problem region multipliers edge amount is within =
     paid_more multipliers edge amount (open_lines problem.lines region) within
-    (subst (λ amount. AllByRecursion (λ line. amount ≤ left_of multipliers line) (open_over problem region edge)) (sym is)
+    (subst (λ amount. AllByRecursion (λ line. amount ≤ left_of multipliers line)
+    (open_over problem region edge)) (sym is)
     (of_each (left_of multipliers) (least_left problem region multipliers edge) (open_over problem region edge)
     (below_each (map (left_of multipliers) (open_over problem region edge)))))
 
@@ -82,7 +85,8 @@ within_none problem region = none_taken (open_lines problem.lines region)
 abbrev pub IsCheap : CostedLine → Type 0
 IsCheap line = line.cost ≤ 1000000000000000000
 
-filter_each : {X : Type 0} (P : X → Type 0) (test : X → Bool) (xs : List X) → AllByRecursion P xs → AllByRecursion P (filter test xs)
+filter_each : {X : Type 0} (P : X → Type 0) (test : X → Bool) (xs : List X) → AllByRecursion P xs
+    → AllByRecursion P (filter test xs)
 filter_each P test [] all = tt
 filter_each P test (x ∷ xs) all = grind (arith, filter_each P test xs all.1)
 
@@ -92,7 +96,8 @@ zip_each [] region all = tt
 zip_each (line ∷ lines) [] all = tt
 zip_each (line ∷ lines) (range ∷ region) all = (all.0, zip_each lines region all.1)
 
-map_each : (xs : List (CostedLine × LineRange)) → AllByRecursion (λ at. IsCheap at.0) xs → AllByRecursion IsCheap (map (λ at. at.0) xs)
+map_each : (xs : List (CostedLine × LineRange)) → AllByRecursion (λ at. IsCheap at.0) xs
+    → AllByRecursion IsCheap (map (λ at. at.0) xs)
 map_each [] all = tt
 map_each (x ∷ xs) all = (all.0, map_each xs all.1)
 

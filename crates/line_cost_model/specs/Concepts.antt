@@ -1,5 +1,6 @@
 -- Line concepts: a frequency for each line. Which of them are feasible, and what they cost.
-use Rattle.std.specs.Prelude.{◌≡◌, ℕ, ◌≤◌, ◌*◌, ◌==◌, ◌&&◌, nat_eq, nat_le, if◌then◌else◌, Bool, List, length, slice_get, Some, sum_by, zip}
+use Rattle.std.specs.Prelude.{◌≡◌, ℕ, ◌≤◌, ◌*◌, ◌==◌, ◌&&◌, nat_eq, nat_le, if◌then◌else◌, Bool}
+use Rattle.std.specs.Prelude.{List, length, slice_get, Some, sum_by, zip}
 use Rattle.std.specs.List.{list_any, list_all, enumerate_from}
 use Rattle.line_cost_model.specs.declared.edge.BoundedEdge.{BoundedEdge}
 use Rattle.line_cost_model.specs.Problems.{CostedLine, ProblemParts}

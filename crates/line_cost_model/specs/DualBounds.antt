@@ -1,5 +1,7 @@
 -- Dual bounds: multipliers of edges, and what they prove of the costs in a region.
-use Rattle.std.specs.Prelude.{ℕ, ◌+◌, ◌-◌, ◌*◌, ◌≤◌, ◌==◌, nat_lt, nat_le, min, if◌then◌else◌, Bool, List, [], ◌∷◌, ◌++◌, map, filter, fold, slice_get, option_map, sum_by, unwrap_or, zip}
+use Rattle.std.specs.Prelude.{ℕ, ◌+◌, ◌-◌, ◌*◌, ◌≤◌, ◌==◌, nat_lt, nat_le, min, if◌then◌else◌}
+use Rattle.std.specs.Prelude.{Bool, List, [], ◌∷◌, ◌++◌, map, filter, fold, slice_get, option_map}
+use Rattle.std.specs.Prelude.{sum_by, unwrap_or, zip}
 use Rattle.std.specs.List.{list_all, enumerate_from, reduce}
 use Rattle.line_cost_model.specs.declared.multipliers.Multiplier.{Multiplier}
 use Rattle.line_cost_model.specs.declared.edge.BoundedEdge.{BoundedEdge}

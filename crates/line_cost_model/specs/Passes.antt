@@ -1,6 +1,7 @@
 -- Inner words: the pass over the edges that finds multipliers. A reader of the contracts of this
 -- crate needs none of them.
-use Rattle.std.specs.Prelude.{◌≡◌, ℕ, ◌+◌, ◌-◌, ◌*◌, ◌≤◌, ◌<◌, true, nat_eq, if◌then◌else◌, List, length, map, fold, drop, get_or, Option, Some, None}
+use Rattle.std.specs.Prelude.{◌≡◌, ℕ, ◌+◌, ◌-◌, ◌*◌, ◌≤◌, ◌<◌, true, nat_eq, if◌then◌else◌, List}
+use Rattle.std.specs.Prelude.{length, map, fold, drop, get_or, Option, Some, None}
 use Rattle.std.specs.List.{enumerate_from, list_any}
 use Rattle.line_cost_model.specs.declared.multipliers.Multiplier.{Multiplier}
 use Rattle.line_cost_model.specs.declared.range.LineRange.{LineRange}

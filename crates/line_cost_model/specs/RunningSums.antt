@@ -1,9 +1,10 @@
 -- Inner words: the running sums of a region. A reader of the contracts of this crate needs none of
 -- them.
 use Rattle.std.specs.Prelude.{◌≡◌, ℕ, pos, nat_lt, sum_by, ◌+◌, ◌<◌, ◌≤◌, nat_eq, if◌then◌else◌}
-use Rattle.std.specs.Prelude.{Bool, false, List, length, get_or, All}
+use Rattle.std.specs.Prelude.{Bool, false, List, length, get_or, All, Option, IfSome}
 use Rattle.std.specs.List.{IsDistinct, list_any, range_with_len}
 use Rattle.line_cost_model.specs.declared.edge.BoundedEdge.{BoundedEdge}
+use Rattle.line_cost_model.specs.declared.edge_sums.EdgeSums.{EdgeSums}
 use Rattle.line_cost_model.specs.declared.range.LineRange.{LineRange}
 use Rattle.line_cost_model.specs.Problems.{IsProblem, ProblemParts}
 use Rattle.line_cost_model.specs.Concepts.{cost_of, frequency_on}
@@ -66,14 +67,18 @@ pub record IsOfGreatest (edges : List BoundedEdge) (sums : List ℕ) (under_coun
   pub few : length edges ≤ 1000000000
   pub under_is : under_count ≡ over_edges under edges sums
 
--- what always holds of a region
-pub record IsSummed (problem : ProblemParts) (ranges : List LineRange) (least greatest : List ℕ)
-    (short : List Bool) (over_count under_count cost : ℕ) : Type 0 where
+-- the sums of edges are those of the ends of the ranges of a region
+pub record AreSums (problem : ProblemParts) (ranges : List LineRange) (sums : EdgeSums) : Type 0 where
+  pub least_are : AreDriven problem (least_in ranges) sums.least.sums.items
+  pub greatest_are : AreDriven problem (greatest_in ranges) sums.greatest.sums.items
+  pub of_least : IsOfLeast problem.edges sums.least.sums.items sums.least.short sums.least.over
+  pub of_greatest : IsOfGreatest problem.edges sums.greatest.sums.items sums.greatest.under
+
+-- what always holds of a region, which may keep such sums
+pub record IsSummed (problem : ProblemParts) (ranges : List LineRange) (sums : Option EdgeSums) (cost : ℕ)
+    : Type 0 where
   pub problem_is : IsProblem problem
   pub each : length ranges ≡ length problem.lines
   pub sound : All IsRange ranges
-  pub least_are : AreDriven problem (least_in ranges) least
-  pub greatest_are : AreDriven problem (greatest_in ranges) greatest
   pub cost_is : cost ≡ cost_of problem (least_in ranges)
-  pub of_least : IsOfLeast problem.edges least short over_count
-  pub of_greatest : IsOfGreatest problem.edges greatest under_count
+  pub sums_are : IfSome sums (AreSums problem ranges)

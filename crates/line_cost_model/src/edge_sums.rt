@@ -1,9 +1,9 @@
 // How often the ends of ranges drive edges, and which edges that misses.
-ghost use Rattle.std.specs.Prelude.{◌≡◌, ◌<◌, ◌≤◌, false, get_or, length, nat_lt, replicate};
-ghost use Rattle.std.specs.Prelude.{slice_set, IfOk, All};
+ghost use Rattle.std.specs.Prelude.{◌≡◌, ◌+◌, ◌<◌, ◌≤◌, false, get_or, length, nat_lt, replicate};
+ghost use Rattle.std.specs.Prelude.{slice_set, IfOk, IsTrue, All};
 ghost use Rattle.line_cost_model.specs.Problems.{IsProblem};
-ghost use Rattle.line_cost_model.specs.Regions.{IsRange, greatest_in};
-ghost use Rattle.line_cost_model.specs.RunningSums.{AreCounted, AreDriven, AreMoved};
+ghost use Rattle.line_cost_model.specs.Regions.{IsRange, greatest_in, root_of};
+ghost use Rattle.line_cost_model.specs.RunningSums.{AreCounted, AreDriven, AreMoved, AreSums};
 ghost use Rattle.line_cost_model.specs.RunningSums.{IsOfGreatest, IsOfLeast, over, over_edges, under};
 
 use crate::edge::BoundedEdge;
@@ -13,6 +13,60 @@ use crate::running::greatest_sums;
 use bit_rows::Marking;
 use plan_num::NoMemory;
 use std::alloc::Global;
+
+/// How often both ends of ranges drive each edge.
+#[derive(Drop)]
+pub(crate) struct EdgeSums {
+    pub(crate) least: LeastSums,
+    pub(crate) greatest: GreatestSums,
+}
+
+impl EdgeSums {
+    /// Those of the ranges of the root of a problem.
+    pub(crate) fn root(
+        alloc: Global,
+        problem: &LineProblem,
+        ranges: &[LineRange],
+    ) -> Result<EdgeSums, NoMemory>
+        requires root { ranges.now ≡ root_of problem.now }
+        requires sound { All IsRange ranges.now }
+        ensures { IfOk result (AreSums problem.now ranges.now) }
+    {
+        let least = LeastSums::zero(alloc, problem)?;
+        let greatest = GreatestSums::of(alloc, problem, ranges)?;
+        Ok(EdgeSums { least, greatest })
+    }
+
+    /// The line at an index has another range than it has among some ranges.
+    pub(crate) fn set_range(
+        &mut self,
+        problem: &LineProblem,
+        ranges: &[LineRange],
+        line: usize,
+        range: LineRange,
+    )
+        requires there { line < length ranges.now }
+        requires each { length ranges.now ≡ length problem.now.lines }
+        requires sound { All IsRange ranges.now }
+        requires sums { AreSums problem.now ranges.now self.old }
+        ensures { AreSums problem.now (slice_set ranges.now line range) self.new }
+    {
+        // A count tells what always holds of a problem.
+        let _ = problem.edge_count();
+        let before = ranges[line];
+        let edges = problem.line_edges(line);
+        self.least.move_line(problem, edges, before.lo, range.lo);
+        self.greatest.move_line(problem, edges, before.hi, range.hi);
+    }
+
+    /// Whether no edge is driven too often, or not often enough.
+    pub(crate) fn miss_no_edge(&self) -> bool
+        ensures over { IsTrue result → self.now.least.over ≡ 0 }
+        ensures under { IsTrue result → self.now.greatest.under ≡ 0 }
+    {
+        self.least.over == 0 && self.greatest.under == 0
+    }
+}
 
 /// How often least frequencies drive each edge, which edges they leave short of their minimal
 /// frequency, and how many they drive too often.
@@ -65,7 +119,7 @@ impl LeastSums {
             return;
         }
         for edge in edges {
-            let sum = self.sums[*edge] - u64::from(before) + u64::from(after);
+            let sum = moved(self.sums[*edge], before, after);
             self.put(problem, *edge, sum);
         }
     }
@@ -88,8 +142,8 @@ impl LeastSums {
     }
 }
 
-/// How often greatest frequencies drive each edge, and how many edges they leave below their minimal
-/// frequency.
+/// How often greatest frequencies drive each edge, and how many edges they leave below their
+/// minimal frequency.
 #[derive(Drop)]
 pub(crate) struct GreatestSums {
     pub(crate) sums: Vec<u64>,
@@ -133,7 +187,7 @@ impl GreatestSums {
             return;
         }
         for edge in edges {
-            let sum = self.sums[*edge] - u64::from(before) + u64::from(after);
+            let sum = moved(self.sums[*edge], before, after);
             self.put(problem, *edge, sum);
         }
     }
@@ -150,6 +204,15 @@ impl GreatestSums {
         self.under = self.under + under(bounds, sum) - under(bounds, before);
         self.sums[edge] = sum;
     }
+}
+
+// How often an edge is driven, where a line over it has another frequency.
+fn moved(sum: u64, before: u32, after: u32) -> u64
+    requires counted { before ≤ sum }
+    requires few { sum ≤ 1000000000000 }
+    ensures { result + before ≡ sum + after }
+{
+    sum - u64::from(before) + u64::from(after)
 }
 
 // How many edges the greatest sums leave below their minimal frequencies.

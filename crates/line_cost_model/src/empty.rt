@@ -4,7 +4,7 @@ ghost use Rattle.line_cost_model.specs.Regions.{HasNoFeasible, empty_edge, empty
 
 use crate::problem::LineProblem;
 use crate::region::Region;
-use crate::side::Side;
+use crate::side::{Side, side_of};
 use crate::summed::SummedRegion;
 use crate::sums::ends_on;
 
@@ -52,13 +52,6 @@ fn empty_side(problem: &LineProblem, region: &Region, edge: usize) -> Option<Sid
     ensures { option_map (empty_side problem.now.lines region.now edge)
         (slice_get problem.now.edges edge) ≡ Some result }
 {
-    let bounds = problem.bounds_of(edge);
-    let (least, greatest) = ends_on(problem, region, edge);
-    if u128::from(bounds.most) < least {
-        Some(Side::Over)
-    } else if greatest < u128::from(bounds.least) {
-        Some(Side::Under)
-    } else {
-        None
-    }
+    let (least, greatest) = ends_on(problem, region.ranges(), edge);
+    side_of(problem.bounds_of(edge), least, greatest)
 }

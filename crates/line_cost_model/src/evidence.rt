@@ -20,6 +20,9 @@ impl<'a> SummedRegion<'a> {
         ensures { IfOk result (λ within. within
             ≡ are_within self.now.problem self.now.ranges multipliers.now) }
     {
+        if multipliers.len() == 0 {
+            return Ok(true);
+        }
         self.renew_costs(left)?;
         for place in 0..multipliers.len() {
             let multiplier = multipliers.at(place);

@@ -5,7 +5,7 @@ ghost use Rattle.line_cost_model.specs.RunningSums.{AreDriven};
 
 use crate::problem::LineProblem;
 use crate::range::LineRange;
-use crate::sums::greatest_on;
+use crate::sums::ends_on;
 use plan_num::NoMemory;
 use std::alloc::Global;
 
@@ -36,7 +36,7 @@ pub(crate) fn greatest_sums(
 {
     let mut sums = Vec::new(alloc);
     for edge in 0..problem.edge_count() {
-        sums.push(greatest_on(problem, ranges, edge))?;
+        sums.push(ends_on(problem, ranges, edge).1)?;
     }
     Ok(sums)
 }

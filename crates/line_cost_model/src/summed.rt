@@ -1,38 +1,37 @@
 // Regions of concepts with running sums.
 ghost use Rattle.std.specs.Prelude.{◌≡◌, ◌<◌, ◌≤◌, pos, length, slice_get, IfOk, All, Some};
-ghost use Rattle.std.specs.Prelude.{IsTrue, None, nat_lt, if◌then◌else◌, option_map};
-ghost use Rattle.line_cost_model.specs.declared.side.Side.TheVariants as side;
+ghost use Rattle.std.specs.Prelude.{IsTrue, IfSome, None, option_map, slice_set};
 ghost use Rattle.std.specs.List.{list_any};
-ghost use Rattle.line_cost_model.specs.Concepts.{cost_of};
+ghost use Rattle.line_cost_model.specs.Concepts.{cost_of, frequency_on};
 ghost use Rattle.line_cost_model.specs.DualBounds.{shortfall};
 ghost use Rattle.line_cost_model.specs.EmptySides.{is_empty_on};
 ghost use Rattle.line_cost_model.specs.Passes.{IsNextShort};
 ghost use Rattle.line_cost_model.specs.Problems.{IsProblem};
 ghost use Rattle.line_cost_model.specs.Regions.{HasEachFeasible, IsRange, empty_edge, empty_side};
-ghost use Rattle.line_cost_model.specs.Regions.{has_several};
+ghost use Rattle.line_cost_model.specs.Regions.{greatest_in, has_several};
 ghost use Rattle.line_cost_model.specs.Regions.{least_in, range_of, root_of, with_range};
+ghost use Rattle.line_cost_model.specs.RunningSums.{AreSums};
 
-use crate::edge::BoundedEdge;
-use crate::edge_sums::{GreatestSums, LeastSums};
+use crate::edge_sums::EdgeSums;
 use crate::problem::LineProblem;
 use crate::range::LineRange;
 use crate::region::Region;
 use crate::running::{cost_moved, root_ranges};
-use crate::side::Side;
-use crate::sums::signed;
+use crate::side::{Side, side_of};
+use crate::sums::{ends_on, signed};
 use plan_num::NoMemory;
 use std::alloc::Global;
 use std::marker::Model;
 
 /// A range of frequencies for each line of a problem. Contracts see it as the problem and the list
-/// of these ranges. It keeps how often each edge is driven at least and at most, on which edges drives
-/// are missing, how many edges show that there is no feasible concept, and what the least
-/// frequencies cost, so that another range for a line takes some steps for each of its edges alone.
+/// of these ranges. It keeps what the least frequencies cost. It may keep how often each edge is
+/// driven at least and at most, on which edges drives are missing, and how many edges show that
+/// there is no feasible concept: then another range for a line takes some steps for each of its
+/// edges, and else an edge that is asked for takes some steps for each line over it.
 pub struct SummedRegion<'a> {
     problem: &'a LineProblem,
     ranges: Vec<LineRange>,
-    least: LeastSums,
-    greatest: GreatestSums,
+    sums: Option<EdgeSums>,
     least_cost: u128,
 }
 
@@ -41,8 +40,7 @@ impl Drop for SummedRegion<'_> {
         let SummedRegion {
             problem: _,
             ranges: _,
-            least: _,
-            greatest: _,
+            sums: _,
             least_cost: _,
         } = self;
     }
@@ -56,28 +54,55 @@ impl<'a> Model for SummedRegion<'a> {
 
     ghost view = { λ r. record { problem = r.problem.now; ranges = r.ranges.items } };
 
-    ghost invariant = { λ r. IsSummed r.problem.now r.ranges.items r.least.sums.items
-        r.greatest.sums.items r.least.short r.least.over r.greatest.under r.least_cost };
+    ghost invariant = { λ r. IsSummed r.problem.now r.ranges.items r.sums r.least_cost };
 }
 
 impl<'a> SummedRegion<'a> {
     /// The region with all feasible concepts: each line has a frequency from 0 to the least of the
-    /// maximal frequencies of its edges.
+    /// maximal frequencies of its edges. It keeps sums of edges.
     pub fn root(alloc: Global, problem: &'a LineProblem) -> Result<SummedRegion<'a>, NoMemory>
         ensures root { IfOk result
             (λ region. region ≡ record { problem = problem.now; ranges = root_of problem.now }) }
         ensures each { IfOk result (λ region. HasEachFeasible problem.now region.ranges) }
     {
         let ranges = root_ranges(alloc, problem)?;
-        let least = LeastSums::zero(alloc, problem)?;
-        let greatest = GreatestSums::of(alloc, problem, &ranges)?;
-        Ok(SummedRegion {
+        let sums = EdgeSums::root(alloc, problem, &ranges)?;
+        Ok(SummedRegion::over_root(problem, ranges, Some(sums)))
+    }
+
+    /// The same region without sums of edges, for a walk that asks for few edges at each of its
+    /// regions.
+    pub fn root_without_sums(
+        alloc: Global,
+        problem: &'a LineProblem,
+    ) -> Result<SummedRegion<'a>, NoMemory>
+        ensures root { IfOk result
+            (λ region. region ≡ record { problem = problem.now; ranges = root_of problem.now }) }
+        ensures each { IfOk result (λ region. HasEachFeasible problem.now region.ranges) }
+    {
+        let ranges = root_ranges(alloc, problem)?;
+        Ok(SummedRegion::over_root(problem, ranges, None))
+    }
+
+    // The region of the ranges of the root, with or without sums.
+    fn over_root(
+        problem: &'a LineProblem,
+        ranges: Vec<LineRange>,
+        sums: Option<EdgeSums>,
+    ) -> SummedRegion<'a>
+        requires root { ranges.items ≡ root_of problem.now }
+        requires sound { All IsRange ranges.items }
+        requires sums { IfSome sums (AreSums problem.now ranges.items) }
+        ensures { result ≡ record { problem = problem.now; ranges = ranges.items } }
+    {
+        // A count tells what always holds of a problem.
+        let _ = problem.edge_count();
+        SummedRegion {
             problem,
             ranges,
-            least,
-            greatest,
+            sums,
             least_cost: 0,
-        })
+        }
     }
 
     /// A region of concepts with the sums of its ranges.
@@ -118,12 +143,11 @@ impl<'a> SummedRegion<'a> {
         ensures { self.new
             ≡ record self.old { ranges = with_range self.old.ranges line lo hi } }
     {
+        let range = LineRange { lo, hi };
         let before = self.ranges[line];
-        let edges = self.problem.line_edges(line);
         let cost = self.problem.cost_of_line(line);
-        self.ranges[line] = LineRange { lo, hi };
-        self.least.move_line(self.problem, edges, before.lo, lo);
-        self.greatest.move_line(self.problem, edges, before.hi, hi);
+        move_sums(&mut self.sums, self.problem, &self.ranges, line, range);
+        self.ranges[line] = range;
         self.least_cost = cost_moved(self.least_cost, cost, before.lo, lo);
     }
 
@@ -180,7 +204,10 @@ impl<'a> SummedRegion<'a> {
     pub(crate) fn has_no_empty_edge(&self) -> bool
         ensures { IsTrue result → empty_edge self.now.problem self.now.ranges ≡ None }
     {
-        self.least.over == 0 && self.greatest.under == 0
+        match &self.sums {
+            Some(sums) => sums.miss_no_edge(),
+            None => false,
+        }
     }
 
     /// On which side the edge at an index shows that the region has no feasible concept, where it
@@ -190,8 +217,8 @@ impl<'a> SummedRegion<'a> {
         ensures { option_map (empty_side self.now.problem.lines self.now.ranges edge)
             (slice_get self.now.problem.edges edge) ≡ Some result }
     {
-        let bounds = self.problem.bounds_of(edge);
-        side_of(bounds, self.least.sums[edge], self.greatest.sums[edge])
+        let (least, greatest) = self.driven(edge);
+        side_of(self.problem.bounds_of(edge), least, greatest)
     }
 
     /// Whether the least frequencies drive an edge too often, or the greatest ones not often
@@ -202,18 +229,38 @@ impl<'a> SummedRegion<'a> {
             (slice_get self.now.problem.edges edge) ≡ Some result }
     {
         let bounds = self.problem.bounds_of(edge);
+        let (least, greatest) = self.driven(edge);
         match side {
-            Side::Over => u64::from(bounds.most) < self.least.sums[edge],
-            Side::Under => self.greatest.sums[edge] < u64::from(bounds.least),
+            Side::Over => u64::from(bounds.most) < least,
+            Side::Under => greatest < u64::from(bounds.least),
         }
     }
 
-    /// The first edge from one on on which the least frequencies leave drives missing.
+    // How often the least and the greatest frequencies drive the edge at an index.
+    fn driven(&self, edge: usize) -> (u64, u64)
+        requires { edge < length self.now.problem.edges }
+        ensures { result ≡ (
+          frequency_on self.now.problem.lines (least_in self.now.ranges) edge,
+          frequency_on self.now.problem.lines (greatest_in self.now.ranges) edge,
+        ) }
+    {
+        match &self.sums {
+            Some(sums) => (sums.least.sums[edge], sums.greatest.sums[edge]),
+            None => ends_on(self.problem, &self.ranges, edge),
+        }
+    }
+
+    /// An edge from one on before which the least frequencies leave no drives missing: without sums
+    /// that one itself, and else the first on which they do.
     pub(crate) fn next_short(&self, from: usize) -> Option<usize>
         ensures next { IsNextShort self.now.problem self.now.ranges from result }
         ensures sound { IsProblem self.now.problem }
     {
-        self.least.short.next(from)
+        match &self.sums {
+            Some(sums) => sums.least.short.next(from),
+            None if from < self.problem.edge_count() => Some(from),
+            None => None,
+        }
     }
 
     /// How many drives the least frequencies leave missing on the edge at an index.
@@ -224,20 +271,27 @@ impl<'a> SummedRegion<'a> {
         ensures few { result < 4294967296 }
     {
         let bounds = self.problem.bounds_of(edge);
-        u64::from(bounds.least).saturating_sub(self.least.sums[edge])
+        let (driven, _) = self.driven(edge);
+        u64::from(bounds.least).saturating_sub(driven)
     }
 }
 
-// On which side an edge with these bounds is missed, where it is.
-fn side_of(bounds: BoundedEdge, least: u64, greatest: u64) -> Option<Side>
-    ensures { result ≡ (if nat_lt bounds.most least then Some side.Over
-        else (if nat_lt greatest bounds.least then Some side.Under else None)) }
+// Where sums are kept, the line at an index has another range in them.
+fn move_sums(
+    sums: &mut Option<EdgeSums>,
+    problem: &LineProblem,
+    ranges: &[LineRange],
+    line: usize,
+    range: LineRange,
+)
+    requires there { line < length ranges.now }
+    requires each { length ranges.now ≡ length problem.now.lines }
+    requires sound { All IsRange ranges.now }
+    requires sums { IfSome sums.old (AreSums problem.now ranges.now) }
+    ensures { IfSome sums.new (AreSums problem.now (slice_set ranges.now line range)) }
 {
-    if u64::from(bounds.most) < least {
-        Some(Side::Over)
-    } else if greatest < u64::from(bounds.least) {
-        Some(Side::Under)
-    } else {
-        None
+    match sums {
+        Some(sums) => sums.set_range(problem, ranges, line, range),
+        None => {}
     }
 }

@@ -5,7 +5,6 @@ ghost use Rattle.line_cost_model.specs.Regions.{IsRange, greatest_in, least_in};
 
 use crate::problem::LineProblem;
 use crate::range::LineRange;
-use crate::region::Region;
 
 /// How often a concept drives the edge at an index.
 #[tactic(auto, using(std::proofs::lemmas::List::take_all, crate::proofs::Driven::sum_is_frequency))]
@@ -21,44 +20,23 @@ pub(crate) fn frequency_on(problem: &LineProblem, frequencies: &[u32], edge: usi
     sum
 }
 
-/// How often the greatest frequencies of some ranges drive the edge at an index.
-pub(crate) fn greatest_on(problem: &LineProblem, ranges: &[LineRange], edge: usize) -> u64
+/// How often the least and the greatest frequencies of some ranges drive the edge at an index.
+pub(crate) fn ends_on(problem: &LineProblem, ranges: &[LineRange], edge: usize) -> (u64, u64)
     requires there { edge < length problem.now.edges }
     requires each { length ranges.now ≡ length problem.now.lines }
     requires sound { All IsRange ranges.now }
-    ensures { result ≡ frequency_on problem.now.lines (greatest_in ranges.now) edge }
-{
-    let mut sum = 0u128;
-    for line in problem.lines_over(edge) {
-        sum += u128::from(ranges[*line].hi);
-    }
-    let _count = problem.line_count();
-    narrowed(sum)
-}
-
-// The same number of drives in 64 bits: a thousand for each of a thousand million lines fit.
-fn narrowed(drives: u128) -> u64
-    requires { drives ≤ 1000000000000 }
-    ensures { result ≡ drives }
-{
-    drives as u64
-}
-
-/// How often the edge at an index is driven at least, and at most, by the concepts of a region.
-pub(crate) fn ends_on(problem: &LineProblem, region: &Region, edge: usize) -> (u128, u128)
-    requires there { edge < length problem.now.edges }
-    requires each { length region.now ≡ length problem.now.lines }
     ensures { result ≡ (
-      frequency_on problem.now.lines (least_in region.now) edge,
-      frequency_on problem.now.lines (greatest_in region.now) edge,
+      frequency_on problem.now.lines (least_in ranges.now) edge,
+      frequency_on problem.now.lines (greatest_in ranges.now) edge,
     ) }
 {
-    let ranges = region.ranges();
-    let mut least = 0u128;
-    let mut greatest = 0u128;
+    // A count tells what always holds of a problem.
+    let _ = problem.line_count();
+    let mut least = 0u64;
+    let mut greatest = 0u64;
     for line in problem.lines_over(edge) {
-        least += u128::from(ranges[*line].lo);
-        greatest += u128::from(ranges[*line].hi);
+        least += u64::from(ranges[*line].lo);
+        greatest += u64::from(ranges[*line].hi);
     }
     (least, greatest)
 }

@@ -6,5 +6,6 @@ use Rattle.line_cost_model.proofs.problem.take_longer.Given as goal
 abbrev pub invariant-loop-one : goal.invariant-loop-one
 invariant-loop-one l = record {
   size : length l.all.items ≡ length l.fn.all.items;
-  taken : (line : ℕ) → AreLonger l.fn.all.items line l.fn.longer.items → AreTaken l.fn.all.items line l.yielded l.all.items;
+  taken : (line : ℕ) → AreLonger l.fn.all.items line l.fn.longer.items
+      → AreTaken l.fn.all.items line l.yielded l.all.items;
 }

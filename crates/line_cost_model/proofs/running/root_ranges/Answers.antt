@@ -6,7 +6,9 @@ use Rattle.line_cost_model.proofs.running.root_ranges.Goals as goal
 
 pub loop-line-preserved : goal.loop-line-preserved
 loop-line-preserved c =
-    c.in_ok-push.ensures.items ∙ ap (λ ranges. ranges ++ record { lo = 0; hi = c.most_of_line-hi.result } ∷ []) c.loop-line.invariant
+    c.in_ok-push.ensures.items
+    ∙ ap (λ ranges. ranges ++ record { lo = 0; hi = c.most_of_line-hi.result } ∷ [])
+    c.loop-line.invariant
     ∙ sym (root_more c.args.problem.now c.loop-line.line c.most_of_line-hi.result c.most_of_line-hi.ensures)
 
 pub returns-clause-sound : goal.returns-clause-sound

@@ -10,11 +10,20 @@ little c =
     (omega (arith, times.ensures, (c.type_inv.frequencies c.loop-line.line).fits))
 
 pub overflow_add-sum : goal.overflow_add-sum
-overflow_add-sum c = record { fits = omega (arith, c.loop-line.invariant.1, little c, few_lines c.args.problem.now c.line_count-line-end.ensures.sound) }
+overflow_add-sum c = record {
+  fits = omega (
+    arith,
+    c.loop-line.invariant.1,
+    little c,
+    few_lines c.args.problem.now
+        c.line_count-line-end.ensures.sound,
+  );
+}
 
 pub loop-line-preserved : goal.loop-line-preserved
 loop-line-preserved c =
-    let more = cost_more c.args.problem.now c.args.frequencies.now c.loop-line.line c.from.result c.from-in-loop-line.result
+    let more = cost_more c.args.problem.now c.args.frequencies.now c.loop-line.line c.from.result
+    c.from-in-loop-line.result
     c.requires.each (c.cost_of_line.ensures ∙ ap Some (sym c.from.ensures)) c.from-in-loop-line.ensures in (
       ap (λ sum. sum + c.from.result * c.from-in-loop-line.result) c.loop-line.invariant.0 ∙ sym more,
       omega (arith, c.loop-line.invariant.1, little c),
@@ -22,7 +31,9 @@ loop-line-preserved c =
 
 pub returns-clause-cost : goal.returns-clause-cost
 returns-clause-cost c =
-    c.loop-line.invariant.0 ∙ cost_whole c.args.problem.now c.args.frequencies.now c.line_count-line-end.result c.loop-line.line
+    c.loop-line.invariant.0
+    ∙ cost_whole c.args.problem.now c.args.frequencies.now c.line_count-line-end.result
+    c.loop-line.line
     c.requires.each c.line_count-line-end.ensures.count c.loop-line-test.false
 
 pub returns-clause-few : goal.returns-clause-few

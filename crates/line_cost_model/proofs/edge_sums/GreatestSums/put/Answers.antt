@@ -18,7 +18,8 @@ overflow_add-self c = record {
 pub overflow_sub-self : goal.overflow_sub-self
 overflow_sub-self c =
     let was = c.index-before.ensures
-    ∙ get_or_default c.args.self.now.sums.items c.args.edge _ _ (omega (arith, c.requires.there, c.requires.sound.size)) in
+    ∙ get_or_default c.args.self.now.sums.items c.args.edge _ _
+    (omega (arith, c.requires.there, c.requires.sound.size)) in
     let put = edge_put under c.args.problem.now.edges c.args.self.now.sums.items c.args.edge c.args.sum
     c.index-before.result.now c.bounds_of-bounds.result c.requires.sound.size c.requires.there
     c.bounds_of-bounds.ensures was in
@@ -27,7 +28,8 @@ overflow_sub-self c =
 pub returns-clause-sound : goal.returns-clause-sound
 returns-clause-sound c =
     let was = c.index-before.ensures
-    ∙ get_or_default c.args.self.now.sums.items c.args.edge _ _ (omega (arith, c.requires.there, c.requires.sound.size)) in
+    ∙ get_or_default c.args.self.now.sums.items c.args.edge _ _
+    (omega (arith, c.requires.there, c.requires.sound.size)) in
     let put = edge_put under c.args.problem.now.edges c.args.self.now.sums.items c.args.edge c.args.sum
     c.index-before.result.now c.bounds_of-bounds.result c.requires.sound.size c.requires.there
     c.bounds_of-bounds.ensures was in

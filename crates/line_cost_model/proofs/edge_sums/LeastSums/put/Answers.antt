@@ -19,7 +19,8 @@ overflow_add-self c = record {
 pub overflow_sub-self : goal.overflow_sub-self
 overflow_sub-self c =
     let was = c.index-before.ensures
-    ∙ get_or_default c.args.self.now.sums.items c.args.edge _ _ (omega (arith, c.requires.there, c.requires.sound.size)) in
+    ∙ get_or_default c.args.self.now.sums.items c.args.edge _ _
+    (omega (arith, c.requires.there, c.requires.sound.size)) in
     let put = edge_put over c.args.problem.now.edges c.args.self.now.sums.items c.args.edge c.args.sum
     c.index-before.result.now c.bounds_of-bounds.result c.requires.sound.size c.requires.there
     c.bounds_of-bounds.ensures was in
@@ -28,7 +29,8 @@ overflow_sub-self c =
 pub renew-requires-clause-was : goal.renew-requires-clause-was
 renew-requires-clause-was c =
     let was = c.index-before.ensures
-    ∙ get_or_default c.args.self.now.sums.items c.args.edge _ _ (omega (arith, c.requires.there, c.requires.sound.size)) in
+    ∙ get_or_default c.args.self.now.sums.items c.args.edge _ _
+    (omega (arith, c.requires.there, c.requires.sound.size)) in
     let at = get_or_from_slice_get c.args.problem.now.edges c.args.edge c.bounds_of-bounds.result no_bounds
     c.bounds_of-bounds.ensures in
     c.requires.sound.short_is c.args.edge c.requires.there
@@ -37,7 +39,8 @@ renew-requires-clause-was c =
 pub returns-clause-sound : goal.returns-clause-sound
 returns-clause-sound c =
     let was = c.index-before.ensures
-    ∙ get_or_default c.args.self.now.sums.items c.args.edge _ _ (omega (arith, c.requires.there, c.requires.sound.size)) in
+    ∙ get_or_default c.args.self.now.sums.items c.args.edge _ _
+    (omega (arith, c.requires.there, c.requires.sound.size)) in
     let put = edge_put over c.args.problem.now.edges c.args.self.now.sums.items c.args.edge c.args.sum
     c.index-before.result.now c.bounds_of-bounds.result c.requires.sound.size c.requires.there
     c.bounds_of-bounds.ensures was in

@@ -1,4 +1,5 @@
-use Rattle.std.proofs.Common.{◌∙◌, ◌<◌, slice_set, nat_lt, get_or, false, replicate, length, ap, sym, arith, inl, inr, List}
+use Rattle.std.proofs.Common.{◌∙◌, ◌<◌, slice_set, nat_lt, get_or, false, replicate, length, ap}
+use Rattle.std.proofs.Common.{sym, arith, inl, inr, List}
 use Rattle.std.proofs.Common.{get_or-set_other, get_or-set_same, Bool}
 use Rattle.std.proofs.lemmas.Bool.{cases_eq}
 use Rattle.std.proofs.lemmas.List.{length-set}

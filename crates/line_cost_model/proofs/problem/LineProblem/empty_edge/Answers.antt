@@ -12,7 +12,8 @@ returns-in-Some-clause-first c =
 
 pub returns-in-Some-clause-none : goal.returns-in-Some-clause-none
 returns-in-Some-clause-none c =
-    none_feasible c.args.self.now c.args.region.now c.loop-edge.edge c.in-Some.side (c.empty_side.ensures ∙ ap Some c.in-Some.is)
+    none_feasible c.args.self.now c.args.region.now c.loop-edge.edge c.in-Some.side
+    (c.empty_side.ensures ∙ ap Some c.in-Some.is)
 
 pub loop-edge-preserved : goal.loop-edge-preserved
 loop-edge-preserved c =

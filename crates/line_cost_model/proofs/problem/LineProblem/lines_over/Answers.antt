@@ -12,7 +12,13 @@ returns-clause-there c =
     let lines = c.args.self.now.lines in
     let edges : List CrossedEdge = c.self.inside.edges.items in
     let within : c.args.edge < length edges =
-    omega (arith, c.requires, ap (λ (p : ProblemParts). length p.edges) c.self.view_is, length-map edges (λ at. at.bounds)) in
+    omega (
+      arith,
+      c.requires,
+      ap (λ (p : ProblemParts). length p.edges) c.self.view_is,
+      length-map
+          edges (λ at. at.bounds),
+    ) in
     let is : c.lines.result.now ≡ lines_over lines c.args.edge =
     c.lines.ensures
     ∙ c.self.invariant.1 c.args.edge c.index.result.now

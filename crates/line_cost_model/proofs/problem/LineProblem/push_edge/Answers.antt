@@ -2,7 +2,7 @@ use Rattle.std.proofs.Common.{◌++◌, ◌∷◌, ◌<ℤ◌, [], w64, sym, sub
 use Rattle.std.proofs.lemmas.Int.{to_z-of_z}
 use Rattle.std.specs.List.{All}
 use Rattle.line_cost_model.specs.Problems.{ProblemParts}
-use Rattle.line_cost_model.proofs.Pushed.{edge_pushed}
+use Rattle.line_cost_model.proofs.WholeProblems.{edge_pushed}
 use Rattle.line_cost_model.proofs.problem.LineProblem.push_edge.Goals as goal
 
 pub invariant_of-self-2 : goal.invariant_of-self-2
@@ -10,6 +10,10 @@ invariant_of-self-2 c =
     let edges = c.self.inside.edges.items in
     let same = to_z-of_z w64 c.args.id c.ranges.id in
     let none = ap (λ (p : ProblemParts). p.lines) c.self.view_is ∙ c.requires.no_line in
-    let rising = subst (λ (p : ProblemParts). All (λ other. other.id <ℤ c.args.id) p.edges) (sym c.self.view_is) c.requires.rising in
+    let rising = subst (λ (p : ProblemParts). All (λ other. other.id <ℤ c.args.id) p.edges)
+    (sym c.self.view_is) c.requires.rising in
     edge_pushed edges c.push.new.self.items c.self.inside.lines.items _ c.self.invariant none c.requires.edge rising
-    (c.in_ok-push.ensures.items ∙ ap (λ edge. edges ++ edge ∷ []) c.new.ensures ∙ ap (λ id. edges ++ record { bounds = record { id = id; least = c.args.least; most = c.args.most }; lines = [] } ∷ []) same)
+    (c.in_ok-push.ensures.items ∙ ap (λ edge. edges ++ edge ∷ []) c.new.ensures
+    ∙ ap (λ id. edges ++ record
+    { bounds = record { id = id; least = c.args.least; most = c.args.most }; lines = [] } ∷
+    []) same)

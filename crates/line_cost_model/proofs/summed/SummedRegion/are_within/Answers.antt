@@ -1,5 +1,5 @@
 use Rattle.std.proofs.Common.{◌<◌, ◌∙◌, List, length, map, take, ap, sym, arith}
-use Rattle.std.proofs.lemmas.List.{take_all}
+use Rattle.std.proofs.lemmas.List.{nil_from_length, take_all}
 use Rattle.line_cost_model.specs.declared.multipliers.Multiplier.{Multiplier}
 use Rattle.line_cost_model.specs.DualBounds.{are_within, left_of}
 use Rattle.line_cost_model.proofs.Lowered.{left_more}
@@ -14,6 +14,18 @@ loop-place-init c = (
   c.in_ok-renew_costs.ensures ∙ costs_left c.args.self.now.problem.lines,
   within_none c.args.self.now.problem c.args.self.now.ranges,
 )
+
+pub returns-then-len-eq0 : goal.returns-then-len-eq0
+returns-then-len-eq0 c =
+    sym (ap (are_within c.args.self.now.problem c.args.self.now.ranges)
+    (nil_from_length c.args.multipliers.now (sym c.len.ensures.len ∙ c.if-len-eq0.true))
+    ∙ within_none c.args.self.now.problem c.args.self.now.ranges)
+
+pub can_pay-requires-clause-there : goal.can_pay-requires-clause-there
+can_pay-requires-clause-there c =
+    holds_at (λ (multiplier : Multiplier). multiplier.edge < length c.args.self.now.problem.edges)
+    c.args.multipliers.now
+    c.loop-place.place c.at-multiplier.result c.requires c.at-multiplier.ensures
 
 pub returns-then-not-can_pay : goal.returns-then-not-can_pay
 returns-then-not-can_pay c =

@@ -7,12 +7,15 @@ loop-edge-init c = first_is c.args.self.now.problem c.args.self.now.ranges
 
 pub returns-in-Some-clause-first : goal.returns-in-Some-clause-first
 returns-in-Some-clause-first c =
-    sym (c.loop-edge.invariant ∙ first_more c.args.self.now.problem c.args.self.now.ranges c.loop-edge.edge (Some c.in-Some.side)
+    sym (c.loop-edge.invariant
+    ∙ first_more c.args.self.now.problem c.args.self.now.ranges c.loop-edge.edge
+    (Some c.in-Some.side)
     (c.empty_side.ensures ∙ ap Some c.in-Some.is))
 
 pub returns-in-Some-clause-none : goal.returns-in-Some-clause-none
 returns-in-Some-clause-none c =
-    none_feasible c.args.self.now.problem c.args.self.now.ranges c.loop-edge.edge c.in-Some.side (c.empty_side.ensures ∙ ap Some c.in-Some.is)
+    none_feasible c.args.self.now.problem c.args.self.now.ranges c.loop-edge.edge c.in-Some.side
+    (c.empty_side.ensures ∙ ap Some c.in-Some.is)
 
 pub loop-edge-preserved : goal.loop-edge-preserved
 loop-edge-preserved c =

@@ -12,9 +12,12 @@ use Rattle.line_cost_model.proofs.summed.SummedRegion.renew_bound.Goals.{After-f
 
 pub loop-edge-init : goal.loop-edge-init
 loop-edge-init c = record {
-  pass = subst (λ (multipliers : List Multiplier). IsPass c.args.self.now.problem c.args.self.now.ranges multipliers c.renew_costs.new.left.items c.least_millionths-value.result 0)
+  pass = subst (λ (multipliers : List Multiplier). IsPass c.args.self.now.problem
+      c.args.self.now.ranges multipliers c.renew_costs.new.left.items
+      c.least_millionths-value.result 0)
       (sym c.clear.ensures)
-      (pass_first c.args.self.now.problem c.args.self.now.ranges c.renew_costs.new.left.items c.least_millionths-value.result c.in_ok-renew_costs.ensures
+      (pass_first c.args.self.now.problem c.args.self.now.ranges c.renew_costs.new.left.items
+      c.least_millionths-value.result c.in_ok-renew_costs.ensures
       c.least_millionths-value.ensures.cost c.least_millionths-value.ensures.few);
   within = omega arith;
 }
@@ -22,42 +25,53 @@ loop-edge-init c = record {
 pub overflow_add-from : goal.overflow_add-from
 overflow_add-from c =
     let next : IsNextShort c.args.self.now.problem c.args.self.now.ranges c.loop-edge.from (Some c.in-Some.edge) =
-    subst (IsNextShort c.args.self.now.problem c.args.self.now.ranges c.loop-edge.from) c.in-Some.is c.next_short.ensures.next in
+    subst (IsNextShort c.args.self.now.problem c.args.self.now.ranges c.loop-edge.from)
+    c.in-Some.is c.next_short.ensures.next in
     record { fits = omega (arith, next.1, few_edges c.args.self.now.problem c.next_short.ensures.sound) }
 
 pub loop-edge-preserved-then-amount-eq0 : goal.loop-edge-preserved-then-amount-eq0
 loop-edge-preserved-then-amount-eq0 c =
     let next : IsNextShort c.args.self.now.problem c.args.self.now.ranges c.loop-edge.from (Some c.in-Some.edge) =
-    subst (IsNextShort c.args.self.now.problem c.args.self.now.ranges c.loop-edge.from) c.in-Some.is c.next_short.ensures.next in
+    subst (IsNextShort c.args.self.now.problem c.args.self.now.ranges c.loop-edge.from)
+    c.in-Some.is c.next_short.ensures.next in
     let pass = pass_to c.args.self.now.problem c.args.self.now.ranges c.loop-edge.bound.multipliers
     c.loop-edge.bound.left.items c.loop-edge.value c.loop-edge.from c.in-Some.edge c.loop-edge.invariant.pass next in
     record {
-      pass = pass_none c.args.self.now.problem c.args.self.now.ranges c.loop-edge.bound.multipliers c.loop-edge.bound.left.items c.loop-edge.value c.in-Some.edge
+      pass = pass_none c.args.self.now.problem c.args.self.now.ranges
+          c.loop-edge.bound.multipliers c.loop-edge.bound.left.items c.loop-edge.value
+          c.in-Some.edge
           c.next_multiplier-missing.result.1 pass
-          (c.next_multiplier-missing.ensures.amount c.loop-edge.bound.multipliers (c.deref.ensures.value ∙ c.loop-edge.invariant.pass.left_is)) c.if-amount-eq0.true;
+          (c.next_multiplier-missing.ensures.amount c.loop-edge.bound.multipliers
+          (c.deref.ensures.value ∙ c.loop-edge.invariant.pass.left_is)) c.if-amount-eq0.true;
       within = omega (arith, next.1);
     }
 
 pub push_amount-requires-clause-amount : goal.push_amount-requires-clause-amount
 push_amount-requires-clause-amount c =
     let one = c.next_multiplier-missing in
-    is_amount c.args.self.now.problem c.args.self.now.ranges c.loop-edge.bound.multipliers c.in-Some.edge one.result.0 one.result.1
+    is_amount c.args.self.now.problem c.args.self.now.ranges c.loop-edge.bound.multipliers
+    c.in-Some.edge one.result.0 one.result.1
     c.next_short.ensures.sound one.ensures.shortfall
-    (one.ensures.amount c.loop-edge.bound.multipliers (c.deref.ensures.value ∙ c.loop-edge.invariant.pass.left_is)) c.if-amount-eq0.false
+    (one.ensures.amount c.loop-edge.bound.multipliers
+    (c.deref.ensures.value ∙ c.loop-edge.invariant.pass.left_is)) c.if-amount-eq0.false
 
 little : (c : After-from-in-Some) → c.from.result * c.from-in-Some.result ≤ 4294967296000000000000000000
 little c =
     let one = c.next_multiplier-missing in
     subst (λ (amount : ℕ). amount * c.from-in-Some.result ≤ 4294967296000000000000000000) (sym c.from.ensures)
     (subst (λ (missing : ℕ). one.result.1 * missing ≤ 4294967296000000000000000000) (sym c.from-in-Some.ensures)
-    (adds c.args.self.now.problem c.args.self.now.ranges c.loop-edge.bound.multipliers c.in-Some.edge one.result.0 one.result.1
+    (adds c.args.self.now.problem c.args.self.now.ranges c.loop-edge.bound.multipliers
+    c.in-Some.edge one.result.0 one.result.1
     c.next_short.ensures.sound one.ensures.shortfall
-    (one.ensures.amount c.loop-edge.bound.multipliers (c.deref.ensures.value ∙ c.loop-edge.invariant.pass.left_is)) c.if-amount-eq0.false one.ensures.few))
+    (one.ensures.amount c.loop-edge.bound.multipliers
+    (c.deref.ensures.value ∙ c.loop-edge.invariant.pass.left_is)) c.if-amount-eq0.false
+    one.ensures.few))
 
 pub overflow_add-value : goal.overflow_add-value
 overflow_add-value c =
     let next : IsNextShort c.args.self.now.problem c.args.self.now.ranges c.loop-edge.from (Some c.in-Some.edge) =
-    subst (IsNextShort c.args.self.now.problem c.args.self.now.ranges c.loop-edge.from) c.in-Some.is c.next_short.ensures.next in
+    subst (IsNextShort c.args.self.now.problem c.args.self.now.ranges c.loop-edge.from)
+    c.in-Some.is c.next_short.ensures.next in
     let pass = pass_to c.args.self.now.problem c.args.self.now.ranges c.loop-edge.bound.multipliers
     c.loop-edge.bound.left.items c.loop-edge.value c.loop-edge.from c.in-Some.edge c.loop-edge.invariant.pass next in
     let few = pass.few in
@@ -66,20 +80,24 @@ overflow_add-value c =
 pub loop-edge-preserved : goal.loop-edge-preserved
 loop-edge-preserved c =
     let next : IsNextShort c.args.self.now.problem c.args.self.now.ranges c.loop-edge.from (Some c.in-Some.edge) =
-    subst (IsNextShort c.args.self.now.problem c.args.self.now.ranges c.loop-edge.from) c.in-Some.is c.next_short.ensures.next in
+    subst (IsNextShort c.args.self.now.problem c.args.self.now.ranges c.loop-edge.from)
+    c.in-Some.is c.next_short.ensures.next in
     let pass = pass_to c.args.self.now.problem c.args.self.now.ranges c.loop-edge.bound.multipliers
     c.loop-edge.bound.left.items c.loop-edge.value c.loop-edge.from c.in-Some.edge c.loop-edge.invariant.pass next in
     let one = c.next_multiplier-missing in
     let multipliers = c.loop-edge.bound.multipliers in
     let more : List Multiplier = multipliers ++ record { edge = c.in-Some.edge; amount = one.result.1 } ∷ [] in
-    let lowered = pass_some c.args.self.now.problem c.args.self.now.ranges multipliers c.in-Some.edge one.result.0 one.result.1
+    let lowered = pass_some c.args.self.now.problem c.args.self.now.ranges multipliers
+    c.in-Some.edge one.result.0 one.result.1
     c.next_short.ensures.sound one.ensures.shortfall
     (one.ensures.amount multipliers (c.deref.ensures.value ∙ c.loop-edge.invariant.pass.left_is)) c.if-amount-eq0.false
     c.loop-edge.bound.left.items c.take_off.new.left.items c.loop-edge.value one.ensures.few pass
     c.take_off.ensures.size c.take_off.ensures.lowered in
     record {
-      pass = subst (λ (multipliers : List Multiplier). IsPass c.args.self.now.problem c.args.self.now.ranges multipliers c.take_off.new.left.items
-          (c.loop-edge.value + c.from.result * c.from-in-Some.result) (c.in-Some.edge + 1)) (sym c.in_ok-push_amount.ensures.ok)
+      pass = subst (λ (multipliers : List Multiplier). IsPass c.args.self.now.problem
+          c.args.self.now.ranges multipliers c.take_off.new.left.items
+          (c.loop-edge.value + c.from.result * c.from-in-Some.result) (c.in-Some.edge + 1))
+          (sym c.in_ok-push_amount.ensures.ok)
           (subst (λ (amount : ℕ). IsPass c.args.self.now.problem c.args.self.now.ranges more c.take_off.new.left.items
           (c.loop-edge.value + amount * c.from-in-Some.result) (c.in-Some.edge + 1)) (sym c.from.ensures)
           (subst (λ (missing : ℕ). IsPass c.args.self.now.problem c.args.self.now.ranges more c.take_off.new.left.items
@@ -94,11 +112,13 @@ signed-bound-requires c =
 
 pub returns-clause-value : goal.returns-clause-value
 returns-clause-value c =
-    let last = (pass_last c.args.self.now.problem c.args.self.now.ranges c.loop-edge.bound.multipliers c.loop-edge.bound.left.items
+    let last = (pass_last c.args.self.now.problem c.args.self.now.ranges
+    c.loop-edge.bound.multipliers c.loop-edge.bound.left.items
     c.loop-edge.value c.loop-edge.from c.loop-edge.invariant.pass c.loop-edge.invariant.within
     (subst (IsNextShort c.args.self.now.problem c.args.self.now.ranges c.loop-edge.from) c.in_default.is
     c.next_short.ensures.next)) in
-    to_z-of_z w128 c.signed-bound.result (record { sfits = c.signed-bound.type_inv }) ∙ c.signed-bound.ensures ∙ ap pos last.1
+    to_z-of_z w128 c.signed-bound.result (record { sfits = c.signed-bound.type_inv })
+    ∙ c.signed-bound.ensures ∙ ap pos last.1
 
 pub returns-clause-multipliers : goal.returns-clause-multipliers
 returns-clause-multipliers c =
@@ -109,17 +129,21 @@ returns-clause-multipliers c =
 
 pub returns-clause-least : goal.returns-clause-least
 returns-clause-least c =
-    let last = (pass_last c.args.self.now.problem c.args.self.now.ranges c.loop-edge.bound.multipliers c.loop-edge.bound.left.items
+    let last = (pass_last c.args.self.now.problem c.args.self.now.ranges
+    c.loop-edge.bound.multipliers c.loop-edge.bound.left.items
     c.loop-edge.value c.loop-edge.from c.loop-edge.invariant.pass c.loop-edge.invariant.within
     (subst (IsNextShort c.args.self.now.problem c.args.self.now.ranges c.loop-edge.from) c.in_default.is
     c.next_short.ensures.next)) in
-    bound_is_least c.args.self.now.problem c.args.self.now.ranges (multipliers_of c.args.self.now.problem c.args.self.now.ranges)
-    (subst (λ (multipliers : List Multiplier). are_within c.args.self.now.problem c.args.self.now.ranges multipliers ≡ true) last.0 c.loop-edge.invariant.pass.within)
+    bound_is_least c.args.self.now.problem c.args.self.now.ranges
+    (multipliers_of c.args.self.now.problem c.args.self.now.ranges)
+    (subst (λ (multipliers : List Multiplier). are_within c.args.self.now.problem
+    c.args.self.now.ranges multipliers ≡ true) last.0 c.loop-edge.invariant.pass.within)
 
 pub push_amount-requires-clause-after : goal.push_amount-requires-clause-after
 push_amount-requires-clause-after c =
     let next : IsNextShort c.args.self.now.problem c.args.self.now.ranges c.loop-edge.from (Some c.in-Some.edge) =
-    subst (IsNextShort c.args.self.now.problem c.args.self.now.ranges c.loop-edge.from) c.in-Some.is c.next_short.ensures.next in
+    subst (IsNextShort c.args.self.now.problem c.args.self.now.ranges c.loop-edge.from)
+    c.in-Some.is c.next_short.ensures.next in
     let pass = pass_to c.args.self.now.problem c.args.self.now.ranges c.loop-edge.bound.multipliers
     c.loop-edge.bound.left.items c.loop-edge.value c.loop-edge.from c.in-Some.edge c.loop-edge.invariant.pass next in
     pass.after

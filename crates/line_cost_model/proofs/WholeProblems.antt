@@ -1,0 +1,195 @@
+-- What always holds of a line problem with the lines over its edges, with one edge or line more.
+use Rattle.std.proofs.Common.{◌≡◌, get_or-set_same, get_or-set_other, set, ℕ, ◌<◌, ◌<ℤ◌}
+use Rattle.std.proofs.Common.{Bool, true, false, cond, nat_eq, List, [], ◌∷◌, ◌++◌}
+use Rattle.std.proofs.Common.{length, get_or, map, refl, ap, subst, sym, ◌∙◌}
+use Rattle.std.proofs.Common.{arith, inl, inr, ◌||◌}
+use Rattle.std.specs.List.{All, list_any}
+use Rattle.std.proofs.lemmas.List.{map_push, length-map, get_or-map, same_lists}
+use Rattle.std.proofs.lemmas.List.Elements.{All-push}
+use Rattle.std.proofs.lemmas.Option.{slice_get-get_or, slice_get_within, get_or_from_slice_get}
+use Rattle.std.proofs.lemmas.Bool.{cases_eq, eq-eqb, ne_eqb}
+use Rattle.line_cost_model.specs.declared.edge.BoundedEdge.{BoundedEdge}
+use Rattle.line_cost_model.specs.declared.problem.Longer.{Longer}
+use Rattle.line_cost_model.specs.Concepts.{goes_over}
+use Rattle.line_cost_model.specs.Crossings.{CrossedEdge, AreCrossed, AreLonger, AreTaken, no_edge}
+use Rattle.line_cost_model.specs.Crossings.{edge_at, crossed_at, lines_over}
+use Rattle.line_cost_model.specs.Problems.{CostedLine, ProblemParts, IsBoundedEdge, IsCostedLine, IsProblem}
+use Rattle.line_cost_model.proofs.Pushed.{edge_push, line_push, over_push, crossed_by_none}
+
+-- ---- a line more over its edges
+
+all_over : (longer : List Longer) (edge : ℕ)
+    → list_any (λ one. nat_eq edge one.edge) longer ≡ list_any (nat_eq edge)
+    (map (λ one. one.edge) longer)
+all_over [] edge = refl
+all_over (one ∷ longer) edge = ap (λ b. nat_eq edge one.edge || b) (all_over longer edge)
+
+module _ (edges after : List CrossedEdge) (lines : List CostedLine) (line : CostedLine) (longer : List Longer)
+    (own : map (λ one. one.edge) longer ≡ line.edges)
+    (taken : AreTaken edges (length lines) longer after) (size : length after ≡ length edges)
+  where
+    -- an edge is over the lines, and over the new one where it is an edge of it
+    taken_over : (edge : ℕ) → edge < length edges
+        → edge_at after edge ≡ cond (goes_over edge line) (crossed_at edges (length lines) edge)
+        (edge_at edges edge)
+    taken_over edge h = taken edge h
+        ∙ ap (λ b. cond b (crossed_at edges (length lines) edge) (edge_at edges edge))
+        (all_over longer edge ∙ ap (list_any (nat_eq edge)) own)
+
+    -- its bounds stay
+    pub bounds_stay : map (λ at. at.bounds) after ≡ map (λ at. at.bounds) edges
+    bounds_stay = same_lists _ _
+        (length-map after (λ (at : CrossedEdge). at.bounds) ∙ size
+        ∙ sym (length-map edges (λ (at : CrossedEdge). at.bounds))) (λ k d h.
+        let within : k < length edges = omega (arith, length-map after (λ (at : CrossedEdge). at.bounds)) in
+        get_or-map (λ (at : CrossedEdge). at.bounds) after k no_edge d (omega arith)
+        ∙ ap (λ (at : CrossedEdge). at.bounds) (taken_over k within) ∙ either (goes_over k line) k
+        ∙ sym (get_or-map (λ (at : CrossedEdge). at.bounds) edges k no_edge d within))
+      where
+        either : (b : Bool) (k : ℕ)
+            → (cond b (crossed_at edges (length lines) k) (edge_at edges k)).bounds
+            ≡ (edge_at edges k).bounds
+        either true k = refl
+        either false k = refl
+
+    pub crossed_more : AreCrossed lines edges → AreCrossed (lines ++ line ∷ []) after
+    crossed_more are edge at there =
+        let within : edge < length edges = omega (arith, slice_get_within after edge at there) in
+        let here : edge_at after edge ≡ at = get_or_from_slice_get after edge at no_edge there in
+        let old : (edge_at edges edge).lines ≡ lines_over lines edge = are edge (edge_at edges edge)
+        (slice_get-get_or edges edge no_edge within) in
+        sym (ap (λ (at : CrossedEdge). at.lines) here) ∙ ap (λ (at : CrossedEdge). at.lines) (taken_over edge within)
+        ∙ either (goes_over edge line) edge old
+        ∙ sym (over_push lines line edge)
+      where
+        either : (b : Bool) (edge : ℕ) → (edge_at edges edge).lines ≡ lines_over lines edge
+            → (cond b (crossed_at edges (length lines) edge) (edge_at edges edge)).lines ≡ cond b
+            (lines_over lines edge ++ length lines ∷ []) (lines_over lines edge)
+        either true edge old = ap (λ some. some ++ length lines ∷ []) old
+        either false edge old = old
+
+-- lists of the lines over edges, one after the other
+pub longer_more : (edges : List CrossedEdge) (line : ℕ) (longer : List Longer) (one : Longer)
+    → AreLonger edges line longer → one.edge < length edges
+    → one.lines.items ≡ (edge_at edges one.edge).lines ++ line ∷ []
+    → AreLonger edges line (longer ++ one ∷ [])
+longer_more edges line longer one are within is = All-push
+    (λ (one : Longer). (one.edge < length edges) ×
+    (one.lines.items ≡ (edge_at edges one.edge).lines ++ line ∷ [])) longer one are (within, is)
+
+any_push : {X : Type 0} (p : X → Bool) (xs : List X) (x : X) → list_any p (xs ++ x ∷ []) ≡ (list_any p xs || p x)
+any_push p [] x = last (p x)
+  where
+    last : (b : Bool) → (b || false) ≡ (false || b)
+    last true = refl
+    last false = refl
+any_push p (y ∷ xs) x = ap (λ b. p y || b) (any_push p xs x) ∙ leaning (p y) (list_any p xs) (p x)
+  where
+    leaning : (a b c : Bool) → (a || (b || c)) ≡ ((a || b) || c)
+    leaning true b c = refl
+    leaning false b c = refl
+
+pub taken_more : (edges : List CrossedEdge) (line : ℕ) (before : List Longer) (one : Longer)
+    (now after : List CrossedEdge) → length now ≡ length edges → AreTaken edges line before now
+    → one.edge < length edges → one.lines.items ≡ (edge_at edges one.edge).lines ++ line ∷ []
+    → after ≡ set now one.edge (record (edge_at now one.edge) { lines = one.lines.items })
+    → AreTaken edges line (before ++ one ∷ []) after
+taken_more edges line before one now after size taken there is put edge h =
+    ap (λ (some : List CrossedEdge). edge_at some edge) put
+    ∙ elim (cases_eq edge one.edge) [
+      | inl same ↦
+          let bounds : (edge_at now one.edge).bounds ≡ (edge_at edges one.edge).bounds = ap
+          (λ (at : CrossedEdge). at.bounds) (taken one.edge there)
+          ∙ either (list_any (λ other. nat_eq one.edge other.edge) before) in
+          subst (λ k. get_or (set now one.edge
+          (record (edge_at now one.edge) { lines = one.lines.items })) k no_edge ≡ cond
+          (list_any (λ other. nat_eq k other.edge) (before ++ one ∷ []))
+          (crossed_at edges line k) (edge_at edges k)) (sym same)
+          (get_or-set_same now one.edge
+          (record (edge_at now one.edge) { lines = one.lines.items }) no_edge (omega arith)
+          ∙ ap (λ lines. record (edge_at now one.edge) { lines = lines }) is
+          ∙ ap (λ bounds. record { bounds = bounds; lines = (edge_at edges one.edge).lines ++ line ∷ [] }) bounds
+          ∙ sym (ap (λ b. cond b (crossed_at edges line one.edge) (edge_at edges one.edge))
+          (any_push (λ other. nat_eq one.edge other.edge) before one
+          ∙ ap (λ b. list_any (λ other. nat_eq one.edge other.edge) before || b)
+          (eq-eqb one.edge one.edge refl)
+          ∙ or_true (list_any (λ other. nat_eq one.edge other.edge) before))))
+      | inr apart ↦
+          get_or-set_other now one.edge edge (record (edge_at now one.edge) { lines = one.lines.items }) no_edge apart
+          ∙ taken edge h
+          ∙ sym (ap (λ b. cond b (crossed_at edges line edge) (edge_at edges edge))
+          (any_push (λ other. nat_eq edge other.edge) before one
+          ∙ ap (λ b. list_any (λ other. nat_eq edge other.edge) before || b)
+          (ne_eqb edge one.edge apart)
+          ∙ or_false (list_any (λ other. nat_eq edge other.edge) before)))
+    ]
+  where
+    either : (b : Bool) →
+        (cond b (crossed_at edges line one.edge) (edge_at edges one.edge)).bounds
+        ≡ (edge_at edges one.edge).bounds
+    either true = refl
+    either false = refl
+
+    or_true : (b : Bool) → (b || true) ≡ true
+    or_true true = refl
+    or_true false = refl
+
+    or_false : (b : Bool) → (b || false) ≡ b
+    or_false true = refl
+    or_false false = refl
+
+-- ---- whole problems
+
+abbrev pub bounds_of : List CrossedEdge → List BoundedEdge
+bounds_of edges = map (λ at. at.bounds) edges
+
+pub edge_pushed : (edges after : List CrossedEdge) (lines : List CostedLine)
+    (bounds : BoundedEdge)
+    → IsProblem (record { edges = bounds_of edges; lines = lines }) × AreCrossed lines edges
+    → lines ≡ [] → IsBoundedEdge bounds → All (λ other. other.id <ℤ bounds.id) (bounds_of edges)
+    → after ≡ edges ++ record { bounds = bounds; lines = [] } ∷ []
+    → IsProblem (record { edges = bounds_of after; lines = lines }) × AreCrossed lines after
+edge_pushed edges after lines bounds sound none is rising put =
+    let sound_none : IsProblem (record { edges = bounds_of edges; lines = [] }) × AreCrossed []
+    edges = subst (λ some. IsProblem (record { edges = bounds_of edges; lines = some }) ×
+    AreCrossed some edges) none sound in
+    let all = bounds_of edges ++ bounds ∷ [] in
+    let same : bounds_of after ≡ all = ap bounds_of put
+    ∙ map_push (λ (at : CrossedEdge). at.bounds) edges
+    (record { bounds = bounds; lines = [] }) in
+    subst (λ some. IsProblem (record { edges = bounds_of after; lines = some }) × AreCrossed some after) (sym none) (
+      subst (λ some. IsProblem (record { edges = some; lines = [] })) (sym same)
+          (edge_push (bounds_of edges) bounds sound_none.0 is rising),
+      subst (AreCrossed []) (sym put) (crossed_by_none edges bounds sound_none.1),
+    )
+
+pub line_pushed : (edges after : List CrossedEdge) (lines more : List CostedLine)
+    (line : CostedLine) (longer : List Longer)
+    → IsProblem (record { edges = bounds_of edges; lines = lines }) × AreCrossed lines edges
+    → IsCostedLine (length (bounds_of edges)) line → All (λ other. other.id <ℤ line.id) lines
+    → map (λ one. one.edge) longer ≡ line.edges → AreTaken edges (length lines) longer after
+    → length after ≡ length edges → more ≡ lines ++ line ∷ []
+    → (IsProblem (record { edges = bounds_of after; lines = more }) × AreCrossed more after) ×
+    (bounds_of after ≡ bounds_of edges)
+line_pushed edges after lines more line longer sound is rising own taken size put =
+    let same = bounds_stay edges after lines line longer own taken size in
+    subst (λ some. (IsProblem (record { edges = bounds_of after; lines = some }) × AreCrossed some
+    after) × (bounds_of after ≡ bounds_of edges)) (sym put) (
+      (
+        subst (λ some. IsProblem (record { edges = some; lines = lines ++ line ∷ [] })) (sym same)
+            (line_push (bounds_of edges) lines line sound.0 is rising),
+        crossed_more edges after lines line longer own taken size sound.1,
+      ),
+      same,
+    )
+
+abbrev pub parts : List BoundedEdge → List CostedLine → ProblemParts
+parts edges lines = record { edges = edges; lines = lines }
+
+pub view_pushed : (edges after : List CrossedEdge) (lines more : List CostedLine)
+    (line : CostedLine) (before : ProblemParts) → bounds_of after ≡ bounds_of edges
+    → more ≡ lines ++ line ∷ [] → parts (bounds_of edges) lines ≡ before
+    → parts (bounds_of after) more ≡ parts before.edges (before.lines ++ line ∷ [])
+view_pushed edges after lines more line before same put is =
+    ap (λ some. parts some more) same ∙ ap (parts (bounds_of edges)) put
+    ∙ ap (λ (p : ProblemParts). parts p.edges (p.lines ++ line ∷ [])) is
