@@ -1,6 +1,6 @@
 -- The concept that a whole listing finds is the chosen one, and its nodes certify what it costs; what any
 -- first entries find is feasible.
-use Rattle.std.proofs.Common.{◌≡◌, ℕ, zero, suc, pos, ◌+◌, ◌≤◌, List, [], ◌∷◌, ◌++◌, length, take}
+use Rattle.std.proofs.Common.{◌≡◌, ℕ, zero, suc, pos, ◌≤◌, List, [], ◌∷◌, ◌++◌, length, take}
 use Rattle.std.proofs.Common.{filter_map, Option, Some, None, IfSome, ⊎_elim, ap, sym, subst, ◌∙◌}
 use Rattle.std.proofs.Common.{arith}
 use Rattle.std.specs.List.{AllByRecursion, cons_option, last_or}
@@ -16,7 +16,8 @@ use Rattle.branch_certificate.specs.Certified.{Certifies}
 use Rattle.branch_certificate.specs.declared.node.Node.TheVariants as node
 use Rattle.line_search.specs.Budgets.{nodes_in}
 use Rattle.line_search.specs.Listings.{Entry, best_after, entries_by, entries_within, levels_of, listing, middle}
-use Rattle.line_search.proofs.Lengths.{AreOrdered, IsOpenAt, first_open_is, lower_ordered, middle_inside, root_ordered, upper_ordered}
+use Rattle.line_search.proofs.Lengths.{AreOrdered, IsOpenAt, first_open_is, lower_ordered}
+use Rattle.line_search.proofs.Lengths.{middle_inside, root_ordered, upper_ordered}
 use Rattle.line_search.proofs.Said.{said}
 use Rattle.line_search.proofs.Visited.{IsVisited}
 use Rattle.line_search.proofs.VisitedRegions.{part_length, visited}
@@ -28,7 +29,8 @@ module _ (problem : ProblemParts) (sound : IsProblem problem) where
   whole : IsVisited problem (root_of problem) None (best_after None (listing problem)) (nodes_in (listing problem))
   unfolding listing
   whole =
-      visited problem sound (levels_of (root_of problem)) (root_of problem) None root_long (root_ordered problem.edges problem.lines) (omega arith) (λ chosen is. absurd (cc))
+      visited problem sound (levels_of (root_of problem)) (root_of problem) None root_long
+      (root_ordered problem.edges problem.lines) (omega arith) (λ chosen is. absurd (cc))
 
   -- where a concept is found, it is the chosen one
   pub found_is_chosen : (concept : List ℕ) → best_after None (listing problem) ≡ Some concept
@@ -44,7 +46,8 @@ module _ (problem : ProblemParts) (sound : IsProblem problem) where
         let no_better = whole.least other feasible (root_has_each problem sound other feasible) in
         let same : Some no_better.chosen ≡ Some concept = sym no_better.is ∙ is in
         let own : no_better.chosen ≡ concept = cc in
-        no_better.first (equal ∙ ap (cost_of problem) (sym own)) (subst (λ x. ComesBefore problem other x) (sym own) before);
+        no_better.first (equal ∙ ap (cost_of problem) (sym own))
+        (subst (λ x. ComesBefore problem other x) (sym own) before);
   }
 
   -- and the nodes of the listing certify what it costs
@@ -85,16 +88,20 @@ module _ (problem : ProblemParts) where
   best_feasible best (entry ∷ entries) own h = by entry.found h.0 (λ best own. best_feasible best entries own h.1)
     where
       by : (found : Option (List ℕ)) → IfSome found (IsFeasible problem)
-          → ((best : Option (List ℕ)) → IfSome best (IsFeasible problem) → IfSome (last_or best (filter_map (λ entry. entry.found) entries)) (IsFeasible problem))
+          → ((best : Option (List ℕ)) → IfSome best (IsFeasible problem)
+          → IfSome (last_or best (filter_map (λ entry. entry.found) entries))
+          (IsFeasible problem))
           → IfSome (last_or best (cons_option found (filter_map (λ entry. entry.found) entries))) (IsFeasible problem)
       by None feasible rest = rest best own
       by (Some concept) feasible rest = rest (Some concept) feasible
 
   split_find : (levels : ℕ) (region : List LineRange) (best : Option (List ℕ))
       → length region ≡ length problem.lines → AreOrdered region
-      → ((region : List LineRange) (best : Option (List ℕ)) → length region ≡ length problem.lines → AreOrdered region → AllFeasible (entries_within problem levels region best))
+      → ((region : List LineRange) (best : Option (List ℕ)) → length region ≡ length problem.lines
+      → AreOrdered region → AllFeasible (entries_within problem levels region best))
       → (line : ℕ) → IsOpenAt region line
-      → AllFeasible (entries_by (entries_within problem levels) region best (node.Split line (middle (range_of region line))))
+      → AllFeasible (entries_by (entries_within problem levels) region best
+      (node.Split line (middle (range_of region line))))
   split_find levels region best long ordered below line is_open =
       grind (arith, middle_inside, both_find, part_length, lower_ordered, upper_ordered)
 
@@ -104,12 +111,18 @@ module _ (problem : ProblemParts) where
   unfolding entries_within
   entries_find zero region best long ordered = tt
   entries_find (suc levels) region best long ordered =
-      said problem region best (λ node. AllFeasible (entries_by (entries_within problem levels) region best node)) long ordered
+      said problem region best
+      (λ node. AllFeasible (entries_by (entries_within problem levels) region best node)) long
+      ordered
       (λ edge side shows. (tt, tt)) (λ chosen is low. (tt, tt))
-      (λ line is. split_find levels region best long ordered (entries_find levels) line (subst (λ o. IfSome o (IsOpenAt region)) is (first_open_is problem region)))
+      (λ line is. split_find levels region best long ordered (entries_find levels) line
+      (subst (λ o. IfSome o (IsOpenAt region)) is (first_open_is problem region)))
       (λ one feasible above. (feasible, tt))
 
   pub listing_finds : AllFeasible (listing problem)
   unfolding listing
   listing_finds =
-      entries_find (levels_of (root_of problem)) (root_of problem) None (length-map problem.lines (λ (line : CostedLine). record { lo = 0; hi = most_of problem.edges line })) (root_ordered problem.edges problem.lines)
+      entries_find (levels_of (root_of problem)) (root_of problem) None
+      (length-map problem.lines
+      (λ (line : CostedLine). record { lo = 0; hi = most_of problem.edges line }))
+      (root_ordered problem.edges problem.lines)

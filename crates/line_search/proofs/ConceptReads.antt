@@ -191,7 +191,8 @@ module _ (bundle : BundleParts) (none : problem_faults bundle ≡ []) where
       → IsRight made
   by_found tree entries None why feasible marked made is = absurd (cc)
   by_found tree entries (Some frequencies) why feasible marked made is =
-      let same : concept_made problem (record { frequencies = frequencies; tree = tree; entries = entries }) ≡ made = cc in
+      let same : concept_made problem
+      (record { frequencies = frequencies; tree = tree; entries = entries }) ≡ made = cc in
       subst IsRight same (made_right frequencies tree entries feasible marked)
 
   marked_found : (found : Option (List ℕ)) → best_after None (listing problem) ≡ found

@@ -1,6 +1,6 @@
 -- The first open line of a region is the first of the dearest open lines, since ids of lines rise.
 use Rattle.std.proofs.Common.{◌≡◌, ℕ, ℤ, zero, suc, pos, ◌+◌, ◌≤◌, ◌<◌, ◌<ℤ◌, ◌&&◌, not, Bool, true}
-use Rattle.std.proofs.Common.{false, cond, nat_lt, int_lt, int_le, List, [], ◌∷◌, ◌++◌, length, map}
+use Rattle.std.proofs.Common.{false, cond, int_lt, int_le, List, [], ◌∷◌, ◌++◌, length, map}
 use Rattle.std.proofs.Common.{filter, find, fold, drop, zip, slice_get, refl, arith, ap, sym, subst}
 use Rattle.std.proofs.Common.{◌∙◌, Option, Some, None, option_map}
 use Rattle.std.proofs.lemmas.Bool.{false_from_ne_true}
@@ -280,16 +280,15 @@ no_more lines region line past first = grind (arith, drop_all, rows_length)
 
 -- the next line is taken
 pub row_taken : (lines : List CostedLine) (region : List LineRange) (line : ℕ) (first : Option (ℕ × ℤ))
-    (row : ℤ × ℤ) (ends : ℕ × ℕ) (after : Option (ℕ × ℤ)) → length region ≡ length lines
+    (row : ℤ × ℤ) (after : Option (ℕ × ℤ)) → length region ≡ length lines
     → option_map (λ at. (at.id, pos at.cost)) (slice_get lines line) ≡ Some row
-    → ends ≡ ((range_of region line).lo, (range_of region line).hi)
-    → (cost : ℤ) → cost ≡ row.1 → after ≡ dearer first line cost (nat_lt ends.0 ends.1)
+    → (cost : ℤ) → cost ≡ row.1 → after ≡ dearer first line cost (has_several (range_of region line))
     → fold with_row after (drop (line + 1) (rows_from 0 lines region))
     ≡ fold with_row first (drop line (rows_from 0 lines region))
-row_taken lines region line first row ends after same is ends_are cost cost_is after_is =
+row_taken lines region line first row after same is cost cost_is after_is =
     let more : line + 1 ≡ suc line = omega arith in
     let start : line ≡ 0 + line = omega arith in
     let taken : after ≡ dearer first (0 + line) row.1 (has_several (range_of region line)) =
-    after_is ∙ (λ i. dearer first (start i) (cost_is i) (nat_lt (ends_are i).0 (ends_are i).1)) in
+    after_is ∙ (λ i. dearer first (start i) (cost_is i) (has_several (range_of region line))) in
     (λ i. fold with_row (taken i) (drop (more i) (rows_from 0 lines region)))
     ∙ sym (row_turn 0 lines region line row same is first)

@@ -13,11 +13,13 @@ use Rattle.line_cost_model.specs.declared.side.Side.{Side}
 use Rattle.line_cost_model.specs.Problems.{CostedLine, ProblemParts}
 use Rattle.line_cost_model.specs.Concepts.{cost_of}
 use Rattle.line_cost_model.specs.DualBounds.{dual_bound, multipliers_of}
-use Rattle.line_cost_model.specs.Regions.{most_of, concept_count, empty_edge, has_several, part_from, part_up_to, range_of, root_of}
+use Rattle.line_cost_model.specs.Regions.{most_of, concept_count, empty_edge, has_several}
+use Rattle.line_cost_model.specs.Regions.{part_from, part_up_to, range_of, root_of}
 use Rattle.branch_certificate.specs.declared.node.Node.{Node}
 use Rattle.branch_certificate.specs.declared.node.Node.TheVariants as node
 use Rattle.line_search.specs.Firsts.{first_of}
-use Rattle.line_search.specs.Listings.{listing, levels_of, Entry, as_bound, as_split, entries_by, entries_within, first_open, middle, node_at, open_at}
+use Rattle.line_search.specs.Listings.{listing, levels_of, Entry, as_bound, as_split, entries_by}
+use Rattle.line_search.specs.Listings.{entries_within, first_open, middle, node_at, open_at}
 
 -- ranges whose ends are in order
 abbrev pub AreOrdered : List LineRange → Type 0

@@ -4,7 +4,8 @@ use Rattle.std.proofs.Common.{[], ◌∷◌, find, None, IfSome, ◌⊎◌, inl,
 use Rattle.std.proofs.Common.{◌∙◌, arith}
 use Rattle.std.proofs.lemmas.Int.{ints}
 use Rattle.std.specs.List.{list_all}
-use Rattle.std.proofs.lemmas.Bool.{and_parts, and_from, false_from_ne_true, true≢false, lt-ltb, eq-eqb, cases_Bool, true_from_ne_false, or_right}
+use Rattle.std.proofs.lemmas.Bool.{and_parts, and_from, false_from_ne_true, true≢false, lt-ltb}
+use Rattle.std.proofs.lemmas.Bool.{eq-eqb, cases_Bool, true_from_ne_false, or_right}
 use Rattle.std.proofs.lemmas.Option.{IfSome_then}
 use Rattle.line_cost_model.specs.Chosen.{stands_before}
 use Rattle.line_cost_model.specs.Problems.{CostedLine}

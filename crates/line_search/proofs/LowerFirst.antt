@@ -103,7 +103,8 @@ one_is n (a ∷ lines) (range ∷ region) at one = elim (cases_Bool (has_several
         (omega (arith, h.0), ap (slice_get (a ∷ lines)) index ∙ h.1)
 
     here : (n, a) ≡ at → IsLineFrom n (a ∷ lines) at
-    here same = subst (IsLineFrom n (a ∷ lines)) same (omega arith, let none : n - n ≡ zero = omega arith in ap (slice_get (a ∷ lines)) none)
+    here same = subst (IsLineFrom n (a ∷ lines)) same
+        (omega arith, let none : n - n ≡ zero = omega arith in ap (slice_get (a ∷ lines)) none)
 
 -- the first open line: no open line stands before it
 pub record IsFirstOpen (problem : ProblemParts) (region : List LineRange) (line : ℕ) : Type 0 where
@@ -113,7 +114,9 @@ pub record IsFirstOpen (problem : ProblemParts) (region : List LineRange) (line 
       → IsOpenAt region k → not (stands_before other at) ≡ true
 
 first_by : (problem : ProblemParts) (region : List LineRange) (found : Option (ℕ × CostedLine))
-    → IfSome found (λ at. (list_all (λ other. not (stands_before other.1 at.1)) (open_at problem region) ≡ true) × IsOneOf at (open_at problem region))
+    → IfSome found (λ at.
+    (list_all (λ other. not (stands_before other.1 at.1)) (open_at problem region) ≡ true) ×
+    IsOneOf at (open_at problem region))
     → IfSome (option_map (λ at. at.0) found) (IsFirstOpen problem region)
 first_by problem region None h = tt
 first_by problem region (Some at) h =
@@ -124,13 +127,18 @@ first_by problem region (Some at) h =
       there = ap (slice_get problem.lines) (sym index) ∙ own.1;
       first = λ k other there is_open.
           let start : 0 + k ≡ k = omega arith in
-          all_have (λ other. not (stands_before other.1 at.1)) (open_at problem region) (k, other) h.0 (subst (λ m. IsOneOf {X = ℕ × CostedLine} (m, other) (open_at problem region)) start (open_one 0 problem.lines region k other there is_open));
+          all_have (λ other. not (stands_before other.1 at.1)) (open_at problem region) (k, other)
+          h.0 (subst (λ m. IsOneOf {X = ℕ × CostedLine} (m, other) (open_at problem region))
+          start (open_one 0 problem.lines region k other there is_open));
     }
 
 pub first_open_first : (problem : ProblemParts) (region : List LineRange)
     → IfSome (first_open problem region) (IsFirstOpen problem region)
 first_open_first problem region =
-    first_by problem region (find (λ at. list_all (λ other. not (stands_before other.1 at.1)) (open_at problem region)) (open_at problem region)) (found_passes _ (open_at problem region))
+    first_by problem region
+    (find (λ at. list_all (λ other. not (stands_before other.1 at.1))
+    (open_at problem region)) (open_at problem region))
+    (found_passes _ (open_at problem region))
 
 -- ---- lines at different places have different ids
 
@@ -139,10 +147,16 @@ ids_rise : (problem : ProblemParts) → IsProblem problem → (i j : ℕ) (a b :
 ids_rise problem sound i j a b less there other =
     let xs = problem.lines in
     let inside = slice_get_within xs j b other in
-    let low : get_or (map (λ line. line.id) xs) i (pos 0) ≡ a.id = get_or-map (λ (line : CostedLine). line.id) xs i a (pos 0) (slice_get_within xs i a there) ∙ ap (λ (line : CostedLine). line.id) (get_or_from_slice_get xs i a a there) in
-    let high : get_or (map (λ line. line.id) xs) j (pos 0) ≡ b.id = get_or-map (λ (line : CostedLine). line.id) xs j b (pos 0) inside ∙ ap (λ (line : CostedLine). line.id) (get_or_from_slice_get xs j b b other) in
-    less_is _ _ (ap (λ n. int_cmp n b.id) (sym low) ∙ ap (int_cmp (get_or (map (λ line. line.id) xs) i (pos 0))) (sym high)
-    ∙ Less-from_sorted int_cmp (map (λ line. line.id) xs) i j (pos 0) sound.lines_rise less (omega (arith, inside, length-map xs (λ (line : CostedLine). line.id))))
+    let low : get_or (map (λ line. line.id) xs) i (pos 0) ≡ a.id = get_or-map
+    (λ (line : CostedLine). line.id) xs i a (pos 0) (slice_get_within xs i a there)
+    ∙ ap (λ (line : CostedLine). line.id) (get_or_from_slice_get xs i a a there) in
+    let high : get_or (map (λ line. line.id) xs) j (pos 0) ≡ b.id = get_or-map
+    (λ (line : CostedLine). line.id) xs j b (pos 0) inside
+    ∙ ap (λ (line : CostedLine). line.id) (get_or_from_slice_get xs j b b other) in
+    less_is _ _ (ap (λ n. int_cmp n b.id) (sym low)
+    ∙ ap (int_cmp (get_or (map (λ line. line.id) xs) i (pos 0))) (sym high)
+    ∙ Less-from_sorted int_cmp (map (λ line. line.id) xs) i j (pos 0) sound.lines_rise less
+    (omega (arith, inside, length-map xs (λ (line : CostedLine). line.id))))
 
 ids_apart : (problem : ProblemParts) → IsProblem problem → (i j : ℕ) (a b : CostedLine) → i ≢ j
     → slice_get problem.lines i ≡ Some a → slice_get problem.lines j ≡ Some b

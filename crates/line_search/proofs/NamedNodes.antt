@@ -35,7 +35,11 @@ all_name problem region count n (edge ∷ edges) before few all =
       arith,
       All-append,
       one_names,
-      all_name problem region count (n + 1) edges (with_next problem region before (n, edge)) (omega (arith, few)) (All-append (Names count) before _ all (one_names count n (next_multiplier problem region before (n, edge)) (omega (arith, few)))),
+      all_name problem region count (n + 1) edges (with_next problem region before (n, edge))
+          (omega (arith, few))
+          (All-append (Names count) before _ all
+          (one_names count n (next_multiplier problem region before (n, edge))
+          (omega (arith, few)))),
     )
 
 -- those of a region name edges that are there

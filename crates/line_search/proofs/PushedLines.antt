@@ -1,5 +1,5 @@
 -- Lines with their costs, one after the other.
-use Rattle.std.proofs.Common.{◌≡◌, ℕ, ℤ, ◌+◌, ◌<◌, ◌≤◌, ◌<ℤ◌, arith, List, [], ◌∷◌, ◌++◌, length}
+use Rattle.std.proofs.Common.{◌≡◌, ℕ, ℤ, ◌+◌, ◌≤◌, ◌<ℤ◌, arith, List, [], ◌∷◌, ◌++◌, length}
 use Rattle.std.proofs.Common.{map, take, slice_get, zip, unsigned_abs, to_z, of_z, w64, refl, ap}
 use Rattle.std.proofs.Common.{subst, sym, ◌∙◌, Option, Some, None, option_map}
 use Rattle.std.specs.List.{All}

@@ -10,11 +10,11 @@ use Rattle.std.proofs.lemmas.Bool.{ltb-false, leb-true, leb-false, cases_Bool}
 use Rattle.line_cost_model.specs.declared.edge.BoundedEdge.{BoundedEdge}
 use Rattle.line_cost_model.specs.declared.range.LineRange.{LineRange}
 use Rattle.line_cost_model.specs.declared.side.Side.{Side}
-use Rattle.line_cost_model.specs.declared.side.Side.TheVariants as side
 use Rattle.line_cost_model.specs.Concepts.{IsFeasible, cost_of, frequency_on}
 use Rattle.line_cost_model.specs.DualBounds.{dual_bound, multipliers_of}
 use Rattle.line_cost_model.specs.Problems.{CostedLine, ProblemParts}
-use Rattle.line_cost_model.specs.Regions.{IsEmptyAt, empty_edge, empty_edges, empty_side, greatest_in, has_several, least_in, range_of}
+use Rattle.line_cost_model.specs.Regions.{IsEmptyAt, empty_edge, empty_edges, empty_side}
+use Rattle.line_cost_model.specs.Regions.{greatest_in, has_several, least_in, range_of}
 use Rattle.branch_certificate.specs.declared.node.Node.{Node}
 use Rattle.branch_certificate.specs.declared.node.Node.TheVariants as node
 use Rattle.branch_certificate.specs.Certified.{ShowsEmpty}
@@ -52,7 +52,8 @@ first_side : (problem : ProblemParts) (region : List LineRange) (n : ℕ) (edges
     → IfSome (slice_get (sides_on problem region n edges) 0) (ShowsFrom problem region n edges)
 first_side problem region n [] = tt
 first_side problem region n (bounds ∷ edges) =
-    by (empty_side problem.lines region n bounds) refl (sides_on problem region (n + 1) edges) (first_side problem region (n + 1) edges)
+    by (empty_side problem.lines region n bounds) refl (sides_on problem region (n + 1) edges)
+    (first_side problem region (n + 1) edges)
   where
     behind : (found : ℕ × Side) → ShowsFrom problem region (n + 1) edges found
         → ShowsFrom problem region n (bounds ∷ edges) found
@@ -67,7 +68,8 @@ first_side problem region n (bounds ∷ edges) =
 
     by : (told : Option Side) → empty_side problem.lines region n bounds ≡ told
         → (rest : List (ℕ × Side)) → IfSome (slice_get rest 0) (ShowsFrom problem region (n + 1) edges)
-        → IfSome (slice_get (cons_option (option_map (λ side. (n, side)) told) rest) 0) (ShowsFrom problem region n (bounds ∷ edges))
+        → IfSome (slice_get (cons_option (option_map (λ side. (n, side)) told) rest) 0)
+        (ShowsFrom problem region n (bounds ∷ edges))
     by None is rest h = some_then _ _ (slice_get rest 0) h behind
     by (Some found) is rest h = record {
       bounds = bounds;
@@ -80,8 +82,11 @@ empty_shows : (problem : ProblemParts) (region : List LineRange)
     → IfSome (empty_edge problem region) (λ found. ShowsEmpty problem region found.0 found.1)
 unfolding empty_edge
 empty_shows problem region =
-    some_then (ShowsFrom problem region 0 problem.edges) (λ found. ShowsEmpty problem region found.0 found.1) (slice_get (empty_edges problem region) 0) (first_side problem region 0 problem.edges)
-    (λ found h. let index : found.0 - 0 ≡ found.0 = omega arith in (h.bounds, ap (slice_get problem.edges) (sym index) ∙ h.there, h.empty))
+    some_then (ShowsFrom problem region 0 problem.edges)
+    (λ found. ShowsEmpty problem region found.0 found.1)
+    (slice_get (empty_edges problem region) 0) (first_side problem region 0 problem.edges)
+    (λ found h. let index : found.0 - 0 ≡ found.0 = omega arith
+    in (h.bounds, ap (slice_get problem.edges) (sym index) ∙ h.there, h.empty))
 
 -- ---- where no edge is empty
 
@@ -97,7 +102,9 @@ none_on problem region n (a ∷ edges) none k bounds there =
     by (empty_side problem.lines region n a) refl (none_on problem region (n + 1) edges) none k there
   where
     by : (told : Option Side) → empty_side problem.lines region n a ≡ told
-        → (sides_on problem region (n + 1) edges ≡ [] → (k : ℕ) (bounds : BoundedEdge) → slice_get edges k ≡ Some bounds → empty_side problem.lines region (n + 1 + k) bounds ≡ None)
+        → (sides_on problem region (n + 1) edges ≡ [] → (k : ℕ) (bounds : BoundedEdge)
+        → slice_get edges k ≡ Some bounds
+        → empty_side problem.lines region (n + 1 + k) bounds ≡ None)
         → cons_option (option_map (λ side. (n, side)) told) (sides_on problem region (n + 1) edges) ≡ []
         → (k : ℕ) → slice_get (a ∷ edges) k ≡ Some bounds
         → empty_side problem.lines region (n + k) bounds ≡ None
@@ -105,7 +112,8 @@ none_on problem region n (a ∷ edges) none k bounds there =
     by None is more none zero there =
         let same : a ≡ bounds = cc in
         let index : n ≡ n + zero = omega arith in
-        subst (λ m. empty_side problem.lines region m bounds ≡ None) index (subst (λ at. empty_side problem.lines region n at ≡ None) same is)
+        subst (λ m. empty_side problem.lines region m bounds ≡ None) index
+        (subst (λ at. empty_side problem.lines region n at ≡ None) same is)
     by None is more none (suc k) there =
         let index : n + 1 + k ≡ n + suc k = omega arith in
         subst (λ m. empty_side problem.lines region m bounds ≡ None) index (more none k bounds there)
@@ -134,10 +142,13 @@ one_feasible problem region long one none = record {
   each = length-map region (λ (range : LineRange). range.lo) ∙ long;
   bounds = λ edge at there.
       let start : 0 + edge ≡ edge = omega arith in
-      let side = subst (λ m. empty_side problem.lines region m at ≡ None) start (none_on problem region 0 problem.edges (no_first (empty_edges problem region) none) edge at there) in
+      let side = subst (λ m. empty_side problem.lines region m at ≡ None) start
+      (none_on problem region 0 problem.edges (no_first (empty_edges problem region) none)
+      edge at there) in
       let kept = side_none problem.lines region edge at side in
       record {
-        enough = subst (λ concept. at.least ≤ frequency_on problem.lines concept edge) (sym (ends_same region one)) kept.1;
+        enough = subst (λ concept. at.least ≤ frequency_on problem.lines concept edge)
+            (sym (ends_same region one)) kept.1;
         few = kept.0;
       };
 }
@@ -165,14 +176,17 @@ none_open : (problem : ProblemParts) (region : List LineRange)
     → length region ≡ length problem.lines → AreOrdered region → first_open problem region ≡ None
     → IsOneConcept region
 none_open problem region long ordered none =
-    all_closed 0 problem.lines region long ordered (least_found before before_self before_through (open_at problem region) (no_option (λ (at : ℕ × CostedLine). at.0) _ none))
+    all_closed 0 problem.lines region long ordered
+    (least_found before before_self before_through (open_at problem region)
+    (no_option (λ (at : ℕ × CostedLine). at.0) _ none))
 
 -- ---- by what is said
 
 module _ (problem : ProblemParts) (region : List LineRange) (best : Option (List ℕ)) (P : Node → Type 0)
     (long : length region ≡ length problem.lines) (ordered : AreOrdered region)
     (empty : (edge : ℕ) (side : Side) → ShowsEmpty problem region edge side → P (node.Empty edge side))
-    (bound : (y : List ℕ) → best ≡ Some y → cost_of problem y ≤ dual_bound problem region → P (node.Bound (multipliers_of problem region)))
+    (bound : (y : List ℕ) → best ≡ Some y → cost_of problem y ≤ dual_bound problem region
+    → P (node.Bound (multipliers_of problem region)))
     (split : (line : ℕ) → first_open problem region ≡ Some line → P (node.Split line (middle (range_of region line))))
     (point : IsOneConcept region → IsFeasible problem (least_in region)
     → IfSome best (λ y. dual_bound problem region < cost_of problem y) → P node.Point) where
@@ -182,7 +196,9 @@ module _ (problem : ProblemParts) (region : List LineRange) (best : Option (List
   last none above = by (first_open problem region) refl
     where
       by : (o : Option ℕ) → first_open problem region ≡ o
-          → P (unwrap_or (first_of (option_map (λ line. node.Split line (middle (range_of region line))) o ∷ [])) node.Point)
+          → P (unwrap_or (first_of
+          (option_map (λ line. node.Split line (middle (range_of region line))) o ∷ []))
+          node.Point)
       by None is =
           let one = none_open problem region long ordered is in
           point one (one_feasible problem region long one none) above
@@ -198,15 +214,21 @@ module _ (problem : ProblemParts) (region : List LineRange) (best : Option (List
       by (Some y) is = with (nat_le (cost_of problem y) (dual_bound problem region)) refl
         where
           with : (b : Bool) → nat_le (cost_of problem y) (dual_bound problem region) ≡ b
-              → P (unwrap_or (first_of (cond b (Some (node.Bound (multipliers_of problem region))) None ∷ as_split problem region ∷ [])) node.Point)
+              → P (unwrap_or (first_of
+              (cond b (Some (node.Bound (multipliers_of problem region))) None ∷ as_split
+              problem region ∷ [])) node.Point)
           with true low = bound y is (leb-true _ _ low)
-          with false low = last none (subst (λ o. IfSome o (λ y. dual_bound problem region < cost_of problem y)) (sym is) (omega (arith, leb-false _ _ low)))
+          with false low = last none
+              (subst (λ o. IfSome o (λ y. dual_bound problem region < cost_of problem y)) (sym is)
+              (omega (arith, leb-false _ _ low)))
 
   pub said : P (node_at problem region best)
   said = by (empty_edge problem region) refl (empty_shows problem region)
     where
       by : (o : Option (ℕ × Side)) → empty_edge problem region ≡ o
           → IfSome o (λ found. ShowsEmpty problem region found.0 found.1)
-          → P (unwrap_or (first_of (option_map (λ at. node.Empty at.0 at.1) o ∷ as_bound problem region best ∷ as_split problem region ∷ [])) node.Point)
+          → P (unwrap_or (first_of
+          (option_map (λ at. node.Empty at.0 at.1) o ∷ as_bound problem region best ∷ as_split
+          problem region ∷ [])) node.Point)
       by None is shows = not_empty is
       by (Some found) is shows = empty found.0 found.1 shows

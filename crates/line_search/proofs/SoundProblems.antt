@@ -35,7 +35,8 @@ each_bounded (edge ∷ edges) [] ids sound = All-nil IsBoundedEdge
 each_bounded (edge ∷ edges) (load ∷ loads) ids sound =
     All-cons IsBoundedEdge (bounded_by edge load) (map (λ at. bounded_by at.0 at.1) (zip edges loads))
     (is_bounded edge load (All-head (λ (edge : Edge). IsId edge.id) edge edges ids) (All-head IsLoad load loads sound))
-    (each_bounded edges loads (All-tail (λ (edge : Edge). IsId edge.id) edge edges ids) (All-tail IsLoad load loads sound))
+    (each_bounded edges loads (All-tail (λ (edge : Edge). IsId edge.id) edge edges ids)
+    (All-tail IsLoad load loads sound))
 
 each_costed : (edges : List Edge) (count : ℕ) → count ≡ length edges → (lines : List LineParts)
     (costs : List ℤ) → All (IsLine edges) lines → All IsCost costs
@@ -49,7 +50,8 @@ each_costed edges count same (line ∷ lines) (cost ∷ costs) sound cheap =
       is_costed,
       All-head,
       All-tail,
-      each_costed edges count same lines costs (All-tail (IsLine edges) line lines sound) (All-tail IsCost cost costs cheap),
+      each_costed edges count same lines costs (All-tail (IsLine edges) line lines sound)
+          (All-tail IsCost cost costs cheap),
     )
 
 pub problem_sound : (bundle : BundleParts) → problem_faults bundle ≡ []
@@ -74,8 +76,13 @@ problem_sound bundle none =
     let loads_long : length (loads_of file.Load edges (text 3)) ≡ length edges = length-map edges _ in
     let costs_long = costs_count lines (text 4) in
     record {
-      edges_rise = subst (IsStrictlySortedBy int_cmp) (sym (bounded_ids edges (loads_of file.Load edges (text 3)) loads_long)) is_network.edges_rise;
-      lines_rise = subst (IsStrictlySortedBy int_cmp) (sym (costed_ids lines (costs_of lines (text 4)) costs_long)) are_lines.rise;
+      edges_rise = subst (IsStrictlySortedBy int_cmp)
+          (sym (bounded_ids edges (loads_of file.Load edges (text 3)) loads_long))
+          is_network.edges_rise;
+      lines_rise = subst (IsStrictlySortedBy int_cmp)
+          (sym (costed_ids lines (costs_of lines (text 4)) costs_long)) are_lines.rise;
       edges = each_bounded edges (loads_of file.Load edges (text 3)) ids loads;
-      lines = each_costed edges _ (bounded_length edges (loads_of file.Load edges (text 3)) loads_long) lines (costs_of lines (text 4)) are_lines.each costs;
+      lines = each_costed edges _
+          (bounded_length edges (loads_of file.Load edges (text 3)) loads_long) lines
+          (costs_of lines (text 4)) are_lines.each costs;
     }

@@ -1,6 +1,8 @@
 -- What holds of the entries of a region: their nodes are a tree that certifies each cost which the best
 -- concept behind them has at least, and no feasible concept of the region is better than that one.
-use Rattle.std.proofs.Common.{◌≡◌, ℕ, zero, suc, ℤ, pos, ◌+◌, ◌<◌, ◌≤◌, ◌≤ℤ◌, List, [], ◌∷◌, ◌++◌, Option, Some, None, IfSome, ◌⊎◌, inl, inr, ⊎_elim, refl, ap, sym, subst, ◌∙◌, arith}
+use Rattle.std.proofs.Common.{◌≡◌, ℕ, zero, suc, ℤ, pos, ◌+◌, ◌<◌, ◌≤◌, ◌≤ℤ◌, List, [], ◌∷◌, ◌++◌}
+use Rattle.std.proofs.Common.{Option, Some, None, IfSome, ◌⊎◌, inl, inr, ⊎_elim, refl, ap, sym}
+use Rattle.std.proofs.Common.{subst, ◌∙◌, arith}
 use Rattle.std.proofs.lemmas.Int.{ints}
 use Rattle.line_cost_model.specs.declared.range.LineRange.{LineRange}
 use Rattle.line_cost_model.specs.Chosen.{ComesBefore}
@@ -38,12 +40,14 @@ pub record IsVisited (problem : ProblemParts) (region : List LineRange) (best be
   pub certifies : (cost : ℤ) → CostsUpTo problem cost behind → TreeCertifies problem cost region tree
   pub kept : behind ≡ None → best ≡ None
   pub found : (concept : List ℕ) → behind ≡ Some concept → (best ≡ Some concept) ⊎ IsFoundIn problem region best concept
-  pub least : (concept : List ℕ) → IsFeasible problem concept → LiesIn region concept → IsNoBetter problem behind concept
+  pub least : (concept : List ℕ) → IsFeasible problem concept → LiesIn region concept
+      → IsNoBetter problem behind concept
 
 -- no concept of a region comes before the best one
 abbrev pub StandsFirst : ProblemParts → List LineRange → Option (List ℕ) → Type 0
 StandsFirst problem region best =
-    (chosen : List ℕ) → best ≡ Some chosen → (concept : List ℕ) → LiesIn region concept → ¬ ComesBefore problem concept chosen
+    (chosen : List ℕ) → best ≡ Some chosen → (concept : List ℕ) → LiesIn region concept
+    → ¬ ComesBefore problem concept chosen
 
 pub never_before_self : (problem : ProblemParts) (concept : List ℕ) → ¬ ComesBefore problem concept concept
 never_before_self problem concept h = omega (arith, h.less)
@@ -78,7 +82,8 @@ least_inside (range ∷ region) ordered =
 -- ---- a split
 
 module _ (problem : ProblemParts) (region : List LineRange) (line at : ℕ) (best mid behind : Option (List ℕ))
-    (lower upper : List Node) (inside_low : (range_of region line).lo ≤ at) (inside_high : at < (range_of region line).hi)
+    (lower upper : List Node) (inside_low : (range_of region line).lo ≤ at)
+    (inside_high : at < (range_of region line).hi)
     (below : IsVisited problem (part_up_to region line at) best mid lower)
     (above : IsVisited problem (part_from region line (at + 1)) mid behind upper) where
   -- the best behind both parts is no dearer than that behind the first
@@ -94,7 +99,9 @@ module _ (problem : ProblemParts) (region : List LineRange) (line at : ℕ) (bes
         some,
         ⊎_elim
             (λ same. let equal : Some last ≡ Some first = sym same ∙ is in inl (cc))
-            (λ found. inr (subst (λ o. IfSome o (λ other. cost_of problem last < cost_of problem other)) is found.cheaper))
+            (λ found. inr (subst
+            (λ o. IfSome o (λ other. cost_of problem last < cost_of problem other)) is
+            found.cheaper))
             (above.found last some),
       )
 
@@ -121,21 +128,38 @@ module _ (problem : ProblemParts) (region : List LineRange) (line at : ℕ) (bes
       by None is m same = tt
       by (Some b) is None same = let gone : Some b ≡ None = sym is ∙ below.kept same in absurd (cc)
       by (Some b) is (Some first) same =
-          let less : cost_of problem concept < cost_of problem first = subst (λ o. IfSome o (λ other. cost_of problem concept < cost_of problem other)) same h in
+          let less : cost_of problem concept < cost_of problem first = subst
+          (λ o. IfSome o (λ other. cost_of problem concept < cost_of problem other)) same h in
           ⊎_elim (λ old. let equal : Some b ≡ Some first = sym is ∙ old in let own : b ≡ first = cc in rw own less)
-          (λ found. let lower_still : cost_of problem first < cost_of problem b = subst (λ o. IfSome o (λ other. cost_of problem first < cost_of problem other)) is found.cheaper in omega (arith, less, lower_still))
+          (λ found. let lower_still : cost_of problem first < cost_of problem b = subst
+          (λ o. IfSome o (λ other. cost_of problem first < cost_of problem other)) is
+          found.cheaper in omega (arith, less, lower_still))
           (below.found first same)
 
   pub both_visited : IsVisited problem region best behind (node.Split line at ∷ lower ++ upper)
   unfolding preorder TreeCertifies
   both_visited = record {
     tree = fork line at below.tree above.tree;
-    whole = ap (λ nodes. node.Split line at ∷ nodes ++ preorder above.tree) below.whole ∙ ap (λ nodes. node.Split line at ∷ lower ++ nodes) above.whole;
+    whole = ap (λ nodes. node.Split line at ∷ nodes ++ preorder above.tree) below.whole
+        ∙ ap (λ nodes. node.Split line at ∷ lower ++ nodes) above.whole;
     certifies = λ cost h. ((inside_low, inside_high), below.certifies cost (mid_costs cost h), above.certifies cost h);
     kept = λ none. below.kept (above.kept none);
     found = λ concept is. ⊎_elim
-        (λ same. ⊎_elim (λ old. inl old) (λ new. inr (record { inside = lower_inside region line at concept (omega (arith, inside_high)) new.inside; feasible = new.feasible; cheaper = new.cheaper })) (below.found concept same))
-        (λ new. inr (record { inside = upper_inside region line (at + 1) concept (omega (arith, inside_low)) new.inside; feasible = new.feasible; cheaper = cheaper_still concept new.cheaper }))
+        (λ same. ⊎_elim (λ old. inl old)
+        (λ new. inr (record {
+          inside = lower_inside region line at concept
+              (omega (arith, inside_high)) new.inside;
+          feasible = new.feasible;
+          cheaper
+              = new.cheaper;
+        })) (below.found concept same))
+        (λ new. inr (record {
+          inside = upper_inside region line (at + 1) concept
+              (omega (arith, inside_low)) new.inside;
+          feasible = new.feasible;
+          cheaper
+              = cheaper_still concept new.cheaper;
+        }))
         (above.found concept is);
     least = λ concept feasible inside. ⊎_elim
         (λ low. in_lower concept (below.least concept feasible low))
@@ -147,6 +171,19 @@ module _ (problem : ProblemParts) (region : List LineRange) (line at : ℕ) (bes
       in_lower concept h =
           let last = no_dearer h.chosen h.is in
           ⊎_elim
-          (λ same. record { chosen = last.0; is = last.1; cheap = subst (λ x. cost_of problem x ≤ cost_of problem concept) (sym same) h.cheap; first = subst (λ x. cost_of problem concept ≡ cost_of problem x → ¬ ComesBefore problem concept x) (sym same) h.first })
-          (λ less. record { chosen = last.0; is = last.1; cheap = omega (arith, less, h.cheap); first = λ equal before. omega (arith, equal, less, h.cheap) })
+          (λ same. record {
+            chosen = last.0;
+            is = last.1;
+            cheap = subst
+                (λ x. cost_of problem x ≤ cost_of problem concept) (sym same) h.cheap;
+            first = subst
+                (λ x. cost_of problem concept ≡ cost_of problem x → ¬ ComesBefore problem concept x)
+                (sym same) h.first;
+          })
+          (λ less. record {
+            chosen = last.0;
+            is = last.1;
+            cheap = omega (arith, less, h.cheap);
+            first = λ equal before. omega (arith, equal, less, h.cheap);
+          })
           last.2

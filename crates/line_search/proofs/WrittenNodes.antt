@@ -65,7 +65,9 @@ module _ (problem : ProblemParts) (region : List LineRange)
           arith,
           one_more,
           next_few,
-          all_multipliers (n + 1) edges (with_next problem region before (n, edge)) (one_more n (next_multiplier problem region before (n, edge)) before (next_few before (n, edge)) own),
+          all_multipliers (n + 1) edges (with_next problem region before (n, edge))
+              (one_more n (next_multiplier problem region before (n, edge)) before
+              (next_few before (n, edge)) own),
         )
 
 no_multipliers : AreMultipliers []

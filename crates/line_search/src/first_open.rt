@@ -1,5 +1,6 @@
 // The line whose range is split.
-ghost use Rattle.std.specs.Prelude.{◌≡◌, ◌<◌, length, option_map};
+ghost use Rattle.std.specs.Prelude.{◌≡◌, ℕ, ◌<◌, length, option_map, if◌then◌else◌, true, Some};
+ghost use Rattle.line_cost_model.specs.Regions.{has_several, range_of};
 ghost use Rattle.line_search.specs.Listings.{first_open};
 ghost use Rattle.line_search.specs.Searches.{dearer};
 
@@ -21,9 +22,11 @@ fn first_of(problem: &LineProblem, region: &SummedRegion) -> Option<usize>
 {
     let mut first = None;
     for line in 0..problem.line_count() {
-        let (lo, hi) = region.ends(line);
         let (_, cost) = problem.line_row(line);
-        first = dearer(first, line, cost, lo < hi);
+        if !comes_first(region, first, line, cost) {
+            continue;
+        }
+        first = Some((line, cost));
     }
     line_of(first)
 }
@@ -35,18 +38,31 @@ fn line_of(first: Option<(usize, i64)>) -> Option<usize>
     first.map(|(line, _)| line)
 }
 
-// The dearer one of the open line so far and a line that may be open.
-fn dearer(
-    first: Option<(usize, i64)>,
-    line: usize,
-    cost: i64,
-    is_open: bool,
-) -> Option<(usize, i64)>
-    ensures { result ≡ dearer first line cost is_open }
+// Whether a line is open and dearer than the open line so far. The range of a line that is not dearer
+// is not looked at.
+fn comes_first(region: &SummedRegion, first: Option<(usize, i64)>, line: usize, cost: i64) -> bool
+    requires { line < length region.now.ranges }
+    ensures { dearer first line cost (has_several (range_of region.now.ranges line))
+        ≡ (if result then Some (line, cost) else first) }
+{
+    is_dearer(first, cost) && is_open(region, line)
+}
+
+// Whether a cost is above that of the open line so far, where there is one.
+fn is_dearer(first: Option<(usize, i64)>, cost: i64) -> bool
+    ensures { (line : ℕ) → dearer first line cost true ≡ (if result then Some (line, cost) else first) }
 {
     match first {
-        _ if !is_open => first,
-        Some((_, most)) if cost <= most => first,
-        _ => Some((line, cost)),
+        None => true,
+        Some((_, most)) => cost > most,
     }
+}
+
+// Whether the range of the line at an index has several values.
+fn is_open(region: &SummedRegion, line: usize) -> bool
+    requires { line < length region.now.ranges }
+    ensures { result ≡ has_several (range_of region.now.ranges line) }
+{
+    let (lo, hi) = region.ends(line);
+    lo < hi
 }

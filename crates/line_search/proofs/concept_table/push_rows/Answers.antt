@@ -1,4 +1,5 @@
-use Rattle.std.proofs.Common.{append_assoc, ◌+◌, ◌<◌, ◌++◌, ◌∷◌, [], length, slice_index_or, ap, sym, ◌∙◌, arith, to_z, of_z, w64}
+use Rattle.std.proofs.Common.{append_assoc, ◌+◌, ◌<◌, ◌++◌, ◌∷◌, [], length, slice_index_or, ap}
+use Rattle.std.proofs.Common.{sym, ◌∙◌, arith, to_z, of_z, w64}
 use Rattle.std.proofs.lemmas.Int.{ints, to_z-of_z}
 use Rattle.std.proofs.lemmas.List.Elements.{All-get_or}
 use Rattle.line_search.specs.ConceptTables.{row_at}

@@ -37,14 +37,16 @@ pub returns-then-not-branch-clause-found : goal.returns-then-not-branch-clause-f
 returns-then-not-branch-clause-found g c =
     subst (IsResult c.args.problem.now c.args.budget) (sym c.whole.ensures)
     (last_taken c.args.problem.now c.loop-entry.search c.take_entry.new.self c.in_ok-take_entry.field-0
-    c.loop-entry.entry c.args.budget c.loop-entry.invariant.searched (of_problem c.loop-entry.invariant.problem c.in_ok-take_entry.ensures)
+    c.loop-entry.entry c.args.budget c.loop-entry.invariant.searched
+    (of_problem c.loop-entry.invariant.problem c.in_ok-take_entry.ensures)
     c.if-not-branch.true c.loop-entry-test.true)
 
 pub returns-then-not-branch-clause-steps : goal.returns-then-not-branch-clause-steps
 returns-then-not-branch-clause-steps g c =
     let last = last_taken c.args.problem.now c.loop-entry.search c.take_entry.new.self
     c.in_ok-take_entry.field-0 c.loop-entry.entry c.args.budget c.loop-entry.invariant.searched
-    (of_problem c.loop-entry.invariant.problem c.in_ok-take_entry.ensures) c.if-not-branch.true c.loop-entry-test.true in
+    (of_problem c.loop-entry.invariant.problem c.in_ok-take_entry.ensures) c.if-not-branch.true
+    c.loop-entry-test.true in
     omega (arith, c.tick.ensures, c.loop-entry.invariant.steps, last.entries_are)
 
 pub loop-entry-preserved : goal.loop-entry-preserved
