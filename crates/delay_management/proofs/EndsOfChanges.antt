@@ -1,14 +1,15 @@
 -- The ends of changes by their events, and where those of an event begin.
 use Rattle.std.proofs.Common.{◌≡◌, ℕ, ◌+◌, ◌<◌, ◌≤◌, true, false, ltb, List, [], ◌∷◌, ◌++◌, length}
-use Rattle.std.proofs.Common.{get_or, All, arith}
+use Rattle.std.proofs.Common.{get_or, nat_eq, All, ap, arith}
 use Rattle.std.specs.List.{Contains}
-use Rattle.std.specs.List.Sorted.{IsPartitionPoint, IsPermutation}
+use Rattle.std.specs.List.Sorted.{IsNonDecreasingBy, IsPartitionPoint, IsPermutation}
+use Rattle.std.proofs.lemmas.Bool.{eqb-false}
 use Rattle.std.proofs.lemmas.List.{get_or_default}
 use Rattle.std.proofs.lemmas.List.Elements.{All-append, All-cons, All-contains, All-contains_itself, All-nil, Contains-append_left, Contains-push}
 use Rattle.std.proofs.lemmas.List.Sorted.{All-permutation, IsPermutation-sym}
 use Rattle.delay_management.specs.declared.ends.ChangeEnd.{ChangeEnd}
 use Rattle.delay_management.specs.declared.step.Activity.{Activity}
-use Rattle.delay_management.specs.ChangeEnds.{HasEnds, IsFirst}
+use Rattle.delay_management.specs.ChangeEnds.{HasEnds, HasNone, IsFirst}
 use Rattle.bit_rows.proofs.Cases.{by_less}
 
 pub first_is : {X : Type 0} (key : X → ℕ) (xs : List X) (least first : ℕ) → first ≤ length xs
@@ -67,3 +68,17 @@ ends_moved changes ends moved has is = record {
   from = λ k d inside. contains_moved ends moved is _ (has.from k d inside);
   to = λ k d inside. contains_moved ends moved is _ (has.to k d inside);
 }
+
+-- no end is at an event where the first that may be is at another one
+pub none_there : (ends : List ChangeEnd) (first event : ℕ) → IsNonDecreasingBy (λ (e : ChangeEnd). e.event) ends
+    → IsFirst (λ (e : ChangeEnd). e.event) ends event first → (d : ChangeEnd) → first < length ends
+    → nat_eq (get_or ends first d).event event ≡ false → HasNone ends event
+none_there ends first event sorted is d inside apart j e there same =
+    by_less j first
+    (λ less. let before = is.before j e less in omega (arith, before, same))
+    (λ most.
+    let later = sorted first j e most there in
+    let behind = is.behind first e (omega arith) inside in
+    let other = eqb-false (get_or ends first d).event event apart in
+    let one : (get_or ends first d).event ≡ (get_or ends first e).event = ap (λ (e : ChangeEnd). e.event) (get_or_default ends first d e inside) in
+    other (omega (arith, one, later, behind, same)))

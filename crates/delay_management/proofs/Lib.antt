@@ -37,7 +37,7 @@ mod SmallTimes
 mod SoonInputs
 mod SoonTimes
 mod StageResults
-pub mod TableParts
+mod TableParts
 mod Taking
 mod Testing
 mod TextsBack
@@ -45,6 +45,7 @@ mod TightMore
 mod TrialDelay
 pub mod TrialFacts
 mod Tried
+mod Turning
 mod Undoing
 mod Waits
 mod WrittenBy

@@ -1,8 +1,8 @@
 -- The links out of each event, found one behind the other.
 use Rattle.std.proofs.Common.{◌≡◌, ◌≢◌, ◌∙◌, ℕ, ◌+◌, ◌<◌, cond, List, ◌∷◌, length, drop, get_or}
-use Rattle.std.proofs.Common.{slice_set, replicate, refl, ap, sym, arith}
+use Rattle.std.proofs.Common.{slice_set, refl, ap, sym, arith}
 use Rattle.std.proofs.lemmas.Bool.{eq-eqb, ne_eqb}
-use Rattle.std.proofs.lemmas.List.{drop_more, get_or-replicate, get_or-set_same, get_or-set_other, get_or_default, length-replicate, length-set}
+use Rattle.std.proofs.lemmas.List.{drop_more, get_or-set_same, get_or-set_other, get_or_default, length-set}
 use Rattle.delay_management.specs.declared.links.Link.{Link}
 use Rattle.delay_management.specs.Outgoing.{AreChained, IsNextOut, out_of}
 use Rattle.bit_rows.proofs.Cases.{by_same}
@@ -25,21 +25,6 @@ passed links event at d inside other =
     ap (λ left. out_of left event) (drop_more links at d inside)
     ∙ ap (λ b. cond b (get_or links at d ∷ out_of (drop (at + 1) links) event) (out_of (drop (at + 1) links) event))
     (ne_eqb (get_or links at d).step.from event other)
-
--- no link from the end on
-pub none_chained : (links : List Link) (events : ℕ)
-    → AreChained links (length links) (replicate events (length links)) (replicate (length links) (length links))
-none_chained links events = record {
-  each = length-replicate {A = ℕ} (length links) (length links);
-  first = λ event there.
-      rw (get_or-replicate events event (length links) 0 (omega (arith, there, length-replicate {A = ℕ} events (length links)))) (record {
-        least = omega arith;
-        most = omega arith;
-        own = λ d less. absurd (omega (arith, less));
-        same = refl;
-      });
-  next = λ k d low high. absurd (omega (arith, low, high));
-}
 
 -- a link more before those that are chained
 module _ (links : List Link) (from : ℕ) (firsts nexts : List ℕ) (d : Link)

@@ -2,7 +2,7 @@
 use Rattle.std.proofs.Common.{◌≡◌, ◌∙◌, ℕ, ℤ, ◌<◌, ◌≤◌, ◌+ℤ◌, ◌&&◌, Bool, false, List, ◌∷◌, ◌++◌}
 use Rattle.std.proofs.Common.{length, get_or, slice_set, All, Option, None, Some, ap, sym, subst}
 use Rattle.std.proofs.Common.{arith}
-use Rattle.std.specs.Prelude.{MatchOption, option_to_list, reverse}
+use Rattle.std.specs.Prelude.{MatchOption, option_to_list, replicate, reverse}
 use Rattle.std.proofs.lemmas.List.{append-nil, length-reverse, length-set}
 use Rattle.std.proofs.lemmas.List.Elements.{All-head, All-set, All-tail}
 use Rattle.std.proofs.lemmas.Int.{ints}
@@ -13,22 +13,25 @@ use Rattle.delay_management.specs.declared.step.Activity.{Activity}
 use Rattle.delay_management.specs.Lateness.{delay_at, is_broken, more_delay}
 use Rattle.delay_management.specs.LeastTimes.{time_at}
 use Rattle.delay_management.specs.OnTrial.{AreTested, IsLastMoved, IsOnTrial, TrialTimes}
+use Rattle.delay_management.specs.Stillness.{MayHaveLimits}
 use Rattle.delay_management.proofs.Apart.{set_there}
 use Rattle.delay_management.proofs.RunningDelay.{Bounded, delay_bounded, later_at}
 use Rattle.delay_management.proofs.Testing.{one_tested, same_size}
 use Rattle.delay_management.proofs.TrialFacts.{reversed}
+use Rattle.delay_management.proofs.Turning.{limits_again}
 
 -- a note is of an event of so many, and of a time that is not too large
 abbrev pub IsSound : ℕ → Moved → Type 0
 IsSound events moved = (moved.event < events) × (moved.before ≤ 1000000000000000000)
 
 module _ (all : TrialTimes) (ends : List ChangeEnd) (delay : ℤ) (broken : List Bool)
-    (first_links first_ends : List ℕ) (on : IsOnTrial all ends delay broken first_links first_ends) where
+    (first_links first_ends : List ℕ) (shifted : ℕ) (until : List ℕ)
+    (on : IsOnTrial all ends delay broken first_links first_ends shifted until) where
   -- a change is open, or it is no more
   pub opened : (change : ℕ) (is : Bool) (new : List Bool) → change < length all.problem.changes
       → ((d : Activity) → new ≡ slice_set broken change
       (get_or (slice_set all.open_yet change is) change false && is_broken all.times (get_or all.problem.changes change d)))
-      → IsOnTrial (record all { open_yet = slice_set all.open_yet change is }) ends delay new first_links first_ends
+      → IsOnTrial (record all { open_yet = slice_set all.open_yet change is }) ends delay new first_links first_ends shifted until
   opened change is new there told = record {
     linked = on.linked;
     all_ends = on.all_ends;
@@ -48,6 +51,7 @@ module _ (all : TrialTimes) (ends : List ChangeEnd) (delay : ℤ) (broken : List
     waits = on.waits;
     links_at = on.links_at;
     ends_at = on.ends_at;
+    limits = on.limits;
   }
 
   -- the time of an event is another one
@@ -55,8 +59,9 @@ module _ (all : TrialTimes) (ends : List ChangeEnd) (delay : ℤ) (broken : List
       → event < length all.problem.events → time ≤ 1000000000000000000 → seen ≡ all.problem.events
       → before ≡ time_at all.times event → more ≡ delay +ℤ more_delay (get_or seen event d) before time
       → AreTested all.problem.changes (slice_set all.times event time) all.open_yet new → length new ≡ length broken
-      → IsOnTrial (record all { times = slice_set all.times event time }) ends more new first_links first_ends
-  timed event time before seen d more new there small events_are before_is told tested size = record {
+      → (count : ℕ) (limits : List ℕ) → MayHaveLimits all.problem.changes (slice_set all.times event time) ends count limits
+      → IsOnTrial (record all { times = slice_set all.times event time }) ends more new first_links first_ends count limits
+  timed event time before seen d more new there small events_are before_is told tested size count limits are = record {
     linked = on.linked;
     all_ends = on.all_ends;
     in_order = on.in_order;
@@ -71,14 +76,16 @@ module _ (all : TrialTimes) (ends : List ChangeEnd) (delay : ℤ) (broken : List
     waits = on.waits;
     links_at = on.links_at;
     ends_at = on.ends_at;
+    limits = are;
   }
 
   -- all times are other ones
   pub renewed : (times : List ℕ) (late : ℤ) (new : List Bool) → length times ≡ length all.problem.events
       → All (λ time. time ≤ 1000000000000000000) times → late ≡ delay_at all.problem.events times
       → AreTested all.problem.changes times all.open_yet new → length new ≡ length broken
-      → IsOnTrial (record all { times = times }) ends late new first_links first_ends
-  renewed times late new each small late_is tested size = record {
+      → (zeros : List ℕ) → zeros ≡ replicate (length until) 0
+      → IsOnTrial (record all { times = times }) ends late new first_links first_ends shifted zeros
+  renewed times late new each small late_is tested size zeros are = record {
     linked = on.linked;
     all_ends = on.all_ends;
     in_order = on.in_order;
@@ -92,6 +99,7 @@ module _ (all : TrialTimes) (ends : List ChangeEnd) (delay : ℤ) (broken : List
     waits = on.waits;
     links_at = on.links_at;
     ends_at = on.ends_at;
+    limits = limits_again all.problem.changes all.times times ends shifted until on.limits zeros are;
   }
 
   pub delay_room : Bounded delay 100000
@@ -105,7 +113,7 @@ module _ (all : TrialTimes) (ends : List ChangeEnd) (delay : ℤ) (broken : List
 
   -- the last note is taken away
   pub less_noted : (last : Moved) (rest : List Moved) → all.noted ≡ last ∷ rest
-      → IsOnTrial (record all { noted = rest }) ends delay broken first_links first_ends
+      → IsOnTrial (record all { noted = rest }) ends delay broken first_links first_ends shifted until
   less_noted last rest is = record {
     linked = on.linked;
     all_ends = on.all_ends;
@@ -120,10 +128,11 @@ module _ (all : TrialTimes) (ends : List ChangeEnd) (delay : ℤ) (broken : List
     waits = on.waits;
     links_at = on.links_at;
     ends_at = on.ends_at;
+    limits = on.limits;
   }
 
   pub popped : (old new : List Moved) (result : Option Moved) → all.noted ≡ reverse old
-      → old ≡ new ++ option_to_list result → IsOnTrial (record all { noted = reverse new }) ends delay broken first_links first_ends
+      → old ≡ new ++ option_to_list result → IsOnTrial (record all { noted = reverse new }) ends delay broken first_links first_ends shifted until
   popped old new None is parts = grind (arith, append-nil)
   popped old new (Some last) is parts =
       less_noted last (reverse new) (is ∙ ap reverse parts ∙ reversed new last)

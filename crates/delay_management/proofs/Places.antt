@@ -1,6 +1,6 @@
 -- Lists that tell one thing of each place.
 use Rattle.std.proofs.Common.{◌≡◌, ◌∙◌, ℕ, ◌+◌, ◌<◌, ◌++◌, append_assoc}
-use Rattle.std.proofs.Common.{List, [], ◌∷◌, length, map, get_or, ap, sym, arith}
+use Rattle.std.proofs.Common.{List, [], ◌∷◌, map, sym, arith}
 use Rattle.std.specs.List.{range_with_len}
 use Rattle.std.proofs.lemmas.List.{ext_get_or}
 use Rattle.std.proofs.lemmas.List.FromFn.{get_or-map-range_with_len, length-map-range_with_len, map-range_with_len_more}

@@ -1,8 +1,7 @@
 -- Parts of what the rows of a table stand for, one after the other.
-use Rattle.std.proofs.Common.{◌≡◌, ◌∙◌, ℕ, ℤ, ◌+◌, ◌<◌, ◌≤◌, ◌&&◌, Bool, true, nat_eq, List, []}
-use Rattle.std.proofs.Common.{◌∷◌, ◌++◌, drop, get_or, length, map, take, ap, sym, arith}
-use Rattle.std.specs.List.{enumerate_from, list_all}
-use Rattle.std.proofs.lemmas.List.{drop_all, drop_more, get_or-map, length-map, take_all, take_more}
+use Rattle.std.proofs.Common.{◌≡◌, ◌∙◌, ℕ, ℤ, ◌+◌, ◌<◌, List, []}
+use Rattle.std.proofs.Common.{◌∷◌, ◌++◌, get_or, length, map, take, ap, sym, arith}
+use Rattle.std.proofs.lemmas.List.{get_or-map, length-map, take_more}
 use Rattle.std.proofs.lemmas.Simd.{map-map}
 use Rattle.giv_files.specs.Tables.{TableRow, no_row}
 use Rattle.giv_files.specs.RowsOfTables.{records_by}
@@ -29,17 +28,3 @@ module _ {X Y : Type 0} (of : List ℤ → X) (part : X → Y) (table : List Tab
       → old ≡ take i parts → one ≡ whole (get_or table i no_row) → new ≡ take (i + 1) parts
   part_pushed old new one inside is told same =
       is ∙ (λ j. told j ++ same j ∷ []) ∙ sym (part_more inside)
-
-  pub parts_whole : length table ≤ i → take i parts ≡ parts
-  parts_whole past = take_all i parts (omega (arith, past, ap length at_once, length-map table whole))
-
-module _ {X : Type 0} (of : List ℤ → X) (event : X → ℕ) (table : List TableRow) (i : ℕ) where
-  abbrev order_from : ℕ → Bool
-  order_from i = list_all (λ at. nat_eq at.1 at.0) (enumerate_from (i + 1) (map event (records_by of (drop i table))))
-
-  pub order_more : i < length table
-      → order_from i ≡ (nat_eq (event (of (get_or table i no_row).cells)) (i + 1) && order_from (i + 1))
-  order_more inside = grind (arith, nat_eq, drop_more)
-
-  pub order_end : length table ≤ i → order_from i ≡ true
-  order_end past = grind (arith, nat_eq, drop_all)

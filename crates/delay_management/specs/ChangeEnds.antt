@@ -1,5 +1,5 @@
 -- Inner words: the ends of changes by their events.
-use Rattle.std.specs.Prelude.{◌≡◌, ℕ, ◌<◌, ◌≤◌, List, length, get_or, All}
+use Rattle.std.specs.Prelude.{◌≡◌, ◌≢◌, ℕ, ◌<◌, ◌≤◌, List, length, get_or, All}
 use Rattle.std.specs.List.{Contains}
 use Rattle.delay_management.specs.declared.ends.ChangeEnd.{ChangeEnd}
 use Rattle.delay_management.specs.declared.step.Activity.{Activity}
@@ -11,6 +11,11 @@ pub record HasEnds (changes : List Activity) (ends : List ChangeEnd) : Type 0 wh
       → Contains ends (record { event = (get_or changes k d).step.from; change = k })
   pub to : (k : ℕ) (d : Activity) → k < length changes
       → Contains ends (record { event = (get_or changes k d).step.to; change = k })
+
+-- no end is at an event
+abbrev pub HasNone : List ChangeEnd → ℕ → Type 0
+HasNone ends event =
+    (j : ℕ) (e : ChangeEnd) → j < length ends → (get_or ends j e).event ≢ event
 
 -- where the things whose key is at least this one begin
 pub record IsFirst {X : Type 0} (key : X → ℕ) (xs : List X) (least first : ℕ) : Type 0 where

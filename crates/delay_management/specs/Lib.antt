@@ -11,6 +11,7 @@ pub mod Outgoing
 pub mod Problems
 pub mod Reasons
 pub mod RightDispositions
+pub mod Stillness
 pub mod TightIds
 pub mod Trials
 pub mod Waiting

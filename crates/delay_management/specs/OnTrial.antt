@@ -1,5 +1,5 @@
 -- Inner words: what is known of decisions on trial.
-use Rattle.std.specs.Prelude.{ℕ, ℤ, ◌≡◌, ◌≢◌, ◌≤◌, ◌<◌, ◌&&◌, ◌⊎◌, Bool, true, false, not, List, [], ◌∷◌, ◌++◌, length, map, get_or, replicate, slice_set, All, Option, Some, None, ⊤}
+use Rattle.std.specs.Prelude.{ℕ, ℤ, ◌≡◌, ◌≢◌, ◌≤◌, ◌<◌, ◌&&◌, ◌⊎◌, Bool, true, false, not, List, [], ◌∷◌, ◌++◌, length, map, get_or, replicate, slice_set, All, Option, Some, None, reverse, ⊤}
 use Rattle.std.specs.List.{range_with_len}
 use Rattle.std.specs.List.Sorted.{IsNonDecreasingBy}
 use Rattle.event_tables.specs.ForwardRanks.{forward_rank}
@@ -15,6 +15,7 @@ use Rattle.delay_management.specs.Lateness.{delay_at, is_broken}
 use Rattle.delay_management.specs.LeastTimes.{asked, least_times, time_at}
 use Rattle.delay_management.specs.Links.{IsLinked, counts, head_pushed}
 use Rattle.delay_management.specs.Problems.{DelayProblem, Joins, earliest_at}
+use Rattle.delay_management.specs.Stillness.{MayHaveLimits}
 use Rattle.delay_management.specs.Trials.{is_decided, is_kept, times_of}
 use Rattle.delay_management.specs.Waiting.{chosen_changes}
 
@@ -53,6 +54,16 @@ pub record TrialTimes : Type 0 where
   pub noted : List Moved
   pub waiting : List Bool
 
+abbrev pub seen_trial : DelayProblem → List Link → List ℕ → List Bool → List Moved → List Bool → TrialTimes
+seen_trial problem links times open_yet trail waiting = record {
+  problem = problem;
+  links = links;
+  times = times;
+  open_yet = open_yet;
+  noted = reverse trail;
+  waiting = waiting;
+}
+
 -- a change is marked where it is open and broken
 abbrev pub AreTested : List Activity → List ℕ → List Bool → List Bool → Type 0
 AreTested changes times open_yet broken = (k : ℕ) (d : Activity) → k < length changes
@@ -64,10 +75,11 @@ AreTestedBut event changes times open_yet broken = (k : ℕ) (d : Activity) → 
     → (get_or changes k d).step.from ≢ event → (get_or changes k d).step.to ≢ event
     → get_or broken k false ≡ (get_or open_yet k false && is_broken times (get_or changes k d))
 
--- times on trial with their delay, the marks of open changes that they break, and where the links
--- and the ends of changes at each event begin
+-- times on trial with their delay, the marks of open changes that they break, where the links and the
+-- ends of changes at each event begin, how far events were moved, all together, and for each 64 ends
+-- up to how far their marks stay
 pub record IsOnTrial (all : TrialTimes) (ends : List ChangeEnd) (delay : ℤ) (broken : List Bool)
-    (first_links first_ends : List ℕ) : Type 0 where
+    (first_links first_ends : List ℕ) (shifted : ℕ) (until : List ℕ) : Type 0 where
   pub linked : IsLinked all.problem all.links
   pub all_ends : HasEnds all.problem.changes ends
   pub in_order : IsNonDecreasingBy (λ end. end.event) ends
@@ -84,6 +96,7 @@ pub record IsOnTrial (all : TrialTimes) (ends : List ChangeEnd) (delay : ℤ) (b
       (length all.problem.events) first_links
   pub ends_at : AreFirst (λ end. end.event) ends (λ event. event)
       (length all.problem.events) first_ends
+  pub limits : MayHaveLimits all.problem.changes all.times ends shifted until
 
 -- times as they were before events were made later, the last one first
 abbrev pub rewound : List Moved → List ℕ → List ℕ

@@ -1,7 +1,7 @@
 // The ends of changes by their events.
-ghost use Rattle.std.specs.Prelude.{◌≡◌, ◌<◌, ◌≤◌, length, All, IfOk};
+ghost use Rattle.std.specs.Prelude.{◌≡◌, ◌<◌, ◌≤◌, ◌+◌, ◌/◌, ◌⊎◌, [], false, length, replicate, All, IfOk};
 ghost use Rattle.std.specs.List.Sorted.{IsNonDecreasingBy};
-ghost use Rattle.delay_management.specs.ChangeEnds.{AreFirst, HasEnds, IsFirst};
+ghost use Rattle.delay_management.specs.ChangeEnds.{AreFirst, HasEnds, HasNone, IsFirst};
 
 use crate::step::Activity;
 use plan_num::NoMemory;
@@ -70,4 +70,41 @@ fn first_end(ends: &[ChangeEnd], event: u32) -> usize
     ensures { IsFirst (λ end. end.event) ends.now event result }
 {
     ends.partition_point(|end| end.event < event)
+}
+
+/// Whether there is an end at an event, where its ends begin at a place.
+pub(crate) fn has_end(ends: &[ChangeEnd], first: usize, event: u32) -> bool
+    requires in_order { IsNonDecreasingBy (λ end. end.event) ends.now }
+    requires first { IsFirst (λ end. end.event) ends.now event first }
+    ensures { result ≡ false → HasNone ends.now event }
+{
+    first < ends.len() && ends[first].event == event
+}
+
+/// A number for each 64 ends, where any of these stand together at one event.
+pub(crate) fn no_limits(alloc: Global, ends: &[ChangeEnd]) -> Result<Vec<u64>, NoMemory>
+    ensures { IfOk result (λ until. (until.items ≡ [])
+        ⊎ (until.items ≡ replicate (length ends.now / 64 + 1) 0)) }
+{
+    if !has_block(ends) {
+        return Ok(Vec::new(alloc));
+    }
+    Ok(vec![in alloc; 0; ends.len() / 64 + 1]?)
+}
+
+/// All these numbers are 0 again.
+pub(crate) fn forget_limits(until: &mut Vec<u64>)
+    ensures { until.new.items ≡ replicate (length until.old.items) 0 }
+{
+    until.fill(0);
+}
+
+// Whether 64 ends stand together at one event, at a place from which on they are looked at as one.
+fn has_block(ends: &[ChangeEnd]) -> bool {
+    for block in 0..ends.len() / 64 {
+        if ends[64 * block].event == ends[64 * block + 63].event {
+            return true;
+        }
+    }
+    false
 }

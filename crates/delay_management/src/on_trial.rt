@@ -9,7 +9,7 @@ ghost use Rattle.delay_management.specs.OnTrial.{Follows, IsLastMoved, IsSettlin
 ghost use Rattle.delay_management.specs.Problems.{Joins};
 ghost use Rattle.delay_management.specs.Waiting.{chosen_changes};
 
-use crate::ends::{ChangeEnd, ends_in_order, first_ends};
+use crate::ends::{ChangeEnd, ends_in_order, first_ends, forget_limits, no_limits};
 use crate::lateness::{delay_at, more_delay};
 use crate::links::{Link, first_links, wait_behind};
 use crate::moved::Moved;
@@ -17,7 +17,7 @@ use crate::pass::counts;
 use crate::propagation::Propagation;
 use crate::reasons::asked;
 use crate::step::Step;
-use crate::tested::{test, test_all, test_at};
+use crate::tested::{test, test_all, test_moved};
 use bit_rows::Marking;
 use event_tables::forward_rank;
 use plan_num::NoMemory;
@@ -25,9 +25,9 @@ use std::alloc::Global;
 use std::marker::Model;
 
 /// The times of a day while they are changed on trial: how late they are together, which open
-/// changes they break, which events were made later and when these were before, and which links
-/// wait to be looked at. Contracts see it as the day with its links, the times, which changes are
-/// open, the events that were made later, the last one first, and the links that wait.
+/// changes they break, and for how long they do, which events were made later and when these were
+/// before, and which links wait to be looked at. Contracts see it as the day with its links, the
+/// times, which changes are open, what was made later, the last first, and the links that wait.
 pub(crate) struct TimesOnTrial<'a> {
     problem: &'a Propagation,
     links: &'a [Link],
@@ -38,6 +38,8 @@ pub(crate) struct TimesOnTrial<'a> {
     delay: i128,
     undecided: Vec<bool>,
     broken: Marking,
+    shifted: u64,
+    until: Vec<u64>,
     trail: Vec<Moved>,
     waiting: Marking,
 }
@@ -54,6 +56,8 @@ impl Drop for TimesOnTrial<'_> {
             delay: _,
             undecided: _,
             broken: _,
+            shifted: _,
+            until: _,
             trail: _,
             waiting: _,
         } = self;
@@ -61,28 +65,16 @@ impl Drop for TimesOnTrial<'_> {
 }
 
 impl<'a> Model for TimesOnTrial<'a> {
-    ghost use Rattle.std.specs.Prelude.{reverse};
-    ghost use Rattle.delay_management.specs.OnTrial.{IsOnTrial, TrialTimes};
+    ghost use Rattle.delay_management.specs.OnTrial.{IsOnTrial, TrialTimes, seen_trial};
 
     ghost Value = { TrialTimes };
 
-    ghost view = { λ t. record {
-      problem = t.problem.now;
-      links = t.links.now;
-      times = t.times.items;
-      open_yet = t.undecided.items;
-      noted = reverse t.trail.items;
-      waiting = t.waiting;
-    } };
+    ghost view = { λ t. seen_trial t.problem.now t.links.now t.times.items t.undecided.items
+        t.trail.items t.waiting };
 
-    ghost invariant = { λ t. IsOnTrial (record {
-      problem = t.problem.now;
-      links = t.links.now;
-      times = t.times.items;
-      open_yet = t.undecided.items;
-      noted = reverse t.trail.items;
-      waiting = t.waiting;
-    }) t.ends.items t.delay t.broken t.first_links.items t.first_ends.items };
+    ghost invariant = { λ t. IsOnTrial (seen_trial t.problem.now t.links.now t.times.items
+        t.undecided.items t.trail.items t.waiting) t.ends.items t.delay t.broken
+        t.first_links.items t.first_ends.items t.shifted t.until.items };
 }
 
 impl<'a> TimesOnTrial<'a> {
@@ -98,6 +90,7 @@ impl<'a> TimesOnTrial<'a> {
         let mut broken = Marking::none(alloc, count)?;
         test_all(&mut broken, problem.changes(), &times, &undecided);
         let ends = ends_in_order(alloc, problem.changes())?;
+        let until = no_limits(alloc, &ends)?;
         Ok(TimesOnTrial {
             problem,
             links,
@@ -108,6 +101,8 @@ impl<'a> TimesOnTrial<'a> {
             times,
             undecided,
             broken,
+            shifted: 0,
+            until,
             trail: Vec::new(alloc),
             waiting: Marking::none(alloc, links.len())?,
         })
@@ -167,14 +162,18 @@ impl<'a> TimesOnTrial<'a> {
         ensures { self.new ≡ record self.old { times = slice_set self.old.times event time } }
     {
         let at = event as usize;
-        let more = more_delay(&self.problem.events()[at], self.times[at], time);
+        let before = self.times[at];
+        let more = more_delay(&self.problem.events()[at], before, time);
         self.delay += more;
         self.times[at] = time;
-        test_at(
+        test_moved(
             &mut self.broken,
+            &mut self.until,
+            &mut self.shifted,
             &self.ends,
             self.first_ends[at],
             event,
+            before,
             self.problem.changes(),
             &self.times,
             &self.undecided,
@@ -271,6 +270,7 @@ impl<'a> TimesOnTrial<'a> {
     {
         self.problem.put_least_times(&mut self.times, kept);
         self.delay = delay_at(self.problem.events(), &self.times);
+        forget_limits(&mut self.until);
         test_all(
             &mut self.broken,
             self.problem.changes(),

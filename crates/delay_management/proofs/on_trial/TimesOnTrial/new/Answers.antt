@@ -1,5 +1,5 @@
-use Rattle.std.proofs.Common.{◌∙◌, ◌&&◌, All, ap, arith, false, get_or, length, subst, sym, true}
-use Rattle.std.specs.Prelude.{reverse}
+use Rattle.std.proofs.Common.{◌+◌, ◌/◌, ◌≡◌, ◌⊎◌, ◌∙◌, [], ◌&&◌, All, ap, arith, false, get_or, length, subst, sym, true}
+use Rattle.std.specs.Prelude.{replicate, reverse}
 use Rattle.std.proofs.lemmas.Int.{to_z-of_z}
 use Rattle.std.proofs.lemmas.List.{length-replicate}
 use Rattle.std.proofs.lemmas.List.Elements.{All-nil}
@@ -10,6 +10,7 @@ use Rattle.delay_management.specs.declared.links.Link.{Link}
 use Rattle.delay_management.specs.ChangeEnds.{AreFirst, HasEnds}
 use Rattle.delay_management.specs.Lateness.{delay_at, is_broken}
 use Rattle.delay_management.proofs.OnTrialFacts.{IsSound}
+use Rattle.delay_management.proofs.Turning.{limits_at_first}
 use Rattle.delay_management.proofs.on_trial.TimesOnTrial.new.Goals as goal
 
 pub invariant_of-result-2 : goal.invariant_of-result-2
@@ -23,7 +24,7 @@ invariant_of-result-2 c =
       each = c.in_ok-times.ensures.least.feasible.each;
       small = λ k d inside. let small = c.in_ok-times.ensures.small k d inside in omega (arith, small);
       late = to_z-of_z w128 c.delay_at.result (record { sfits = c.delay_at.type_inv }) ∙ c.delay_at.ensures
-          ∙ (λ i. delay_at (c.events-events.ensures.value i) (c.deref-4.ensures.value i));
+          ∙ (λ i. delay_at (c.events-events.ensures.value i) (c.deref-5.ensures.value i));
       flags = ap length open_yet ∙ length-replicate c.change_count-count.result true ∙ count;
       marks = ap length c.broken.view_is ∙ c.test_all.ensures.size ∙ ap length c.in_ok-broken.ensures
           ∙ length-replicate c.change_count-count.result false ∙ count;
@@ -40,5 +41,9 @@ invariant_of-result-2 c =
       ends_at = subst (λ n. AreFirst (λ (end : ChangeEnd). end.event) c.in_ok-ends.ends.items (λ event. event) n c.in_ok-first_ends.field-0.items)
           (ap length c.events-events.ensures.value)
           (subst (λ ends. AreFirst (λ (end : ChangeEnd). end.event) ends (λ event. event) (length c.events-events.result.now) c.in_ok-first_ends.field-0.items)
-          c.deref-3.ensures.value c.in_ok-first_ends.ensures);
+          c.deref-4.ensures.value c.in_ok-first_ends.ensures);
+      limits = limits_at_first c.args.problem.now.changes c.in_ok-times.times.items c.in_ok-ends.ends.items 0
+          c.in_ok-until.until.items
+          (subst (λ ends. (c.in_ok-until.until.items ≡ []) ⊎ (c.in_ok-until.until.items ≡ replicate (length ends / 64 + 1) 0))
+          c.deref-3.ensures.value c.in_ok-until.ensures);
     }

@@ -7,7 +7,7 @@ use Rattle.delay_management.proofs.on_trial.TimesOnTrial.renew.Goals as goal
 
 pub invariant_of-self : goal.invariant_of-self
 invariant_of-self c =
-    renewed _ _ _ _ _ _ c.self.invariant c.put_least_times.new.times.items _ c.test_all.new.broken
+    renewed _ _ _ _ _ _ _ _ c.self.invariant c.put_least_times.new.times.items _ c.test_all.new.broken
     c.put_least_times.ensures.least.feasible.each
     (λ k d inside. let small = c.put_least_times.ensures.small k d inside in omega (arith, small))
     (to_z-of_z w128 c.delay_at-self-inside.result (record { sfits = c.delay_at-self-inside.type_inv }) ∙ c.delay_at-self-inside.ensures
@@ -17,3 +17,4 @@ invariant_of-self c =
     ∙ (λ i. get_or (c.deref-3.ensures.value i) k false
     && is_broken (c.deref-2.ensures.value i) (get_or (c.changes.ensures.value i) k d)))
     c.test_all.ensures.size
+    c.forget_limits.new.until.items c.forget_limits.ensures

@@ -6,7 +6,7 @@ use Rattle.delay_management.proofs.on_trial.TimesOnTrial.set_open.Goals as goal
 
 pub invariant_of-self : goal.invariant_of-self
 invariant_of-self c =
-    opened _ _ _ _ _ _ c.self.invariant c.args.change c.args.is c.test.new.broken
+    opened _ _ _ _ _ _ _ _ c.self.invariant c.args.change c.args.is c.test.new.broken
     (omega (arith, c.requires, ap (λ (t : TrialTimes). length t.problem.changes) c.self.view_is))
     (λ d. c.test.ensures d ∙ (λ i. slice_set c.self.inside.broken c.args.change
     (get_or (c.deref-2.ensures.value i) c.args.change false
