@@ -85,11 +85,11 @@ pub(crate) fn test_moved(
     ensures size { length broken.new ≡ length broken.old }
     ensures limits { MayHaveLimits changes.now times.now ends.now shifted.new until.new.items }
 {
-    if until.is_empty() {
-        test_few(broken, ends, first, event, changes, times, undecided);
+    if !has_end(ends, first, event) {
         return;
     }
-    if !has_end(ends, first, event) {
+    if until.is_empty() {
+        test_few(broken, ends, first, event, changes, times, undecided);
         return;
     }
     *shifted = shifted.saturating_add(before.abs_diff(times[event as usize]));
