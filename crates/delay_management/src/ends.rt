@@ -1,5 +1,5 @@
 // The ends of changes by their events.
-ghost use Rattle.std.specs.Prelude.{◌≡◌, ◌<◌, ◌≤◌, ◌+◌, ◌/◌, ◌⊎◌, [], false, length, replicate, All, IfOk};
+ghost use Rattle.std.specs.Prelude.{◌≡◌, ◌<◌, ◌≤◌, ◌+◌, ◌/◌, ◌⊎◌, [], true, false, length, replicate, All, IfOk};
 ghost use Rattle.std.specs.List.Sorted.{IsNonDecreasingBy};
 ghost use Rattle.delay_management.specs.ChangeEnds.{AreFirst, HasEnds, HasNone, IsFirst};
 
@@ -76,7 +76,8 @@ fn first_end(ends: &[ChangeEnd], event: u32) -> usize
 pub(crate) fn has_end(ends: &[ChangeEnd], first: usize, event: u32) -> bool
     requires in_order { IsNonDecreasingBy (λ end. end.event) ends.now }
     requires first { IsFirst (λ end. end.event) ends.now event first }
-    ensures { result ≡ false → HasNone ends.now event }
+    ensures none { result ≡ false → HasNone ends.now event }
+    ensures there { result ≡ true → first < length ends.now }
 {
     first < ends.len() && ends[first].event == event
 }

@@ -89,7 +89,14 @@ pub(crate) fn test_moved(
         return;
     }
     if until.is_empty() {
-        test_few(broken, ends, first, event, changes, times, undecided);
+        test(
+            broken,
+            changes,
+            times,
+            undecided,
+            ends[first].change as usize,
+        );
+        test_few(broken, ends, first + 1, event, changes, times, undecided);
         return;
     }
     *shifted = shifted.saturating_add(before.abs_diff(times[event as usize]));
