@@ -1,13 +1,15 @@
 // Checking potentials.
 ghost use Rattle.std.specs.Prelude.{◌≡◌, ◌↔◌, ◌<◌, ◌≤◌, ◌+◌, ◌*◌, ◌==◌, length, sum, filter, slice_get, None, All};
 ghost use Rattle.std.specs.List.{range_with_len};
-ghost use Rattle.flow_potentials.specs.Potentials.{at, total, is_short_pair, potential_faults, IsSmall, AreOver, AreValid, TightAreCheapest};
-ghost use Rattle.vehicle_model.specs.Plans.{plan_cost, IsPlan, IsCheapest};
+ghost use Rattle.flow_potentials.specs.PotentialFaults.{is_short_pair, potential_faults, TightAreCheapest};
+ghost use Rattle.assignment.specs.Potentials.{at, total, IsSmall, AreOver, AreValid};
+ghost use Rattle.vehicle_model.specs.Plans.{plan_cost, IsCheapest};
+ghost use Rattle.assignment.specs.Plans.{IsPlan};
 ghost use Rattle.vehicle_model.specs.Trips.{links_of};
 
-use crate::numbers::Potentials;
 use crate::potential_fault::PotentialFault;
-use vehicle_model::{Plan, Trips, plan_cost};
+use assignment::{Plan, Potentials};
+use vehicle_model::{Trips, plan_cost};
 
 /// Why potentials are not valid for a plan: the first pair of trips, by the one and then by the other,
 /// of which the second may follow the first and whose link gains more than their two potentials, else
@@ -76,7 +78,7 @@ fn is_exact(trips: &Trips, plan: &Plan, potentials: &Potentials) -> bool
         == trips.now.vehicle * length trips.now.trips) }
 {
     let _ = trips.len();
-    total(&potentials.u) + total(&potentials.v) + cost_of(trips, plan) == cost_alone(trips)
+    potentials.total() + cost_of(trips, plan) == cost_alone(trips)
 }
 
 // What a plan costs.
@@ -93,18 +95,4 @@ fn cost_alone(trips: &Trips) -> u128
     ensures cost { result ≡ trips.now.vehicle * length trips.now.trips }
 {
     trips.cost_of(trips.len(), 0).unsigned_abs()
-}
-
-// The sum of some numbers.
-fn total(numbers: &[u64]) -> u128
-    requires small { All IsSmall numbers.now }
-    requires few { length numbers.now ≤ 2000 }
-    ensures sum { result ≡ sum numbers.now }
-    ensures small { result ≤ length numbers.now * 1000000000000000000 }
-{
-    let mut sum = 0;
-    for number in numbers {
-        sum += u128::from(*number);
-    }
-    sum
 }

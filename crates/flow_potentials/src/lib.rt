@@ -1,23 +1,18 @@
-//! Potentials of trips, which prove what a vehicle schedule costs at least.
+//! Potentials of trips, which prove what a vehicle schedule costs at least: their texts, their judge, and
+//! the links between trips over which they stand.
 #![tactic(auto)]
 
-mod arcs;
 mod canonical;
 mod checking;
-mod drops;
-mod link_table;
-mod linked_plan;
-mod numbers;
-mod passes;
 mod potential_fault;
 mod table_reading;
 mod table_writing;
-mod walk;
+mod trip_links;
 
-pub use canonical::{potentials, potentials_over_links};
+pub use assignment::Potentials;
+pub use canonical::potentials;
 pub use checking::check_potentials;
-pub use link_table::{Link, LinkTable};
-pub use numbers::Potentials;
 pub use potential_fault::PotentialFault;
 pub use table_reading::read_potentials;
 pub use table_writing::write_potentials;
+pub use trip_links::links_of_trips;

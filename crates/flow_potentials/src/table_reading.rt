@@ -1,12 +1,12 @@
 // Reading potentials.
 ghost use Rattle.std.specs.Prelude.{◌≡◌, ◌+◌, ◌<◌, length, slice_index_or, unsigned_abs, All, IfOk};
-ghost use Rattle.flow_potentials.specs.Potentials.{AreOver};
+ghost use Rattle.assignment.specs.Potentials.{AreOver};
 ghost use Rattle.flow_potentials.specs.PotentialTables.{is_trip_row, table_faults, potentials_of, potentials_in, gaps_from, PotentialsGive, FitsColumns};
 ghost use Rattle.giv_files.specs.declared.read_fault.ReadFault.TheVariants as read_faults;
 ghost use Rattle.giv_files.specs.declared.row_why.RowWhy.TheVariants as why;
 ghost use Rattle.giv_files.specs.Tables.{no_row, cell_at};
 
-use crate::numbers::Potentials;
+use assignment::Potentials;
 use giv_files::{ReadFault, RowFault, RowWhy, Table, columns, read_table};
 use std::alloc::Global;
 
@@ -38,7 +38,7 @@ fn read_rows(alloc: Global, table: &Table<3>, trips: usize) -> Result<Potentials
     if table.len() < trips {
         return Err(gap(0));
     }
-    Ok(Potentials { u, v })
+    Ok(Potentials::of_numbers(u, v))
 }
 
 // Whether a row is that of the trip of its place.

@@ -1,9 +1,9 @@
 // Writing potentials.
 ghost use Rattle.std.specs.Prelude.{◌≡◌, ◌+◌, ◌≤◌, ◌<◌, pos, [], ◌∷◌, length, IfOk};
-ghost use Rattle.flow_potentials.specs.Potentials.{at, ArePotentials};
+ghost use Rattle.assignment.specs.Potentials.{at, ArePotentials};
 ghost use Rattle.flow_potentials.specs.PotentialTables.{potential_rows, potentials_text, IsReadBack};
 
-use crate::numbers::Potentials;
+use assignment::Potentials;
 use giv_files::{Table, columns, write_table};
 use plan_num::{NoMemory, Text};
 use std::alloc::Global;

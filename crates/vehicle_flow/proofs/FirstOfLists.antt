@@ -4,7 +4,8 @@ use Rattle.std.specs.List.{AllByRecursion, flat_map, reduce}
 use Rattle.std.specs.Option.{option_or}
 use Rattle.std.proofs.lemmas.List.Folds.{find-append}
 use Rattle.std.proofs.lemmas.Option.{none-some}
-use Rattle.vehicle_model.specs.Plans.{ComesNoLater, AreNoLater, all_lists}
+use Rattle.vehicle_model.specs.Plans.{all_lists}
+use Rattle.assignment.specs.Plans.{ComesNoLater, AreNoLater}
 
 -- an item is one of some
 abbrev pub IsIn : List (Option ℕ) → Option ℕ → Type 0

@@ -1,13 +1,49 @@
 -- Plans of least cost gain the same.
 use Rattle.std.proofs.Common.{ℕ, List, Option, arith}
 use Rattle.std.proofs.lemmas.Int.{ints}
-use Rattle.vehicle_model.specs.Plans.{IsCheapest}
+use Rattle.assignment.specs.Plans.{IsBest, IsFirstBest}
+use Rattle.vehicle_model.specs.Plans.{IsCheapest, IsChosen}
 use Rattle.vehicle_model.specs.Trips.{TripsParts, links_of}
 use Rattle.vehicle_model.proofs.Costs.{cost_by_gain}
-use Rattle.flow_potentials.specs.Potentials.{PotentialParts, AreValid}
+use Rattle.assignment.specs.Potentials.{PotentialParts, AreValid}
 
 -- so potentials that are valid for one are valid for the other
 pub valid_for : (trips : TripsParts) (plan other : List (Option ℕ)) (potentials : PotentialParts)
     → IsCheapest trips plan → IsCheapest trips other → AreValid (links_of trips) plan potentials
     → AreValid (links_of trips) other potentials
 valid_for trips plan other potentials cheapest also valid = grind (arith, ints, cost_by_gain)
+
+-- a plan that gains the most is cheapest, and the other way round
+pub cheapest_by_gain : (trips : TripsParts) (plan : List (Option ℕ)) → IsBest (links_of trips) plan
+    → IsCheapest trips plan
+cheapest_by_gain trips plan best = record {
+  possible = best.possible;
+  least = λ other fits. omega (
+    arith,
+    ints,
+    best.most other fits,
+    cost_by_gain trips plan best.possible,
+    cost_by_gain trips other fits,
+  );
+}
+
+best_by_cost : (trips : TripsParts) (plan : List (Option ℕ)) → IsCheapest trips plan
+    → IsBest (links_of trips) plan
+best_by_cost trips plan cheapest = record {
+  possible = cheapest.possible;
+  most = λ other fits. omega (
+    arith,
+    ints,
+    cheapest.least other fits,
+    cost_by_gain trips plan cheapest.possible,
+    cost_by_gain trips other fits,
+  );
+}
+
+-- so the first of those that gain the most is the chosen one
+pub chosen_by_gain : (trips : TripsParts) (plan : List (Option ℕ)) → IsFirstBest (links_of trips) plan
+    → IsChosen trips plan
+chosen_by_gain trips plan first = record {
+  cheapest = cheapest_by_gain trips plan first.best;
+  first = λ other cheapest. first.first other (best_by_cost trips other cheapest);
+}

@@ -3,21 +3,22 @@ use Rattle.std.proofs.Common.{◌≡◌, ℕ, ◌&&◌, nat_eq, Bool, true, List
 use Rattle.std.proofs.Common.{None, refl, subst, arith, eqb-true, eq-eqb}
 use Rattle.vehicle_model.specs.Plans.{all_lists, chosen_plan, is_apart, plan_cost, IsCheapest, IsChosen}
 use Rattle.vehicle_model.specs.Trips.{TripsParts, AreTrips, links_of}
-use Rattle.flow_potentials.proofs.Certified.{certified_cheapest}
-use Rattle.flow_potentials.proofs.Rounds.{canonical_is, canonical_small, canonical_valid}
+use Rattle.vehicle_model.proofs.TripLinks.{trips_links}
+use Rattle.flow_potentials.proofs.CheapestPlans.{certified_cheapest}
+use Rattle.assignment.proofs.Rounds.{canonical_is, canonical_small, canonical_valid}
 use Rattle.vehicle_flow.specs.SettledPlans.{IsSettled}
 use Rattle.vehicle_flow.proofs.ChosenIsOne.{all_rising, apart_where, back_true, both_true, chosen_is, front_true, lists, plan_where, where_plan}
-use Rattle.vehicle_flow.proofs.ChosenThere.{HasValid, valid_there}
+use Rattle.assignment.proofs.ChosenThere.{HasValid, valid_there}
 use Rattle.vehicle_flow.proofs.FirstFound.{found_holds, found_no_later, none_passes}
 use Rattle.vehicle_flow.proofs.FirstOfLists.{AreChoices, all_choices}
 use Rattle.vehicle_flow.proofs.SameGains.{valid_for}
 
-module _ (trips : TripsParts) where
+module _ (trips : TripsParts) (are : AreTrips trips) where
   abbrev n : ℕ
   n = length trips.trips
 
   abbrev certified : HasValid (links_of trips)
-  certified = valid_there trips
+  certified = valid_there (links_of trips) (trips_links trips are)
 
   cheapest : IsCheapest trips certified.plan
   cheapest = certified_cheapest trips certified.plan certified.potentials certified.valid certified.possible
@@ -59,15 +60,15 @@ module _ (trips : TripsParts) where
           let chosen = first_chosen plan e in
           subst (IsChosen trips) (chosen_is trips plan chosen) chosen
 
-  pub settled_there : AreTrips trips → IsSettled trips (chosen_plan trips)
-  settled_there are =
+  pub settled_there : IsSettled trips (chosen_plan trips)
+  settled_there =
       let possible = chosen_there.cheapest.possible in
       let valid = valid_for trips certified.plan (chosen_plan trips) certified.potentials cheapest
       chosen_there.cheapest certified.valid in
       record {
         are = are;
         chosen = chosen_there;
-        valid = canonical_valid trips (chosen_plan trips) certified.potentials possible valid;
-        least = canonical_is trips (chosen_plan trips) certified.potentials possible valid;
-        small = canonical_small trips (chosen_plan trips) certified.potentials are possible valid;
+        valid = canonical_valid (links_of trips) (trips_links trips are) (chosen_plan trips) certified.potentials possible valid;
+        least = canonical_is (links_of trips) (trips_links trips are) (chosen_plan trips) certified.potentials possible valid;
+        small = canonical_small (links_of trips) (trips_links trips are) (chosen_plan trips) certified.potentials possible valid;
       }

@@ -21,9 +21,9 @@ use Rattle.vehicle_model.specs.Plans.{all_lists, is_apart, chosen_plan}
 use Rattle.vehicle_model.specs.Schedules.{tour, rows_behind, rows_from, plan_text}
 use Rattle.vehicle_model.specs.ReadSchedules.{form_faults, links_in, plan_faults, plan_of}
 use Rattle.event_tables.specs.Headers.{schedule_header}
-use Rattle.flow_potentials.specs.Potentials.{potential_faults}
+use Rattle.flow_potentials.specs.PotentialFaults.{potential_faults}
 use Rattle.flow_potentials.specs.PotentialTables.{gaps_from, potentials_text, potentials_of, potential_header, table_faults}
-use Rattle.flow_potentials.specs.Rounds.{canonical, settled}
+use Rattle.assignment.specs.Rounds.{canonical, settled}
 use Rattle.vehicle_flow.specs.declared.schedule_fault.ScheduleFault.{ScheduleFault}
 use Rattle.vehicle_flow.specs.declared.schedule_fault.ScheduleFault.TheVariants as rule
 use Rattle.vehicle_flow.specs.ScheduleChecks.{schedule_fault}

@@ -1,10 +1,11 @@
 -- Vehicles of a plan, counted by the trips without a next one.
 use Rattle.std.proofs.Common.{◌≡◌, ℕ, ◌≤◌, ◌+◌, ◌-◌, List, length, drop, Option, arith}
 use Rattle.std.proofs.lemmas.List.{drop_all}
-use Rattle.vehicle_model.specs.Plans.{starts, plan_links, IsPlan}
+use Rattle.vehicle_model.specs.Plans.{starts}
+use Rattle.assignment.specs.Plans.{plan_links, IsPlan}
 use Rattle.vehicle_model.specs.Trips.{TripsParts, links_of}
 use Rattle.vehicle_model.proofs.Costs.{starts_and_links}
-use Rattle.vehicle_model.proofs.Totals.{links_from}
+use Rattle.assignment.proofs.Totals.{links_from}
 
 -- the links before a trip, with those from there on, are those of the plan
 pub record AreLinksBefore (plan : List (Option ℕ)) (i links : ℕ) : Type 0 where

@@ -2,9 +2,9 @@
 use Rattle.std.specs.Prelude.{ℕ, List, Option}
 use Rattle.vehicle_model.specs.Plans.{IsChosen}
 use Rattle.vehicle_model.specs.Trips.{TripsParts, AreTrips, links_of}
-use Rattle.flow_potentials.specs.Canonical.{AreCanonical}
-use Rattle.flow_potentials.specs.Potentials.{ArePotentials, AreValid}
-use Rattle.flow_potentials.specs.Rounds.{canonical}
+use Rattle.assignment.specs.Canonical.{AreCanonical}
+use Rattle.assignment.specs.Potentials.{ArePotentials, AreValid}
+use Rattle.assignment.specs.Rounds.{canonical}
 
 pub record IsSettled (trips : TripsParts) (plan : List (Option ℕ)) : Type 0 where
   pub are : AreTrips trips

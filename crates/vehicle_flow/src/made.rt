@@ -1,17 +1,17 @@
 // What the stage makes of its trips.
 ghost use Rattle.std.specs.Prelude.{◌≡◌, IfOk};
 ghost use Rattle.flow_potentials.specs.PotentialTables.{potentials_text};
-ghost use Rattle.flow_potentials.specs.Potentials.{AreValid};
-ghost use Rattle.flow_potentials.specs.Rounds.{canonical};
+ghost use Rattle.assignment.specs.Potentials.{AreValid};
+ghost use Rattle.assignment.specs.Rounds.{canonical};
 ghost use Rattle.vehicle_flow.specs.VehicleStage.{vehicles_made};
-ghost use Rattle.vehicle_model.specs.Plans.{chosen_plan, IsPlan};
+ghost use Rattle.vehicle_model.specs.Plans.{chosen_plan};
+ghost use Rattle.assignment.specs.Plans.{IsPlan};
 ghost use Rattle.vehicle_model.specs.Trips.{links_of};
 
 use crate::cheapest::cheapest_of;
-use crate::chosen::chosen_plan;
 use crate::report::vehicles_line;
-use crate::solved::Solved;
-use flow_potentials::{LinkTable, potentials_over_links, write_potentials};
+use assignment::{Solved, canonical_potentials, first_best_plan};
+use flow_potentials::{links_of_trips, write_potentials};
 use giv_files::{FileId, Made, MadeFile, MadeList};
 use plan_num::{NoMemory, Text};
 use std::alloc::Global;
@@ -47,10 +47,11 @@ fn chosen_solution(alloc: Global, trips: &Trips) -> Result<Solved, NoMemory>
     ensures potentials { IfOk result (λ chosen.
         chosen.potentials ≡ canonical (links_of trips.now) chosen.plan) }
 {
-    let table = LinkTable::new(alloc, trips)?;
-    let solved = cheapest_of(alloc, &table)?;
-    let plan = chosen_plan(alloc, &table, &solved)?;
-    let potentials = potentials_over_links(alloc, &table, &plan, &solved.potentials)?;
+    let _ = trips.len();
+    let links = links_of_trips(alloc, trips)?;
+    let solved = cheapest_of(alloc, trips, &links)?;
+    let plan = first_best_plan(alloc, &links, &solved)?;
+    let potentials = canonical_potentials(alloc, &links, &plan, &solved.potentials)?;
     Ok(Solved { plan, potentials })
 }
 

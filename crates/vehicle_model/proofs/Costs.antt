@@ -4,12 +4,14 @@ use Rattle.std.proofs.Common.{◌-◌, List, [], ◌∷◌, length, drop, is_som
 use Rattle.std.proofs.Common.{option_map, unwrap_or, refl, ap, sym, ◌∙◌, subst, arith}
 use Rattle.std.proofs.lemmas.Int.{ints}
 use Rattle.std.proofs.lemmas.List.{drop_all}
-use Rattle.vehicle_model.specs.Plans.{next, is_next, starts, plan_links, plan_minutes, plan_cost, plan_gain, IsPlan}
+use Rattle.vehicle_model.specs.Plans.{starts, plan_minutes, plan_cost}
+use Rattle.assignment.specs.Plans.{next, is_next, plan_links, plan_gain, IsPlan}
 use Rattle.vehicle_model.specs.Trips.{TripsParts, link_minutes, gain_of, links_of}
-use Rattle.vehicle_model.proofs.Counting.{count, but_one, all_count, one_less}
-use Rattle.vehicle_model.proofs.Following.{some_of, links_within, gain_there}
-use Rattle.vehicle_model.proofs.Linking.{never_next}
-use Rattle.vehicle_model.proofs.Totals.{links_from, gains_from, minutes_from, gains_more, minutes_more, alone_count, alone_minutes, linked_count, linked_minutes}
+use Rattle.assignment.proofs.Counting.{count, but_one, all_count, one_less}
+use Rattle.vehicle_model.proofs.Following.{links_within, gain_there}
+use Rattle.assignment.proofs.Linking.{some_of}
+use Rattle.assignment.proofs.Linking.{never_next}
+use Rattle.assignment.proofs.Totals.{links_from, gains_from, minutes_from, gains_more, minutes_more, alone_count, alone_minutes, linked_count, linked_minutes}
 
 -- ---- vehicles and links are as many as trips
 

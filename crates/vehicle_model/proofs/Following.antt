@@ -8,6 +8,7 @@ use Rattle.std.proofs.lemmas.Option.{none-some, same_Some, slice_get-get_or, sli
 use Rattle.event_tables.specs.declared.trip.Trip.{Trip}
 use Rattle.ptn_network.specs.declared.edge.Edge.{Edge}
 use Rattle.ptn_network.specs.Walks.{edge_time, IsLeastSum}
+use Rattle.assignment.proofs.Linking.{some_of}
 use Rattle.vehicle_model.specs.Schedules.{trip_of, no_trip, dead_between}
 use Rattle.vehicle_model.specs.Trips.{TripsParts, AreTrips, MayFollow, start_stop, end_stop, if_in_time, link_between, link_minutes, gain_of, links_of}
 
@@ -84,11 +85,6 @@ is_link trips i j minutes e =
     let parts = in_time_is trips (trip_of trips i) (trip_of trips j) (dead_between trips i j) minutes
     (sym (link_is trips i j there.0 there.1) ∙ e) in
     record { from = there.0; to = there.1; dead = parts.0; in_time = parts.1 }
-
--- an option that has something
-pub some_of : {X : Type 0} (at : Option X) → is_some at ≡ true → (x : X) × (at ≡ Some x)
-some_of None h = absurd (false≢true h)
-some_of (Some x) h = (x, refl)
 
 -- what a link gains
 pub gain_is : (trips : TripsParts) (i j : ℕ) (gain : ℤ) → (links_of trips).gain i j ≡ Some gain

@@ -2,7 +2,6 @@ mod AllCome
 mod BehindRows
 mod DeadLookups
 pub mod Costs
-pub mod Counting
 mod Driven
 pub mod DrivenBack
 pub mod DrivenForms
@@ -10,17 +9,16 @@ pub mod DrivenNext
 pub mod DrivenPlans
 pub mod DrivenRows
 pub mod Following
-pub mod Linking
 mod PlanTexts
 pub mod PlanBack
 mod PlanRead
 mod Reading
 mod Repeated
 pub mod RowsFit
-pub mod Totals
 pub mod Tours
 mod Tried
 mod TriedDriven
 pub mod VehicleRows
+pub mod TripLinks
 mod TripTexts
 pub mod FaultlessPlans

@@ -10,7 +10,8 @@ use Rattle.event_tables.specs.Headers.{schedule_header}
 use Rattle.giv_files.specs.RowsOfTables.{file_text}
 use Rattle.giv_files.specs.Columns.{schedule_columns}
 use Rattle.vehicle_model.specs.Trips.{TripsParts, dead_minutes}
-use Rattle.vehicle_model.specs.Plans.{next, starts}
+use Rattle.vehicle_model.specs.Plans.{starts}
+use Rattle.assignment.specs.Plans.{next}
 
 -- no trip
 abbrev pub no_end : TripEnd

@@ -1,5 +1,6 @@
 -- Trips over a network, and which trip may follow which.
 use Rattle.std.specs.Prelude.{ℕ, ℤ, pos, ◌≡◌, ◌+◌, ◌*◌, ◌≤◌, ◌-ℤ◌, nat_le, if◌then◌else◌, List, ◌++◌, length, slice_get, Option, Some, None, option_map, option_and_then}
+use Rattle.assignment.specs.Links.{Links}
 use Rattle.event_tables.specs.declared.trip.Trip.{Trip}
 use Rattle.event_tables.specs.Trips.{trip_input, AreTrips as AreTripRows}
 use Rattle.giv_files.specs.declared.refusal.Refusal.{Refusal}
@@ -72,11 +73,6 @@ abbrev pub link_minutes : TripsParts → ℕ → ℕ → Option ℕ
 link_minutes trips i j = option_and_then
     (λ before. option_and_then (λ after. link_between trips before after) (slice_get trips.trips j))
     (slice_get trips.trips i)
-
--- which trips may follow which, and what such a link gains
-pub record Links : Type 0 where
-  pub count : ℕ
-  pub gain : ℕ → ℕ → Option ℤ
 
 -- what a link of some dead minutes gains: a vehicle, less these minutes
 abbrev pub gain_of : TripsParts → ℕ → ℤ

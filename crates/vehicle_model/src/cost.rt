@@ -1,10 +1,11 @@
 // What plans cost.
 ghost use Rattle.std.specs.Prelude.{◌≡◌, ◌≤◌, ◌≤ℤ◌, ◌*◌, ◌-ℤ◌, pos, true, length, is_some, Some};
-ghost use Rattle.vehicle_model.specs.Plans.{plan_cost, plan_gain, IsPlan};
+ghost use Rattle.vehicle_model.specs.Plans.{plan_cost};
+ghost use Rattle.assignment.specs.Plans.{plan_gain, IsPlan};
 ghost use Rattle.vehicle_model.specs.Trips.{link_minutes, links_of};
 
-use crate::plan::Plan;
 use crate::trips::Trips;
+use assignment::Plan;
 
 /// What a plan costs, in millionths: its vehicles, and the dead minutes of its links.
 pub fn plan_cost(trips: &Trips, plan: &Plan) -> i128

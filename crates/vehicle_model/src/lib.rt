@@ -3,7 +3,6 @@
 
 mod cost;
 mod dead_times;
-mod plan;
 mod plan_fault;
 mod reader;
 mod row_form;
@@ -12,8 +11,8 @@ mod schedule_reading;
 mod schedule_writing;
 mod trips;
 
+pub use assignment::Plan;
 pub use cost::plan_cost;
-pub use plan::Plan;
 pub use plan_fault::PlanFault;
 pub use schedule_reading::read_plan;
 pub use schedule_writing::write_plan;

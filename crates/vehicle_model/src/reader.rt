@@ -4,10 +4,10 @@ ghost use Rattle.std.specs.List.{list_all, range_with_len};
 ghost use Rattle.vehicle_model.specs.ReadSchedules.{trip_in, begins, is_new, is_ride, leads_to, trip_fits, empty_fits, row_fits, link_of, nothing_read};
 ghost use Rattle.vehicle_model.specs.Readers.{has_come, after_link, after_trip, after_row, late_after, CanLink, IsOver, Knows, finished};
 
-use crate::plan::Plan;
 use crate::plan_fault::PlanFault;
 use crate::row_form::{begins, follows_empty, follows_trip, goes_to, is_empty_row, leaves};
 use crate::trips::Trips;
+use assignment::Plan;
 use event_tables::{ScheduleRow, Trip};
 use plan_num::NoMemory;
 use std::alloc::Global;

@@ -2,7 +2,7 @@
 use Rattle.std.proofs.Common.{◌≡◌, ◌-◌, length}
 use Rattle.std.specs.List.{flat_map, range_with_len}
 use Rattle.vehicle_model.specs.Trips.{links_of}
-use Rattle.flow_potentials.specs.Potentials.{pair_faults, trip_faults}
+use Rattle.flow_potentials.specs.PotentialFaults.{pair_faults, trip_faults}
 use Rattle.flow_potentials.proofs.checking.check_potentials.Given as goal
 
 abbrev pub invariant-loop-i : goal.invariant-loop-i

@@ -1,6 +1,6 @@
 use Rattle.std.proofs.Common.{◌<◌, ◌≤◌, length, sym, ◌∙◌, arith}
 use Rattle.vehicle_model.specs.Trips.{links_of}
-use Rattle.flow_potentials.specs.Potentials.{is_short_pair}
+use Rattle.flow_potentials.specs.PotentialFaults.{is_short_pair}
 use Rattle.flow_potentials.proofs.Checked.{found_short, not_short, none_short}
 use Rattle.flow_potentials.proofs.checking.short_pair.Goals as goal
 

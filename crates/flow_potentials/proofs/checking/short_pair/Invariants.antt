@@ -2,7 +2,7 @@
 use Rattle.std.proofs.Common.{◌≡◌, ◌-◌, filter, length}
 use Rattle.std.specs.List.{range_with_len}
 use Rattle.vehicle_model.specs.Trips.{links_of}
-use Rattle.flow_potentials.specs.Potentials.{is_short_pair}
+use Rattle.flow_potentials.specs.PotentialFaults.{is_short_pair}
 use Rattle.flow_potentials.proofs.checking.short_pair.Given as goal
 
 abbrev pub invariant-loop-j : goal.invariant-loop-j

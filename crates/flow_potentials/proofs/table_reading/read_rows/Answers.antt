@@ -2,7 +2,7 @@ use Rattle.std.proofs.Common.{◌<◌, ◌≤◌, ◌==◌, ◌+◌, nat_lt, tru
 use Rattle.std.proofs.lemmas.Bool.{and_parts, ltb-true, lt-ltb, le-ltb}
 use Rattle.giv_files.specs.declared.row_why.RowWhy.TheVariants as why
 use Rattle.giv_files.specs.Tables.{no_row}
-use Rattle.flow_potentials.specs.Potentials.{PotentialParts}
+use Rattle.assignment.specs.Potentials.{PotentialParts, AreOver}
 use Rattle.flow_potentials.specs.PotentialTables.{gaps_from, column_of, potentials_in, PotentialsGive}
 use Rattle.flow_potentials.proofs.Tables.{gap_found, no_gap, gap_end, column_more, column_all, table_potentials, table_over}
 use Rattle.flow_potentials.proofs.table_reading.read_rows.Goals as goal
@@ -51,8 +51,8 @@ returns-then-len-trips-clause-read c =
     (ap (λ all. slice_get all 0) (gap_end c.args.trips c.args.table.now c.loop-row.row
     c.loop-row.invariant.gaps past true (lt-ltb c.loop-row.row c.args.trips early)))
 
-pub invariant_of-result : goal.invariant_of-result
-invariant_of-result c =
+pub of_numbers-requires : goal.of_numbers-requires
+of_numbers-requires c =
     let past : length c.args.table.now ≤ c.loop-row.row =
     omega (arith, c.loop-row-test.false, c.len-row-end.ensures.len) in
     table_potentials c.args.table.now c.requires c.loop-row.u.items c.loop-row.v.items
@@ -70,14 +70,14 @@ returns-clause-read c =
     let of_v : _ → PotentialParts = λ v. record { u = column_of 1 c.args.table.now; v = v } in (
       gap_end c.args.trips c.args.table.now c.loop-row.row c.loop-row.invariant.gaps past false
           (le-ltb c.loop-row.row c.args.trips late),
-      ap of_u u_is ∙ ap of_v v_is,
+      c.of_numbers.ensures ∙ ap of_u u_is ∙ ap of_v v_is,
     )
 
 pub returns-clause-each : goal.returns-clause-each
 returns-clause-each c =
     let past : length c.args.table.now ≤ c.loop-row.row =
     omega (arith, c.loop-row-test.false, c.len-row-end.ensures.len) in
-    table_over c.args.table.now c.args.trips c.loop-row.u.items c.loop-row.v.items
+    subst (AreOver c.args.trips) (sym c.of_numbers.ensures) (table_over c.args.table.now c.args.trips c.loop-row.u.items c.loop-row.v.items
     (column_all 1 c.args.table.now c.loop-row.row c.loop-row.u.items past c.loop-row.invariant.u)
     (column_all 2 c.args.table.now c.loop-row.row c.loop-row.v.items past c.loop-row.invariant.v)
     (omega (
@@ -87,4 +87,4 @@ returns-clause-each c =
       c.len.ensures.len,
       c.if-len-trips.false,
       c.loop-row.invariant.few,
-    ))
+    )))

@@ -1,0 +1,176 @@
+-- Claimed places are expanded, one after another.
+use Rattle.std.proofs.Common.{◌≡◌, ℕ, ◌+◌, ◌<◌, ◌≤◌, true, false, is_some, List, length, slice_get}
+use Rattle.std.proofs.Common.{Option, Some, None, Result, Ok, Err, OnOk, refl, ap, sym, ◌∙◌, subst}
+use Rattle.std.proofs.Common.{arith}
+use Rattle.std.proofs.lemmas.Bool.{false≢true}
+use Rattle.std.proofs.lemmas.List.{get_or_past}
+use Rattle.std.proofs.lemmas.Option.{same_Some, slice_get_within, slice_get-get_or}
+use Rattle.assignment.specs.Plans.{next, is_next}
+use Rattle.assignment.proofs.Linking.{some_of}
+use Rattle.assignment.proofs.Linking.{by_number, not_next}
+use Rattle.assignment.specs.Potentials.{at}
+use Rattle.assignment.proofs.Certified.{by_bound}
+use Rattle.assignment.specs.Claims.{ClaimsParts}
+use Rattle.assignment.specs.Places.{place_of}
+use Rattle.assignment.specs.Searches.{Search, IsLeft}
+use Rattle.assignment.specs.Choices.{is_claimed, AllClaimed, IsExpanded, LastExpanded, AreExpanded, AreRight, AreMore, AreOthers, IsSearch}
+use Rattle.assignment.proofs.Moves.{has_next, successor_past}
+use Rattle.assignment.proofs.ClaimingAll.{still_claimed, gone_on}
+use Rattle.assignment.proofs.Claimed.{AreGoing, at_place}
+
+-- a claimed place is one of the places
+pub claimed_within : (search : Search) (plan : List (Option ℕ)) (claims : ClaimsParts) (place : ℕ)
+    → AreRight search plan claims → is_claimed claims place ≡ true → place < search.links.count + 1
+claimed_within search plan claims place right h =
+    grind (arith, by_bound, false≢true, is_some, get_or_past)
+
+-- the trip that has a claimed place may be moved
+pub has_movable : (search : Search) (plan : List (Option ℕ)) (claims : ClaimsParts) (place by : ℕ)
+    → IsSearch search plan → AreRight search plan claims → is_claimed claims place ≡ true
+    → next plan by ≡ Some place → (search.low ≤ by) × (by < search.links.count)
+has_movable search plan claims place by is right h has = grind (arith, some_of, has_next)
+
+-- and leaves it, where it is not the one that looks
+pub has_left : (search : Search) (plan : List (Option ℕ)) (place by : ℕ) → IsSearch search plan
+    → (place_of search.links.count (next plan search.trip) ≡ place → ⊥)
+    → next plan by ≡ Some place → IsLeft search plan place (Some by)
+has_left search plan place by is apart has = grind arith
+
+-- and so does one without a next trip, behind them all
+pub last_left : (search : Search) (plan : List (Option ℕ)) (claims : ClaimsParts) (place by : ℕ)
+    → IsSearch search plan → AreRight search plan claims → is_claimed claims place ≡ true
+    → length plan ≤ place → (place_of search.links.count (next plan search.trip) ≡ place → ⊥)
+    → next plan by ≡ None → IsLeft search plan place (Some by)
+last_left search plan claims place by is right h past apart waits =
+    let bound : place < search.links.count + 1 = claimed_within search plan claims place right h in
+    let last : search.links.count ≡ place = omega (arith, bound, past, is.possible.each) in (
+      (λ same. apart (ap (place_of search.links.count) (ap (next plan) (sym same) ∙ waits) ∙ last)),
+      waits ∙ sym (successor_past search.links.count place (omega (arith, last))),
+    )
+
+-- what is not there
+pub no_next : {X : Type 0} (at : Option X) → is_some at ≡ false → at ≡ None
+no_next None e = refl
+no_next (Some x) e = absurd (false≢true (sym e))
+
+-- what a call leaves where it is not refused
+pub on_ok : {E A : Type 0} {S T : Type 0} (result : Result A E) → (S → T) → OnOk result S
+    → OnOk result T
+on_ok (Ok value) f h = f h
+on_ok (Err why) f h = h
+
+-- the same of two clauses
+pub on_both : {E A : Type 0} {R S T : Type 0} (result : Result A E) → (R → S → T) → OnOk result R
+    → OnOk result S
+    → OnOk result T
+on_both (Ok value) f h k = f h k
+on_both (Err why) f h k = h
+
+-- a place is expanded by the trip that has it
+pub expanded_by : (search : Search) (plan : List (Option ℕ)) (claims : ClaimsParts) (place by : ℕ)
+    → IsSearch search plan → next plan by ≡ Some place → AllClaimed search plan claims (Some by)
+    → IsExpanded search plan claims place
+expanded_by search plan claims place by is has all = record {
+  by = λ i low within at_place. subst (λ some. AllClaimed search plan claims (Some some))
+      (sym (same i low within at_place)) all;
+  alone = λ free. absurd (not_next plan by place free has);
+}
+  where
+    inside : place < search.links.count
+    inside = omega (arith, is.successors.within by place has, is.possible.each)
+
+    same : (i : ℕ) → search.low ≤ i → i < search.links.count → place_of search.links.count
+        (next plan i) ≡ place → i ≡ by
+    same i low within at_place = by_next (next plan i) refl
+      where
+        by_next : (to : Option ℕ) → next plan i ≡ to → i ≡ by
+        by_next None e =
+            let past : search.links.count ≡ place = sym (ap (place_of search.links.count) e)
+            ∙ at_place in
+            absurd (omega (arith, past, inside))
+        by_next (Some j) e = is.successors.once i by place
+            (e ∙ ap Some (sym (ap (place_of search.links.count) e) ∙ at_place)) has
+
+-- where it has none
+pub expanded_alone : (search : Search) (plan : List (Option ℕ)) (claims after : ClaimsParts)
+    (place : ℕ)
+    → is_next plan place ≡ false → AllClaimed search plan claims None → AreMore claims after
+    → (place ≡ search.links.count → LastExpanded search plan after search.links.count)
+    → IsExpanded search plan after place
+expanded_alone search plan claims after place free all more last = record {
+  by = λ i low within at_place. by_next (next plan i) i refl low within at_place;
+  alone = λ none other bound undecided zero. still_claimed claims after other more
+      (all other bound undecided zero);
+}
+  where
+    by_next : (to : Option ℕ) (i : ℕ) → next plan i ≡ to → search.low ≤ i → i < search.links.count
+        → place_of search.links.count (next plan i) ≡ place → AllClaimed search plan after (Some i)
+    by_next None i e low within at_place =
+        last (sym at_place ∙ ap (place_of search.links.count) e) i low within e
+    by_next (Some j) i e low within at_place =
+        absurd (not_next plan i place free (e ∙ ap Some (sym (ap (place_of search.links.count) e)
+        ∙ at_place)))
+
+-- an expanded place stays one
+pub still_expanded : (search : Search) (plan : List (Option ℕ)) (before after : ClaimsParts)
+    (place : ℕ)
+    → AreMore before after → IsExpanded search plan before place → IsExpanded search plan after
+    place
+still_expanded search plan before after place more is = grind arith
+
+-- the trips without a next one, so far
+pub record AreLast (search : Search) (plan : List (Option ℕ)) (start claims : ClaimsParts)
+    (index : ℕ) : Type 0 where
+  pub going : AreGoing search plan start claims
+  pub done : LastExpanded search plan claims index
+
+-- one more has claimed all
+pub last_more : (search : Search) (plan : List (Option ℕ)) (start claims after : ClaimsParts)
+    (index : ℕ)
+    → AreLast search plan start claims index
+    → AreRight search plan after → AreMore claims after → AreOthers search claims after
+    → AllClaimed search plan after (Some index) → AreLast search plan start after (index + 1)
+last_more search plan start claims after index is right more others all = grind arith
+
+-- or it has a next one
+pub last_kept : (search : Search) (plan : List (Option ℕ)) (start claims : ClaimsParts) (index : ℕ)
+    → AreLast search plan start claims index → (next plan index ≡ None → ⊥)
+    → AreLast search plan start claims (index + 1)
+last_kept search plan start claims index is has = grind arith
+
+-- ---- from one place to the next
+
+-- the places that were claimed before a step are expanded
+pub record IsGrowing (search : Search) (plan : List (Option ℕ)) (start claims : ClaimsParts)
+    (step : ℕ) : Type 0 where
+  pub going : AreGoing search plan start claims
+  pub done : AreExpanded search plan claims step
+  pub few : step ≤ length claims.order
+
+-- one more is expanded
+pub growing_more : (search : Search) (plan : List (Option ℕ)) (start claims after : ClaimsParts)
+    (step place : ℕ)
+    → IsGrowing search plan start claims step → slice_get claims.order step ≡ Some place
+    → AreRight search plan after → AreMore claims after → AreOthers search claims after
+    → IsExpanded search plan after place → IsGrowing search plan start after (step + 1)
+growing_more search plan start claims after step place is at_step right more others
+    expanded = record {
+      going = gone_on search plan start claims after is.going right more others;
+      done = λ before other bound e. by_number before step
+          (λ same. subst (IsExpanded search plan after) (same_Some place other
+          (sym (more.order step place at_step) ∙ ap (slice_get after.order) (sym same) ∙ e)) expanded)
+          (λ apart. earlier before other (omega (arith, bound, apart)) e);
+      few = let here : step < length after.order = slice_get_within after.order step place
+          (more.order step place at_step) in
+          omega (arith, here);
+    }
+  where
+    earlier : (before other : ℕ) → before < step → slice_get after.order before ≡ Some other
+        → IsExpanded search plan after other
+    earlier before other bound e =
+        let at_before : slice_get claims.order before ≡ Some (at claims.order before) =
+        slice_get-get_or claims.order before 0 (omega (arith, bound, is.few)) in
+        still_expanded search plan claims after other more
+        (subst (IsExpanded search plan claims) (same_Some (at claims.order before) other
+        (sym (more.order before (at claims.order before) at_before) ∙ e))
+        (is.done before (at claims.order before) bound at_before))

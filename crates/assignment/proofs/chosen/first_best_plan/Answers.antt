@@ -1,0 +1,56 @@
+use Rattle.std.proofs.Common.{◌+◌, [], replicate, None, length, refl, ap, sym, ◌∙◌, subst, arith}
+use Rattle.assignment.specs.Links.{links_in}
+use Rattle.assignment.specs.Claims.{claim_at}
+use Rattle.assignment.proofs.Claimables.{claimable_first}
+use Rattle.assignment.proofs.ClaimLists.{none_at}
+use Rattle.assignment.proofs.Settling.{IsDeciding, deciding_none, deciding_more, search_is, chosen_all, chosen_told}
+use Rattle.assignment.proofs.chosen.first_best_plan.Goals as goal
+
+pub loop-trip-init : goal.loop-trip-init
+loop-trip-init c = record {
+  deciding = subst (λ plan. IsDeciding (links_in c.args.trips.now) c.args.solved.now.potentials plan
+      0) (sym c.in_ok-assignment.ensures)
+      (deciding_none (links_in c.args.trips.now) c.args.solved.now.potentials c.args.solved.now.plan
+      c.requires.plan c.requires.valid);
+  none = c.in_ok-claims.ensures ∙ ap (λ n. record { at = replicate (n + 1) None; order = [] })
+      c.len.ensures.count;
+  claimable = claimable_first (length c.args.trips.now) c.in_ok-assignment.assignment
+      c.in_ok-claims.claims
+      c.in_ok-places.places (λ place. ap (λ claims. claim_at claims place) c.in_ok-claims.ensures
+      ∙ none_at (c.len.result + 1) place) c.in_ok-places.ensures.rows
+      (c.in_ok-places.ensures.columns ∙ ap (λ n. n + 1) c.len-2.ensures.count)
+      (λ place bound. c.in_ok-places.ensures.all place
+      (omega (arith, bound, c.len-2.ensures.count)));
+}
+
+pub settle-requires : goal.settle-requires
+settle-requires c = (
+  search_is (links_in c.args.trips.now) c.len.ensures.links c.args.solved.now.potentials c.args.solved.now.plan
+      c.loop-trip.assignment c.loop-trip.trip
+      c.requires.valid (omega (arith, c.loop-trip-test.true, c.len-trip-end.ensures.count))
+      c.loop-trip.invariant.deciding,
+  (refl, (c.in_ok-ties.ensures, (c.loop-trip.invariant.none, c.loop-trip.invariant.claimable))),
+)
+
+pub loop-trip-preserved : goal.loop-trip-preserved
+loop-trip-preserved c = record {
+  deciding = deciding_more (record {
+    links = links_in c.args.trips.now;
+    potentials = c.args.solved.now.potentials;
+    trip = c.loop-trip.trip;
+    low = c.loop-trip.trip;
+  }) c.loop-trip.assignment c.settle.new.assignment c.loop-trip.trip refl
+      c.loop-trip.invariant.deciding
+      c.in_ok-settle.ensures.settled;
+  none = c.in_ok-settle.ensures.none ∙ c.loop-trip.invariant.none;
+  claimable = c.in_ok-settle.ensures.places;
+}
+
+pub returns : goal.returns
+returns c = chosen_told (links_in c.args.trips.now) c.loop-trip.assignment
+    (chosen_all (links_in c.args.trips.now) c.len.ensures.links c.args.solved.now.potentials c.args.solved.now.plan
+    c.loop-trip.assignment c.loop-trip.trip
+    c.requires.valid c.requires.plan
+    (omega (arith, c.loop-trip-test.false, c.len-trip-end.ensures.count))
+    c.loop-trip.invariant.deciding)
+    c.to_plan.result c.to_plan.ensures

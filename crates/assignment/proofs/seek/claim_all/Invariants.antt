@@ -1,0 +1,7 @@
+-- What was claimed stays so, each place so far is claimed, and the others still can be.
+use Rattle.assignment.proofs.ClaimingAll.{IsClaiming}
+use Rattle.assignment.proofs.seek.claim_all.Given as goal
+
+abbrev pub invariant-loop-place : goal.invariant-loop-place
+invariant-loop-place g l = IsClaiming g.search l.assignment l.fn.claims l.claims l.place-items
+    l.place-index l.places

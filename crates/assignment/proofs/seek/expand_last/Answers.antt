@@ -1,0 +1,53 @@
+use Rattle.std.proofs.Common.{◌≡◌, ◌<◌, ◌∙◌, ap, is_some, sym, arith}
+use Rattle.std.proofs.lemmas.Bool.{false≢true}
+use Rattle.assignment.proofs.ClaimingAll.{still_claimed}
+use Rattle.assignment.proofs.Expanding.{last_kept, last_left, last_more, no_next}
+use Rattle.assignment.proofs.seek.expand_last.Goals as goal
+use Rattle.assignment.proofs.seek.expand_last.Goals.{then-is_none+in_ok-claim_all, else-is_none}
+
+pub claim_all-requires : goal.claim_all-requires
+claim_all-requires g c =
+    let low : g.search.low ≡ c.args.trip = c.requires.0.first ∙ c.requires.1.0 in
+    let within : c.loop-by.by < g.search.links.count =
+    omega (arith, c.loop-by-test.true, c.len-by-end.ensures.count, c.requires.0.possible.each) in (
+      c.requires.0,
+      (
+        c.requires.1.1.0,
+        (
+          c.loop-by.invariant.claimable,
+          (
+            (omega (arith, low), within),
+            (
+              last_left g.search c.args.assignment.now c.args.claims.now c.args.place c.loop-by.by
+                  c.requires.0
+                  c.requires.1.1.1.1.0 c.requires.1.1.1.1.1.0
+                  (omega (arith, c.if-place-len.false, c.len.ensures.count)) c.requires.1.1.1.1.1.1
+                  (sym c.next.ensures.value ∙ no_next c.next.result (c.if-is_none.ensures)),
+              (
+                c.loop-by.invariant.last.going.right,
+                still_claimed c.args.claims.now c.loop-by.claims c.args.place
+                    c.loop-by.invariant.last.going.more c.requires.1.1.1.1.1.0,
+              ),
+            ),
+          ),
+        ),
+      ),
+    )
+
+pub loop-by-preserved : goal.loop-by-preserved
+loop-by-preserved g c = elim c.if-is_none.branch [
+  | then-is_none+in_ok-claim_all w ↦ rw (w.claims-is, w.places-is) (record {
+    last = last_more g.search c.args.assignment.now c.args.claims.now c.loop-by.claims
+        w.claim_all.new.claims c.loop-by.by c.loop-by.invariant.last
+        w.in_ok-claim_all.ensures.right w.in_ok-claim_all.ensures.more
+        w.in_ok-claim_all.ensures.others w.in_ok-claim_all.ensures.all;
+    claimable = w.in_ok-claim_all.ensures.places;
+  })
+  | else-is_none w ↦ rw (w.claims-is, w.places-is) (record {
+    last = last_kept g.search c.args.assignment.now c.args.claims.now c.loop-by.claims
+        c.loop-by.by c.loop-by.invariant.last
+        (λ none. false≢true (sym (ap is_some (c.next.ensures.value ∙ none))
+        ∙ w.if-is_none.ensures));
+    claimable = c.loop-by.invariant.claimable;
+  })
+]

@@ -1,0 +1,39 @@
+use Rattle.std.proofs.Common.{ap, sym, ◌∙◌, subst}
+use Rattle.assignment.specs.Canonical.{AreCanonical}
+use Rattle.assignment.specs.Plans.{IsPlan}
+use Rattle.assignment.specs.Potentials.{AreValid}
+use Rattle.assignment.specs.Rounds.{canonical}
+use Rattle.assignment.proofs.Rounds.{canonical_is}
+use Rattle.assignment.proofs.Worthwhile.{canonical_same, plan_down, valid_down, valid_up}
+use Rattle.vehicle_model.specs.Trips.{links_of}
+use Rattle.vehicle_model.proofs.TripLinks.{trips_links}
+use Rattle.flow_potentials.proofs.canonical.potentials.Goals as goal
+
+pub canonical_potentials-requires-clause-plan : goal.canonical_potentials-requires-clause-plan
+canonical_potentials-requires-clause-plan c =
+    subst (λ links. IsPlan links c.args.plan.now) (sym c.in_ok-table.ensures)
+    (plan_down (links_of c.args.trips.now) c.args.plan.now c.args.valid.now c.requires.plan c.requires.valid)
+
+pub canonical_potentials-requires-clause-valid : goal.canonical_potentials-requires-clause-valid
+canonical_potentials-requires-clause-valid c =
+    subst (λ links. AreValid links c.args.plan.now c.args.valid.now) (sym c.in_ok-table.ensures)
+    (valid_down (links_of c.args.trips.now) c.args.plan.now c.args.valid.now c.requires.plan c.requires.valid)
+
+pub returns-clause-made : goal.returns-clause-made
+returns-clause-made c = c.in_ok-made.ensures.made
+    ∙ ap (λ links. canonical links c.args.plan.now) c.in_ok-table.ensures
+    ∙ canonical_same (links_of c.args.trips.now) (trips_links c.args.trips.now c.len.ensures.trips)
+    c.args.plan.now c.args.valid.now c.requires.plan c.requires.valid
+
+pub returns-clause-least : goal.returns-clause-least
+returns-clause-least c = subst (AreCanonical (links_of c.args.trips.now) c.args.plan.now)
+    (sym (returns-clause-made c))
+    (canonical_is (links_of c.args.trips.now) (trips_links c.args.trips.now c.len.ensures.trips)
+    c.args.plan.now c.args.valid.now c.requires.plan c.requires.valid)
+
+pub returns-clause-valid : goal.returns-clause-valid
+returns-clause-valid c =
+    valid_up (links_of c.args.trips.now) c.args.plan.now c.in_ok-made.made
+    (plan_down (links_of c.args.trips.now) c.args.plan.now c.args.valid.now c.requires.plan c.requires.valid)
+    (subst (λ links. AreValid links c.args.plan.now c.in_ok-made.made) c.in_ok-table.ensures
+    c.in_ok-made.ensures.valid)

@@ -1,8 +1,0 @@
--- The links so far are one step.
-use Rattle.vehicle_model.specs.Trips.{links_of}
-use Rattle.flow_potentials.proofs.Loops.{IsPassed, LinksKept}
-use Rattle.flow_potentials.proofs.drops.Drops.relax_row.Given as goal
-
-abbrev pub invariant-loop-link : goal.invariant-loop-link
-invariant-loop-link l = IsPassed (links_of l.trips) l.plan l.fn.self l.self l.changed
-    (LinksKept l.fn.self l.i l.links l.link-index)

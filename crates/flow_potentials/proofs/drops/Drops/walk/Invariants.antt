@@ -1,7 +1,0 @@
--- Walks that were found stay found.
-use Rattle.vehicle_model.specs.Trips.{links_of}
-use Rattle.flow_potentials.specs.Drops.{IsSearched}
-use Rattle.flow_potentials.proofs.drops.Drops.walk.Given as goal
-
-abbrev pub invariant-loop-turn : goal.invariant-loop-turn
-invariant-loop-turn l = IsSearched (links_of l.trips) l.plan l.self

@@ -1,6 +1,0 @@
--- The links of the trips so far.
-use Rattle.flow_potentials.proofs.Linked.{AreBeforeSo}
-use Rattle.flow_potentials.proofs.linked_plan.LinkedPlan.new.Given as goal
-
-abbrev pub invariant-loop-trip : goal.invariant-loop-trip
-invariant-loop-trip l = AreBeforeSo l.plan l.before.items l.trip

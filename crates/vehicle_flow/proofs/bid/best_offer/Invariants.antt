@@ -1,6 +1,0 @@
--- The best of the links so far.
-use Rattle.vehicle_flow.proofs.Bidding.{IsOffer}
-use Rattle.vehicle_flow.proofs.bid.best_offer.Given as goal
-
-abbrev pub invariant-loop-link : goal.invariant-loop-link
-invariant-loop-link l = IsOffer l.links l.potentials l.link-index l.offer

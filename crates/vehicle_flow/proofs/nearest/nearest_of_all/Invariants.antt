@@ -1,6 +1,0 @@
--- The nearest of the first places so far.
-use Rattle.vehicle_flow.proofs.NearPlaces.{IsBest}
-use Rattle.vehicle_flow.proofs.nearest.nearest_of_all.Given as goal
-
-abbrev pub invariant-loop-place : goal.invariant-loop-place
-invariant-loop-place l = IsBest l.claims l.nears l.place l.best
