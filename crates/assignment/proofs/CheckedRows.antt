@@ -27,10 +27,12 @@ unfolding is_list
 list_step count from k row link within is =
     ap (is_list count from) (rest_is row k within ∙ ap (λ it. it ∷ drop (k + 1) row) (sym is))
   where
-    rest_is : (row : List Link) (k : ℕ) → k < length row → drop k row ≡ get_or row k (link_to 0 0) ∷ drop (k + 1) row
+    rest_is : (row : List Link) (k : ℕ) → k < length row
+        → drop k row ≡ get_or row k (link_to 0 0) ∷ drop (k + 1) row
     rest_is row k within = grind (arith, drop-cons)
 
-pub list_end : (count from k : ℕ) (row : List Link) → length row ≤ k → is_list count from (drop k row) ≡ true
+pub list_end : (count from k : ℕ) (row : List Link) → length row ≤ k
+    → is_list count from (drop k row) ≡ true
 unfolding is_list
 list_end count from k [] past = nothing k
   where
@@ -57,10 +59,12 @@ rest_at rows k x within is = rest_next rows k x within is ∙ ap (λ n. x ∷ dr
 
 module _ {X : Type 0} (p : List Link → Bool) (list : X → List Link) where
   pub lists_step : (rows : List X) (k : ℕ) (x : X) → k < length rows → x ≡ get_or rows k x
-      → list_all p (map list (drop k rows)) ≡ (p (list x) && list_all p (map list (drop (k + 1) rows)))
+      → list_all p (map list (drop k rows)) ≡ (p (list x) && list_all p (map list (drop (k + 1)
+      rows)))
   lists_step rows k x within is = ap (λ it. list_all p (map list it)) (rest_at rows k x within is)
 
-  pub lists_end : (rows : List X) (k : ℕ) → length rows ≤ k → list_all p (map list (drop k rows)) ≡ true
+  pub lists_end : (rows : List X) (k : ℕ) → length rows ≤ k
+      → list_all p (map list (drop k rows)) ≡ true
   lists_end [] zero past = refl
   lists_end [] (suc k) past = refl
   lists_end (x ∷ rows) zero past = absurd (omega (arith, past))
@@ -74,7 +78,8 @@ record IsListFrom (count from : ℕ) (row : List Link) : Type 0 where
   within : (k : ℕ) (link : Link) → slice_get row k ≡ Some link → link.to < count
   small : (k : ℕ) (link : Link) → slice_get row k ≡ Some link → link.gain ≤ 1000000000000
 
-list_is : (count from : ℕ) (row : List Link) → is_list count from row ≡ true → IsListFrom count from row
+list_is : (count from : ℕ) (row : List Link) → is_list count from row ≡ true
+    → IsListFrom count from row
 unfolding is_list
 list_is count from [] e = record {
   low = λ k link f. absurd (none-some link f);
@@ -84,14 +89,21 @@ list_is count from [] e = record {
 }
 list_is count from (first ∷ row) e =
     let both = and_parts (is_next_link count from first) (is_list count (first.to + 1) row) e in
-    let one = and_parts (nat_le from first.to) (nat_lt first.to count && nat_le first.gain 1000000000000) both.0 in
+    let one = and_parts (nat_le from first.to) (nat_lt first.to count && nat_le first.gain
+    1000000000000) both.0 in
     let more = and_parts (nat_lt first.to count) (nat_le first.gain 1000000000000) one.1 in
     joined (leb-true from first.to one.0) (ltb-true first.to count more.0)
     (leb-true first.gain 1000000000000 more.1) (list_is count (first.to + 1) row both.1)
   where
-    joined : from ≤ first.to → first.to < count → first.gain ≤ 1000000000000 → IsListFrom count (first.to + 1) row
+    joined : from ≤ first.to → first.to < count → first.gain ≤ 1000000000000
+        → IsListFrom count (first.to + 1) row
         → IsListFrom count from (first ∷ row)
-    joined low inside little rest = record { low = low_at; rising = rising_at; within = within_at; small = small_at }
+    joined low inside little rest = record {
+      low = low_at;
+      rising = rising_at;
+      within = within_at;
+      small = small_at;
+    }
       where
         low_at : (k : ℕ) (link : Link) → slice_get (first ∷ row) k ≡ Some link → from ≤ link.to
         low_at zero link f = subst (λ it. from ≤ it.to) (same_Some first link f) low
@@ -103,17 +115,22 @@ list_is count from (first ∷ row) e =
             let next : first.to + 1 ≤ other.to = rest.low m other g in
             subst (λ it. it.to < other.to) (same_Some first one f) (omega (arith, next))
         rising_at (suc k) zero one other less f g = absurd (omega (arith, less))
-        rising_at (suc k) (suc m) one other less f g = rest.rising k m one other (omega (arith, less)) f g
+        rising_at (suc k) (suc m) one other less f g = rest.rising k m one other (omega (
+          arith,
+          less,
+        )) f g
 
         within_at : (k : ℕ) (link : Link) → slice_get (first ∷ row) k ≡ Some link → link.to < count
         within_at zero link f = subst (λ it. it.to < count) (same_Some first link f) inside
         within_at (suc k) link f = rest.within k link f
 
-        small_at : (k : ℕ) (link : Link) → slice_get (first ∷ row) k ≡ Some link → link.gain ≤ 1000000000000
+        small_at : (k : ℕ) (link : Link) → slice_get (first ∷ row) k ≡ Some link
+            → link.gain ≤ 1000000000000
         small_at zero link f = subst (λ it. it.gain ≤ 1000000000000) (same_Some first link f) little
         small_at (suc k) link f = rest.small k link f
 
-all_at : (p : List Link → Bool) (rows : List (List Link)) → list_all p rows ≡ true → (i : ℕ) → i < length rows
+all_at : (p : List Link → Bool) (rows : List (List Link)) → list_all p rows ≡ true → (i : ℕ)
+    → i < length rows
     → p (get_or rows i []) ≡ true
 all_at p [] all i within = absurd (omega (arith, within))
 all_at p (row ∷ rows) all zero within = (and_parts (p row) (list_all p rows) all).0
@@ -160,7 +177,8 @@ lists_checked rows e = record {
         (λ past. absurd (none-some gain (sym (none_in j)
         ∙ ap (λ row. gain_in row j) (sym (get_or-eq_default rows [] past)) ∙ f)))
 
-    there : (i j : ℕ) (it : Option ℕ) → gain_in (get_or rows i []) j ≡ it → is_some (option_map pos it) ≡ true
+    there : (i j : ℕ) (it : Option ℕ) → gain_in (get_or rows i []) j ≡ it
+        → is_some (option_map pos it) ≡ true
         → (i < length rows) × (j < length rows)
     there i j None f h = absurd (false≢true h)
     there i j (Some gain) f h =

@@ -15,17 +15,24 @@ use Rattle.assignment.proofs.TightValid.{tight_valid}
 abbrev no_next : Option ℕ
 no_next = None
 
-module _ (links : Links) (sound : AreLinks links) (plan : List (Option ℕ)) (potentials : PotentialParts)
-    (are : AreSuccessors plan) (each : length plan ≡ links.count) (met : AreMet links potentials plan) where
+module _ (links : Links) (sound : AreLinks links) (plan : List (Option ℕ)) (potentials :
+    PotentialParts)
+    (are : AreSuccessors plan) (each : length plan ≡ links.count) (met : AreMet links potentials
+    plan) where
   inside : (i j : ℕ) → next plan i ≡ Some j → i < links.count
   inside i j e = by_bound i links.count (λ within. within)
-      (λ past. absurd (none-some j (sym (get_or-eq_default plan no_next (omega (arith, past, each))) ∙ e)))
+      (λ past. absurd (none-some j (sym (get_or-eq_default plan no_next (omega (
+        arith,
+        past,
+        each,
+      ))) ∙ e)))
 
   exact : (i : ℕ) (it : Option ℕ) → next plan i ≡ it → i < links.count
       → MatchOption it (at potentials.u i ≡ 0)
       (λ j. links.gain i j ≡ Some (pos (at potentials.u i + at potentials.v j)))
   exact i it e within = subst (λ it. MatchOption it (at potentials.u i ≡ 0)
-      (λ j. links.gain i j ≡ Some (pos (at potentials.u i + at potentials.v j)))) e (met.each i within).exact
+      (λ j. links.gain i j ≡ Some (pos (at potentials.u i + at potentials.v j)))) e (met.each i
+      within).exact
 
   tight : IsTight links potentials plan
   tight = record {
@@ -49,15 +56,18 @@ module _ (links : Links) (sound : AreLinks links) (plan : List (Option ℕ)) (po
   covered_by (Some (pos gain)) most low = omega (arith, ints, low)
   covered_by (Some (negsuc less)) most low = omega (arith, ints)
 
-  covered : (i j : ℕ) → IfSome (links.gain i j) (λ gain. gain ≤ℤ pos (at potentials.u i + at potentials.v j))
+  covered : (i j : ℕ) → IfSome (links.gain i j) (λ gain. gain ≤ℤ pos (at potentials.u i + at
+      potentials.v j))
   covered i j = by_bound i links.count
-      (λ within. covered_by (links.gain i j) (at potentials.u i + at potentials.v j) ((met.each i within).covered j))
+      (λ within. covered_by (links.gain i j) (at potentials.u i + at potentials.v j) ((met.each i
+      within).covered j))
       (λ past. none_there (links.gain i j) refl past)
     where
       none_there : (it : Option ℤ) → links.gain i j ≡ it → links.count ≤ i
           → IfSome (links.gain i j) (λ gain. gain ≤ℤ pos (at potentials.u i + at potentials.v j))
       none_there None e past =
-          subst (λ it. IfSome it (λ gain. gain ≤ℤ pos (at potentials.u i + at potentials.v j))) (sym e) tt
+          subst (λ it. IfSome it (λ gain. gain ≤ℤ pos (at potentials.u i + at potentials.v j)))
+          (sym e) tt
       none_there (Some gain) e past =
           let there = sound.within i j (ap is_some e) in absurd (omega (arith, past, there.0))
 

@@ -18,17 +18,24 @@ rest_rising first row rising k m one other before e f =
     rising (suc k) (suc m) one other (omega (arith, before)) e f
 
 -- a link of a list is found
-pub gain_at : (row : List Link) (to k : ℕ) (link : Link) → IsRising row → slice_get row k ≡ Some link
+pub gain_at : (row : List Link) (to k : ℕ) (link : Link) → IsRising row
+    → slice_get row k ≡ Some link
     → link.to ≡ to → gain_in row to ≡ Some link.gain
 unfolding gain_in
 gain_at [] to k link rising e same = absurd (none-some link e)
 gain_at (first ∷ row) to zero link rising e same =
     let is : first ≡ link = same_Some first link e in
-    ap (λ b. cond b (Some first.gain) (gain_in row to)) (eq-eqb first.to to (ap (λ it. it.to) is ∙ same))
+    ap (λ b. cond b (Some first.gain) (gain_in row to)) (eq-eqb first.to to (ap (λ it. it.to) is ∙
+    same))
     ∙ ap (λ it. Some it.gain) is
 gain_at (first ∷ row) to (suc k) link rising e same =
     let low : first.to < link.to = rising 0 (suc k) first link (omega arith) refl e in
-    ap (λ b. cond b (Some first.gain) (gain_in row to)) (ne_eqb first.to to (λ also. omega (arith, low, same, also)))
+    ap (λ b. cond b (Some first.gain) (gain_in row to)) (ne_eqb first.to to (λ also. omega (
+      arith,
+      low,
+      same,
+      also,
+    )))
     ∙ gain_at row to k link (rest_rising first row rising) e same
 
 -- none is found that is not there
@@ -51,7 +58,8 @@ unfolding gain_in
 gain_found [] to gain e = absurd (none-some gain e)
 gain_found (first ∷ row) to gain e = split (first.to == to) refl e (gain_found row to gain)
   where
-    split : (b : Bool) → (first.to == to) ≡ b → cond b (Some first.gain) (gain_in row to) ≡ Some gain
+    split : (b : Bool) → (first.to == to) ≡ b
+        → cond b (Some first.gain) (gain_in row to) ≡ Some gain
         → (gain_in row to ≡ Some gain → (k : ℕ) × (slice_get row k ≡ Some (link_to to gain)))
         → (k : ℕ) × (slice_get (first ∷ row) k ≡ Some (link_to to gain))
     split true is f more = (
@@ -81,7 +89,8 @@ module _ (row : List Link) (to place : ℕ) (rising : IsRising row) (before : Ar
           (λ low. let less : other.to < to = before k other low f in omega (arith, less, same))
           (λ high. at_or_past k other f same high)
         where
-          at_or_past : (k : ℕ) (other : Link) → slice_get row k ≡ Some other → other.to ≡ to → place ≤ k → ⊥
+          at_or_past : (k : ℕ) (other : Link) → slice_get row k ≡ Some other → other.to ≡ to
+              → place ≤ k → ⊥
           at_or_past k other f same high = split (k == place) refl
             where
               split : (b : Bool) → (k == place) ≡ b → ⊥
@@ -96,13 +105,15 @@ module _ (row : List Link) (to place : ℕ) (rising : IsRising row) (before : Ar
                   omega (arith, more, low, same)
 
   pub looked : (link : Link) → place < length row → ((d : Link) → link ≡ get_or row place d)
-      → (found : Option ℕ) → found ≡ cond (link.to == to) (Some link.gain) None → found ≡ gain_in row to
+      → (found : Option ℕ) → found ≡ cond (link.to == to) (Some link.gain) None
+      → found ≡ gain_in row to
   looked link within is found found_is = found_is ∙ split (link.to == to) refl
     where
       there : slice_get row place ≡ Some link
       there = slice_get-get_or row place link within ∙ ap Some (sym (is link))
 
-      split : (b : Bool) → (link.to == to) ≡ b → cond (link.to == to) (Some link.gain) None ≡ gain_in row to
+      split : (b : Bool) → (link.to == to) ≡ b
+          → cond (link.to == to) (Some link.gain) None ≡ gain_in row to
       split true e = ap (λ b. cond b (Some link.gain) None) e ∙ looked_there link there e
       split false e = ap (λ b. cond b (Some link.gain) None) e ∙ looked_past link there e
 
@@ -117,12 +128,15 @@ module _ (row : List Link) (to place : ℕ) (rising : IsRising row) (before : Ar
 pub by_count : {P : Type 0} (i n : ℕ) → (i < n → P) → (n ≤ i → P) → P
 by_count {P} i n within past = grind arith
 
-module _ (links : Links) (sound : AreLinks links) (rows : List (List Link)) (are : AreRows links rows) where
+module _ (links : Links) (sound : AreLinks links) (rows : List (List Link)) (are : AreRows links
+    rows) where
   -- a link that is worth something is in the list of its trip, and no other is
   gain_is : (i j : ℕ) → gain_in (get_or rows i []) j ≡ worth (links.gain i j)
-  gain_is i j = by_count i links.count (λ within. inside (are.row i within) (worth (links.gain i j)) refl) outside
+  gain_is i j = by_count i links.count (λ within. inside (are.row i within) (worth (links.gain i
+      j)) refl) outside
     where
-      inside : IsRow links i links.count (get_or rows i []) → (it : Option ℕ) → worth (links.gain i j) ≡ it
+      inside : IsRow links i links.count (get_or rows i []) → (it : Option ℕ)
+          → worth (links.gain i j) ≡ it
           → gain_in (get_or rows i []) j ≡ worth (links.gain i j)
       inside row (Some gain) e =
           let there = sound.within i j (ap is_some (worth_is (links.gain i j) gain e)) in
@@ -146,7 +160,10 @@ module _ (links : Links) (sound : AreLinks links) (rows : List (List Link)) (are
   pub lists_are : links_in rows ≡ worthy links
   lists_are =
       let of_count : ℕ → Links = λ n. record { count = n; gain = (links_in rows).gain } in
-      let of_gain : (ℕ → ℕ → Option ℤ) → Links = λ gain. record { count = links.count; gain = gain } in
+      let of_gain : (ℕ → ℕ → Option ℤ) → Links = λ gain. record {
+        count = links.count;
+        gain = gain;
+      } in
       ap of_count are.each
       ∙ ap of_gain (fun_ext (λ i. fun_ext (λ j. ap (option_map pos) (gain_is i j))))
 

@@ -1,5 +1,5 @@
--- Links that gain less than nothing change neither which plans gain the most nor what their canonical
--- potentials are.
+-- Links that gain less than nothing change neither which plans gain the most nor what their
+-- canonical potentials are.
 use Rattle.std.proofs.Common.{◌≡◌, ℕ, ℤ, pos, negsuc, neg_ℤ, ◌+◌, ◌<◌, ◌≤◌, ◌≤ℤ◌, ◌+ℤ◌, is_some, Bool, true, false, cond}
 use Rattle.std.proofs.Common.{List, [], ◌∷◌, length, get_or, Option, Some, None, option_map, IfSome}
 use Rattle.std.proofs.Common.{option_and_then, refl, ap, sym, ◌∙◌, subst, arith}
@@ -24,7 +24,8 @@ worth_up None gain e = absurd (none-some gain e)
 worth_up (Some (pos number)) gain e = e
 worth_up (Some (negsuc less)) gain e = absurd (none-some gain e)
 
-worth_down : (it : Option ℤ) (number : ℕ) → it ≡ Some (pos number) → option_map pos (worth it) ≡ Some (pos number)
+worth_down : (it : Option ℤ) (number : ℕ) → it ≡ Some (pos number)
+    → option_map pos (worth it) ≡ Some (pos number)
 worth_down it number e = ap (λ it. option_map pos (worth it)) e
 
 there_up : (it : Option ℤ) → is_some (option_map pos (worth it)) ≡ true → is_some it ≡ true
@@ -63,7 +64,8 @@ module _ (links : Links) (plan : List (Option ℕ)) where
       once = is.once;
     }
 
-    covered_up : (it : Option ℤ) (most : ℕ) → IfSome (option_map pos (worth it)) (λ gain. gain ≤ℤ pos most)
+    covered_up : (it : Option ℤ) (most : ℕ)
+        → IfSome (option_map pos (worth it)) (λ gain. gain ≤ℤ pos most)
         → IfSome it (λ gain. gain ≤ℤ pos most)
     covered_up None most h = tt
     covered_up (Some (pos number)) most h = h
@@ -79,8 +81,10 @@ module _ (links : Links) (plan : List (Option ℕ)) where
     pub valid_up : IsPlan (worthy links) plan → AreValid (worthy links) plan potentials
         → AreValid links plan potentials
     valid_up is valid = tight_valid links plan potentials valid.over
-        (λ i j. covered_up (links.gain i j) (at potentials.u i + at potentials.v j) (valid.covered i j))
-        (plan_up is) (tight_up (gains_all (worthy links) plan plan potentials valid is (sym valid.exact)))
+        (λ i j. covered_up (links.gain i j) (at potentials.u i + at potentials.v j)
+        (valid.covered i j))
+        (plan_up is)
+        (tight_up (gains_all (worthy links) plan plan potentials valid is (sym valid.exact)))
 
     valid_tight : IsPlan links plan → AreValid links plan potentials → IsTight links potentials plan
     valid_tight is valid = gains_all links plan plan potentials valid is (sym valid.exact)
@@ -91,7 +95,8 @@ module _ (links : Links) (plan : List (Option ℕ)) where
     pub valid_down : IsPlan links plan → AreValid links plan potentials
         → AreValid (worthy links) plan potentials
     valid_down is valid = tight_valid (worthy links) plan potentials valid.over
-        (λ i j. covered_down (links.gain i j) (at potentials.u i + at potentials.v j) (valid.covered i j))
+        (λ i j. covered_down (links.gain i j) (at potentials.u i + at potentials.v j)
+        (valid.covered i j))
         (plan_down is valid) (tight_down (valid_tight is valid))
 
 -- the first of the plans that gain the most is the same one
@@ -104,7 +109,8 @@ first_up links certified plan potentials is valid chosen =
     (plan_up links certified is) in
     let possible = plan_up links plan chosen.best.possible in
     record {
-      best = (up plan possible).1 (tight_up links plan potentials ((down plan chosen.best.possible).0 chosen.best));
+      best = (up plan possible).1 (tight_up links plan potentials ((down plan
+          chosen.best.possible).0 chosen.best));
       first = λ other best.
           let tight = (up other best.possible).0 best in
           let fits = tight_plan links other potentials best.possible tight in
@@ -115,7 +121,8 @@ first_up links certified plan potentials is valid chosen =
 
 module _ (links : Links) (plan : List (Option ℕ)) where
   -- an arc over such links is one over all
-  arc_up : (from to : Node) (cost : ℤ) → arc (worthy links) plan from to ≡ Some cost → arc links plan from to ≡ Some cost
+  arc_up : (from to : Node) (cost : ℤ) → arc (worthy links) plan from to ≡ Some cost
+      → arc links plan from to ≡ Some cost
   arc_up root root cost e = e
   arc_up root (left i) cost e = e
   arc_up root (right j) cost e = e
@@ -123,7 +130,8 @@ module _ (links : Links) (plan : List (Option ℕ)) where
   arc_up (left i) (left k) cost e = e
   arc_up (left i) (right j) cost e = by (links.gain i j) e
     where
-      by : (it : Option ℤ) → option_map neg_ℤ (option_map pos (worth it)) ≡ Some cost → option_map neg_ℤ it ≡ Some cost
+      by : (it : Option ℤ) → option_map neg_ℤ (option_map pos (worth it)) ≡ Some cost
+          → option_map neg_ℤ it ≡ Some cost
       by None e = e
       by (Some (pos number)) e = e
       by (Some (negsuc less)) e = absurd (none-some cost e)
@@ -137,11 +145,13 @@ module _ (links : Links) (plan : List (Option ℕ)) where
   arc_up (right j) (right k) cost e = e
 
   -- and so is a walk
-  walk_up : (end : Node) (walk : List Node) (cost : ℤ) → walk_cost (worthy links) plan end walk ≡ Some cost
+  walk_up : (end : Node) (walk : List Node) (cost : ℤ)
+      → walk_cost (worthy links) plan end walk ≡ Some cost
       → walk_cost links plan end walk ≡ Some cost
   walk_up end [] cost e = e
   walk_up end (before ∷ more) cost e =
-      by (arc (worthy links) plan before end) refl (walk_cost (worthy links) plan before more) refl e
+      by (arc (worthy links) plan before end) refl (walk_cost (worthy links) plan before more)
+      refl e
       (walk_up before more)
     where
       by : (over : Option ℤ) → arc (worthy links) plan before end ≡ over
@@ -158,16 +168,19 @@ module _ (links : Links) (plan : List (Option ℕ)) where
   found_up drops found node =
       let walk = found node in (walk.0, walk_up node walk.0 _ walk.1)
 
-  module _ (drops : DropParts) (potentials : PotentialParts) (tight : IsTight links potentials plan) where
+  module _ (drops : DropParts) (potentials : PotentialParts) (tight : IsTight links potentials
+      plan) where
     row_up : (i : ℕ) → TripKept (worthy links) plan drops i → RowKept links drops i
     row_up i kept j gain within e =
         let both = kept.pairs j within in
         let low : (pos (get_or drops.left i 0) +ℤ pos gain) ≤ℤ pos (get_or drops.right j 0) =
-        subst (λ it. IfSome (option_map pos it) (λ gain. (pos (get_or drops.left i 0) +ℤ gain) ≤ℤ pos (get_or drops.right j 0)))
+        subst (λ it. IfSome (option_map pos it) (λ gain. (pos (get_or drops.left i 0) +ℤ gain) ≤ℤ
+        pos (get_or drops.right j 0)))
         e both in
         omega (arith, ints, low)
 
-    link_up : (i j : ℕ) → next plan i ≡ Some j → LinkKept (worthy links) drops i j → LinkKept links drops i j
+    link_up : (i j : ℕ) → next plan i ≡ Some j → LinkKept (worthy links) drops i j
+        → LinkKept links drops i j
     link_up i j e kept =
         let P : Option ℤ → Type 0 = λ it. IfSome it
         (λ gain. pos (get_or drops.right j 0) ≤ℤ (pos (get_or drops.left i 0) +ℤ gain)) in
@@ -186,8 +199,10 @@ module _ (links : Links) (plan : List (Option ℕ)) where
     }
 
 -- the canonical potentials are the same
-pub canonical_same : (links : Links) → AreLinks links → (plan : List (Option ℕ)) (potentials : PotentialParts)
-    → IsPlan links plan → AreValid links plan potentials → canonical (worthy links) plan ≡ canonical links plan
+pub canonical_same : (links : Links) → AreLinks links
+    → (plan : List (Option ℕ)) (potentials : PotentialParts)
+    → IsPlan links plan → AreValid links plan potentials
+    → canonical (worthy links) plan ≡ canonical links plan
 unfolding canonical
 canonical_same links sound plan potentials is valid =
     let all = rounds_end (worthy links) (worthy_links links sound) plan potentials

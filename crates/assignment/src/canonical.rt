@@ -14,11 +14,11 @@ use crate::plan::Plan;
 use plan_num::NoMemory;
 use std::alloc::Global;
 
-/// The canonical potentials of a plan for which some potentials are valid: how far the least costs of
-/// walks in its residual graph that end in the two nodes of a trip lie above and below that of the
-/// root. They are valid for the plan, and by links and plan there are no others. One walk along the
-/// valid ones finds them, and one round over all arcs finds no better walk; both leave out links
-/// that gain less than nothing.
+/// The canonical potentials of a plan for which some potentials are valid: how far the least costs
+/// of walks in its residual graph that end in the two nodes of a trip lie above and below that of
+/// the root. They are valid for the plan, and by links and plan there are no others. One walk
+/// along the valid ones finds them, and one round over all arcs finds no better walk; both leave
+/// out links that gain less than nothing.
 pub fn canonical_potentials(
     alloc: Global,
     trips: &LinkTable,

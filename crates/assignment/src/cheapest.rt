@@ -1,4 +1,4 @@
-// The search for a plan of least cost.
+// The search for a plan that gains the most.
 ghost use Rattle.std.specs.Prelude.{◌≡◌, ◌<◌, ◌≤◌, ◌+◌, ◌-◌, IfOk, length};
 ghost use Rattle.assignment.specs.Potentials.{AreValid};
 ghost use Rattle.assignment.specs.Growing.{IsTaken};
@@ -18,14 +18,16 @@ use crate::taking::take_in;
 use plan_num::NoMemory;
 use std::alloc::Global;
 
-/// A plan that gains the most, and potentials that are valid for it. Which one of these plans it is
-/// is left open. First each trip bids for a place. Then trip after trip is given a successor or none
-/// along a least walk of the residual graph, as in the Hungarian method for assignments (H. W. Kuhn,
-/// 1955). The trips come by an order, from its last one on; any list of numbers will do, since each
-/// trip comes once more at the end, but trips that can have few places should come first.
+/// A plan that gains the most, and potentials that are valid for it. Which one of these plans it
+/// is is left open. First each trip bids for a place. Then trip after trip is given a successor or
+/// none along a least walk of the residual graph, as in the Hungarian method for assignments (H.
+/// W. Kuhn, 1955). The trips come by an order, from its last one on; any list of numbers will do,
+/// since each trip comes once more at the end, but trips that can have few places should come
+/// first.
 pub fn best_plan(alloc: Global, trips: &LinkTable, order: &[usize]) -> Result<Solved, NoMemory>
     ensures plan { IfOk result (λ solved. IsPlan (links_in trips.now) solved.plan) }
-    ensures valid { IfOk result (λ solved. AreValid (links_in trips.now) solved.plan solved.potentials) }
+    ensures valid { IfOk result (λ solved.
+        AreValid (links_in trips.now) solved.plan solved.potentials) }
     ensures best { IfOk result (λ solved. IsBest (links_in trips.now) solved.plan) }
 {
     let count = trips.len();

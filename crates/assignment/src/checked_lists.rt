@@ -11,9 +11,9 @@ const MOST_TRIPS: usize = 2000;
 const MOST_GAIN: u64 = 1_000_000_000_000;
 
 impl LinkTable {
-    /// The links of the lists of all trips, where these are such: there are at most 2,000 trips, and
-    /// each list has its links by the trips that they lead to, of which each is there and none comes
-    /// twice, and none gains more than 10^12. None else.
+    /// The links of the lists of all trips, where these are such: there are at most 2,000 trips,
+    /// and each list has its links by the trips that they lead to, of which each is there and none
+    /// comes twice, and none gains more than 10^12. None else.
     pub fn checked(rows: Vec<Vec<Link>>) -> Option<LinkTable>
         ensures table { IfSome result (λ table. table ≡ map (λ row. row.items) rows.items) }
         ensures exactly { is_some result ≡ are_lists (map (λ row. row.items) rows.items) }

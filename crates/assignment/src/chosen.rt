@@ -22,9 +22,10 @@ use bit_rows::BitRows;
 use plan_num::NoMemory;
 use std::alloc::Global;
 
-/// Among the plans that gain the most, the one whose list of successors comes first: by the numbers of
-/// trips, and none after every trip. It is made of any such plan with potentials that are valid for it:
-/// these leave only tight links, and each trip in turn seeks the first place that it can have.
+/// Among the plans that gain the most, the one whose list of successors comes first: by the
+/// numbers of trips, and none after every trip. It is made of any such plan with potentials that
+/// are valid for it: these leave only tight links, and each trip in turn seeks the first place
+/// that it can have.
 pub fn first_best_plan(alloc: Global, trips: &LinkTable, solved: &Solved) -> Result<Plan, NoMemory>
     requires plan { IsPlan (links_in trips.now) solved.now.plan }
     requires valid { AreValid (links_in trips.now) solved.now.plan solved.now.potentials }

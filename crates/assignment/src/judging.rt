@@ -13,8 +13,8 @@ use plan_num::NoMemory;
 use std::alloc::Global;
 
 /// Whether potentials prove that a plan gains the most, whoever made both: no link gains more than
-/// its two potentials, a link of the plan gains exactly them, and where a trip has no link on a side its
-/// potential there is 0. A plan or potentials of another number of trips prove nothing.
+/// its two potentials, a link of the plan gains exactly them, and where a trip has no link on a
+/// side its potential there is 0. A plan or potentials of another number of trips prove nothing.
 pub fn is_proved(
     alloc: Global,
     links: &LinkTable,

@@ -1,5 +1,5 @@
-//! Assignments of successors that gain the most: the search for one, the first among all, the potentials
-//! that prove it, and the links that they are over.
+//! Assignments of successors that gain the most: the search for one, the first among all, the
+//! potentials that prove it, and the links that they are over.
 #![tactic(auto)]
 
 mod arcs;

@@ -14,8 +14,9 @@ pub struct Link {
     pub gain: u64,
 }
 
-/// For each trip its links that gain no less than nothing, by the trips that they lead to. Contracts
-/// see it as these lists. One that gains less is in no plan that gains the most, so it is left out.
+/// For each trip its links that gain no less than nothing, by the trips that they lead to.
+/// Contracts see it as these lists. One that gains less is in no plan that gains the most, so it is
+/// left out.
 #[derive(Drop)]
 pub struct LinkTable {
     rows: Vec<Vec<Link>>,
@@ -35,8 +36,8 @@ impl Model for LinkTable {
 }
 
 impl LinkTable {
-    /// The links of the lists of all trips: there are at most 2,000, and each list has its links by the
-    /// trips that they lead to, of which none comes twice and none gains more than 10^12.
+    /// The links of the lists of all trips: there are at most 2,000, and each list has its links by
+    /// the trips that they lead to, of which none comes twice and none gains more than 10^12.
     pub fn of_rows(rows: Vec<Vec<Link>>) -> LinkTable
         requires { AreLinkRows (map (λ row. row.items) rows.items) }
         ensures { result ≡ map (λ row. row.items) rows.items }

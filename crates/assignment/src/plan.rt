@@ -1,4 +1,4 @@
-// Plans of vehicles.
+// Plans of links.
 ghost use Rattle.std.specs.Prelude.{◌≡◌, ◌<◌, false, length, slice_set, replicate, None, Some, IfOk};
 ghost use Rattle.assignment.specs.Plans.{next, is_next, is_trip, AreSuccessors};
 
@@ -6,8 +6,8 @@ use plan_num::NoMemory;
 use std::alloc::Global;
 use std::marker::Model;
 
-/// For each trip the one that its vehicle runs next, or none. Contracts see it as this list. No trip
-/// follows two.
+/// For each trip the one that comes next, or none. Contracts see it as this list. No trip follows
+/// two.
 #[derive(Debug, Drop)]
 pub struct Plan {
     successors: Vec<Option<usize>>,

@@ -15,7 +15,8 @@ use std::alloc::Global;
 
 /// Of the plans that gain the most the one whose list of successors comes first, and its canonical
 /// potentials, which prove that none gains more. So both are told by the links alone. The order is
-/// that in which `best_plan` takes trips, from its last one on; it changes only how long this takes.
+/// that in which `best_plan` takes trips, from its last one on; it changes only how long this
+/// takes.
 pub fn solve(alloc: Global, links: &LinkTable, order: &[usize]) -> Result<Solved, NoMemory>
     ensures first { IfOk result (λ solved. IsFirstBest (links_in links.now) solved.plan) }
     ensures valid { IfOk result (λ solved.

@@ -1,9 +1,9 @@
-// A plan of vehicles with its certificate.
+// A plan with its certificate.
 
 use crate::numbers::Potentials;
 use crate::plan::Plan;
 
-/// A plan of vehicles, and potentials of its trips, in millionths, that prove that no plan costs less.
+/// A plan of links, and potentials of its trips, in millionths, that prove that no plan gains more.
 #[derive(Debug, Drop)]
 pub struct Solved {
     /// The plan.

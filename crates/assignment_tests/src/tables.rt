@@ -92,7 +92,8 @@ fn potentials_of_zero_prove_nothing_where_a_link_gains(rt: HostRuntime) -> Resul
     Ok(())
 }
 
-// Links that are no lists: to a trip that is not there, twice to one trip, backward, of too much gain.
+// Links that are no lists: to a trip that is not there, twice to one trip, backward, of too much
+// gain.
 const REFUSED: [&[Gain]; 4] = [
     &[(0, 2, 1)],
     &[(0, 1, 1), (0, 1, 2)],

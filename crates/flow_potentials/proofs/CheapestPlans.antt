@@ -1,5 +1,5 @@
--- Valid potentials prove that exactly the tight plans are cheapest: a plan costs what all trips cost
--- alone, less what it gains.
+-- Valid potentials prove that exactly the tight plans are cheapest: a plan costs what all trips
+-- cost alone, less what it gains.
 use Rattle.std.proofs.Common.{◌≡◌, ℕ, ℤ, pos, ◌≤◌, List, Option, sym, arith}
 use Rattle.std.proofs.lemmas.Int.{ints}
 use Rattle.assignment.specs.Plans.{plan_gain, IsPlan}
@@ -10,7 +10,8 @@ use Rattle.vehicle_model.specs.Trips.{TripsParts, links_of}
 use Rattle.vehicle_model.proofs.Costs.{cost_by_gain}
 use Rattle.flow_potentials.specs.PotentialFaults.{TightAreCheapest}
 
-module _ (trips : TripsParts) (certified : List (Option ℕ)) (potentials : PotentialParts) (valid : AreValid (links_of trips) certified potentials) (is : IsPlan (links_of trips) certified) where
+module _ (trips : TripsParts) (certified : List (Option ℕ)) (potentials : PotentialParts) (valid :
+    AreValid (links_of trips) certified potentials) (is : IsPlan (links_of trips) certified) where
   -- a plan that gains as much as all potentials is cheapest
   all_cheapest : (plan : List (Option ℕ)) → IsPlan (links_of trips) plan
       → plan_gain (links_of trips) plan ≡ pos (total potentials) → IsCheapest trips plan
@@ -41,5 +42,6 @@ module _ (trips : TripsParts) (certified : List (Option ℕ)) (potentials : Pote
           cost_by_gain trips plan possible,
           cost_by_gain trips certified is,
         ))),
-    (λ tight. all_cheapest plan possible (tight_all (links_of trips) certified plan potentials valid possible tight)),
+    (λ tight. all_cheapest plan possible (tight_all (links_of trips) certified plan potentials
+        valid possible tight)),
   )

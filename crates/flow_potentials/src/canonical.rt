@@ -12,10 +12,10 @@ use plan_num::NoMemory;
 use std::alloc::Global;
 use vehicle_model::Trips;
 
-/// The canonical potentials of a plan for which some potentials are valid: how far the least costs of
-/// walks in its residual graph that end in the two nodes of a trip lie above and below that of the
-/// root. They are valid for the plan, and by trips and plan there are no others. Links that gain less
-/// than nothing are left out, since they change none of these numbers.
+/// The canonical potentials of a plan for which some potentials are valid: how far the least costs
+/// of walks in its residual graph that end in the two nodes of a trip lie above and below that of
+/// the root. They are valid for the plan, and by trips and plan there are no others. Links that
+/// gain less than nothing are left out, since they change none of these numbers.
 pub fn potentials(
     alloc: Global,
     trips: &Trips,

@@ -1,5 +1,5 @@
-//! Potentials of trips, which prove what a vehicle schedule costs at least: their texts, their judge, and
-//! the links between trips over which they stand.
+//! Potentials of trips, which prove what a vehicle schedule costs at least: their texts, their
+//! judge, and the links between trips over which they stand.
 #![tactic(auto)]
 
 mod canonical;

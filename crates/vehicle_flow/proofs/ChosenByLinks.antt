@@ -1,4 +1,5 @@
--- The chosen plan, from the first of the plans that gain the most over the links that are worth something.
+-- The chosen plan, from the first of the plans that gain the most over the links that are worth
+-- something.
 use Rattle.std.proofs.Common.{◌≡◌, ℕ, List, Option, subst}
 use Rattle.assignment.specs.declared.link_table.Link.{Link}
 use Rattle.assignment.specs.declared.solved.Solved.{Solved}
@@ -12,7 +13,8 @@ use Rattle.vehicle_model.specs.Trips.{TripsParts, links_of}
 use Rattle.vehicle_flow.proofs.SameGains.{chosen_by_gain, valid_for}
 
 module _ (trips : TripsParts) (rows : List (List Link)) (solved : Solved) (plan : List (Option ℕ))
-    (same : links_in rows ≡ worthy (links_of trips)) (possible : IsPlan (links_of trips) solved.plan)
+    (same : links_in rows ≡ worthy (links_of trips)) (possible : IsPlan (links_of trips)
+    solved.plan)
     (valid : AreValid (links_of trips) solved.plan solved.potentials) where
   pub chosen : IsFirstBest (links_in rows) plan → IsChosen trips plan
   chosen first = chosen_by_gain trips plan

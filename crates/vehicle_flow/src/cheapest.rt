@@ -17,15 +17,16 @@ use vehicle_model::Trips;
 /// left open.
 pub fn cheapest_plan(alloc: Global, trips: &Trips) -> Result<Solved, NoMemory>
     ensures plan { IfOk result (λ solved. IsPlan (links_of trips.now) solved.plan) }
-    ensures valid { IfOk result (λ solved. AreValid (links_of trips.now) solved.plan solved.potentials) }
+    ensures valid { IfOk result (λ solved.
+        AreValid (links_of trips.now) solved.plan solved.potentials) }
     ensures cheapest { IfOk result (λ solved. IsCheapest trips.now solved.plan) }
 {
     let links = links_of_trips(alloc, trips)?;
     cheapest_of(alloc, trips, &links)
 }
 
-/// The same from the links between the trips. Trips that end last come first, since then a trip finds
-/// its successor mostly among places that nobody could take before.
+/// The same from the links between the trips. Trips that end last come first, since then a trip
+/// finds its successor mostly among places that nobody could take before.
 pub(crate) fn cheapest_of(
     alloc: Global,
     trips: &Trips,
@@ -33,7 +34,8 @@ pub(crate) fn cheapest_of(
 ) -> Result<Solved, NoMemory>
     requires { links_in links.now ≡ worthy (links_of trips.now) }
     ensures plan { IfOk result (λ solved. IsPlan (links_of trips.now) solved.plan) }
-    ensures valid { IfOk result (λ solved. AreValid (links_of trips.now) solved.plan solved.potentials) }
+    ensures valid { IfOk result (λ solved.
+        AreValid (links_of trips.now) solved.plan solved.potentials) }
     ensures cheapest { IfOk result (λ solved. IsCheapest trips.now solved.plan) }
 {
     let order = by_ends(alloc, trips)?;

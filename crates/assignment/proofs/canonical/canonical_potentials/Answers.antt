@@ -15,7 +15,8 @@ walk-requires c = subst
     c.in_ok-drops.ensures)
 
 pub returns-clause-made : goal.returns-clause-made
-returns-clause-made c = told_canonical (links_in c.args.trips.now) c.len.ensures.links c.args.plan.now c.args.valid.now
+returns-clause-made c = told_canonical (links_in c.args.trips.now) c.len.ensures.links
+    c.args.plan.now c.args.valid.now
     c.requires.plan c.requires.valid c.into_potentials.result
     (subst (λ plan. IfOk c.into_potentials.result (AreCanonical (links_in c.args.trips.now) plan))
     c.in_ok-linked.ensures c.into_potentials.ensures.least)

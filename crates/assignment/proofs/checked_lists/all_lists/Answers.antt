@@ -13,7 +13,8 @@ loop-row-preserved c =
     c.loop-row.invariant
     ∙ lists_step p (λ row. row.items) c.args.rows.now c.loop-row.row-index c.row-item.result
     c.loop-row-test.true c.row-item.is
-    ∙ ap (λ b. b && list_all p (map (λ row. row.items) (drop (c.loop-row.row-index + 1) c.args.rows.now)))
+    ∙ ap (λ b. b && list_all p (map (λ row. row.items) (drop (c.loop-row.row-index + 1)
+    c.args.rows.now)))
     (ap p (sym c.deref.ensures.value) ∙ sym c.is_list.ensures ∙ c.if-not-is_list.false)
 
 pub returns : goal.returns
@@ -27,5 +28,6 @@ returns-then-not-is_list c =
     sym (c.loop-row.invariant
     ∙ lists_step p (λ row. row.items) c.args.rows.now c.loop-row.row-index c.row-item.result
     c.loop-row-test.true c.row-item.is
-    ∙ ap (λ b. b && list_all p (map (λ row. row.items) (drop (c.loop-row.row-index + 1) c.args.rows.now)))
+    ∙ ap (λ b. b && list_all p (map (λ row. row.items) (drop (c.loop-row.row-index + 1)
+    c.args.rows.now)))
     (ap p (sym c.deref.ensures.value) ∙ sym c.is_list.ensures ∙ c.if-not-is_list.true))

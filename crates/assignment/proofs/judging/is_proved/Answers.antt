@@ -6,7 +6,8 @@ use Rattle.assignment.proofs.judging.is_proved.Goals as goal
 
 pub returns-clause-valid : goal.returns-clause-valid
 returns-clause-valid c so =
-    met_valid (links_in c.args.links.now) c.len-2.ensures.links c.args.plan.now c.args.potentials.now
+    met_valid (links_in c.args.links.now) c.len-2.ensures.links c.args.plan.now
+    c.args.potentials.now
     c.len.ensures.successors
     (omega (arith, c.if-len.false, c.len.ensures.count, c.len-2.ensures.count))
     (subst (AreMet (links_in c.args.links.now) c.args.potentials.now) c.in_ok-assignment.ensures

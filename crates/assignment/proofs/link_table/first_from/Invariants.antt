@@ -1,4 +1,5 @@
--- What is before the lower end leads to trips before the one, and what is from the upper end on does not.
+-- What is before the lower end leads to trips before the one, and what is from the upper end on
+-- does not.
 use Rattle.std.proofs.Common.{◌≤◌, ◌-◌, length}
 use Rattle.assignment.specs.LinkRows.{AreBefore, AreFrom}
 use Rattle.assignment.proofs.link_table.first_from.Given as goal

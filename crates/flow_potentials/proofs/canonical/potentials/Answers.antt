@@ -12,12 +12,14 @@ use Rattle.flow_potentials.proofs.canonical.potentials.Goals as goal
 pub canonical_potentials-requires-clause-plan : goal.canonical_potentials-requires-clause-plan
 canonical_potentials-requires-clause-plan c =
     subst (λ links. IsPlan links c.args.plan.now) (sym c.in_ok-table.ensures)
-    (plan_down (links_of c.args.trips.now) c.args.plan.now c.args.valid.now c.requires.plan c.requires.valid)
+    (plan_down (links_of c.args.trips.now) c.args.plan.now c.args.valid.now c.requires.plan
+    c.requires.valid)
 
 pub canonical_potentials-requires-clause-valid : goal.canonical_potentials-requires-clause-valid
 canonical_potentials-requires-clause-valid c =
     subst (λ links. AreValid links c.args.plan.now c.args.valid.now) (sym c.in_ok-table.ensures)
-    (valid_down (links_of c.args.trips.now) c.args.plan.now c.args.valid.now c.requires.plan c.requires.valid)
+    (valid_down (links_of c.args.trips.now) c.args.plan.now c.args.valid.now c.requires.plan
+    c.requires.valid)
 
 pub returns-clause-made : goal.returns-clause-made
 returns-clause-made c = c.in_ok-made.ensures.made
@@ -34,6 +36,7 @@ returns-clause-least c = subst (AreCanonical (links_of c.args.trips.now) c.args.
 pub returns-clause-valid : goal.returns-clause-valid
 returns-clause-valid c =
     valid_up (links_of c.args.trips.now) c.args.plan.now c.in_ok-made.made
-    (plan_down (links_of c.args.trips.now) c.args.plan.now c.args.valid.now c.requires.plan c.requires.valid)
+    (plan_down (links_of c.args.trips.now) c.args.plan.now c.args.valid.now c.requires.plan
+    c.requires.valid)
     (subst (λ links. AreValid links c.args.plan.now c.in_ok-made.made) c.in_ok-table.ensures
     c.in_ok-made.ensures.valid)

@@ -20,24 +20,28 @@ loop-trip-preserved c =
 pub of_rows-requires : goal.of_rows-requires
 of_rows-requires c =
     let all : c.loop-trip.trip ≡ length c.args.trips.now.trips =
-    omega (arith, c.loop-trip.auto.trip-end, c.loop-trip-test.false, c.len-trip-end.ensures.count) in
+    omega (arith, c.loop-trip.auto.trip-end, c.loop-trip-test.false, c.len-trip-end.ensures.count)
+    in
     let rows = map (λ row. row.items) c.loop-trip.rows.items in
     let are : AreRows (links_of c.args.trips.now) rows = record {
       each = c.loop-trip.invariant.each ∙ all;
       row = λ i within. c.loop-trip.invariant.row i (omega (arith, within, all));
     } in
-    lists_sound (links_of c.args.trips.now) (trips_links c.args.trips.now c.len-trip-end.ensures.trips)
+    lists_sound (links_of c.args.trips.now) (trips_links c.args.trips.now
+    c.len-trip-end.ensures.trips)
     rows are
 
 pub returns : goal.returns
 returns c =
     let all : c.loop-trip.trip ≡ length c.args.trips.now.trips =
-    omega (arith, c.loop-trip.auto.trip-end, c.loop-trip-test.false, c.len-trip-end.ensures.count) in
+    omega (arith, c.loop-trip.auto.trip-end, c.loop-trip-test.false, c.len-trip-end.ensures.count)
+    in
     let rows = map (λ row. row.items) c.loop-trip.rows.items in
     let are : AreRows (links_of c.args.trips.now) rows = record {
       each = c.loop-trip.invariant.each ∙ all;
       row = λ i within. c.loop-trip.invariant.row i (omega (arith, within, all));
     } in
     ap links_in c.of_rows.ensures
-    ∙ lists_are (links_of c.args.trips.now) (trips_links c.args.trips.now c.len-trip-end.ensures.trips)
+    ∙ lists_are (links_of c.args.trips.now) (trips_links c.args.trips.now
+    c.len-trip-end.ensures.trips)
     rows are

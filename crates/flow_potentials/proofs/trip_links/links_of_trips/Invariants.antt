@@ -8,5 +8,6 @@ abbrev pub invariant-loop-trip : goal.invariant-loop-trip
 invariant-loop-trip l = record {
   each : length (map (λ row. row.items) l.rows.items) ≡ l.trip;
   row : (i : ℕ) → i < l.trip
-      → IsRow (links_of l.trips) i (length l.trips.trips) (get_or (map (λ row. row.items) l.rows.items) i []);
+      → IsRow (links_of l.trips) i (length l.trips.trips) (get_or (map (λ row. row.items)
+      l.rows.items) i []);
 }

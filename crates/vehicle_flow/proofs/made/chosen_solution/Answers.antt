@@ -12,14 +12,16 @@ use Rattle.vehicle_flow.proofs.made.chosen_solution.Goals as goal
 pub first_best_plan-requires-clause-plan : goal.first_best_plan-requires-clause-plan
 first_best_plan-requires-clause-plan c =
     subst (λ links. IsPlan links c.in_ok-solved.solved.plan) (sym c.in_ok-links.ensures)
-    (plan_down (links_of c.args.trips.now) c.in_ok-solved.solved.plan c.in_ok-solved.solved.potentials
+    (plan_down (links_of c.args.trips.now) c.in_ok-solved.solved.plan
+    c.in_ok-solved.solved.potentials
     c.in_ok-solved.ensures.plan c.in_ok-solved.ensures.valid)
 
 pub first_best_plan-requires-clause-valid : goal.first_best_plan-requires-clause-valid
 first_best_plan-requires-clause-valid c =
     subst (λ links. AreValid links c.in_ok-solved.solved.plan c.in_ok-solved.solved.potentials)
     (sym c.in_ok-links.ensures)
-    (valid_down (links_of c.args.trips.now) c.in_ok-solved.solved.plan c.in_ok-solved.solved.potentials
+    (valid_down (links_of c.args.trips.now) c.in_ok-solved.solved.plan
+    c.in_ok-solved.solved.potentials
     c.in_ok-solved.ensures.plan c.in_ok-solved.ensures.valid)
 
 pub canonical_potentials-requires-clause-plan : goal.canonical_potentials-requires-clause-plan
@@ -30,7 +32,8 @@ canonical_potentials-requires-clause-valid c = subst
     (λ links. AreValid links c.in_ok-plan.plan c.in_ok-solved.solved.potentials)
     (sym c.in_ok-links.ensures)
     (valid_down (links_of c.args.trips.now) c.in_ok-plan.plan c.in_ok-solved.solved.potentials
-    (chosen c.args.trips.now c.in_ok-links.links c.in_ok-solved.solved c.in_ok-plan.plan c.in_ok-links.ensures
+    (chosen c.args.trips.now c.in_ok-links.links c.in_ok-solved.solved c.in_ok-plan.plan
+    c.in_ok-links.ensures
     c.in_ok-solved.ensures.plan c.in_ok-solved.ensures.valid c.in_ok-plan.ensures).cheapest.possible
     (still_valid c.args.trips.now c.in_ok-links.links c.in_ok-solved.solved c.in_ok-plan.plan
     c.in_ok-links.ensures c.in_ok-solved.ensures.plan c.in_ok-solved.ensures.valid
@@ -38,19 +41,23 @@ canonical_potentials-requires-clause-valid c = subst
 
 pub returns-clause-possible : goal.returns-clause-possible
 returns-clause-possible c =
-    (chosen c.args.trips.now c.in_ok-links.links c.in_ok-solved.solved c.in_ok-plan.plan c.in_ok-links.ensures
+    (chosen c.args.trips.now c.in_ok-links.links c.in_ok-solved.solved c.in_ok-plan.plan
+    c.in_ok-links.ensures
     c.in_ok-solved.ensures.plan c.in_ok-solved.ensures.valid c.in_ok-plan.ensures).cheapest.possible
 
 pub returns-clause-valid : goal.returns-clause-valid
 returns-clause-valid c =
     valid_up (links_of c.args.trips.now) c.in_ok-plan.plan c.in_ok-potentials.potentials
-    (subst (λ links. IsPlan links c.in_ok-plan.plan) c.in_ok-links.ensures c.in_ok-plan.ensures.best.possible)
-    (subst (λ links. AreValid links c.in_ok-plan.plan c.in_ok-potentials.potentials) c.in_ok-links.ensures
+    (subst (λ links. IsPlan links c.in_ok-plan.plan) c.in_ok-links.ensures
+    c.in_ok-plan.ensures.best.possible)
+    (subst (λ links. AreValid links c.in_ok-plan.plan c.in_ok-potentials.potentials)
+    c.in_ok-links.ensures
     c.in_ok-potentials.ensures.valid)
 
 pub returns-clause-plan : goal.returns-clause-plan
 returns-clause-plan c = chosen_is c.args.trips.now c.in_ok-plan.plan
-    (chosen c.args.trips.now c.in_ok-links.links c.in_ok-solved.solved c.in_ok-plan.plan c.in_ok-links.ensures
+    (chosen c.args.trips.now c.in_ok-links.links c.in_ok-solved.solved c.in_ok-plan.plan
+    c.in_ok-links.ensures
     c.in_ok-solved.ensures.plan c.in_ok-solved.ensures.valid c.in_ok-plan.ensures)
 
 pub returns-clause-potentials : goal.returns-clause-potentials
@@ -58,7 +65,8 @@ returns-clause-potentials c = c.in_ok-potentials.ensures.made
     ∙ ap (λ links. canonical links c.in_ok-plan.plan) c.in_ok-links.ensures
     ∙ canonical_same (links_of c.args.trips.now) (trips_links c.args.trips.now c.len.ensures.trips)
     c.in_ok-plan.plan c.in_ok-solved.solved.potentials
-    (chosen c.args.trips.now c.in_ok-links.links c.in_ok-solved.solved c.in_ok-plan.plan c.in_ok-links.ensures
+    (chosen c.args.trips.now c.in_ok-links.links c.in_ok-solved.solved c.in_ok-plan.plan
+    c.in_ok-links.ensures
     c.in_ok-solved.ensures.plan c.in_ok-solved.ensures.valid c.in_ok-plan.ensures).cheapest.possible
     (still_valid c.args.trips.now c.in_ok-links.links c.in_ok-solved.solved c.in_ok-plan.plan
     c.in_ok-links.ensures c.in_ok-solved.ensures.plan c.in_ok-solved.ensures.valid

@@ -14,7 +14,8 @@ returns-clause-list c =
       length-map c.self.inside.rows.items (λ row. row.items),
     ) in
     subst (λ rows. c.deref.result.now ≡ get_or rows c.args.trip []) c.self.view_is
-    (sym (get_or-map (λ row. row.items) c.self.inside.rows.items c.args.trip c.index.result.now [] inside
+    (sym (get_or-map (λ row. row.items) c.self.inside.rows.items c.args.trip c.index.result.now []
+    inside
     ∙ ap (λ row. row.items) (sym c.index.ensures) ∙ sym c.deref.ensures.value))
 
 pub returns-clause-rising : goal.returns-clause-rising
@@ -22,6 +23,7 @@ returns-clause-rising c =
     let lists = map (λ row. row.items) c.self.inside.rows.items in
     let within : c.args.trip < length lists =
     subst (λ rows. c.args.trip < length rows) (sym c.self.view_is) c.requires in
-    subst IsRising (subst (λ rows. get_or rows c.args.trip [] ≡ c.deref.result.now) (sym c.self.view_is)
+    subst IsRising (subst (λ rows. get_or rows c.args.trip [] ≡ c.deref.result.now) (sym
+    c.self.view_is)
     (sym (returns-clause-list c)))
     (c.self.invariant.rows_are.row c.args.trip within).rising

@@ -14,7 +14,8 @@ returns c =
       within,
       length-map c.self.inside.rows.items (λ row. row.items),
     ) in
-    subst (λ rows. IsRow (links_in rows) c.args.trip (length rows) c.deref.result.now) c.self.view_is
+    subst (λ rows. IsRow (links_in rows) c.args.trip (length rows) c.deref.result.now)
+    c.self.view_is
     (subst (IsRow (links_in lists) c.args.trip (length lists))
     (get_or-map (λ row. row.items) c.self.inside.rows.items c.args.trip c.index.result.now [] inside
     ∙ ap (λ row. row.items) (sym c.index.ensures) ∙ sym c.deref.ensures.value)
