@@ -16,9 +16,6 @@ use Rattle.assignment.proofs.LinkLists.{by_count, gain_at, gain_found, none_in, 
 
 -- ---- a list, link by link
 
-pub list_start : (count : ℕ) (row : List Link) → is_list count 0 row ≡ is_list count 0 (drop 0 row)
-list_start count row = refl
-
 pub list_step : (count from k : ℕ) (row : List Link) (link : Link) → k < length row
     → link ≡ get_or row k (link_to 0 0)
     → is_list count from (drop k row)

@@ -141,13 +141,6 @@ pair_most links plan drops are known i j gain e =
 pub back_arc : (links : Links) (plan : List (Option ℕ)) (i j : ℕ) → next plan i ≡ Some j → arc links plan (right j) (left i) ≡ links.gain i j
 back_arc links plan i j e = ap (λ b. cond b (links.gain i j) None) (same_is_trip j (next plan i) e)
 
-pub back_most : (links : Links) (plan : List (Option ℕ)) (drops : DropParts) → AreLinks links
-    → IsSearched links plan drops → (i j : ℕ) (gain : ℤ) → next plan i ≡ Some j
-    → links.gain i j ≡ Some gain
-    → (pos (get_or drops.right j 0) -ℤ gain) ≤ℤ pos 2000000000000000
-back_most links plan drops are known i j gain is e =
-    arc_most links plan drops are known (right j) (left i) gain (back_arc links plan i j is ∙ e)
-
 -- each number is small
 pub found_most : (links : Links) (plan : List (Option ℕ)) (drops : DropParts) → AreLinks links
     → IsSearched links plan drops → (node : Node) → drop_at drops node ≤ 2000000000000000

@@ -1,14 +1,14 @@
 -- Links that gain less than nothing change neither which plans gain the most nor what their
 -- canonical potentials are.
-use Rattle.std.proofs.Common.{◌≡◌, ℕ, ℤ, pos, negsuc, neg_ℤ, ◌+◌, ◌<◌, ◌≤◌, ◌≤ℤ◌, ◌+ℤ◌, is_some, Bool, true, false, cond}
-use Rattle.std.proofs.Common.{List, [], ◌∷◌, length, get_or, Option, Some, None, option_map, IfSome}
+use Rattle.std.proofs.Common.{◌≡◌, ℕ, ℤ, pos, negsuc, neg_ℤ, ◌+◌, ◌≤ℤ◌, ◌+ℤ◌, is_some, Bool, true, false, cond}
+use Rattle.std.proofs.Common.{List, [], ◌∷◌, get_or, Option, Some, None, option_map, IfSome}
 use Rattle.std.proofs.Common.{option_and_then, refl, ap, sym, ◌∙◌, subst, arith}
 use Rattle.std.proofs.lemmas.Int.{ints}
-use Rattle.std.proofs.lemmas.Option.{none-some, same_Some}
+use Rattle.std.proofs.lemmas.Option.{none-some}
 use Rattle.assignment.specs.Links.{Links, AreLinks}
 use Rattle.assignment.specs.LinkRows.{worth, worthy}
-use Rattle.assignment.specs.Plans.{next, is_trip, IsPlan, IsBest, IsFirstBest}
-use Rattle.assignment.specs.Drops.{DropParts, drop_at, AreFound, IsSearched, RowKept, LinkKept, NextKept, TripKept, AreKept, TripPassed, ArePassed}
+use Rattle.assignment.specs.Plans.{next, is_trip, IsPlan, IsFirstBest}
+use Rattle.assignment.specs.Drops.{DropParts, AreFound, RowKept, LinkKept, NextKept, TripKept, AreKept, ArePassed}
 use Rattle.assignment.specs.Potentials.{PotentialParts, at, AreValid, IsTight}
 use Rattle.assignment.specs.Residual.{Node, root, left, right, arc, walk_cost}
 use Rattle.assignment.specs.Rounds.{canonical}
