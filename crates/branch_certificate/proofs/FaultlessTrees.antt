@@ -12,16 +12,16 @@ use Rattle.std.proofs.lemmas.Int.{ints}
 use Rattle.std.proofs.lemmas.Option.{none-some}
 use Rattle.std.proofs.lemmas.List.Elements.{All-map, All-nil}
 use Rattle.std.proofs.lemmas.List.Quantifiers.{position-Some}
-use Rattle.giv_files.specs.declared.file_id.FileId.TheVariants as file
-use Rattle.giv_files.specs.declared.row_why.RowWhy.{RowWhy}
-use Rattle.giv_files.specs.declared.row_why.RowWhy.TheVariants as why
-use Rattle.giv_files.specs.Columns.{tree_columns}
-use Rattle.giv_files.specs.Inputs.{Input, broken_whys, records, table_row_faults}
-use Rattle.giv_files.specs.Reading.{table_of}
-use Rattle.giv_files.specs.Tables.{TableRow, no_row}
-use Rattle.giv_files.specs.Writing.{InColumns}
-use Rattle.giv_files.proofs.Inputs.{none_breaks, parts_sound, records_all, table_sound, whole_rule_sound, SoundBefore}
-use Rattle.giv_files.proofs.Ranges.{table_in_columns, unmapped}
+use Rattle.tables.specs.declared.file_id.FileId.TheVariants as file
+use Rattle.tables.specs.declared.row_why.RowWhy.{RowWhy}
+use Rattle.tables.specs.declared.row_why.RowWhy.TheVariants as why
+use Rattle.tables.specs.Columns.{tree_columns}
+use Rattle.tables.specs.Inputs.{Input, broken_whys, records, table_row_faults}
+use Rattle.tables.specs.Reading.{table_of}
+use Rattle.tables.specs.Tables.{TableRow, no_row}
+use Rattle.tables.specs.Writing.{InColumns}
+use Rattle.tables.proofs.Inputs.{none_breaks, parts_sound, records_all, table_sound, whole_rule_sound, SoundBefore}
+use Rattle.tables.proofs.Ranges.{table_in_columns, unmapped}
 use Rattle.line_cost_model.specs.declared.edge.BoundedEdge.{BoundedEdge}
 use Rattle.line_cost_model.specs.declared.side.Side.{Side}
 use Rattle.line_cost_model.specs.Problems.{IsId, IsProblem, ProblemParts}

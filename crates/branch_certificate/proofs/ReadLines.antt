@@ -5,19 +5,19 @@ use Rattle.std.proofs.Common.{length-drop}
 use Rattle.std.specs.List.{flat_map}
 use Rattle.std.proofs.lemmas.List.{drop_more}
 use Rattle.std.proofs.lemmas.List.Elements.{All-nil, All-cons}
-use Rattle.giv_files.specs.declared.file_id.FileId.TheVariants as file
-use Rattle.giv_files.specs.declared.read_fault.ReadFault.{ReadFault}
-use Rattle.giv_files.specs.declared.read_fault.ReadFault.TheVariants as row_fault
-use Rattle.giv_files.specs.declared.read_fault.RowFault.{RowFault}
-use Rattle.giv_files.specs.declared.refusal.Refusal.{Refusal}
-use Rattle.giv_files.specs.declared.refusal.Refusal.TheVariants as refusal
-use Rattle.giv_files.specs.Columns.{tree_columns}
-use Rattle.giv_files.specs.Inputs.{cell_faults, or_else}
-use Rattle.giv_files.specs.Reading.{faults, row_faults, table_row, ReadGives}
-use Rattle.giv_files.specs.Rows.{Row}
-use Rattle.giv_files.specs.Tables.{TableRow, no_row}
-use Rattle.giv_files.specs.Writing.{InColumns}
-use Rattle.giv_files.proofs.Ranges.{row_in_columns}
+use Rattle.tables.specs.declared.file_id.FileId.TheVariants as file
+use Rattle.tables.specs.declared.read_fault.ReadFault.{ReadFault}
+use Rattle.tables.specs.declared.read_fault.ReadFault.TheVariants as row_fault
+use Rattle.tables.specs.declared.read_fault.RowFault.{RowFault}
+use Rattle.tables.specs.declared.refusal.Refusal.{Refusal}
+use Rattle.tables.specs.declared.refusal.Refusal.TheVariants as refusal
+use Rattle.tables.specs.Columns.{tree_columns}
+use Rattle.tables.specs.Inputs.{cell_faults, or_else}
+use Rattle.tables.specs.Reading.{faults, row_faults, table_row, ReadGives}
+use Rattle.text_fields.specs.Rows.{Row}
+use Rattle.tables.specs.Tables.{TableRow, no_row}
+use Rattle.tables.specs.Writing.{InColumns}
+use Rattle.tables.proofs.Ranges.{row_in_columns}
 use Rattle.branch_certificate.specs.declared.read_fault.TreeReadFault.{TreeReadFault}
 use Rattle.branch_certificate.specs.declared.read_so_far.ReadSoFar.{ReadSoFar}
 use Rattle.branch_certificate.specs.ReadRows.{IsFirst, IsInOrder, IsReadSoFar, IsReadUpTo}

@@ -10,8 +10,8 @@ use Rattle.std.proofs.lemmas.Option.{same_Some}
 use Rattle.std.proofs.lemmas.Int.{ints}
 use Rattle.std.proofs.lemmas.List.Folds.{list_any_at}
 use Rattle.std.proofs.lemmas.List.Quantifiers.{position-Some}
-use Rattle.giv_files.specs.declared.row_why.RowWhy.{RowWhy}
-use Rattle.giv_files.specs.declared.row_why.RowWhy.TheVariants as why
+use Rattle.tables.specs.declared.row_why.RowWhy.{RowWhy}
+use Rattle.tables.specs.declared.row_why.RowWhy.TheVariants as why
 use Rattle.line_cost_model.specs.declared.side.Side.{Side}
 use Rattle.branch_certificate.specs.declared.node.Node.TheVariants as node
 use Rattle.branch_certificate.specs.declared.tree_row.TreeRow.{TreeRow}

@@ -8,20 +8,20 @@ use Rattle.std.proofs.lemmas.Bool.{ltb-false, ltb-true, not-false}
 use Rattle.std.proofs.lemmas.Bool.Decides.{Decides-int_eq}
 use Rattle.std.proofs.lemmas.Grind.{flat_map-append}
 use Rattle.std.proofs.lemmas.List.Elements.{All-head, All-tail}
-use Rattle.giv_files.specs.declared.file_id.FileId.TheVariants as file
-use Rattle.giv_files.specs.declared.row_why.RowWhy.TheVariants as why
-use Rattle.giv_files.specs.Columns.{tree_columns}
-use Rattle.giv_files.specs.Inputs.{numbered, records, row_faults}
-use Rattle.giv_files.specs.declared.read_fault.ReadFault.{ReadFault}
-use Rattle.giv_files.specs.declared.read_fault.ReadFault.TheVariants as read
-use Rattle.giv_files.specs.declared.read_fault.RowFault.{RowFault}
-use Rattle.giv_files.specs.Reading.{faults, table_of, table_row}
-use Rattle.giv_files.specs.Rows.{Row}
-use Rattle.giv_files.specs.Tables.{TableRow}
-use Rattle.giv_files.specs.Writing.{InColumns, line_text, table_text}
-use Rattle.giv_files.proofs.Accepted.{KeepRules}
-use Rattle.giv_files.proofs.Inputs.{parts_sound, table_sound, whole_rule_sound}
-use Rattle.giv_files.proofs.Ranges.{table_in_columns, unmapped}
+use Rattle.tables.specs.declared.file_id.FileId.TheVariants as file
+use Rattle.tables.specs.declared.row_why.RowWhy.TheVariants as why
+use Rattle.tables.specs.Columns.{tree_columns}
+use Rattle.tables.specs.Inputs.{numbered, records, row_faults}
+use Rattle.tables.specs.declared.read_fault.ReadFault.{ReadFault}
+use Rattle.tables.specs.declared.read_fault.ReadFault.TheVariants as read
+use Rattle.tables.specs.declared.read_fault.RowFault.{RowFault}
+use Rattle.tables.specs.Reading.{faults, table_of, table_row}
+use Rattle.text_fields.specs.Rows.{Row}
+use Rattle.tables.specs.Tables.{TableRow}
+use Rattle.tables.specs.Writing.{InColumns, line_text, table_text}
+use Rattle.tables.proofs.Accepted.{KeepRules}
+use Rattle.tables.proofs.Inputs.{parts_sound, table_sound, whole_rule_sound}
+use Rattle.tables.proofs.Ranges.{table_in_columns, unmapped}
 use Rattle.line_cost_model.specs.Problems.{ProblemParts}
 use Rattle.branch_certificate.specs.declared.tree_row.TreeRow.{TreeRow}
 use Rattle.branch_certificate.specs.ReadRows.{IsTreeRow}

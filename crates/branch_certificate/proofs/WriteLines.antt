@@ -6,17 +6,17 @@ use Rattle.std.proofs.lemmas.Grind.{flat_map-append}
 use Rattle.std.proofs.lemmas.List.{take_all, take_more}
 use Rattle.std.proofs.lemmas.List.Elements.{All-push}
 use Rattle.std.proofs.lemmas.Option.{get_or_from_slice_get, slice_get_within}
-use Rattle.giv_files.specs.Columns.{tree_columns}
-use Rattle.giv_files.specs.Writing.{line_text, table_text}
-use Rattle.giv_files.proofs.Headers.{plain_header}
-use Rattle.giv_files.proofs.WrittenBack.{written_back}
+use Rattle.tables.specs.Columns.{tree_columns}
+use Rattle.tables.specs.Writing.{line_text, table_text}
+use Rattle.tables.proofs.Headers.{plain_header}
+use Rattle.tables.proofs.WrittenBack.{written_back}
 use Rattle.line_cost_model.specs.Problems.{IsProblem, ProblemParts}
 use Rattle.branch_certificate.specs.declared.node.Node.{Node}
 use Rattle.branch_certificate.specs.declared.node.Node.TheVariants as node
 use Rattle.branch_certificate.specs.TreeTexts.{CanBeWritten, IsSmallSplit, NamesWhatIs, ReadsBackAs, node_rows}
 use Rattle.branch_certificate.specs.TreeTexts.{tree_header, tree_text}
 use Rattle.branch_certificate.proofs.WriteInside.{rows_inside}
-use Rattle.giv_files.proofs.WrittenColumns.{columns_written}
+use Rattle.tables.proofs.WrittenColumns.{columns_written}
 use Rattle.branch_certificate.proofs.WriteRows.{rows_more}
 use Rattle.branch_certificate.proofs.WriteTrees.{nodes_back}
 

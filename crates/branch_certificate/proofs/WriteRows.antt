@@ -4,9 +4,9 @@ use Rattle.std.proofs.Common.{slice_get, ap, subst, sym, ◌∙◌, append_assoc
 use Rattle.std.proofs.Common.{option_map, All}
 use Rattle.std.specs.List.{flat_map}
 use Rattle.std.proofs.lemmas.Grind.{flat_map-append}
-use Rattle.giv_files.specs.Columns.{tree_columns}
-use Rattle.giv_files.specs.Tables.{TableRow}
-use Rattle.giv_files.specs.Writing.{line_text}
+use Rattle.tables.specs.Columns.{tree_columns}
+use Rattle.tables.specs.Tables.{TableRow}
+use Rattle.tables.specs.Writing.{line_text}
 use Rattle.line_cost_model.specs.declared.multipliers.Multiplier.{Multiplier}
 use Rattle.branch_certificate.specs.TreeTexts.{cells_row}
 

@@ -8,14 +8,14 @@ use Rattle.std.proofs.lemmas.Int.{ints}
 use Rattle.std.proofs.lemmas.List.{length-map, map-append}
 use Rattle.std.proofs.lemmas.List.Elements.{All-head, All-tail}
 use Rattle.std.proofs.lemmas.Simd.{map-map}
-use Rattle.giv_files.specs.declared.row_why.RowWhy.TheVariants as why
-use Rattle.giv_files.specs.declared.file_id.FileId.TheVariants as file
-use Rattle.giv_files.specs.Columns.{tree_columns}
-use Rattle.giv_files.specs.Inputs.{records}
-use Rattle.giv_files.specs.Reading.{table_of}
-use Rattle.giv_files.specs.Tables.{TableRow}
-use Rattle.giv_files.specs.Writing.{ReadsBack}
-use Rattle.giv_files.proofs.Accepted.{KeepRules, accepted, whole_accepted}
+use Rattle.tables.specs.declared.row_why.RowWhy.TheVariants as why
+use Rattle.tables.specs.declared.file_id.FileId.TheVariants as file
+use Rattle.tables.specs.Columns.{tree_columns}
+use Rattle.tables.specs.Inputs.{records}
+use Rattle.tables.specs.Reading.{table_of}
+use Rattle.tables.specs.Tables.{TableRow}
+use Rattle.tables.specs.Writing.{ReadsBack}
+use Rattle.tables.proofs.Accepted.{KeepRules, accepted, whole_accepted}
 use Rattle.line_cost_model.specs.declared.edge.BoundedEdge.{BoundedEdge}
 use Rattle.line_cost_model.specs.declared.multipliers.Multiplier.{Multiplier}
 use Rattle.line_cost_model.specs.declared.side.Side.{Side}

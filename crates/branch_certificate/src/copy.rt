@@ -2,7 +2,7 @@
 ghost use Rattle.branch_certificate.specs.TreeTexts.{CopiesTrees, CopyGives};
 
 use crate::write::header_line;
-use giv_files::{ReadFault, Table, TextRow, TextRows, columns, push_line};
+use tables::{ReadFault, Table, TextRow, columns, push_line, rows_of};
 use plan_num::Text;
 use std::alloc::Global;
 
@@ -14,7 +14,7 @@ pub fn copy_tree(alloc: Global, bytes: &[u8]) -> Result<Text, ReadFault>
     ensures trees { CopiesTrees bytes.now result }
 {
     let mut lines = header_line(alloc)?;
-    let mut rows = TextRows::new(alloc, bytes)?;
+    let mut rows = rows_of(alloc, bytes)?;
     let mut row = TextRow::new(alloc);
     let mut table = Table::new(alloc);
     'rows: while rows.next_row(&mut row)? {

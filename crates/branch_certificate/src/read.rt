@@ -1,12 +1,12 @@
 // Reading a tree.
 ghost use Rattle.std.specs.Prelude.{◌≡◌, ◌+◌, ◌<◌, ℕ, List, [], All, IfOk, MatchResult, None, length};
 ghost use Rattle.std.specs.Prelude.{slice_index_or};
-ghost use Rattle.giv_files.specs.declared.file_id.FileId.TheVariants as file;
-ghost use Rattle.giv_files.specs.Columns.{tree_columns};
-ghost use Rattle.giv_files.specs.Inputs.{cell_faults, or_else, records, table_row_faults};
-ghost use Rattle.giv_files.specs.Reading.{table_of};
-ghost use Rattle.giv_files.specs.Tables.{TableRow, no_row};
-ghost use Rattle.giv_files.specs.Writing.{InColumns};
+ghost use Rattle.tables.specs.declared.file_id.FileId.TheVariants as file;
+ghost use Rattle.tables.specs.Columns.{tree_columns};
+ghost use Rattle.tables.specs.Inputs.{cell_faults, or_else, records, table_row_faults};
+ghost use Rattle.tables.specs.Reading.{table_of};
+ghost use Rattle.tables.specs.Tables.{TableRow, no_row};
+ghost use Rattle.tables.specs.Writing.{InColumns};
 ghost use Rattle.branch_certificate.specs.ReadRows.{AreRising, IsFirst, IsInOrder, IsReadSoFar};
 ghost use Rattle.branch_certificate.specs.ReadRows.{IsReadUpTo};
 ghost use Rattle.branch_certificate.specs.TreeFiles.{TreeGives, tree_input, tree_of, read_faults};
@@ -17,7 +17,7 @@ use crate::read_fault::TreeReadFault;
 use crate::read_so_far::ReadSoFar;
 use crate::tree::Tree;
 use crate::tree_row::TreeRow;
-use giv_files::{RowFault, RowWhy, Table, TextRow, TextRows, columns};
+use tables::{RowFault, RowWhy, Table, TextRow, columns, rows_of};
 use line_cost_model::LineProblem;
 use plan_num::NoMemory;
 use std::alloc::Global;
@@ -54,7 +54,7 @@ fn read_rows(alloc: Global, ids: &ProblemIds, bytes: &[u8]) -> Result<ReadSoFar,
         (IsFirst (or_else (cell_faults file.Tree tree_columns bytes.now)
         (table_row_faults (tree_input ids.now) (table_of tree_columns bytes.now)))) }
 {
-    let mut rows = TextRows::new(alloc, bytes)?;
+    let mut rows = rows_of(alloc, bytes)?;
     let mut row = TextRow::new(alloc);
     let mut table = Table::new(alloc);
     let mut so_far = ReadSoFar::new(alloc);

@@ -1,8 +1,8 @@
 // Writing a tree.
 ghost use Rattle.std.specs.Prelude.{◌≡◌, ◌<◌, ◌++◌, ◌∷◌, [], length, pos, All, IfOk, OnOk};
 ghost use Rattle.std.specs.List.{flat_map};
-ghost use Rattle.giv_files.specs.Columns.{tree_columns};
-ghost use Rattle.giv_files.specs.Writing.{InColumns, line_text};
+ghost use Rattle.tables.specs.Columns.{tree_columns};
+ghost use Rattle.tables.specs.Writing.{InColumns, line_text};
 ghost use Rattle.line_cost_model.specs.Multipliers.{AreMultipliers};
 ghost use Rattle.line_cost_model.specs.Problems.{IsProblem};
 ghost use Rattle.branch_certificate.specs.declared.node.Node.TheVariants as node;
@@ -12,7 +12,7 @@ ghost use Rattle.branch_certificate.specs.TreeTexts.{node_rows, side_place, tree
 
 use crate::node::Node;
 use crate::tree::Tree;
-use giv_files::{columns, push_line};
+use tables::{columns, push_line};
 use line_cost_model::{LineProblem, Multipliers, Side};
 use plan_num::{NoMemory, Text};
 use std::alloc::Global;

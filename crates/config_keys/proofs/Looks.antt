@@ -4,9 +4,8 @@ use Rattle.std.proofs.Common.{length, Option, Some, None, refl, ap}
 use Rattle.std.specs.Prelude.{if◌then◌else◌}
 use Rattle.std.specs.List.{flat_map}
 use Rattle.plan_files.specs.declared.store.Got.{Got}
-use Rattle.giv_files.specs.Rows.{Row, rows}
-use Rattle.giv_files.specs.Reading.{has_mark}
-use Rattle.giv_files.specs.declared.row_why.RowWhy.TheVariants as why
+use Rattle.text_fields.specs.Rows.{Row, rows, has_mark}
+use Rattle.tables.specs.declared.row_why.RowWhy.TheVariants as why
 use Rattle.config_keys.specs.declared.config_fault.ConfigFault.{ConfigFault}
 use Rattle.config_keys.specs.declared.config_fault.ConfigFault.TheVariants as fault
 use Rattle.config_keys.specs.Includes.{is_inside, path_of}

@@ -1,8 +1,8 @@
 -- What a row says.
 use Rattle.std.proofs.Common.{◌≡◌, ◌≢◌, ℕ, Bool, true, false, eqb, List, [], length, Some, None, string_bytes, slice_index_or, refl, arith}
 use Rattle.std.proofs.lemmas.Bool.Decides.{nat_tests}
-use Rattle.giv_files.specs.declared.row_why.RowWhy.TheVariants as why
-use Rattle.giv_files.specs.Rows.{Row}
+use Rattle.tables.specs.declared.row_why.RowWhy.TheVariants as why
+use Rattle.text_fields.specs.Rows.{Row}
 use Rattle.config_keys.specs.declared.config_fault.ConfigFault.TheVariants as fault
 use Rattle.config_keys.specs.declared.settings_file.IncludeRow.{IncludeRow}
 use Rattle.config_keys.specs.Includes.{is_inside, path_of}

@@ -5,9 +5,8 @@ use Rattle.std.specs.Str.{bytes_eq}
 use Rattle.plan_files.specs.declared.store.Got.{Got}
 use Rattle.plan_files.specs.declared.store.Got.TheVariants.{Bytes, Absent, TooLong as Long}
 use Rattle.plan_files.specs.Folder.{Folder, got_of}
-use Rattle.giv_files.specs.declared.row_why.RowWhy.TheVariants as why
-use Rattle.giv_files.specs.Rows.{Row, rows}
-use Rattle.giv_files.specs.Reading.{has_mark}
+use Rattle.tables.specs.declared.row_why.RowWhy.TheVariants as why
+use Rattle.text_fields.specs.Rows.{Row, rows, has_mark}
 use Rattle.config_keys.specs.declared.config_fault.ConfigFault.{ConfigFault}
 use Rattle.config_keys.specs.declared.config_fault.ConfigFault.TheVariants as fault
 use Rattle.config_keys.specs.Includes.{is_inside, path_of}

@@ -6,7 +6,7 @@ use Rattle.std.specs.HashMap.{get_by_text}
 use Rattle.std.specs.Rc.{rc_value}
 use Rattle.plan_files.specs.declared.store.Got.{Got}
 use Rattle.plan_files.specs.declared.store.Got.TheVariants.{Bytes, Absent, TooLong as Long}
-use Rattle.giv_files.specs.Rows.{Row}
+use Rattle.text_fields.specs.Rows.{Row}
 use Rattle.giv_files.specs.declared.key.Key.{Key}
 use Rattle.giv_files.specs.Keys.{key_name}
 use Rattle.config_keys.specs.declared.config_fault.ConfigFault.{ConfigFault}

@@ -1,5 +1,6 @@
 // Why settings are refused.
-use giv_files::{Key, RowWhy};
+use giv_files::Key;
+use tables::RowWhy;
 use plan_num::Text;
 
 /// Why settings are refused. The name is that of the file in which the fault stands, as a path below the

@@ -8,7 +8,8 @@ ghost use Rattle.config_keys.specs.SettingsFiles.{RowGives, IncludeTold, RowsTol
 use crate::include::{inside, path_of};
 use crate::said::Said;
 use crate::word::is_word;
-use giv_files::{Key, RowWhy, TextRow, TextRows};
+use giv_files::Key;
+use tables::{RowWhy, TextRow, TextRows, rows_of};
 use plan_num::NoMemory;
 use std::alloc::Global;
 use std::mem::replace;
@@ -198,7 +199,7 @@ fn include_word(key: &[u8]) -> Option<bool>
 fn take_text(alloc: Global, told: &mut Sections, text: &[u8]) -> Result<Option<FaultRow>, NoMemory>
     ensures { IfOk result (TextTold text.now told.old told.new) }
 {
-    match TextRows::new(alloc, text) {
+    match rows_of(alloc, text) {
         Ok(rows) => {
             let mut rows = rows;
             told.take_rows(alloc, &mut rows)

@@ -4,12 +4,12 @@ use Rattle.std.proofs.Common.{length, map, filter, slice_get, Option, Some, None
 use Rattle.std.proofs.Common.{IfOk, IfNone, option_map, refl, ap, sym}
 use Rattle.std.specs.List.{range_with_len}
 use Rattle.std.proofs.lemmas.Option.{same_Some, slice_get-map}
-use Rattle.giv_files.specs.Columns.{disposed_columns}
-use Rattle.giv_files.specs.Reading.{table_of}
+use Rattle.tables.specs.Columns.{disposed_columns}
+use Rattle.tables.specs.Reading.{table_of}
 use Rattle.giv_files.specs.Settings.{BundleParts}
-use Rattle.giv_files.specs.Tables.{TableRow}
+use Rattle.tables.specs.Tables.{TableRow}
 use Rattle.event_tables.specs.Cells.{disposed_time}
-use Rattle.giv_files.specs.RowsOfTables.{records_by}
+use Rattle.tables.specs.RowsOfTables.{records_by}
 use Rattle.delay_management.specs.declared.fault.ReasonFault.{ReasonFault}
 use Rattle.delay_management.specs.declared.fault.ReasonFault.TheVariants as fault
 use Rattle.delay_management.specs.declared.reason.Reason.{Reason}

@@ -7,12 +7,12 @@ use Rattle.std.specs.List.{enumerate_from, list_all, list_any, range_with_len}
 use Rattle.std.proofs.lemmas.Bool.{and_from, and_parts, eq-eqb, eqb-true, ltb-false, ltb-true, le-ltb, not-false, or_parts}
 use Rattle.std.proofs.lemmas.List.{length-map}
 use Rattle.std.proofs.lemmas.List.FromFn.{length-enumerate_from}
-use Rattle.giv_files.specs.Columns.{disposed_columns, reasons_columns}
-use Rattle.giv_files.specs.Reading.{faults}
-use Rattle.giv_files.proofs.Ranges.{back_none, front_none, unmapped}
+use Rattle.tables.specs.Columns.{disposed_columns, reasons_columns}
+use Rattle.tables.specs.Reading.{faults}
+use Rattle.tables.proofs.Ranges.{back_none, front_none, unmapped}
 use Rattle.event_tables.specs.declared.disposed_time.DisposedTime.{DisposedTime}
 use Rattle.event_tables.specs.Cells.{disposed_time}
-use Rattle.giv_files.specs.RowsOfTables.{ReadsAs}
+use Rattle.tables.specs.RowsOfTables.{ReadsAs}
 use Rattle.delay_management.specs.declared.fault.ReasonFault.{ReasonFault}
 use Rattle.delay_management.specs.declared.fault.ReasonFault.TheVariants as fault
 use Rattle.delay_management.specs.declared.reason.Reason.{Reason}

@@ -1,8 +1,8 @@
 -- What the stage of dispositions gives.
 use Rattle.std.proofs.Common.{◌≡◌, ◌∙◌, ℕ, ℤ, Bool, List, [], Ok, Err, ap, arith}
 use Rattle.giv_files.specs.declared.made.Made.{Made}
-use Rattle.giv_files.specs.declared.refusal.StageFault.{StageFault}
-use Rattle.giv_files.specs.Inputs.{Refuses}
+use Rattle.tables.specs.declared.refusal.StageFault.{StageFault}
+use Rattle.tables.specs.Inputs.{Refuses}
 use Rattle.giv_files.specs.Settings.{BundleParts}
 use Rattle.giv_files.specs.StageCalls.{StageGives}
 use Rattle.giv_files.proofs.StageCalls as calls

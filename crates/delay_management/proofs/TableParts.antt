@@ -3,8 +3,8 @@ use Rattle.std.proofs.Common.{◌≡◌, ◌∙◌, ℕ, ℤ, ◌+◌, ◌<◌, 
 use Rattle.std.proofs.Common.{◌∷◌, ◌++◌, get_or, length, map, take, ap, sym, arith}
 use Rattle.std.proofs.lemmas.List.{get_or-map, length-map, take_more}
 use Rattle.std.proofs.lemmas.Simd.{map-map}
-use Rattle.giv_files.specs.Tables.{TableRow, no_row}
-use Rattle.giv_files.specs.RowsOfTables.{records_by}
+use Rattle.tables.specs.Tables.{TableRow, no_row}
+use Rattle.tables.specs.RowsOfTables.{records_by}
 
 module _ {X Y : Type 0} (of : List ℤ → X) (part : X → Y) (table : List TableRow) (i : ℕ) where
   abbrev whole : TableRow → Y

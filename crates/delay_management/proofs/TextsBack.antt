@@ -7,24 +7,24 @@ use Rattle.std.proofs.lemmas.Bool.{eq-eqb, le-ltb, ne_eqb}
 use Rattle.std.proofs.lemmas.List.{length_push}
 use Rattle.std.proofs.lemmas.List.Elements.{All-map}
 use Rattle.std.proofs.lemmas.Simd.{map-map}
-use Rattle.giv_files.specs.declared.column.ColumnKind.{ColumnKind}
-use Rattle.giv_files.specs.declared.row_why.RowWhy.TheVariants as why
-use Rattle.giv_files.specs.declared.file_id.FileId.TheVariants as file
-use Rattle.giv_files.specs.Columns.{disposed_columns, reasons_columns}
-use Rattle.giv_files.specs.Inputs.{broken_whys, input_faults, records}
-use Rattle.giv_files.specs.Reading.{table_of}
-use Rattle.giv_files.specs.Tables.{TableRow}
-use Rattle.giv_files.specs.Writing.{InColumns, ReadsBack}
-use Rattle.giv_files.proofs.Accepted.{KeepRules, accepted, whole_accepted}
-use Rattle.giv_files.proofs.Headers.{plain_header}
-use Rattle.giv_files.proofs.WrittenBack.{written_back}
+use Rattle.tables.specs.declared.column.ColumnKind.{ColumnKind}
+use Rattle.tables.specs.declared.row_why.RowWhy.TheVariants as why
+use Rattle.tables.specs.declared.file_id.FileId.TheVariants as file
+use Rattle.tables.specs.Columns.{disposed_columns, reasons_columns}
+use Rattle.tables.specs.Inputs.{broken_whys, input_faults, records}
+use Rattle.tables.specs.Reading.{table_of}
+use Rattle.tables.specs.Tables.{TableRow}
+use Rattle.tables.specs.Writing.{InColumns, ReadsBack}
+use Rattle.tables.proofs.Accepted.{KeepRules, accepted, whole_accepted}
+use Rattle.tables.proofs.Headers.{plain_header}
+use Rattle.tables.proofs.WrittenBack.{written_back}
 use Rattle.event_tables.specs.declared.disposed_time.DisposedTime.{DisposedTime}
 use Rattle.event_tables.specs.Cells.{disposed_time, disposed_time_cells}
 use Rattle.event_tables.specs.DisposedTimes.{disposed_time_input, disposed_time_rules}
 use Rattle.event_tables.specs.Headers.{disposed_time_header}
 use Rattle.event_tables.specs.Places.{is_none_of}
-use Rattle.giv_files.specs.RowsOfTables.{ReadsAs, records_by, rows_by}
-use Rattle.giv_files.proofs.WrittenColumns.{columns_written}
+use Rattle.tables.specs.RowsOfTables.{ReadsAs, records_by, rows_by}
+use Rattle.tables.proofs.WrittenColumns.{columns_written}
 use Rattle.event_tables.proofs.Numbering.{none_of_places, some_missing}
 use Rattle.delay_management.specs.declared.reason.Reason.{Reason}
 use Rattle.delay_management.specs.declared.reason.Reason.TheVariants as reason

@@ -3,12 +3,12 @@
 use Rattle.std.specs.Prelude.{ℕ, ℤ, pos, List, [], ◌∷◌, ◌++◌, map, codes, decimal, Result}
 use Rattle.std.specs.Fmt.{signed_decimal}
 use Rattle.std.specs.List.{enumerate_from}
-use Rattle.giv_files.specs.declared.file_id.FileId.TheVariants as file
+use Rattle.tables.specs.declared.file_id.FileId.TheVariants as file
 use Rattle.giv_files.specs.declared.key.Key.TheVariants as key
 use Rattle.giv_files.specs.declared.made.Made.{Made}
-use Rattle.giv_files.specs.declared.refusal.Refusal.{Refusal}
-use Rattle.giv_files.specs.Columns.{disposed_columns, reasons_columns}
-use Rattle.giv_files.specs.Inputs.{input_faults, records_of}
+use Rattle.tables.specs.declared.refusal.Refusal.{Refusal}
+use Rattle.tables.specs.Columns.{disposed_columns, reasons_columns}
+use Rattle.tables.specs.Inputs.{input_faults, records_of}
 use Rattle.giv_files.specs.Settings.{BundleParts, amount}
 use Rattle.giv_files.specs.StageCalls.{input_text, unless_fault}
 use Rattle.event_tables.specs.declared.delay_row.DelayRow.{DelayRow}
@@ -20,7 +20,7 @@ use Rattle.event_tables.specs.Cells.{disposed_time_cells}
 use Rattle.event_tables.specs.Delays.{event_delay_input, activity_delay_input}
 use Rattle.event_tables.specs.ExpandedFiles.{expanded_event_input, expanded_activity_input, expanded_event_ids, expanded_activity_ids}
 use Rattle.event_tables.specs.Headers.{disposed_time_header}
-use Rattle.giv_files.specs.RowsOfTables.{file_text}
+use Rattle.tables.specs.RowsOfTables.{file_text}
 use Rattle.event_tables.specs.Schedules.{schedule_input}
 use Rattle.delay_management.specs.declared.reason.Reason.{Reason}
 use Rattle.delay_management.specs.declared.reason.Reason.TheVariants as reason

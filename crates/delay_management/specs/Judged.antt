@@ -1,13 +1,13 @@
 -- The rules of a disposition from any hand, in the order in which they are looked for.
 use Rattle.std.specs.Prelude.{ℕ, ℤ, ◌&&◌, ◌||◌, ◌==◌, nat_lt, nat_eq, not, if◌then◌else◌, Bool, List, [], ◌∷◌, ◌++◌, length, map, filter, get_or, slice_get, Option}
 use Rattle.std.specs.List.{list_all, list_any, enumerate_from, range_with_len}
-use Rattle.giv_files.specs.declared.column.ColumnKind.{ColumnKind}
-use Rattle.giv_files.specs.Columns.{disposed_columns, reasons_columns}
-use Rattle.giv_files.specs.Reading.{faults, table_of}
+use Rattle.tables.specs.declared.column.ColumnKind.{ColumnKind}
+use Rattle.tables.specs.Columns.{disposed_columns, reasons_columns}
+use Rattle.tables.specs.Reading.{faults, table_of}
 use Rattle.giv_files.specs.Settings.{BundleParts}
 use Rattle.event_tables.specs.declared.disposed_time.DisposedTime.{DisposedTime}
 use Rattle.event_tables.specs.Cells.{disposed_time, number_in}
-use Rattle.giv_files.specs.RowsOfTables.{ReadsAs, records_by}
+use Rattle.tables.specs.RowsOfTables.{ReadsAs, records_by}
 use Rattle.delay_management.specs.declared.fault.ReasonFault.{ReasonFault}
 use Rattle.delay_management.specs.declared.fault.ReasonFault.TheVariants as fault
 use Rattle.delay_management.specs.declared.reason.Reason.{Reason}

@@ -1,7 +1,7 @@
 // The test of a disposition.
 ghost use Rattle.std.specs.Prelude.{◌≡◌, None, IfOk, IfNone};
 ghost use Rattle.giv_files.specs.declared.stage.Stage.TheVariants as stages;
-ghost use Rattle.giv_files.specs.Inputs.{UnlessFault};
+ghost use Rattle.tables.specs.Inputs.{UnlessFault};
 ghost use Rattle.giv_files.specs.Settings.{Fits};
 ghost use Rattle.delay_management.specs.DispositionStage.{disposition_faults, kept_in, problem_in};
 ghost use Rattle.delay_management.specs.Judged.{Passes, first_broken_rule};
@@ -11,7 +11,8 @@ use crate::judge::first_fault;
 use crate::propagation::Propagation;
 use crate::stage::wait_of;
 use crate::waiting::waiting_changes;
-use giv_files::{Bundle, StageFault};
+use giv_files::Bundle;
+use tables::StageFault;
 use std::alloc::Global;
 
 /// The first rule that the texts of times and of their reasons break, over the inputs of the

@@ -7,9 +7,8 @@ use crate::lateness::{delay_at, missed_at};
 use crate::propagation::Propagation;
 use crate::reason::Reason;
 use event_tables::{DisposedTime, disposed_times_text};
-use giv_files::{
-    FileId, Made, MadeFile, MadeList, Stage, Table, columns, count_text, report_line, write_table,
-};
+use giv_files::{Made, MadeFile, MadeList, Stage, count_text, report_line};
+use tables::{FileId, Table, columns, write_table};
 use itoa::Buffer;
 use plan_num::{NoMemory, Text};
 use std::alloc::Global;

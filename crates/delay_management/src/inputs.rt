@@ -1,7 +1,7 @@
 // What the input texts of the stage of dispositions hold.
 ghost use Rattle.std.specs.Prelude.{◌≡◌, ◌≤◌, length, IfOk};
 ghost use Rattle.giv_files.specs.declared.stage.Stage.TheVariants as stages;
-ghost use Rattle.giv_files.specs.Inputs.{UnlessFault};
+ghost use Rattle.tables.specs.Inputs.{UnlessFault};
 ghost use Rattle.giv_files.specs.Settings.{Fits};
 ghost use Rattle.event_tables.specs.Delays.{AreDelays};
 ghost use Rattle.event_tables.specs.ExpandedFiles.{AreExpandedActivities, AreExpandedEvents};
@@ -13,7 +13,8 @@ use event_tables::{
     DelayRow, ExpandedActivity, ExpandedEvent, ScheduleRow, activity_delays, event_delays,
     expanded_activities, expanded_events, schedule_rows,
 };
-use giv_files::{Bundle, Key, StageFault};
+use giv_files::{Bundle, Key};
+use tables::StageFault;
 use std::alloc::Global;
 
 /// The events, or the first fault of their text.

@@ -1,10 +1,10 @@
 // The rules of a disposition from any hand, in their order.
 ghost use Rattle.std.specs.Prelude.{◌≡◌, ◌≤◌, ◌++◌, List, length, slice_get, if◌then◌else◌, None, Some, All, IfOk, IfSome};
-ghost use Rattle.giv_files.specs.Columns.{disposed_columns, reasons_columns};
-ghost use Rattle.giv_files.specs.Reading.{table_of};
-ghost use Rattle.giv_files.specs.Writing.{InColumns};
+ghost use Rattle.tables.specs.Columns.{disposed_columns, reasons_columns};
+ghost use Rattle.tables.specs.Reading.{table_of};
+ghost use Rattle.tables.specs.Writing.{InColumns};
 ghost use Rattle.event_tables.specs.Cells.{disposed_time};
-ghost use Rattle.giv_files.specs.RowsOfTables.{records_by};
+ghost use Rattle.tables.specs.RowsOfTables.{records_by};
 ghost use Rattle.delay_management.specs.declared.step.Activity.{Activity};
 ghost use Rattle.delay_management.specs.Judged.{broken_reasons, broken_rows, broken_times, first_broken_rule, is_table, reason_faults, reason_row};
 ghost use Rattle.delay_management.specs.Problems.{Joins};
@@ -17,7 +17,7 @@ use crate::rows::{are_all_reasons, are_all_times, reasons_of, times_of};
 use crate::step::Activity;
 use crate::waiting::kept_activities;
 use crate::wrong::first_wrong;
-use giv_files::{ReadFault, Table, columns, read_table};
+use tables::{ReadFault, Table, columns, read_table};
 use plan_num::NoMemory;
 use std::alloc::Global;
 

@@ -2,7 +2,7 @@
 ghost use Rattle.std.specs.Prelude.{ℕ, ◌≡◌, ◌<◌, ◌≤◌, length, map, All, IfOk};
 ghost use Rattle.std.specs.List.Sorted.{IsStrictlyIncreasing};
 ghost use Rattle.giv_files.specs.declared.stage.Stage.TheVariants as stages;
-ghost use Rattle.giv_files.specs.Inputs.{UnlessFault};
+ghost use Rattle.tables.specs.Inputs.{UnlessFault};
 ghost use Rattle.giv_files.specs.Settings.{Fits};
 ghost use Rattle.event_tables.specs.Delays.{AreDelays};
 ghost use Rattle.event_tables.specs.ExpandedFiles.{AreExpandedActivities, AreExpandedEvents};
@@ -22,7 +22,8 @@ use crate::pass::{push_again, pushed_along};
 use crate::step::{Activity, Step};
 use crate::turns::turns_of;
 use event_tables::{DelayRow, ExpandedActivity, ExpandedEvent, ScheduleRow};
-use giv_files::{Bundle, StageFault};
+use giv_files::Bundle;
+use tables::StageFault;
 use plan_num::NoMemory;
 use std::alloc::Global;
 use std::marker::Model;

@@ -1,14 +1,14 @@
 // Rows of times and of reasons from any hand.
 ghost use Rattle.std.specs.Prelude.{◌≡◌, ◌+◌, ◌<◌, ◌≤◌, length, map, nat_eq, slice_index_or, All, IfOk};
-ghost use Rattle.giv_files.specs.Columns.{disposed_columns, reasons_columns};
-ghost use Rattle.giv_files.specs.Tables.{no_row};
-ghost use Rattle.giv_files.specs.Writing.{InColumns};
+ghost use Rattle.tables.specs.Columns.{disposed_columns, reasons_columns};
+ghost use Rattle.tables.specs.Tables.{no_row};
+ghost use Rattle.tables.specs.Writing.{InColumns};
 ghost use Rattle.event_tables.specs.Cells.{disposed_time, number_in};
-ghost use Rattle.giv_files.specs.RowsOfTables.{records_by};
+ghost use Rattle.tables.specs.RowsOfTables.{records_by};
 ghost use Rattle.delay_management.specs.Judged.{are_all, reason_at, reason_row};
 
 use crate::reason::Reason;
-use giv_files::Table;
+use tables::Table;
 use plan_num::NoMemory;
 use std::alloc::Global;
 

@@ -11,7 +11,8 @@ use crate::files::disposition_made;
 use crate::propagation::Propagation;
 use crate::reasons::canonical_reasons;
 use crate::waiting::waiting_changes;
-use giv_files::{Bundle, Key, Made, StageFault};
+use giv_files::{Bundle, Key, Made};
+use tables::StageFault;
 use plan_num::{Ledger, Steps};
 use std::alloc::Global;
 

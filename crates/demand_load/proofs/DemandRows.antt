@@ -8,9 +8,9 @@ use Rattle.std.proofs.lemmas.Bool.{cases_lt}
 use Rattle.std.proofs.lemmas.List.{get_or_push, get_or_past, length_push}
 use Rattle.std.proofs.lemmas.List.FromFn.{get_or-map-range_with_len}
 use Rattle.std.proofs.Math.ListN.{get_or-append}
-use Rattle.giv_files.specs.declared.row_why.RowWhy.TheVariants as why
-use Rattle.giv_files.specs.Inputs.{broken_whys}
-use Rattle.giv_files.proofs.Found.{any_is}
+use Rattle.tables.specs.declared.row_why.RowWhy.TheVariants as why
+use Rattle.tables.specs.Inputs.{broken_whys}
+use Rattle.tables.proofs.Found.{any_is}
 use Rattle.ptn_network.specs.Ids.{is_unknown}
 use Rattle.ptn_network.specs.Networks.{NetworkParts, index_in}
 use Rattle.ptn_network.specs.Walks.{edge_length, least_sum}

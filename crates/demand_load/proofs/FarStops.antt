@@ -11,7 +11,7 @@ use Rattle.std.proofs.lemmas.List.Sorted.{All-permutation, Contains-permutation,
 use Rattle.std.proofs.lemmas.Option.{get_or_from_slice_get}
 use Rattle.ptn_network.specs.Networks.{NetworkParts}
 use Rattle.ptn_network.specs.Paths.{PathParts, path, paths_from}
-use Rattle.giv_files.proofs.Members.{Contains-map}
+use Rattle.tables.proofs.Members.{Contains-map}
 use Rattle.demand_load.specs.declared.far_stop.FarStop.{FarStop}
 use Rattle.demand_load.specs.Wanted.{distance, far_stop, goes_over, sum_where, AreByDistance, NobodyLeft}
 use Rattle.demand_load.proofs.WantedSums.{sum_where-none}

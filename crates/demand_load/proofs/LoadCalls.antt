@@ -6,21 +6,21 @@ use Rattle.std.proofs.lemmas.List.{length-map}
 use Rattle.std.proofs.lemmas.List.FromFn.{length-map-range_with_len}
 use Rattle.giv_files.specs.declared.key.Key.TheVariants as key
 use Rattle.giv_files.specs.declared.made.Made.{Made}
-use Rattle.giv_files.specs.declared.refusal.Refusal.{Refusal}
-use Rattle.giv_files.specs.declared.refusal.StageFault.{StageFault}
-use Rattle.giv_files.specs.declared.refusal.StageFault.TheVariants as fault
+use Rattle.tables.specs.declared.refusal.Refusal.{Refusal}
+use Rattle.tables.specs.declared.refusal.StageFault.{StageFault}
+use Rattle.tables.specs.declared.refusal.StageFault.TheVariants as fault
 use Rattle.giv_files.specs.declared.setting.Setting.{Setting}
 use Rattle.giv_files.specs.declared.stage.Stage.TheVariants as stage
-use Rattle.giv_files.specs.Inputs.{Refuses, or_else, input_faults, records_of}
+use Rattle.tables.specs.Inputs.{Refuses, or_else, input_faults, records_of}
 use Rattle.giv_files.specs.Settings.{BundleParts, SettingsFit, Fits, amount}
 use Rattle.giv_files.specs.StageCalls.{input_text, StageGives}
-use Rattle.giv_files.proofs.Inputs.{refused_append}
+use Rattle.tables.proofs.Inputs.{refused_append}
 use Rattle.giv_files.proofs.SettingFacts.{amount_within}
 use Rattle.giv_files.proofs.StageCalls.{stage_refused}
 use Rattle.ptn_network.specs.Networks.{NetworkParts, network_of, network_faults}
 use Rattle.ptn_network.specs.declared.edge_load.EdgeLoad.{EdgeLoad}
 use Rattle.demand_load.specs.Demand.{demand_input, demand_loads}
-use Rattle.giv_files.specs.declared.file_id.FileId.TheVariants as file
+use Rattle.tables.specs.declared.file_id.FileId.TheVariants as file
 use Rattle.ptn_network.specs.Loads.{load_input, loads_of}
 use Rattle.ptn_network.proofs.LoadRows.{loads_count as edge_loads_count}
 use Rattle.demand_load.specs.LoadStage.{takes_demand, bounded, loads_by, text_faults, frequency_faults, load_faults, loads_in, load_stage}

@@ -1,16 +1,17 @@
 -- Which files the stage of loads names where it refuses a row.
 use Rattle.std.proofs.Common.{◌≡◌, ℕ, pos, Bool, true, false, cond, List, unsigned_abs, int_lt, Err}
-use Rattle.giv_files.specs.declared.counted.Counted.TheVariants as counted
-use Rattle.giv_files.specs.declared.file_id.FileId.{FileId}
-use Rattle.giv_files.specs.declared.file_id.FileId.TheVariants as file
-use Rattle.giv_files.specs.declared.refusal.Refusal.{Refusal}
-use Rattle.giv_files.specs.declared.refusal.Refusal.TheVariants as refusal
+use Rattle.tables.specs.declared.counted.Counted.TheVariants as counted
+use Rattle.tables.specs.declared.file_id.FileId.{FileId}
+use Rattle.tables.specs.declared.file_id.FileId.TheVariants as file
+use Rattle.tables.specs.declared.refusal.Refusal.{Refusal}
+use Rattle.tables.specs.declared.refusal.Refusal.TheVariants as refusal
 use Rattle.giv_files.specs.declared.setting.Setting.{Setting}
-use Rattle.giv_files.specs.Inputs.{input_faults}
+use Rattle.tables.specs.Inputs.{input_faults}
 use Rattle.giv_files.specs.Settings.{BundleParts}
 use Rattle.giv_files.specs.StageCalls.{input_text}
-use Rattle.giv_files.specs.NamedFiles.{NamesInput}
-use Rattle.giv_files.proofs.Named.{AllName, names_both, names_or_else, names_where, input_names, refused_names}
+use Rattle.tables.specs.NamedFiles.{NamesInput}
+use Rattle.tables.proofs.Named.{AllName, names_both, names_or_else, names_where, input_names}
+use Rattle.giv_files.proofs.StageCalls.{refused_names}
 use Rattle.ptn_network.specs.Networks.{NetworkParts, network_faults}
 use Rattle.ptn_network.proofs.NamedFaults.{network_names}
 use Rattle.demand_load.specs.Demand.{demand_input}
@@ -43,9 +44,9 @@ load_stage_names test stop edge od given bundle reason e =
     let loads = loads_in bundle in
     let rows : AllName test (load_faults bundle) =
     names_both test (network_faults (input_text bundle 0) (input_text bundle 1))
-    (text_faults bundle.settings (network_in bundle) (input_text bundle 2))
+    (text_faults bundle.settings (network_in bundle.inputs) (input_text bundle 2))
     (network_names test stop edge (input_text bundle 0) (input_text bundle 1))
-    (text_names test od given bundle.settings (network_in bundle) (input_text bundle 2)) in
+    (text_names test od given bundle.settings (network_in bundle.inputs) (input_text bundle 2)) in
     let frequencies : AllName test (frequency_faults loads) =
     names_where test (λ load. int_lt (pos 1000) load.most)
     (λ load. refusal.TooMany counted.Frequency (unsigned_abs load.most)) (λ _. tt) loads in

@@ -4,13 +4,13 @@ use Rattle.std.proofs.Common.{List, [], ◌∷◌, ◌++◌, length, take, get_o
 use Rattle.std.proofs.Common.{All, unsigned_abs}
 use Rattle.std.proofs.lemmas.List.{take_more, take_all, length-take-le}
 use Rattle.std.proofs.lemmas.List.Elements.{All-nil, All-cons, All-head, All-tail}
-use Rattle.giv_files.specs.declared.counted.Counted.TheVariants as counted
-use Rattle.giv_files.specs.declared.refusal.Refusal.{Refusal}
-use Rattle.giv_files.specs.declared.refusal.Refusal.TheVariants as refusal
-use Rattle.giv_files.specs.Columns.{load_columns}
-use Rattle.giv_files.specs.Tables.{TableRow}
-use Rattle.giv_files.specs.Writing.{InColumns}
-use Rattle.giv_files.proofs.Ranges.{back_none}
+use Rattle.tables.specs.declared.counted.Counted.TheVariants as counted
+use Rattle.tables.specs.declared.refusal.Refusal.{Refusal}
+use Rattle.tables.specs.declared.refusal.Refusal.TheVariants as refusal
+use Rattle.tables.specs.Columns.{load_columns}
+use Rattle.tables.specs.Tables.{TableRow}
+use Rattle.tables.specs.Writing.{InColumns}
+use Rattle.tables.proofs.Ranges.{back_none}
 use Rattle.ptn_network.specs.declared.edge.Edge.{Edge}
 use Rattle.ptn_network.specs.declared.edge_load.EdgeLoad.{EdgeLoad}
 use Rattle.ptn_network.specs.Loads.{IsBounded}

@@ -6,13 +6,13 @@ use Rattle.std.specs.List.{AllByRecursion, list_any}
 use Rattle.std.specs.List.Sorted.{IsStrictlySortedBy}
 use Rattle.std.specs.Ordering.{int_eq, int_cmp}
 use Rattle.std.proofs.lemmas.List.Elements.{All-head, All-tail}
-use Rattle.giv_files.specs.declared.file_id.FileId.TheVariants as file
-use Rattle.giv_files.specs.declared.row_why.RowWhy.TheVariants as why
-use Rattle.giv_files.specs.Columns.{load_columns}
-use Rattle.giv_files.specs.Inputs.{records, input_faults}
-use Rattle.giv_files.specs.Writing.{ReadsBack}
-use Rattle.giv_files.proofs.Accepted.{accepted, whole_accepted, all_keep, each_known, none_missing}
-use Rattle.giv_files.proofs.Found.{any_mapped, any_found}
+use Rattle.tables.specs.declared.file_id.FileId.TheVariants as file
+use Rattle.tables.specs.declared.row_why.RowWhy.TheVariants as why
+use Rattle.tables.specs.Columns.{load_columns}
+use Rattle.tables.specs.Inputs.{records, input_faults}
+use Rattle.tables.specs.Writing.{ReadsBack}
+use Rattle.tables.proofs.Accepted.{accepted, whole_accepted, all_keep, each_known, none_missing}
+use Rattle.tables.proofs.Found.{any_mapped, any_found}
 use Rattle.ptn_network.specs.declared.edge.Edge.{Edge}
 use Rattle.ptn_network.specs.declared.edge_load.EdgeLoad.{EdgeLoad}
 use Rattle.ptn_network.specs.Ids.{edge_with}

@@ -4,11 +4,11 @@ use Rattle.std.proofs.Common.{arith, unsigned_abs}
 use Rattle.std.specs.List.{All}
 use Rattle.std.proofs.lemmas.List.Elements.{All-map, All-weaker}
 use Rattle.std.proofs.lemmas.List.Sums.{sum_by-le}
-use Rattle.giv_files.specs.declared.column.ColumnKind.TheVariants as kind
-use Rattle.giv_files.specs.Columns.{od_columns}
-use Rattle.giv_files.specs.Tables.{TableRow}
-use Rattle.giv_files.specs.Inputs.{records}
-use Rattle.giv_files.specs.Writing.{InColumns}
+use Rattle.tables.specs.declared.column.ColumnKind.TheVariants as kind
+use Rattle.tables.specs.Columns.{od_columns}
+use Rattle.tables.specs.Tables.{TableRow}
+use Rattle.tables.specs.Inputs.{records}
+use Rattle.tables.specs.Writing.{InColumns}
 use Rattle.ptn_network.specs.Networks.{NetworkParts}
 use Rattle.demand_load.specs.declared.demand_row.DemandRow.{DemandRow}
 use Rattle.demand_load.specs.Demand.{demand_input, demand_row, row_load, load_of}

@@ -4,21 +4,21 @@ use Rattle.std.proofs.Common.{get_or, refl, arith, lit<}
 use Rattle.std.specs.List.{All, range_with_len}
 use Rattle.std.specs.Map.{values_of}
 use Rattle.std.proofs.lemmas.List.Elements.{All-nil, All-cons, All-head, All-tail, All-map, All-weaker}
-use Rattle.giv_files.specs.declared.column.ColumnKind.TheVariants as kind
-use Rattle.giv_files.specs.declared.counted.Counted.TheVariants as counted
+use Rattle.tables.specs.declared.column.ColumnKind.TheVariants as kind
+use Rattle.tables.specs.declared.counted.Counted.TheVariants as counted
 use Rattle.giv_files.specs.declared.setting.Setting.{Setting}
-use Rattle.giv_files.specs.Columns.{edge_columns}
-use Rattle.giv_files.specs.Inputs.{records, records_of, row_limit, input_faults}
-use Rattle.giv_files.specs.Reading.{table_of}
-use Rattle.giv_files.specs.Tables.{TableRow}
-use Rattle.giv_files.specs.Writing.{InColumns}
-use Rattle.giv_files.proofs.Inputs.{few_rows, sound_rows}
-use Rattle.giv_files.proofs.Ranges.{back_none}
-use Rattle.giv_files.proofs.WriteFacts.{in_column}
+use Rattle.tables.specs.Columns.{edge_columns}
+use Rattle.tables.specs.Inputs.{records, records_of, row_limit, input_faults}
+use Rattle.tables.specs.Reading.{table_of}
+use Rattle.tables.specs.Tables.{TableRow}
+use Rattle.tables.specs.Writing.{InColumns}
+use Rattle.tables.proofs.Inputs.{few_rows, sound_rows}
+use Rattle.tables.proofs.Ranges.{back_none}
+use Rattle.tables.proofs.WriteFacts.{in_column}
 use Rattle.ptn_network.specs.Inputs.{stop_input, edge_input, edge_row}
 use Rattle.ptn_network.specs.Networks.{NetworkParts, edge_of, edge_entry, stops_of, network_of, network_faults}
 use Rattle.demand_load.specs.Demand.{demand_input, demand_loads, load_of}
-use Rattle.giv_files.specs.declared.file_id.FileId.TheVariants as file
+use Rattle.tables.specs.declared.file_id.FileId.TheVariants as file
 use Rattle.ptn_network.specs.Loads.{load_input, loads_of, IsBounded, IsLoad}
 use Rattle.ptn_network.proofs.LoadRows.{loads_sound as edge_loads_sound}
 use Rattle.demand_load.specs.LoadStage.{bounded, takes_demand, loads_by, text_faults}

@@ -1,11 +1,11 @@
 -- Demand between stops, and the loads of edges by it.
 use Rattle.std.specs.Prelude.{ℕ, ℤ, pos, nat_eq, Bool, ◌&&◌, not, is_some, int_lt, if◌then◌else◌, List, [], ◌∷◌, length, map, get_or, unsigned_abs}
 use Rattle.std.specs.List.{list_any, range_with_len, sum_by}
-use Rattle.giv_files.specs.declared.counted.Counted.TheVariants as counted
-use Rattle.giv_files.specs.declared.file_id.FileId.TheVariants as file
-use Rattle.giv_files.specs.declared.row_why.RowWhy.TheVariants as why
-use Rattle.giv_files.specs.Columns.{od_columns}
-use Rattle.giv_files.specs.Inputs.{Input, RowRule, row_limit}
+use Rattle.tables.specs.declared.counted.Counted.TheVariants as counted
+use Rattle.tables.specs.declared.file_id.FileId.TheVariants as file
+use Rattle.tables.specs.declared.row_why.RowWhy.TheVariants as why
+use Rattle.tables.specs.Columns.{od_columns}
+use Rattle.tables.specs.Inputs.{Input, RowRule, row_limit}
 use Rattle.ptn_network.specs.Ids.{known_stops}
 use Rattle.ptn_network.specs.Networks.{NetworkParts, index_in}
 use Rattle.ptn_network.specs.Walks.{edge_length, least_sum}

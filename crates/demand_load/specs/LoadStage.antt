@@ -2,20 +2,20 @@
 use Rattle.std.specs.Prelude.{ℕ, pos, ◌+◌, ◌*◌, ◌==◌, int_lt, if◌then◌else◌, Bool, List, [], ◌∷◌, ◌++◌, map, unsigned_abs, Result}
 use Rattle.std.specs.List.{flat_map}
 use Rattle.std.specs.Int.{div_ceil}
-use Rattle.giv_files.specs.declared.counted.Counted.TheVariants as counted
+use Rattle.tables.specs.declared.counted.Counted.TheVariants as counted
 use Rattle.giv_files.specs.declared.key.Key.TheVariants as key
 use Rattle.giv_files.specs.declared.made.Made.{Made}
-use Rattle.giv_files.specs.declared.refusal.Refusal.{Refusal}
-use Rattle.giv_files.specs.declared.refusal.Refusal.TheVariants as refusal
+use Rattle.tables.specs.declared.refusal.Refusal.{Refusal}
+use Rattle.tables.specs.declared.refusal.Refusal.TheVariants as refusal
 use Rattle.giv_files.specs.declared.setting.Setting.{Setting}
-use Rattle.giv_files.specs.Inputs.{input_faults, records_of, or_else}
+use Rattle.tables.specs.Inputs.{input_faults, records_of, or_else}
 use Rattle.giv_files.specs.Settings.{BundleParts, amount}
 use Rattle.giv_files.specs.StageCalls.{input_text, unless_fault}
 use Rattle.ptn_network.specs.Networks.{NetworkParts, network_faults}
 pub use Rattle.ptn_network.specs.Networks.{network_in}
 use Rattle.ptn_network.specs.declared.edge_load.EdgeLoad.{EdgeLoad}
 use Rattle.demand_load.specs.Demand.{demand_input, demand_loads}
-use Rattle.giv_files.specs.declared.file_id.FileId.TheVariants as file
+use Rattle.tables.specs.declared.file_id.FileId.TheVariants as file
 use Rattle.ptn_network.specs.Loads.{load_input, loads_of}
 use Rattle.demand_load.specs.LoadTables.{loads_made}
 
@@ -63,11 +63,11 @@ frequency_faults loads =
 abbrev pub load_faults : BundleParts → List Refusal
 load_faults bundle =
     network_faults (input_text bundle 0) (input_text bundle 1)
-    ++ text_faults bundle.settings (network_in bundle) (input_text bundle 2)
+    ++ text_faults bundle.settings (network_in bundle.inputs) (input_text bundle 2)
 
 -- the loads of a bundle
 abbrev pub loads_in : BundleParts → List EdgeLoad
-loads_in bundle = loads_by bundle.settings (network_in bundle) (input_text bundle 2)
+loads_in bundle = loads_by bundle.settings (network_in bundle.inputs) (input_text bundle 2)
 
 -- the stage, whose inputs are the texts of stops, of edges, and of demand or given loads: from
 -- settings and input texts to what is made, or the first fault; frequencies count where the texts
@@ -75,4 +75,4 @@ loads_in bundle = loads_by bundle.settings (network_in bundle) (input_text bundl
 unfoldable pub load_stage : BundleParts → Result Made Refusal
 load_stage bundle =
     unless_fault (or_else (load_faults bundle) (frequency_faults (loads_in bundle)))
-    (loads_made (network_in bundle).edges (loads_in bundle))
+    (loads_made (network_in bundle.inputs).edges (loads_in bundle))

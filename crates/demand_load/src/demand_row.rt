@@ -1,9 +1,9 @@
 // Rows of demand.
 ghost use Rattle.std.specs.Prelude.{◌≡◌, ◌<◌, pos, int_lt, length, slice_index_or};
-ghost use Rattle.giv_files.specs.Tables.{no_row};
+ghost use Rattle.tables.specs.Tables.{no_row};
 ghost use Rattle.demand_load.specs.Demand.{demand_row};
 
-use giv_files::Table;
+use tables::Table;
 
 /// Customers, in millionths, who go from the stop of one id to that of another.
 #[derive(Clone, Copy)]

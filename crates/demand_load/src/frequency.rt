@@ -1,10 +1,11 @@
 // The bounds of the frequency of an edge by its load.
 ghost use Rattle.std.specs.Prelude.{◌≡◌, ◌≤◌, map, All, IfOk, ⊤};
-ghost use Rattle.giv_files.specs.Inputs.{UnlessFault};
+ghost use Rattle.tables.specs.Inputs.{UnlessFault};
 ghost use Rattle.demand_load.specs.LoadStage.{bounded, frequency_faults};
 ghost use Rattle.demand_load.specs.LoadTables.{HasSpread};
 
-use giv_files::{Counted, Key, Refusal, Settings, StageFault};
+use giv_files::{Key, Settings};
+use tables::{Counted, Refusal, StageFault};
 use plan_num::NoMemory;
 use ptn_network::EdgeLoad;
 use std::alloc::Global;

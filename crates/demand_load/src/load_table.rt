@@ -3,9 +3,8 @@ ghost use Rattle.std.specs.Prelude.{◌≡◌, ◌++◌, ◌≤ℤ◌, pos, leng
 ghost use Rattle.ptn_network.specs.Loads.{IsBounded};
 ghost use Rattle.demand_load.specs.LoadTables.{load_row, load_rows, loads_made, HasId};
 
-use giv_files::{
-    FileId, Made, MadeFile, MadeList, Stage, Table, columns, count_text, report_line, write_table,
-};
+use giv_files::{Made, MadeFile, MadeList, Stage, count_text, report_line};
+use tables::{FileId, Table, columns, write_table};
 use plan_num::NoMemory;
 use ptn_network::{Edge, EdgeLoad, Network};
 use std::alloc::Global;

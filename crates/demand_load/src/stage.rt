@@ -1,8 +1,8 @@
 // The stage that writes how often each edge is to be driven.
 ghost use Rattle.std.specs.Prelude.{◌≡◌, IfOk};
 ghost use Rattle.giv_files.specs.declared.stage.Stage.TheVariants as stages;
-ghost use Rattle.giv_files.specs.declared.file_id.FileId.TheVariants as files;
-ghost use Rattle.giv_files.specs.Inputs.{input_faults, UnlessFault};
+ghost use Rattle.tables.specs.declared.file_id.FileId.TheVariants as files;
+ghost use Rattle.tables.specs.Inputs.{input_faults, UnlessFault};
 ghost use Rattle.ptn_network.specs.Loads.{load_input, loads_of};
 ghost use Rattle.giv_files.specs.Settings.{Fits};
 ghost use Rattle.giv_files.specs.StageCalls.{StageGives, TakesSteps};
@@ -13,7 +13,8 @@ ghost use Rattle.demand_load.specs.RightLoads.{LoadsAreRight};
 use crate::demand::read_demand;
 use crate::frequency::{bounds_of, check_frequencies};
 use crate::load_table::loads_made;
-use giv_files::{Bundle, FileId, Key, Made, Settings, StageFault};
+use giv_files::{Bundle, Key, Made, Settings};
+use tables::{FileId, StageFault};
 use plan_num::{Ledger, Steps};
 use ptn_network::{EdgeLoad, Loads, Network};
 use std::alloc::Global;

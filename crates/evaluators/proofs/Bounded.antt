@@ -8,11 +8,11 @@ use Rattle.std.proofs.lemmas.Int.{ints}
 use Rattle.std.proofs.lemmas.List.Elements.{All-cons, All-head, All-tail, All-map, All-filter}
 use Rattle.std.proofs.lemmas.List.Filters.{length-filter_both}
 use Rattle.std.proofs.lemmas.List.Sums.{sum_by-le}
-use Rattle.giv_files.specs.Columns.{pool_cost_columns, concept_columns}
-use Rattle.giv_files.specs.Inputs.{input_faults, records_of}
-use Rattle.giv_files.specs.Tables.{TableRow}
-use Rattle.giv_files.specs.Writing.{InColumns}
-use Rattle.giv_files.proofs.Inputs.{few_rows, sound_rows}
+use Rattle.tables.specs.Columns.{pool_cost_columns, concept_columns}
+use Rattle.tables.specs.Inputs.{input_faults, records_of}
+use Rattle.tables.specs.Tables.{TableRow}
+use Rattle.tables.specs.Writing.{InColumns}
+use Rattle.tables.proofs.Inputs.{few_rows, sound_rows}
 use Rattle.event_tables.specs.declared.disposed_time.DisposedTime.{DisposedTime}
 use Rattle.event_tables.specs.declared.expanded_event.ExpandedEvent.{ExpandedEvent}
 use Rattle.event_tables.specs.declared.schedule_row.ScheduleRow.{ScheduleRow}

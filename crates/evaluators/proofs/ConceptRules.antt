@@ -9,9 +9,9 @@ use Rattle.std.proofs.lemmas.Bool.Decides.{Decides-int_eq}
 use Rattle.std.proofs.lemmas.Cmp.{int_eq_equiv}
 use Rattle.std.proofs.lemmas.List.{drop_more, get_or-map, length-map, take-append-drop, take-map}
 use Rattle.std.proofs.lemmas.List.Folds.{find-append}
-use Rattle.giv_files.specs.declared.row_why.RowWhy.TheVariants as why
-use Rattle.giv_files.specs.Inputs.{broken_whys, records}
-use Rattle.giv_files.specs.Tables.{TableRow, no_row}
+use Rattle.tables.specs.declared.row_why.RowWhy.TheVariants as why
+use Rattle.tables.specs.Inputs.{broken_whys, records}
+use Rattle.tables.specs.Tables.{TableRow, no_row}
 use Rattle.evaluators.specs.declared.costed_line.CostedLine.{CostedLine}
 use Rattle.evaluators.specs.declared.rows.CostRow.{CostRow}
 use Rattle.evaluators.specs.declared.rows.LineRow.{LineRow}

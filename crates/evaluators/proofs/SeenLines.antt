@@ -4,7 +4,7 @@ use Rattle.std.proofs.Common.{◌∷◌, ◌++◌, length, map, take, get_or, re
 use Rattle.std.specs.List.{list_any}
 use Rattle.std.specs.Ordering.{int_eq}
 use Rattle.std.proofs.lemmas.List.{map_more, take_more}
-use Rattle.giv_files.specs.Tables.{TableRow}
+use Rattle.tables.specs.Tables.{TableRow}
 use Rattle.evaluators.specs.FirstRows.{firsts}
 use Rattle.evaluators.proofs.FirstRowFacts.{any_push, firsts_push, is_old, new_counts, old_counts}
 

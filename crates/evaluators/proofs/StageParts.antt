@@ -2,11 +2,11 @@
 use Rattle.std.proofs.Common.{◌≡◌, ℕ, [], length, None, Ok, Err, arith}
 use Rattle.giv_files.specs.declared.key.Key.TheVariants as key
 use Rattle.giv_files.specs.declared.made.Made.{Made}
-use Rattle.giv_files.specs.declared.refusal.StageFault.{StageFault}
-use Rattle.giv_files.specs.Inputs.{Refuses, records_of}
+use Rattle.tables.specs.declared.refusal.StageFault.{StageFault}
+use Rattle.tables.specs.Inputs.{Refuses, records_of}
 use Rattle.giv_files.specs.Settings.{BundleParts, amount}
 use Rattle.giv_files.specs.StageCalls.{StageGives, input_text}
-use Rattle.giv_files.proofs.Inputs.{refused_append}
+use Rattle.tables.proofs.Inputs.{refused_append}
 use Rattle.giv_files.proofs.StageCalls as calls
 use Rattle.event_tables.specs.Trips.{trip_input}
 use Rattle.evaluators.specs.declared.day_values.DayValues.{DayValues}

@@ -1,13 +1,14 @@
 -- Which files the stage of the statistic makes, and which it names where it refuses a row.
 use Rattle.std.proofs.Common.{◌≡◌, Bool, Ok, Err, ap, lit<}
-use Rattle.giv_files.specs.declared.file_id.FileId.{FileId}
+use Rattle.tables.specs.declared.file_id.FileId.{FileId}
 use Rattle.giv_files.specs.declared.made.Made.{Made}
-use Rattle.giv_files.specs.declared.refusal.Refusal.{Refusal}
+use Rattle.tables.specs.declared.refusal.Refusal.{Refusal}
 use Rattle.giv_files.specs.declared.stage.Stage.TheVariants as stage
 use Rattle.giv_files.specs.MadeLists.{MakesAs, ids_of}
-use Rattle.giv_files.specs.NamedFiles.{NamesInput}
+use Rattle.tables.specs.NamedFiles.{NamesInput}
 use Rattle.giv_files.specs.Settings.{BundleParts}
-use Rattle.giv_files.proofs.Named.{AllName, refused_names}
+use Rattle.tables.proofs.Named.{AllName}
+use Rattle.giv_files.proofs.StageCalls.{refused_names}
 use Rattle.giv_files.proofs.StageCalls.{made_unless}
 use Rattle.evaluators.specs.StatisticStage.{statistic_faults, statistic_stage}
 

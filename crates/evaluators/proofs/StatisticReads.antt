@@ -2,7 +2,7 @@
 use Rattle.std.proofs.Common.{◌≡◌, Ok, Err, Result, arith}
 use Rattle.std.specs.Prelude.{IfOk}
 use Rattle.giv_files.specs.declared.made.Made.{Made}
-use Rattle.giv_files.specs.declared.refusal.StageFault.{StageFault}
+use Rattle.tables.specs.declared.refusal.StageFault.{StageFault}
 use Rattle.giv_files.specs.declared.stage.Stage.TheVariants as stage
 use Rattle.giv_files.specs.Settings.{BundleParts, Fits}
 use Rattle.giv_files.specs.StageCalls.{StageGives}

@@ -8,12 +8,12 @@ use Rattle.plan_num.specs.Number.{is_number_byte}
 use Rattle.plan_num.specs.Print.{fixed_text}
 use Rattle.plan_num.proofs.Printed.{decimal_some}
 use Rattle.plan_num.proofs.ReadBack.{magnitude_bytes}
-use Rattle.giv_files.specs.Rows.{Row, parts_of, rows}
-use Rattle.giv_files.specs.Writing.{joined}
-use Rattle.giv_files.proofs.CellTexts.{number_plain, plain_word}
-use Rattle.giv_files.proofs.Headers.{plain_header}
-use Rattle.giv_files.proofs.PlainBytes.{AreCells, IsCell, all_weaker, cells_quiet, cells_row, is_plain, line_cut, line_some, quiet_line, quiet_stripped}
-use Rattle.giv_files.proofs.RowsLeft.{all_left, numbered_step, rows_left}
+use Rattle.text_fields.specs.Rows.{Row, parts_of, rows}
+use Rattle.tables.specs.Writing.{joined}
+use Rattle.tables.proofs.CellTexts.{number_plain, plain_word}
+use Rattle.tables.proofs.Headers.{plain_header}
+use Rattle.tables.proofs.PlainBytes.{AreCells, IsCell, all_weaker, cells_quiet, cells_row, is_plain, line_cut, line_some, quiet_line, quiet_stripped}
+use Rattle.text_fields.proofs.RowsLeft.{all_left, numbered_step, rows_left}
 use Rattle.evaluators.specs.declared.measure.Measure.{Measure}
 use Rattle.evaluators.specs.declared.measure.Measure.TheVariants as measure
 use Rattle.evaluators.specs.declared.statistic.Statistic.{Statistic}

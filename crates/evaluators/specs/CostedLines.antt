@@ -1,7 +1,7 @@
 -- Inner words: lines with their costs.
 use Rattle.std.specs.Prelude.{ℕ, ◌*◌, ◌==◌, not, is_some, if◌then◌else◌, List, Option, Some, None, option_map, unwrap_or}
-use Rattle.giv_files.specs.declared.row_why.RowWhy.{RowWhy}
-use Rattle.giv_files.specs.declared.row_why.RowWhy.TheVariants as why
+use Rattle.tables.specs.declared.row_why.RowWhy.{RowWhy}
+use Rattle.tables.specs.declared.row_why.RowWhy.TheVariants as why
 use Rattle.evaluators.specs.declared.costed_line.CostedLine.{CostedLine}
 use Rattle.evaluators.specs.declared.rows.CostRow.{CostRow}
 use Rattle.evaluators.specs.declared.rows.LineRow.{LineRow}

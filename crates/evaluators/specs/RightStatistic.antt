@@ -1,9 +1,9 @@
 -- What is right about the statistic that is made.
 use Rattle.std.specs.Prelude.{◌≡◌, ℕ, List, [], ◌∷◌, map, Some}
-use Rattle.giv_files.specs.declared.file_id.FileId.TheVariants as file
+use Rattle.tables.specs.declared.file_id.FileId.TheVariants as file
 use Rattle.giv_files.specs.declared.made.Made.{Made}
 use Rattle.giv_files.specs.declared.made.MadeFile.{MadeFile}
-use Rattle.giv_files.specs.Rows.{rows}
+use Rattle.text_fields.specs.Rows.{rows}
 use Rattle.giv_files.specs.Settings.{BundleParts}
 use Rattle.plan_num.specs.Number.{number_of}
 use Rattle.plan_num.specs.Print.{fixed_text}

@@ -2,11 +2,11 @@
 use Rattle.std.specs.Prelude.{ℤ, pos, ◌==◌, not, is_some, get_or, Bool, false, List, [], ◌∷◌, length, Option, Some, None}
 use Rattle.std.specs.List.{find}
 use Rattle.std.specs.Ordering.{int_eq}
-use Rattle.giv_files.specs.declared.counted.Counted.TheVariants as counted
-use Rattle.giv_files.specs.declared.file_id.FileId.TheVariants as file
-use Rattle.giv_files.specs.declared.row_why.RowWhy.TheVariants as why
-use Rattle.giv_files.specs.Columns.{pool_cost_columns, concept_columns}
-use Rattle.giv_files.specs.Inputs.{Input, Limit, RowRule, own_id}
+use Rattle.tables.specs.declared.counted.Counted.TheVariants as counted
+use Rattle.tables.specs.declared.file_id.FileId.TheVariants as file
+use Rattle.tables.specs.declared.row_why.RowWhy.TheVariants as why
+use Rattle.tables.specs.Columns.{pool_cost_columns, concept_columns}
+use Rattle.tables.specs.Inputs.{Input, Limit, RowRule, own_id}
 use Rattle.event_tables.specs.Cells.{number_in}
 use Rattle.evaluators.specs.declared.rows.CostRow.{CostRow}
 use Rattle.evaluators.specs.declared.rows.LineRow.{LineRow}

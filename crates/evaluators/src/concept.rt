@@ -2,15 +2,15 @@
 ghost use Rattle.std.specs.Prelude.{◌≡◌, ◌<◌, ⊤, length, map, take, slice_get, slice_index_or, option_map, Some, IfOk};
 ghost use Rattle.std.specs.List.{find};
 ghost use Rattle.std.specs.Ordering.{int_eq};
-ghost use Rattle.giv_files.specs.Inputs.{UnlessFault, broken_whys, input_faults, records, records_of, table_faults};
-ghost use Rattle.giv_files.specs.Tables.{no_row};
+ghost use Rattle.tables.specs.Inputs.{UnlessFault, broken_whys, input_faults, records, records_of, table_faults};
+ghost use Rattle.tables.specs.Tables.{no_row};
 ghost use Rattle.evaluators.specs.CostedLines.{costed};
 ghost use Rattle.evaluators.specs.StatisticInputs.{concept_input, cost_with, line_row, lines_of};
 
 use crate::costed_line::CostedLine;
 use crate::first_rows::first_rows;
 use crate::rows::{CostRow, LineRow};
-use giv_files::{
+use tables::{
     Counted, FileId, Refusal, RowFold, RowWhy, StageFault, Table, columns, fold_rows, read_input,
 };
 use plan_num::NoMemory;

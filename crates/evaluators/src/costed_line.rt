@@ -2,7 +2,7 @@
 ghost use Rattle.std.specs.Prelude.{◌≡◌};
 ghost use Rattle.evaluators.specs.CostedLines.{broken_by, runs_cost};
 
-use giv_files::RowWhy;
+use tables::RowWhy;
 
 /// A line with how often it runs, and its cost in millionths, where it has one.
 #[derive(Clone, Copy)]

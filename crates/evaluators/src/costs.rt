@@ -3,12 +3,12 @@ ghost use Rattle.std.specs.Prelude.{ℤ, ◌≡◌};
 ghost use Rattle.std.specs.HashSet.{contains};
 ghost use Rattle.std.specs.List.{list_any};
 ghost use Rattle.std.specs.Ordering.{int_eq};
-ghost use Rattle.giv_files.specs.Inputs.{UnlessFault, input_faults, records_of};
+ghost use Rattle.tables.specs.Inputs.{UnlessFault, input_faults, records_of};
 ghost use Rattle.evaluators.specs.StatisticInputs.{cost_input};
 
 use crate::rows::CostRow;
 use crate::seen::note;
-use giv_files::{FileId, RowTests, RowWhy, StageFault, columns, read_file};
+use tables::{FileId, RowTests, RowWhy, StageFault, columns, read_file};
 use plan_num::NoMemory;
 use std::alloc::Global;
 use std::collections::HashSet;

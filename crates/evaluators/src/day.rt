@@ -1,6 +1,6 @@
 // The values of a day.
 ghost use Rattle.std.specs.Prelude.{◌≡◌, ◌≤◌, ◌&&◌, true, [], length, All, IfOk};
-ghost use Rattle.giv_files.specs.Inputs.{UnlessFault};
+ghost use Rattle.tables.specs.Inputs.{UnlessFault};
 ghost use Rattle.event_tables.specs.DisposedTimes.{AreDisposedTimes};
 ghost use Rattle.event_tables.specs.ExpandedFiles.{AreExpandedActivities, AreExpandedEvents};
 ghost use Rattle.event_tables.specs.Places.{IsOneOf};
@@ -18,7 +18,7 @@ use event_tables::{
     ActivityKind, DisposedTime, ExpandedActivity, ExpandedEvent, ScheduleRow, disposed_times,
     expanded_activities, expanded_events, schedule_rows,
 };
-use giv_files::StageFault;
+use tables::StageFault;
 use plan_num::NoMemory;
 use std::alloc::Global;
 

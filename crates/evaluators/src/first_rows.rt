@@ -8,7 +8,7 @@ ghost use Rattle.evaluators.specs.StatisticInputs.{line_row, lines_of};
 use crate::rows::LineRow;
 use crate::seen::note;
 use event_tables::ScheduleRow;
-use giv_files::Table;
+use tables::Table;
 use plan_num::NoMemory;
 use std::alloc::Global;
 use std::collections::HashSet;

@@ -1,7 +1,7 @@
 // The values of the line concept.
 ghost use Rattle.std.specs.Prelude.{◌≡◌, ◌≤◌, nat_lt, length, filter, All};
 ghost use Rattle.std.specs.List.{sum_by};
-ghost use Rattle.giv_files.specs.Inputs.{UnlessFault};
+ghost use Rattle.tables.specs.Inputs.{UnlessFault};
 ghost use Rattle.evaluators.specs.CostedLines.{runs_cost};
 ghost use Rattle.evaluators.specs.StatisticStage.{line_faults, lines_in};
 
@@ -9,7 +9,7 @@ use crate::concept::read_concept;
 use crate::costed_line::CostedLine;
 use crate::costs::read_costs;
 use crate::line_values::LineValues;
-use giv_files::StageFault;
+use tables::StageFault;
 use std::alloc::Global;
 
 /// The values of the texts of costs and of the line concept, or their first fault.

@@ -1,6 +1,6 @@
 // The values of the periodic timetable.
 ghost use Rattle.std.specs.Prelude.{◌≡◌, ◌<◌, ◌≤◌, length, All};
-ghost use Rattle.giv_files.specs.Inputs.{UnlessFault};
+ghost use Rattle.tables.specs.Inputs.{UnlessFault};
 ghost use Rattle.event_tables.specs.PeriodicFiles.{ArePeriodicActivities, ArePeriodicEvents, ArePeriodicTimes};
 ghost use Rattle.event_tables.specs.Places.{IsOneOf};
 ghost use Rattle.event_tables.specs.RunRules.{same_kind};
@@ -12,7 +12,7 @@ use event_tables::{
     PeriodicActivity, PeriodicEvent, PeriodicKind, PeriodicTime, periodic_activities,
     periodic_events, periodic_times,
 };
-use giv_files::{FileId, StageFault};
+use tables::{FileId, StageFault};
 use pesp_model::tension;
 use std::alloc::Global;
 

@@ -1,9 +1,9 @@
 // Rows of the files that the statistic alone reads so.
 ghost use Rattle.std.specs.Prelude.{◌≡◌, ◌<◌, ⊤, length, slice_index_or};
-ghost use Rattle.giv_files.specs.Tables.{no_row};
+ghost use Rattle.tables.specs.Tables.{no_row};
 ghost use Rattle.evaluators.specs.StatisticInputs.{cost_row, line_row};
 
-use giv_files::{Record, Table};
+use tables::{Record, Table};
 
 /// The cost of a line in millionths.
 #[derive(Clone, Copy, Debug, PartialEq, Eq)]

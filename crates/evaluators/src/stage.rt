@@ -2,7 +2,7 @@
 ghost use Rattle.std.specs.Prelude.{◌≡◌, ◌≤◌, length, IfOk};
 ghost use Rattle.giv_files.specs.declared.key.Key.TheVariants as keys;
 ghost use Rattle.giv_files.specs.declared.stage.Stage.TheVariants as stages;
-ghost use Rattle.giv_files.specs.Inputs.{UnlessFault};
+ghost use Rattle.tables.specs.Inputs.{UnlessFault};
 ghost use Rattle.giv_files.specs.Settings.{Fits, amount};
 ghost use Rattle.giv_files.specs.StageCalls.{StageGives, TakesSteps};
 ghost use Rattle.evaluators.specs.RightStatistic.{StatisticIsRight};
@@ -15,7 +15,8 @@ use crate::schedule::schedule_cost;
 use crate::statistic::Statistic;
 use crate::text::statistic_made;
 use event_tables::{Trip, trips};
-use giv_files::{Bundle, Key, Made, StageFault};
+use giv_files::{Bundle, Key, Made};
+use tables::StageFault;
 use plan_num::{Ledger, Steps};
 use std::alloc::Global;
 

@@ -5,7 +5,8 @@ ghost use Rattle.evaluators.specs.StatisticStage.{statistic_made, statistic_text
 
 use crate::measure::Measure;
 use crate::statistic::Statistic;
-use giv_files::{FileId, Made, MadeFile, MadeList};
+use giv_files::{Made, MadeFile, MadeList};
+use tables::FileId;
 use plan_num::{NoMemory, Text, print_fixed};
 use std::alloc::Global;
 

@@ -8,7 +8,7 @@ use Rattle.event_tables.specs.declared.direction.Direction.TheVariants as direct
 use Rattle.line_pool.specs.Pools.{LineParts, IsLine}
 use Rattle.ptn_network.specs.declared.edge.Edge.{Edge}
 use Rattle.ptn_network.specs.Networks.{NetworkParts, IsEdge}
-use Rattle.giv_files.proofs.Members.{All-flat_map as all_parts}
+use Rattle.tables.proofs.Members.{All-flat_map as all_parts}
 use Rattle.event_activity.specs.declared.run_event.RunEvent.{RunEvent}
 use Rattle.event_activity.specs.Fitting.{AreBounds, drive_bounds, IsDriven, IsNumbered}
 use Rattle.event_activity.specs.Runs.{AreServed, along, no_edge, no_line, line_at, edge_at, run_event, run, runs, line_events, with_id, concept_events}

@@ -1,17 +1,17 @@
 -- The stage of events and activities, from what each of its inputs gives.
 use Rattle.std.proofs.Common.{arith, ◌≡◌, ℕ, ◌<◌, ◌≤◌, List, [], length, subst, sym, ◌∙◌, Result}
 use Rattle.std.proofs.Common.{Ok, Err}
-use Rattle.giv_files.specs.declared.counted.Counted.TheVariants as counted
+use Rattle.tables.specs.declared.counted.Counted.TheVariants as counted
 use Rattle.giv_files.specs.declared.made.Made.{Made}
-use Rattle.giv_files.specs.declared.refusal.Refusal.TheVariants as refusal
-use Rattle.giv_files.specs.declared.refusal.StageFault.{StageFault}
-use Rattle.giv_files.specs.declared.refusal.StageFault.TheVariants as fault
+use Rattle.tables.specs.declared.refusal.Refusal.TheVariants as refusal
+use Rattle.tables.specs.declared.refusal.StageFault.{StageFault}
+use Rattle.tables.specs.declared.refusal.StageFault.TheVariants as fault
 use Rattle.giv_files.specs.declared.setting.Setting.{Setting}
-use Rattle.giv_files.specs.Inputs.{Refuses, UnlessFault, or_else}
+use Rattle.tables.specs.Inputs.{Refuses, UnlessFault, or_else}
 use Rattle.giv_files.specs.Settings.{BundleParts}
 use Rattle.giv_files.specs.StageCalls.{input_text, StageGives}
-use Rattle.giv_files.proofs.Inputs.{refused_append}
-use Rattle.giv_files.proofs.InTurn.{refused_before, after_none}
+use Rattle.tables.proofs.Inputs.{refused_append}
+use Rattle.tables.proofs.InTurn.{refused_before, after_none}
 use Rattle.giv_files.proofs.StageCalls.{stage_refused}
 use Rattle.event_activity.specs.declared.run_event.RunEvent.{RunEvent}
 use Rattle.event_activity.specs.Activities.{concept_activities}

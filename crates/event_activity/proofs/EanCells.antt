@@ -2,9 +2,9 @@
 use Rattle.std.proofs.Common.{ℕ, pos, ◌≤◌, ◌≤ℤ◌, arith, All, List, refl}
 use Rattle.std.proofs.lemmas.Int.{ints}
 use Rattle.std.proofs.lemmas.List.Elements.{All-map, All-weaker}
-use Rattle.giv_files.specs.declared.words.WordTable.TheVariants as table
-use Rattle.giv_files.specs.Columns.{events_p_columns, activities_p_columns, word}
-use Rattle.giv_files.specs.Writing.{InColumn, InColumns}
+use Rattle.tables.specs.declared.words.WordTable.TheVariants as table
+use Rattle.tables.specs.Columns.{events_p_columns, activities_p_columns, word}
+use Rattle.tables.specs.Writing.{InColumn, InColumns}
 use Rattle.event_tables.specs.declared.direction.Direction.TheVariants as direction
 use Rattle.event_tables.specs.declared.event_kind.EventKind.TheVariants as event
 use Rattle.event_tables.specs.declared.periodic_activity.PeriodicActivity.{PeriodicActivity}

@@ -1,16 +1,17 @@
 -- Which files the stage of events and activities names where it refuses a row.
 use Rattle.std.proofs.Common.{◌≡◌, ℕ, Bool, true, List, [], ◌∷◌, Err, arith}
-use Rattle.giv_files.specs.declared.counted.Counted.{Counted}
-use Rattle.giv_files.specs.declared.counted.Counted.TheVariants as counted
-use Rattle.giv_files.specs.declared.file_id.FileId.{FileId}
-use Rattle.giv_files.specs.declared.file_id.FileId.TheVariants as file
-use Rattle.giv_files.specs.declared.refusal.Refusal.{Refusal}
-use Rattle.giv_files.specs.declared.refusal.Refusal.TheVariants as refusal
-use Rattle.giv_files.specs.Inputs.{limit_faults, row_limit}
-use Rattle.giv_files.specs.NamedFiles.{NamesInput}
+use Rattle.tables.specs.declared.counted.Counted.{Counted}
+use Rattle.tables.specs.declared.counted.Counted.TheVariants as counted
+use Rattle.tables.specs.declared.file_id.FileId.{FileId}
+use Rattle.tables.specs.declared.file_id.FileId.TheVariants as file
+use Rattle.tables.specs.declared.refusal.Refusal.{Refusal}
+use Rattle.tables.specs.declared.refusal.Refusal.TheVariants as refusal
+use Rattle.tables.specs.Inputs.{limit_faults, row_limit}
+use Rattle.tables.specs.NamedFiles.{NamesInput}
 use Rattle.giv_files.specs.Settings.{BundleParts}
 use Rattle.giv_files.specs.StageCalls.{input_text}
-use Rattle.giv_files.proofs.Named.{AllName, names_both, names_or_else, input_names, refused_names}
+use Rattle.tables.proofs.Named.{AllName, names_both, names_or_else, input_names}
+use Rattle.giv_files.proofs.StageCalls.{refused_names}
 use Rattle.line_pool.specs.Pools.{line_faults, concept_faults}
 use Rattle.ptn_network.specs.Networks.{NetworkParts, network_faults}
 use Rattle.ptn_network.proofs.NamedFaults.{network_names}
@@ -30,13 +31,13 @@ length_names {X} test what most rows = grind arith
 -- a refusal by a row names the file of stops, of edges, or what the faults of the concept do
 pub ean_stage_names : (test : FileId → Bool) → test file.Stop ≡ true → test file.Edge ≡ true
     → (bundle : BundleParts) (reason : Refusal)
-    → AllName test (concept_faults (network_in bundle) (input_text bundle 2))
+    → AllName test (concept_faults (network_in bundle.inputs) (input_text bundle 2))
     → ean_stage bundle ≡ Err reason → NamesInput test reason
 unfolding ean_stage
 ean_stage_names test stop edge bundle reason concept e =
     let rows : AllName test (ean_faults bundle) =
     names_both test (network_faults (input_text bundle 0) (input_text bundle 1))
-    (concept_faults (network_in bundle) (input_text bundle 2))
+    (concept_faults (network_in bundle.inputs) (input_text bundle 2))
     (network_names test stop edge (input_text bundle 0) (input_text bundle 1)) concept in
     let lengths : AllName test (too_many (events_in bundle) (activities_in bundle)) =
     names_both test

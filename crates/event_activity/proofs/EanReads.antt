@@ -5,27 +5,27 @@ use Rattle.std.specs.Prelude.{IfOk}
 use Rattle.std.specs.List.{range_with_len}
 use Rattle.std.proofs.lemmas.List.{length-map}
 use Rattle.std.proofs.lemmas.List.Elements.{All-weaker}
-use Rattle.giv_files.specs.declared.counted.Counted.TheVariants as counted
+use Rattle.tables.specs.declared.counted.Counted.TheVariants as counted
 use Rattle.giv_files.specs.declared.made.Made.{Made}
-use Rattle.giv_files.specs.declared.refusal.StageFault.{StageFault}
+use Rattle.tables.specs.declared.refusal.StageFault.{StageFault}
 use Rattle.giv_files.specs.declared.stage.Stage.TheVariants as stage
-use Rattle.giv_files.specs.Columns.{events_p_columns, activities_p_columns}
-use Rattle.giv_files.specs.Inputs.{input_faults, records_of, row_limit}
+use Rattle.tables.specs.Columns.{events_p_columns, activities_p_columns}
+use Rattle.tables.specs.Inputs.{input_faults, records_of, row_limit}
 use Rattle.giv_files.specs.Settings.{BundleParts, Fits}
 use Rattle.giv_files.specs.StageCalls.{input_text, StageGives}
-use Rattle.giv_files.specs.Writing.{ReadsBack}
-use Rattle.giv_files.proofs.Headers.{plain_header}
-use Rattle.giv_files.proofs.Inputs.{limits_sound}
-use Rattle.giv_files.proofs.InTurn.{none_first, none_after}
-use Rattle.giv_files.proofs.Ranges.{front_none, back_none}
+use Rattle.tables.specs.Writing.{ReadsBack}
+use Rattle.tables.proofs.Headers.{plain_header}
+use Rattle.tables.proofs.Inputs.{limits_sound}
+use Rattle.tables.proofs.InTurn.{none_first, none_after}
+use Rattle.tables.proofs.Ranges.{front_none, back_none}
 use Rattle.giv_files.proofs.StageCalls.{made_unless, none_unless}
 use Rattle.event_tables.specs.declared.periodic_event.PeriodicEvent.{PeriodicEvent}
 use Rattle.event_tables.specs.Cells.{periodic_event, periodic_activity, periodic_event_cells, periodic_activity_cells}
 use Rattle.event_tables.specs.Headers.{periodic_event_header, periodic_activity_header}
 use Rattle.event_tables.specs.PeriodicFiles.{periodic_event_input, periodic_activity_input, periodic_event_ids, IsPeriodicActivity}
-use Rattle.giv_files.specs.RowsOfTables.{ReadsAs, rows_by, file_text}
+use Rattle.tables.specs.RowsOfTables.{ReadsAs, rows_by, file_text}
 use Rattle.event_tables.specs.RunRules.{KeepRunRules}
-use Rattle.giv_files.proofs.WrittenColumns.{columns_written}
+use Rattle.tables.proofs.WrittenColumns.{columns_written}
 use Rattle.event_tables.proofs.CellsBack.{periodic_event_same, periodic_activity_same}
 use Rattle.event_tables.proofs.WrittenRecords.{file_back, text_as}
 use Rattle.event_activity.specs.declared.run_event.RunEvent.{RunEvent}
@@ -66,13 +66,13 @@ module _ (bundle : BundleParts) (own : bundle.stage ≡ stage.Ean) (fits : Fits 
   few_activities : length (activities_in bundle) ≤ 200000
   few_activities = grind arith
 
-  lines_served : AreServed (network_in bundle) (lines_in bundle)
+  lines_served : AreServed (network_in bundle.inputs) (lines_in bundle)
   lines_served = served (input_text bundle 0) (input_text bundle 1) (input_text bundle 2)
-      (network_in bundle) (lines_in bundle) (front_none _ _ none) refl
+      (network_in bundle.inputs) (lines_in bundle) (front_none _ _ none) refl
       (back_none (network_faults (input_text bundle 0) (input_text bundle 1)) _ none) refl
 
   numbered : All (IsNumbered (length (events_in bundle))) (events_in bundle)
-  numbered = events_numbered (network_in bundle) (lines_in bundle) lines_served
+  numbered = events_numbered (network_in bundle.inputs) (lines_in bundle) lines_served
 
   ones : All (IsNumberedOne (length (events_in bundle)) (length (activities_in bundle)))
       (activities_in bundle)
@@ -113,7 +113,7 @@ module _ (bundle : BundleParts) (own : bundle.stage ≡ stage.Ean) (fits : Fits 
   ean_accepted : EanIsAccepted events_text activities_text
   ean_accepted = record {
     events_fine = events_accepted rows events_text
-        (events_placed (network_in bundle) (lines_in bundle))
+        (events_placed (network_in bundle.inputs) (lines_in bundle))
         (omega (arith, same_size, few_events)) events_read;
     activities_fine = subst
         (λ ids. input_faults (periodic_activity_input ids) activities_text ≡ []) (sym ids_are)
@@ -124,13 +124,13 @@ module _ (bundle : BundleParts) (own : bundle.stage ≡ stage.Ean) (fits : Fits 
         (activities_in bundle) ones) activities_read);
     runs_fine = subst (λ some. KeepRunRules some (activities_of events_text activities_text))
         (sym events_again.1) (subst (KeepRunRules rows) (sym activities_again.1)
-        (rules_kept (network_in bundle) (lines_in bundle) lines_served bundle.settings));
+        (rules_kept (network_in bundle.inputs) (lines_in bundle) lines_served bundle.settings));
   }
 
   -- the events and activities are those of a periodic network
   is_network : IsPeriodicNetwork bundle
   is_network =
-      let network = network_in bundle in
+      let network = network_in bundle.inputs in
       let lines = lines_in bundle in
       let are = events_are network lines in
       let between = activities_are bundle.settings (events_in bundle) in

@@ -16,7 +16,7 @@ use Rattle.event_tables.specs.PeriodicRuns.{is_next, joins, same_run}
 use Rattle.event_tables.specs.RunRules.{lacks_way, goes_between, is_placed, drives_at_once, is_stray, KeepRunRules}
 use Rattle.line_pool.specs.Pools.{LineParts}
 use Rattle.ptn_network.specs.Networks.{NetworkParts, IsEdge}
-use Rattle.giv_files.proofs.Members.{Contains-map as contains_map}
+use Rattle.tables.proofs.Members.{Contains-map as contains_map}
 use Rattle.event_activity.specs.declared.run_event.RunEvent.{RunEvent}
 use Rattle.event_activity.specs.Activities.{bounds_from, concept_activities}
 use Rattle.event_activity.specs.ActivitiesOfRuns.{joins_events, bounds_of, IsActivityOf, IsDriveOver}

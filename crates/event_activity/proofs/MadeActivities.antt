@@ -14,7 +14,7 @@ use Rattle.event_activity.specs.Activities.{joined, kind_from, bounds_from, acti
 use Rattle.event_activity.specs.Fitting.{AreBounds, AreTimely, IsDriven, IsNumbered}
 use Rattle.event_activity.proofs.LineEvents.{numbered_size}
 use Rattle.event_activity.proofs.Numbered.{all_numbered}
-use Rattle.giv_files.proofs.Members.{All-flat_map as all_parts}
+use Rattle.tables.proofs.Members.{All-flat_map as all_parts}
 
 -- an activity between two of so many events, with bounds in order that are not too great
 pub record IsMade (count : ℕ) (activity : PeriodicActivity) : Type 0 where

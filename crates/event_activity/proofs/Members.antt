@@ -4,7 +4,7 @@ use Rattle.std.specs.List.{enumerate_from, list_any}
 use Rattle.std.proofs.lemmas.List.Elements.{All-head, All-tail}
 use Rattle.std.proofs.lemmas.List.Folds.{list_any_at}
 use Rattle.std.proofs.lemmas.List.FromFn.{length-enumerate_from, get_or-enumerate_from}
-use Rattle.giv_files.proofs.Members.{Contains-map as contains_map}
+use Rattle.tables.proofs.Members.{Contains-map as contains_map}
 
 -- one with a number
 pub contains_numbered : {X Y : Type 0} (f : ℕ × X → Y) (a : ℕ) (xs : List X) (x : X) → Contains xs x

@@ -7,13 +7,13 @@ use Rattle.event_tables.specs.declared.direction.Direction.{Direction}
 use Rattle.event_tables.specs.declared.direction.Direction.TheVariants as direction
 use Rattle.line_pool.specs.Pools.{LineParts, IsLine}
 use Rattle.ptn_network.specs.Networks.{NetworkParts}
-use Rattle.giv_files.proofs.Members.{Contains-flat_map as contains_part, Contains-map as contains_map, All-flat_map as all_parts}
+use Rattle.tables.proofs.Members.{Contains-flat_map as contains_part, Contains-map as contains_map, All-flat_map as all_parts}
 use Rattle.event_activity.specs.declared.run_event.RunEvent.{RunEvent}
 use Rattle.event_activity.specs.EventsOfRuns.{IsEventOf, AreEventsOf}
 use Rattle.event_activity.specs.Runs.{AreServed, along, no_edge, run_event, run, runs, line_events, with_id, concept_events}
 use Rattle.event_activity.proofs.Along.{all_along, length-along, stops_inside}
 use Rattle.event_activity.proofs.LineEvents.{numbered_size}
-use Rattle.giv_files.proofs.Members.{Contains-range as contains_range}
+use Rattle.tables.proofs.Members.{Contains-range as contains_range}
 use Rattle.event_activity.proofs.Members.{contains_numbered}
 use Rattle.event_activity.proofs.Numbered.{all_numbers, all_numbered, numbers_are}
 

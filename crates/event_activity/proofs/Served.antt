@@ -1,14 +1,14 @@
 -- The network and the lines of texts without a fault.
 use Rattle.std.proofs.Common.{◌≡◌, ℕ, ℤ, pos, ◌≤◌, ◌≤ℤ◌, lit<, All, List, [], length, subst, sym}
 use Rattle.std.proofs.lemmas.List.Elements.{All-map, All-weaker}
-use Rattle.giv_files.specs.declared.column.ColumnKind.TheVariants as column
-use Rattle.giv_files.specs.Columns.{stop_columns}
-use Rattle.giv_files.specs.Inputs.{records_of, input_faults}
-use Rattle.giv_files.specs.Reading.{table_of}
-use Rattle.giv_files.specs.Tables.{TableRow}
-use Rattle.giv_files.proofs.Inputs.{sound_rows}
-use Rattle.giv_files.proofs.Ranges.{front_none}
-use Rattle.giv_files.proofs.WriteFacts.{in_column}
+use Rattle.tables.specs.declared.column.ColumnKind.TheVariants as column
+use Rattle.tables.specs.Columns.{stop_columns}
+use Rattle.tables.specs.Inputs.{records_of, input_faults}
+use Rattle.tables.specs.Reading.{table_of}
+use Rattle.tables.specs.Tables.{TableRow}
+use Rattle.tables.proofs.Inputs.{sound_rows}
+use Rattle.tables.proofs.Ranges.{front_none}
+use Rattle.tables.proofs.WriteFacts.{in_column}
 use Rattle.line_pool.specs.LineCosts.{IsModest}
 use Rattle.line_pool.specs.Pools.{LineParts, AreLines, concept_of, concept_faults}
 use Rattle.line_pool.proofs.SoundLines.{all_rising, pool_sound}

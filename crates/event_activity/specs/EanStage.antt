@@ -1,12 +1,12 @@
 -- The stage that makes periodic events and activities.
 use Rattle.std.specs.Prelude.{List, [], ◌∷◌, ◌++◌, length, map, codes, Result}
-use Rattle.giv_files.specs.declared.counted.Counted.TheVariants as counted
-use Rattle.giv_files.specs.declared.file_id.FileId.TheVariants as file
+use Rattle.tables.specs.declared.counted.Counted.TheVariants as counted
+use Rattle.tables.specs.declared.file_id.FileId.TheVariants as file
 use Rattle.giv_files.specs.declared.made.Made.{Made}
-use Rattle.giv_files.specs.declared.refusal.Refusal.{Refusal}
+use Rattle.tables.specs.declared.refusal.Refusal.{Refusal}
 use Rattle.giv_files.specs.declared.stage.Stage.TheVariants as stage
-use Rattle.giv_files.specs.Columns.{events_p_columns, activities_p_columns}
-use Rattle.giv_files.specs.Inputs.{limit_faults, or_else, row_limit}
+use Rattle.tables.specs.Columns.{events_p_columns, activities_p_columns}
+use Rattle.tables.specs.Inputs.{limit_faults, or_else, row_limit}
 use Rattle.giv_files.specs.ReportLines.{count_text, report_line}
 use Rattle.giv_files.specs.Settings.{BundleParts}
 use Rattle.giv_files.specs.StageCalls.{input_text, unless_fault}
@@ -14,7 +14,7 @@ use Rattle.event_tables.specs.declared.periodic_activity.PeriodicActivity.{Perio
 use Rattle.event_tables.specs.declared.periodic_event.PeriodicEvent.{PeriodicEvent}
 use Rattle.event_tables.specs.Cells.{periodic_event_cells, periodic_activity_cells}
 use Rattle.event_tables.specs.Headers.{periodic_event_header, periodic_activity_header}
-use Rattle.giv_files.specs.RowsOfTables.{file_text}
+use Rattle.tables.specs.RowsOfTables.{file_text}
 use Rattle.event_activity.specs.declared.run_event.RunEvent.{RunEvent}
 use Rattle.event_activity.specs.Activities.{concept_activities}
 use Rattle.event_activity.specs.Runs.{concept_events}
@@ -43,11 +43,11 @@ ean_made events activities = record {
 
 -- the lines of a bundle, whose third input is the text of the line concept
 abbrev pub lines_in : BundleParts → List LineParts
-lines_in bundle = concept_of (network_in bundle) (input_text bundle 2)
+lines_in bundle = concept_of (network_in bundle.inputs) (input_text bundle 2)
 
 -- their events, and the activities between these
 abbrev pub events_in : BundleParts → List RunEvent
-events_in bundle = concept_events (network_in bundle) (lines_in bundle)
+events_in bundle = concept_events (network_in bundle.inputs) (lines_in bundle)
 
 abbrev pub activities_in : BundleParts → List PeriodicActivity
 activities_in bundle = concept_activities bundle.settings (events_in bundle)
@@ -55,7 +55,7 @@ activities_in bundle = concept_activities bundle.settings (events_in bundle)
 -- every fault of the texts of a bundle, in the order of its inputs
 abbrev pub ean_faults : BundleParts → List Refusal
 ean_faults bundle = network_faults (input_text bundle 0) (input_text bundle 1)
-    ++ concept_faults (network_in bundle) (input_text bundle 2)
+    ++ concept_faults (network_in bundle.inputs) (input_text bundle 2)
 
 -- a list of activities that is too long
 abbrev pub long_activities : List PeriodicActivity → List Refusal

@@ -1,17 +1,17 @@
 -- What is right about the periodic events and activities that are made.
 use Rattle.std.specs.Prelude.{◌≡◌, ℕ, List, [], ◌∷◌, map, unsigned_abs, All, Contains}
-use Rattle.giv_files.specs.declared.file_id.FileId.TheVariants as file
+use Rattle.tables.specs.declared.file_id.FileId.TheVariants as file
 use Rattle.giv_files.specs.declared.made.Made.{Made}
 use Rattle.giv_files.specs.declared.made.MadeFile.{MadeFile}
-use Rattle.giv_files.specs.Columns.{events_p_columns, activities_p_columns}
-use Rattle.giv_files.specs.Inputs.{input_faults, records_of}
+use Rattle.tables.specs.Columns.{events_p_columns, activities_p_columns}
+use Rattle.tables.specs.Inputs.{input_faults, records_of}
 use Rattle.giv_files.specs.Settings.{BundleParts}
 use Rattle.event_tables.specs.declared.periodic_activity.PeriodicActivity.{PeriodicActivity}
 use Rattle.event_tables.specs.declared.periodic_event.PeriodicEvent.{PeriodicEvent}
 use Rattle.event_tables.specs.declared.periodic_kind.PeriodicKind.TheVariants as kinds
 use Rattle.event_tables.specs.Cells.{periodic_event, periodic_activity}
 use Rattle.event_tables.specs.PeriodicFiles.{periodic_event_input, periodic_activity_input, periodic_event_ids}
-use Rattle.giv_files.specs.RowsOfTables.{ReadsAs}
+use Rattle.tables.specs.RowsOfTables.{ReadsAs}
 use Rattle.event_tables.specs.RunRules.{KeepRunRules}
 use Rattle.event_activity.specs.ActivitiesOfRuns.{AreActivitiesOf, IsDriveOver}
 use Rattle.event_activity.specs.EanStage.{network_in, lines_in, events_in, activities_in, ean_faults, rows_of}
@@ -37,12 +37,12 @@ pub record EanIsAccepted (events activities : List ℕ) : Type 0 where
 -- of all runs of the lines, each at a stop, the activities are those between the events, and each
 -- drive goes over an edge.
 pub record IsPeriodicNetwork (bundle : BundleParts) : Type 0 where
-  pub all_events : AreEventsOf (network_in bundle) (lines_in bundle) (events_in bundle)
-  pub at_stops : All (λ event. Contains (map unsigned_abs (network_in bundle).stops) event.row.stop)
+  pub all_events : AreEventsOf (network_in bundle.inputs) (lines_in bundle) (events_in bundle)
+  pub at_stops : All (λ event. Contains (map unsigned_abs (network_in bundle.inputs).stops) event.row.stop)
       (events_in bundle)
   pub all_activities : AreActivitiesOf bundle.settings (events_in bundle) (activities_in bundle)
   pub over_edges : (row : PeriodicActivity) → Contains (activities_in bundle) row
-      → row.kind ≡ kinds.Drive → IsDriveOver (network_in bundle) (events_in bundle) row
+      → row.kind ≡ kinds.Drive → IsDriveOver (network_in bundle.inputs) (events_in bundle) row
 
 -- The files that are made are right: the inputs have no fault, and there are two files. Read again,
 -- they have the events and the activities of the line concept over the inputs, which are those of a

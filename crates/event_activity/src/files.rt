@@ -1,7 +1,7 @@
 // The files of periodic events and activities.
 ghost use Rattle.std.specs.Prelude.{◌≡◌, All, IfOk};
-ghost use Rattle.giv_files.specs.Columns.{events_p_columns, activities_p_columns};
-ghost use Rattle.giv_files.specs.Writing.{InColumns};
+ghost use Rattle.tables.specs.Columns.{events_p_columns, activities_p_columns};
+ghost use Rattle.tables.specs.Writing.{InColumns};
 ghost use Rattle.event_tables.specs.Cells.{periodic_event_cells, periodic_activity_cells};
 ghost use Rattle.event_activity.specs.EanStage.{ean_made, rows_of};
 
@@ -9,7 +9,8 @@ use crate::run_event::RunEvent;
 use event_tables::{
     PeriodicActivity, PeriodicEvent, periodic_activities_text, periodic_events_text,
 };
-use giv_files::{FileId, Made, MadeFile, MadeList, Stage, count_text, report_line};
+use giv_files::{Made, MadeFile, MadeList, Stage, count_text, report_line};
+use tables::FileId;
 use plan_num::NoMemory;
 use std::alloc::Global;
 

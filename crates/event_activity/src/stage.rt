@@ -1,10 +1,10 @@
 // The stage that makes the periodic events and activities of a line concept.
 ghost use Rattle.std.specs.Prelude.{◌≡◌, ◌≤◌, length, All, IfOk};
-ghost use Rattle.giv_files.specs.declared.counted.Counted.{Counted};
+ghost use Rattle.tables.specs.declared.counted.Counted.{Counted};
 ghost use Rattle.giv_files.specs.declared.stage.Stage.TheVariants as stages;
-ghost use Rattle.giv_files.specs.declared.refusal.Refusal.TheVariants as refusals;
-ghost use Rattle.giv_files.specs.declared.refusal.StageFault.TheVariants as faults;
-ghost use Rattle.giv_files.specs.Inputs.{UnlessFault};
+ghost use Rattle.tables.specs.declared.refusal.Refusal.TheVariants as refusals;
+ghost use Rattle.tables.specs.declared.refusal.StageFault.TheVariants as faults;
+ghost use Rattle.tables.specs.Inputs.{UnlessFault};
 ghost use Rattle.giv_files.specs.Settings.{Fits};
 ghost use Rattle.giv_files.specs.StageCalls.{StageGives, TakesSteps};
 ghost use Rattle.event_activity.specs.Activities.{concept_activities};
@@ -16,7 +16,8 @@ use crate::activities::{activity_count, concept_activities};
 use crate::files::{ean_made, rows_of};
 use crate::run_event::RunEvent;
 use crate::runs::{concept_events, event_count};
-use giv_files::{Bundle, Counted, Made, Refusal, Settings, StageFault};
+use giv_files::{Bundle, Made, Settings};
+use tables::{Counted, Refusal, StageFault};
 use line_pool::Pool;
 use plan_num::{Ledger, Steps};
 use ptn_network::Network;

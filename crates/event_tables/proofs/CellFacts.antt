@@ -8,11 +8,11 @@ use Rattle.std.proofs.lemmas.Bool.{and_parts}
 use Rattle.std.proofs.lemmas.Float.{T_from_true}
 use Rattle.std.proofs.lemmas.Int.{ints}
 use Rattle.std.proofs.lemmas.List.Elements.{All-nil, All-cons}
-use Rattle.giv_files.specs.declared.column.ColumnKind.{ColumnKind}
-use Rattle.giv_files.specs.declared.column.ColumnKind.TheVariants as kind
-use Rattle.giv_files.specs.declared.words.WordTable.TheVariants as table
-use Rattle.giv_files.specs.Names.{table_words}
-use Rattle.giv_files.specs.Writing.{InColumn, InColumns}
+use Rattle.tables.specs.declared.column.ColumnKind.{ColumnKind}
+use Rattle.tables.specs.declared.column.ColumnKind.TheVariants as kind
+use Rattle.tables.specs.declared.words.WordTable.TheVariants as table
+use Rattle.tables.specs.Names.{table_words}
+use Rattle.tables.specs.Writing.{InColumn, InColumns}
 use Rattle.event_tables.specs.declared.activity_kind.ActivityKind.{ActivityKind}
 use Rattle.event_tables.specs.declared.activity_kind.ActivityKind.TheVariants as activity
 use Rattle.event_tables.specs.declared.direction.Direction.{Direction}

@@ -7,13 +7,13 @@ use Rattle.std.proofs.lemmas.List.{length_push, length-map}
 use Rattle.std.proofs.lemmas.List.Folds.{list_any_at}
 use Rattle.std.proofs.lemmas.List.FromFn.{length-range_with_len, get_or-range_with_len}
 use Rattle.std.specs.List.{list_any, range_with_len, find}
-use Rattle.giv_files.specs.declared.file_id.FileId.{FileId}
-use Rattle.giv_files.specs.declared.refusal.Refusal.TheVariants as refusal
-use Rattle.giv_files.specs.Inputs.{Input, RowRule, records_of, broken_whys, row_faults, numbered, input_faults}
-use Rattle.giv_files.specs.Reading.{table_of}
-use Rattle.giv_files.specs.Tables.{TableRow}
-use Rattle.giv_files.proofs.Inputs.{rules_sound, parts_sound, table_sound}
-use Rattle.giv_files.proofs.Ranges.{front_none, back_none, unmapped}
+use Rattle.tables.specs.declared.file_id.FileId.{FileId}
+use Rattle.tables.specs.declared.refusal.Refusal.TheVariants as refusal
+use Rattle.tables.specs.Inputs.{Input, RowRule, records_of, broken_whys, row_faults, numbered, input_faults}
+use Rattle.tables.specs.Reading.{table_of}
+use Rattle.tables.specs.Tables.{TableRow}
+use Rattle.tables.proofs.Inputs.{rules_sound, parts_sound, table_sound}
+use Rattle.tables.proofs.Ranges.{front_none, back_none, unmapped}
 use Rattle.event_tables.specs.Places.{own_place, is_none_of, AreNumbered, IsOneOf}
 
 -- the numbers from one on that are there

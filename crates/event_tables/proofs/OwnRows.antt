@@ -6,13 +6,13 @@ use Rattle.std.specs.Cmp.{nat_eq_equiv}
 use Rattle.std.specs.Ordering.{int_eq}
 use Rattle.std.proofs.lemmas.List.{append-nil, map_push}
 use Rattle.std.proofs.lemmas.Map.Keys.{IsDistinct-push}
-use Rattle.giv_files.specs.declared.file_id.FileId.{FileId}
-use Rattle.giv_files.specs.declared.refusal.Refusal.TheVariants as refusal
-use Rattle.giv_files.specs.Inputs.{Input, RowRule, own_id, broken_whys, row_faults, records_of, input_faults}
-use Rattle.giv_files.specs.Reading.{table_of}
-use Rattle.giv_files.specs.Tables.{TableRow}
-use Rattle.giv_files.proofs.Inputs.{parts_sound, table_sound}
-use Rattle.giv_files.proofs.Ranges.{front_none, back_none, unmapped}
+use Rattle.tables.specs.declared.file_id.FileId.{FileId}
+use Rattle.tables.specs.declared.refusal.Refusal.TheVariants as refusal
+use Rattle.tables.specs.Inputs.{Input, RowRule, own_id, broken_whys, row_faults, records_of, input_faults}
+use Rattle.tables.specs.Reading.{table_of}
+use Rattle.tables.specs.Tables.{TableRow}
+use Rattle.tables.proofs.Inputs.{parts_sound, table_sound}
+use Rattle.tables.proofs.Ranges.{front_none, back_none, unmapped}
 
 -- two numbers are one as whole numbers where they are
 pub same_number : (a b : ℕ) → int_eq (pos a) (pos b) ≡ nat_eq a b

@@ -4,9 +4,9 @@ use Rattle.std.proofs.Common.{map, ap, sym, ◌∙◌}
 use Rattle.std.specs.List.{AllByRecursion, range_with_len}
 use Rattle.std.proofs.lemmas.Bool.{eq-eqb, ne_eqb, le-ltb}
 use Rattle.std.proofs.lemmas.List.{length_push}
-use Rattle.giv_files.specs.declared.row_why.RowWhy.TheVariants as why
-use Rattle.giv_files.specs.Inputs.{RowRule, broken_whys}
-use Rattle.giv_files.proofs.Accepted.{KeepRules}
+use Rattle.tables.specs.declared.row_why.RowWhy.TheVariants as why
+use Rattle.tables.specs.Inputs.{RowRule, broken_whys}
+use Rattle.tables.proofs.Accepted.{KeepRules}
 use Rattle.event_tables.specs.Places.{own_place, is_none_of, IsOneOf}
 use Rattle.event_tables.proofs.Numbering.{none_of_places}
 

@@ -3,9 +3,9 @@ use Rattle.std.proofs.Common.{◌≡◌, ◌+◌, List, [], ◌∷◌, ◌++◌,
 use Rattle.std.specs.Option.{option_or}
 use Rattle.std.proofs.lemmas.List.{append-nil, length-map}
 use Rattle.std.proofs.lemmas.List.Filters.{length-filter_both}
-use Rattle.giv_files.specs.Tables.{TableRow}
+use Rattle.tables.specs.Tables.{TableRow}
 use Rattle.event_tables.specs.Cells.{schedule_row}
-use Rattle.giv_files.specs.RowsOfTables.{records_by}
+use Rattle.tables.specs.RowsOfTables.{records_by}
 use Rattle.event_tables.specs.Schedules.{is_trip_row, is_empty_row}
 
 -- each row is a trip or an empty ride

@@ -2,9 +2,9 @@
 use Rattle.std.proofs.Common.{◌≡◌, ℕ, ◌<◌, List, [], refl, arith}
 use Rattle.std.specs.List.{range_with_len}
 use Rattle.std.proofs.lemmas.Bool.{leb-false}
-use Rattle.giv_files.specs.declared.file_id.FileId.{FileId}
-use Rattle.giv_files.specs.Inputs.{input_faults, records_of, broken_whys}
-use Rattle.giv_files.proofs.Inputs.{rules_sound}
+use Rattle.tables.specs.declared.file_id.FileId.{FileId}
+use Rattle.tables.specs.Inputs.{input_faults, records_of, broken_whys}
+use Rattle.tables.proofs.Inputs.{rules_sound}
 use Rattle.event_tables.specs.declared.disposed_time.DisposedTime.{DisposedTime}
 use Rattle.event_tables.specs.declared.periodic_time.PeriodicTime.{PeriodicTime}
 use Rattle.event_tables.specs.Cells.{periodic_time_cells, disposed_time_cells}

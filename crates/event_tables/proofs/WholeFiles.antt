@@ -4,14 +4,14 @@ use Rattle.std.proofs.lemmas.Bool.{lt-ltb, le-ltb, ltb-true, ltb-false}
 use Rattle.std.proofs.lemmas.List.{get_or-map}
 use Rattle.std.proofs.lemmas.List.FromFn.{get_or-range_with_len}
 use Rattle.std.specs.List.{list_any, range_with_len}
-use Rattle.giv_files.specs.declared.row_why.RowWhy.TheVariants as why
-use Rattle.giv_files.specs.declared.refusal.Refusal.TheVariants as refusal
-use Rattle.giv_files.specs.declared.refusal.StageFault.{StageFault}
-use Rattle.giv_files.specs.declared.refusal.StageFault.TheVariants as stage
-use Rattle.giv_files.specs.Inputs.{Input, RowRule, records_of, numbered, whole_faults, input_faults, Refuses, UnlessFault}
-use Rattle.giv_files.specs.Reading.{table_of}
-use Rattle.giv_files.proofs.Inputs.{parts_sound, table_sound, whole_rule_sound}
-use Rattle.giv_files.proofs.WholeRules.{without_whole, refused_as_whole, sound_as_whole}
+use Rattle.tables.specs.declared.row_why.RowWhy.TheVariants as why
+use Rattle.tables.specs.declared.refusal.Refusal.TheVariants as refusal
+use Rattle.tables.specs.declared.refusal.StageFault.{StageFault}
+use Rattle.tables.specs.declared.refusal.StageFault.TheVariants as stage
+use Rattle.tables.specs.Inputs.{Input, RowRule, records_of, numbered, whole_faults, input_faults, Refuses, UnlessFault}
+use Rattle.tables.specs.Reading.{table_of}
+use Rattle.tables.proofs.Inputs.{parts_sound, table_sound, whole_rule_sound}
+use Rattle.tables.proofs.WholeRules.{without_whole, refused_as_whole, sound_as_whole}
 use Rattle.event_tables.specs.Places.{own_place, all_there, is_none_of, AreNumbered, IsOneOf}
 use Rattle.event_tables.proofs.Numbering.{some_missing, numbered_rows}
 

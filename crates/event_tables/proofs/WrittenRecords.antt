@@ -2,12 +2,12 @@
 use Rattle.std.proofs.Common.{◌≡◌, ℕ, ℤ, ◌<◌, List, [], ◌∷◌, length, map, refl, ap, subst, sym, ◌∙◌, Result, Ok, Err, IfOk, All}
 use Rattle.std.proofs.lemmas.List.Elements.{All-map}
 use Rattle.std.proofs.lemmas.Simd.{map-map}
-use Rattle.giv_files.specs.declared.column.ColumnKind.{ColumnKind}
-use Rattle.giv_files.specs.Reading.{table_of}
-use Rattle.giv_files.specs.Tables.{TableRow}
-use Rattle.giv_files.specs.Writing.{CanWrite, InColumns, IsHeader, ReadsBack}
-use Rattle.giv_files.specs.RowsOfTables.{ReadsAs, file_text, records_by, rows_by}
-use Rattle.giv_files.proofs.WrittenBack.{written_back}
+use Rattle.tables.specs.declared.column.ColumnKind.{ColumnKind}
+use Rattle.tables.specs.Reading.{table_of}
+use Rattle.tables.specs.Tables.{TableRow}
+use Rattle.tables.specs.Writing.{CanWrite, InColumns, IsHeader, ReadsBack}
+use Rattle.tables.specs.RowsOfTables.{ReadsAs, file_text, records_by, rows_by}
+use Rattle.tables.proofs.WrittenBack.{written_back}
 
 -- the rows for records stand for them
 pub records_back : {X : Type 0} (of : List ℤ → X) (cells_of : X → List ℤ)

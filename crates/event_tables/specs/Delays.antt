@@ -1,13 +1,13 @@
 -- The files of delays, and their rules.
 use Rattle.std.specs.Prelude.{ℕ, pos, nat_eq, List, [], ◌∷◌, map, All}
 use Rattle.std.specs.List.{IsDistinct}
-use Rattle.giv_files.specs.declared.file_id.FileId.{FileId}
-use Rattle.giv_files.specs.declared.file_id.FileId.TheVariants as file
-use Rattle.giv_files.specs.declared.row_why.RowWhy.{RowWhy}
-use Rattle.giv_files.specs.declared.row_why.RowWhy.TheVariants as why
-use Rattle.giv_files.specs.Columns.{delays_columns}
-use Rattle.giv_files.specs.Inputs.{Input, RowRule, own_id}
-use Rattle.giv_files.specs.Writing.{InColumns}
+use Rattle.tables.specs.declared.file_id.FileId.{FileId}
+use Rattle.tables.specs.declared.file_id.FileId.TheVariants as file
+use Rattle.tables.specs.declared.row_why.RowWhy.{RowWhy}
+use Rattle.tables.specs.declared.row_why.RowWhy.TheVariants as why
+use Rattle.tables.specs.Columns.{delays_columns}
+use Rattle.tables.specs.Inputs.{Input, RowRule, own_id}
+use Rattle.tables.specs.Writing.{InColumns}
 use Rattle.event_tables.specs.declared.delay_row.DelayRow.{DelayRow}
 use Rattle.event_tables.specs.Cells.{delay_row, delay_cells}
 use Rattle.event_tables.specs.Places.{is_none_of, IsOneOf}

@@ -1,9 +1,9 @@
 -- The file of disposed times, and its rules.
 use Rattle.std.specs.Prelude.{ℕ, ◌≡◌, List, [], ◌∷◌, length, All}
-use Rattle.giv_files.specs.declared.file_id.FileId.TheVariants as file
-use Rattle.giv_files.specs.Columns.{disposed_columns}
-use Rattle.giv_files.specs.Inputs.{Input, RowRule}
-use Rattle.giv_files.specs.Writing.{InColumns}
+use Rattle.tables.specs.declared.file_id.FileId.TheVariants as file
+use Rattle.tables.specs.Columns.{disposed_columns}
+use Rattle.tables.specs.Inputs.{Input, RowRule}
+use Rattle.tables.specs.Writing.{InColumns}
 use Rattle.event_tables.specs.declared.disposed_time.DisposedTime.{DisposedTime}
 use Rattle.event_tables.specs.Cells.{disposed_time, disposed_time_cells}
 use Rattle.event_tables.specs.Places.{own_place, known_event, all_there, AreNumbered}

@@ -1,11 +1,11 @@
 -- The files of expanded events and of expanded activities, and their rules.
 use Rattle.std.specs.Prelude.{ℕ, ◌≡◌, ◌≤◌, true, false, not, List, [], ◌∷◌, length, map, All}
-use Rattle.giv_files.specs.declared.counted.Counted.TheVariants as counted
-use Rattle.giv_files.specs.declared.file_id.FileId.TheVariants as file
-use Rattle.giv_files.specs.declared.row_why.RowWhy.TheVariants as why
-use Rattle.giv_files.specs.Columns.{events_x_columns, activities_x_columns}
-use Rattle.giv_files.specs.Inputs.{Input, RowRule, row_limit}
-use Rattle.giv_files.specs.Writing.{InColumns}
+use Rattle.tables.specs.declared.counted.Counted.TheVariants as counted
+use Rattle.tables.specs.declared.file_id.FileId.TheVariants as file
+use Rattle.tables.specs.declared.row_why.RowWhy.TheVariants as why
+use Rattle.tables.specs.Columns.{events_x_columns, activities_x_columns}
+use Rattle.tables.specs.Inputs.{Input, RowRule, row_limit}
+use Rattle.tables.specs.Writing.{InColumns}
 use Rattle.event_tables.specs.declared.expanded_activity.ExpandedActivity.{ExpandedActivity}
 use Rattle.event_tables.specs.declared.expanded_event.ExpandedEvent.{ExpandedEvent}
 use Rattle.event_tables.specs.Cells.{expanded_event, expanded_activity, expanded_event_cells, expanded_activity_cells}

@@ -1,12 +1,12 @@
 -- The files of periodic events, of periodic activities and of periodic times, and their rules.
 use Rattle.std.specs.Prelude.{ℕ, ◌≡◌, ◌≤◌, ◌<◌, nat_le, List, [], ◌∷◌, length, map, All}
-use Rattle.giv_files.specs.declared.counted.Counted.TheVariants as counted
-use Rattle.giv_files.specs.declared.file_id.FileId.{FileId}
-use Rattle.giv_files.specs.declared.file_id.FileId.TheVariants as file
-use Rattle.giv_files.specs.declared.row_why.RowWhy.TheVariants as why
-use Rattle.giv_files.specs.Columns.{events_p_columns, activities_p_columns, times_p_columns}
-use Rattle.giv_files.specs.Inputs.{Input, RowRule, row_limit}
-use Rattle.giv_files.specs.Writing.{InColumns}
+use Rattle.tables.specs.declared.counted.Counted.TheVariants as counted
+use Rattle.tables.specs.declared.file_id.FileId.{FileId}
+use Rattle.tables.specs.declared.file_id.FileId.TheVariants as file
+use Rattle.tables.specs.declared.row_why.RowWhy.TheVariants as why
+use Rattle.tables.specs.Columns.{events_p_columns, activities_p_columns, times_p_columns}
+use Rattle.tables.specs.Inputs.{Input, RowRule, row_limit}
+use Rattle.tables.specs.Writing.{InColumns}
 use Rattle.event_tables.specs.declared.periodic_activity.PeriodicActivity.{PeriodicActivity}
 use Rattle.event_tables.specs.declared.periodic_event.PeriodicEvent.{PeriodicEvent}
 use Rattle.event_tables.specs.declared.periodic_time.PeriodicTime.{PeriodicTime}

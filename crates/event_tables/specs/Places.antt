@@ -2,8 +2,8 @@
 -- order, and a row for each event.
 use Rattle.std.specs.Prelude.{ℕ, ◌≡◌, ◌+◌, ◌≤◌, ◌==◌, ◌||◌, nat_lt, nat_eq, Bool, not, List, length, map}
 use Rattle.std.specs.List.{list_any, range_with_len}
-use Rattle.giv_files.specs.declared.row_why.RowWhy.TheVariants as why
-use Rattle.giv_files.specs.Inputs.{RowRule, TableRule, whole_rule}
+use Rattle.tables.specs.declared.row_why.RowWhy.TheVariants as why
+use Rattle.tables.specs.Inputs.{RowRule, TableRule, whole_rule}
 
 -- the rule that the id of a row is its place, from 1
 abbrev pub own_place : {X : Type 0} → (X → ℕ) → RowRule X

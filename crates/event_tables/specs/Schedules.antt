@@ -1,11 +1,11 @@
 -- The file of a vehicle schedule, and its rules over the events of the day.
 use Rattle.std.specs.Prelude.{ℕ, ◌≡◌, ◌+◌, ◌-◌, ◌≤◌, Bool, ◌&&◌, ◌||◌, true, false, not, nat_lt, List, [], ◌∷◌, length, filter, All}
-use Rattle.giv_files.specs.declared.counted.Counted.TheVariants as counted
-use Rattle.giv_files.specs.declared.file_id.FileId.TheVariants as file
-use Rattle.giv_files.specs.declared.row_why.RowWhy.TheVariants as why
-use Rattle.giv_files.specs.Columns.{schedule_columns}
-use Rattle.giv_files.specs.Inputs.{Input, Limit, RowRule}
-use Rattle.giv_files.specs.Writing.{InColumns}
+use Rattle.tables.specs.declared.counted.Counted.TheVariants as counted
+use Rattle.tables.specs.declared.file_id.FileId.TheVariants as file
+use Rattle.tables.specs.declared.row_why.RowWhy.TheVariants as why
+use Rattle.tables.specs.Columns.{schedule_columns}
+use Rattle.tables.specs.Inputs.{Input, Limit, RowRule}
+use Rattle.tables.specs.Writing.{InColumns}
 use Rattle.event_tables.specs.declared.expanded_event.ExpandedEvent.{ExpandedEvent}
 use Rattle.event_tables.specs.declared.schedule_row.ScheduleRow.{ScheduleRow}
 use Rattle.event_tables.specs.Cells.{schedule_row, schedule_cells}

@@ -2,12 +2,12 @@
 use Rattle.std.specs.Prelude.{ℕ, ℤ, pos, ◌≡◌, ◌≤◌, ◌<◌, ◌||◌, nat_le, nat_eq, Bool, false, not, List, [], ◌∷◌, length, map, All, Option, Some, None}
 use Rattle.std.specs.List.{list_any, IsDistinct}
 use Rattle.std.specs.Ordering.{int_eq}
-use Rattle.giv_files.specs.declared.counted.Counted.TheVariants as counted
-use Rattle.giv_files.specs.declared.file_id.FileId.TheVariants as file
-use Rattle.giv_files.specs.declared.row_why.RowWhy.TheVariants as why
-use Rattle.giv_files.specs.Columns.{trips_columns}
-use Rattle.giv_files.specs.Inputs.{Input, RowRule, row_limit, own_id}
-use Rattle.giv_files.specs.Writing.{InColumns}
+use Rattle.tables.specs.declared.counted.Counted.TheVariants as counted
+use Rattle.tables.specs.declared.file_id.FileId.TheVariants as file
+use Rattle.tables.specs.declared.row_why.RowWhy.TheVariants as why
+use Rattle.tables.specs.Columns.{trips_columns}
+use Rattle.tables.specs.Inputs.{Input, RowRule, row_limit, own_id}
+use Rattle.tables.specs.Writing.{InColumns}
 use Rattle.event_tables.specs.declared.trip.Trip.{Trip}
 use Rattle.event_tables.specs.Cells.{trip, trip_cells}
 

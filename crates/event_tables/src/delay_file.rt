@@ -2,7 +2,7 @@
 ghost use Rattle.std.specs.Prelude.{ℕ, ◌≡◌, nat_eq, length, map, IfOk};
 ghost use Rattle.std.specs.HashSet.{contains};
 ghost use Rattle.std.specs.List.{list_any, range_with_len};
-ghost use Rattle.giv_files.specs.RowsOfTables.{ReadsFile};
+ghost use Rattle.tables.specs.RowsOfTables.{ReadsFile};
 ghost use Rattle.event_tables.specs.Delays.{delay_input, event_delay_input, activity_delay_input, delay_rules, AreDelays};
 ghost use Rattle.event_tables.specs.ExpandedFiles.{expanded_event_ids, expanded_activity_ids};
 ghost use Rattle.event_tables.specs.Places.{AreNumbered};
@@ -11,7 +11,7 @@ use crate::delay_row::DelayRow;
 use crate::expanded_activity::ExpandedActivity;
 use crate::expanded_event::ExpandedEvent;
 use crate::place::is_unknown;
-use giv_files::{FileId, RowTests, RowWhy, StageFault, columns, read_file};
+use tables::{FileId, RowTests, RowWhy, StageFault, columns, read_file};
 use plan_num::NoMemory;
 use std::alloc::Global;
 use std::collections::HashSet;

@@ -4,7 +4,7 @@ ghost use Rattle.event_tables.specs.Cells.{delay_row, delay_cells, AreSmall};
 
 use crate::cells::number;
 use crate::written_record::WrittenRecord;
-use giv_files::{Record, Table};
+use tables::{Record, Table};
 
 /// How much later an event or an activity of a day is, in minutes.
 #[derive(Clone, Copy, Debug, PartialEq, Eq)]

@@ -1,8 +1,8 @@
 // Directions, and the places of their words.
 ghost use Rattle.std.specs.Prelude.{◌≡◌, pos};
-ghost use Rattle.giv_files.specs.declared.words.WordTable.TheVariants as tables;
-ghost use Rattle.giv_files.specs.Columns.{word};
-ghost use Rattle.giv_files.specs.Writing.{InColumn};
+ghost use Rattle.tables.specs.declared.words.WordTable.TheVariants as tables;
+ghost use Rattle.tables.specs.Columns.{word};
+ghost use Rattle.tables.specs.Writing.{InColumn};
 ghost use Rattle.event_tables.specs.Kinds.{direction_at, direction_place, same_direction};
 
 /// The way in which a line is driven.

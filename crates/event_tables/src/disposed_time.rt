@@ -1,11 +1,11 @@
 // Rows of a disposition timetable.
 ghost use Rattle.std.specs.Prelude.{◌≡◌};
-ghost use Rattle.giv_files.specs.Columns.{disposed_columns};
-ghost use Rattle.giv_files.specs.Writing.{InColumns};
+ghost use Rattle.tables.specs.Columns.{disposed_columns};
+ghost use Rattle.tables.specs.Writing.{InColumns};
 ghost use Rattle.event_tables.specs.Cells.{disposed_time, disposed_time_cells};
 
 use crate::written_record::WrittenRecord;
-use giv_files::{Record, Table};
+use tables::{Record, Table};
 
 /// The disposed time of an event of a day, in minutes.
 #[derive(Clone, Copy, Debug, PartialEq, Eq)]

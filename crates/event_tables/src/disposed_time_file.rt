@@ -1,7 +1,7 @@
 // Reading disposed times.
 ghost use Rattle.std.specs.Prelude.{◌≡◌, length, ⊤, IfOk};
 ghost use Rattle.std.specs.List.{range_with_len};
-ghost use Rattle.giv_files.specs.RowsOfTables.{ReadsFile};
+ghost use Rattle.tables.specs.RowsOfTables.{ReadsFile};
 ghost use Rattle.event_tables.specs.DisposedTimes.{disposed_time_input, disposed_time_rules, AreDisposedTimes};
 ghost use Rattle.event_tables.specs.ExpandedFiles.{expanded_event_ids};
 ghost use Rattle.event_tables.specs.Places.{AreNumbered};
@@ -10,7 +10,7 @@ use crate::disposed_time::DisposedTime;
 use crate::expanded_event::ExpandedEvent;
 use crate::place::{is_next_place, is_unknown};
 use crate::times::all_there;
-use giv_files::{FileId, RowTests, RowWhy, StageFault, columns, read_file};
+use tables::{FileId, RowTests, RowWhy, StageFault, columns, read_file};
 use plan_num::NoMemory;
 use std::alloc::Global;
 

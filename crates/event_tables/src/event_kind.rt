@@ -1,8 +1,8 @@
 // Kinds of events, and the places of their words.
 ghost use Rattle.std.specs.Prelude.{◌≡◌, pos, if◌then◌else◌};
-ghost use Rattle.giv_files.specs.declared.words.WordTable.TheVariants as tables;
-ghost use Rattle.giv_files.specs.Columns.{word};
-ghost use Rattle.giv_files.specs.Writing.{InColumn};
+ghost use Rattle.tables.specs.declared.words.WordTable.TheVariants as tables;
+ghost use Rattle.tables.specs.Columns.{word};
+ghost use Rattle.tables.specs.Writing.{InColumn};
 ghost use Rattle.event_tables.specs.Kinds.{event_kind_at, event_kind_place, is_arrival};
 
 /// What happens at a stop.

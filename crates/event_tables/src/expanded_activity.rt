@@ -5,7 +5,7 @@ ghost use Rattle.event_tables.specs.Cells.{expanded_activity, expanded_activity_
 use crate::activity_kind::ActivityKind;
 use crate::cells::number;
 use crate::written_record::WrittenRecord;
-use giv_files::{Record, Table};
+use tables::{Record, Table};
 use std::mem::size_of;
 
 /// An activity of a day: its id, the id of its periodic activity, its kind, the ids of its two

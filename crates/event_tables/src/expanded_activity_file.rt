@@ -1,6 +1,6 @@
 // Reading expanded activities.
 ghost use Rattle.std.specs.Prelude.{◌≡◌, IfOk};
-ghost use Rattle.giv_files.specs.RowsOfTables.{ReadsFile};
+ghost use Rattle.tables.specs.RowsOfTables.{ReadsFile};
 ghost use Rattle.event_tables.specs.ExpandedFiles.{expanded_activity_input, expanded_activity_rules, AreExpandedActivities};
 ghost use Rattle.event_tables.specs.Places.{AreNumbered};
 
@@ -8,7 +8,7 @@ use crate::expanded_activity::ExpandedActivity;
 use crate::expanded_event::ExpandedEvent;
 use crate::forward::goes_forward;
 use crate::place::{is_either_unknown, is_next_place};
-use giv_files::{Counted, FileId, RowLimit, RowTests, RowWhy, StageFault, columns, read_file};
+use tables::{Counted, FileId, RowLimit, RowTests, RowWhy, StageFault, columns, read_file};
 use plan_num::NoMemory;
 use std::alloc::Global;
 

@@ -5,7 +5,7 @@ ghost use Rattle.event_tables.specs.Cells.{expanded_event, expanded_event_cells,
 use crate::cells::number;
 use crate::event_kind::EventKind;
 use crate::written_record::WrittenRecord;
-use giv_files::{Record, Table};
+use tables::{Record, Table};
 
 /// An event of a day: its id, the id of its periodic event, its kind, its planned time in minutes,
 /// and its stop.

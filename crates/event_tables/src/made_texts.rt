@@ -1,10 +1,10 @@
 // The texts of the files that are made.
 ghost use Rattle.std.specs.Prelude.{◌≡◌, All, IfOk};
-ghost use Rattle.giv_files.specs.Columns.{events_p_columns, activities_p_columns, times_p_columns, events_x_columns, activities_x_columns, trips_columns, schedule_columns, disposed_columns};
-ghost use Rattle.giv_files.specs.Writing.{InColumns};
+ghost use Rattle.tables.specs.Columns.{events_p_columns, activities_p_columns, times_p_columns, events_x_columns, activities_x_columns, trips_columns, schedule_columns, disposed_columns};
+ghost use Rattle.tables.specs.Writing.{InColumns};
 ghost use Rattle.event_tables.specs.Cells.{periodic_event, periodic_activity, periodic_time, expanded_event, expanded_activity, trip, schedule_row, disposed_time, periodic_event_cells, periodic_activity_cells, periodic_time_cells, expanded_event_cells, expanded_activity_cells, trip_cells, schedule_cells, disposed_time_cells};
 ghost use Rattle.event_tables.specs.Headers.{periodic_event_header, periodic_activity_header, periodic_time_header, expanded_event_header, expanded_activity_header, trip_header, schedule_header, disposed_time_header};
-ghost use Rattle.giv_files.specs.RowsOfTables.{ReadsAs, file_text};
+ghost use Rattle.tables.specs.RowsOfTables.{ReadsAs, file_text};
 
 use crate::disposed_time::DisposedTime;
 use crate::expanded_activity::ExpandedActivity;
@@ -15,7 +15,7 @@ use crate::periodic_time::PeriodicTime;
 use crate::schedule_row::ScheduleRow;
 use crate::trip::Trip;
 use crate::writing::write_records;
-use giv_files::columns;
+use tables::columns;
 use plan_num::{NoMemory, Text};
 use std::alloc::Global;
 

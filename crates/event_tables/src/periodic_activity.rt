@@ -5,7 +5,7 @@ ghost use Rattle.event_tables.specs.Cells.{periodic_activity, periodic_activity_
 use crate::cells::number;
 use crate::periodic_kind::PeriodicKind;
 use crate::written_record::WrittenRecord;
-use giv_files::{Record, Table};
+use tables::{Record, Table};
 
 /// A periodic activity: its id, its kind, the ids of its two events, and its bounds in minutes.
 #[derive(Clone, Copy, Debug, PartialEq, Eq)]

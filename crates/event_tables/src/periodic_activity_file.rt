@@ -1,14 +1,14 @@
 // Reading periodic activities.
 ghost use Rattle.std.specs.Prelude.{◌≡◌, List, length, ⊤, IfOk};
 ghost use Rattle.std.specs.List.{range_with_len};
-ghost use Rattle.giv_files.specs.RowsOfTables.{ReadsFile};
+ghost use Rattle.tables.specs.RowsOfTables.{ReadsFile};
 ghost use Rattle.event_tables.specs.PeriodicFiles.{periodic_activity_input, periodic_activity_rules, periodic_event_ids, ArePeriodicActivities};
 ghost use Rattle.event_tables.specs.Places.{AreNumbered};
 
 use crate::periodic_activity::PeriodicActivity;
 use crate::periodic_event::PeriodicEvent;
 use crate::place::{is_either_unknown, is_next_place};
-use giv_files::{Counted, FileId, RowLimit, RowTests, RowWhy, StageFault, columns, read_file};
+use tables::{Counted, FileId, RowLimit, RowTests, RowWhy, StageFault, columns, read_file};
 use plan_num::NoMemory;
 use std::alloc::Global;
 

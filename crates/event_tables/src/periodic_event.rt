@@ -7,7 +7,7 @@ use crate::cells::number;
 use crate::direction::Direction;
 use crate::event_kind::EventKind;
 use crate::written_record::WrittenRecord;
-use giv_files::{Record, Table};
+use tables::{Record, Table};
 
 /// A periodic event: its id, its kind, its stop, and the run of the line that it is of. Ids count
 /// from 1, and the events of a run stand together.

@@ -1,12 +1,12 @@
 // Reading periodic events.
 ghost use Rattle.std.specs.Prelude.{◌≡◌, [], ◌∷◌, ⊤, IfOk};
-ghost use Rattle.giv_files.specs.RowsOfTables.{ReadsFile};
+ghost use Rattle.tables.specs.RowsOfTables.{ReadsFile};
 ghost use Rattle.event_tables.specs.PeriodicFiles.{periodic_event_input, ArePeriodicEvents};
 ghost use Rattle.event_tables.specs.Places.{own_place};
 
 use crate::periodic_event::PeriodicEvent;
 use crate::place::is_next_place;
-use giv_files::{Counted, FileId, RowLimit, RowTests, RowWhy, StageFault, columns, read_file};
+use tables::{Counted, FileId, RowLimit, RowTests, RowWhy, StageFault, columns, read_file};
 use plan_num::NoMemory;
 use std::alloc::Global;
 

@@ -4,7 +4,7 @@ ghost use Rattle.event_tables.specs.Cells.{periodic_time, periodic_time_cells, A
 
 use crate::cells::number;
 use crate::written_record::WrittenRecord;
-use giv_files::{Record, Table};
+use tables::{Record, Table};
 
 /// The time of a periodic event in the period, in minutes.
 #[derive(Clone, Copy, Debug, PartialEq, Eq)]

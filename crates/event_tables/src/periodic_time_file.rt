@@ -1,7 +1,7 @@
 // Reading periodic times.
 ghost use Rattle.std.specs.Prelude.{◌≡◌, length, ⊤, IfOk};
 ghost use Rattle.std.specs.List.{range_with_len};
-ghost use Rattle.giv_files.specs.RowsOfTables.{ReadsFile};
+ghost use Rattle.tables.specs.RowsOfTables.{ReadsFile};
 ghost use Rattle.event_tables.specs.PeriodicFiles.{periodic_time_input, periodic_time_rules, periodic_event_ids, ArePeriodicTimes};
 ghost use Rattle.event_tables.specs.Places.{AreNumbered};
 
@@ -9,7 +9,7 @@ use crate::periodic_event::PeriodicEvent;
 use crate::periodic_time::PeriodicTime;
 use crate::place::{is_next_place, is_unknown};
 use crate::times::all_there;
-use giv_files::{FileId, RowTests, RowWhy, StageFault, columns, read_file};
+use tables::{FileId, RowTests, RowWhy, StageFault, columns, read_file};
 use plan_num::NoMemory;
 use std::alloc::Global;
 

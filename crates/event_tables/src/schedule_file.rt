@@ -1,17 +1,17 @@
 // Reading the rows of a vehicle schedule.
 ghost use Rattle.std.specs.Prelude.{◌≡◌, ◌||◌, false, All, filter, length, slice_get, IfOk, [], ◌∷◌};
 ghost use Rattle.std.specs.List.{range_with_len};
-ghost use Rattle.giv_files.specs.Inputs.{limit_faults};
+ghost use Rattle.tables.specs.Inputs.{limit_faults};
 ghost use Rattle.event_tables.specs.Cells.{schedule_row, AreSmall};
 ghost use Rattle.event_tables.specs.Places.{AreNumbered, is_none_of};
-ghost use Rattle.giv_files.specs.RowsOfTables.{ReadsFile, records_by};
+ghost use Rattle.tables.specs.RowsOfTables.{ReadsFile, records_by};
 ghost use Rattle.event_tables.specs.Schedules.{schedule_input, schedule_rules, kind_limit, is_trip_row, is_empty_row, ends_early, lacks_room, goes_back, AreScheduleRows};
 
 use crate::expanded_event::ExpandedEvent;
 use crate::forward::{event_of, goes_forward};
 use crate::place::is_either_unknown;
 use crate::schedule_row::ScheduleRow;
-use giv_files::{
+use tables::{
     Counted, FileId, Record, Refusal, RowLimit, RowTests, RowWhy, StageFault, Table, columns,
     read_cells, read_records, too_many,
 };

@@ -6,7 +6,7 @@ use crate::cells::number;
 use crate::schedule_kind::ScheduleKind;
 use crate::trip::{Trip, TripEnd};
 use crate::written_record::WrittenRecord;
-use giv_files::{Record, Table};
+use tables::{Record, Table};
 
 /// A row of a vehicle schedule: its circulation, its vehicle, its number among the rows of the
 /// vehicle, what it is, and the run from one event to another. The line of an empty ride is 0.

@@ -1,10 +1,10 @@
 // Files that have a row for each event.
 ghost use Rattle.std.specs.Prelude.{◌≡◌, ◌<◌, ◌≤◌, length, MatchResult};
-ghost use Rattle.giv_files.specs.declared.row_why.RowWhy.TheVariants as whys;
-ghost use Rattle.giv_files.specs.declared.refusal.Refusal.TheVariants as refusals;
-ghost use Rattle.giv_files.specs.declared.refusal.StageFault.TheVariants as faults;
+ghost use Rattle.tables.specs.declared.row_why.RowWhy.TheVariants as whys;
+ghost use Rattle.tables.specs.declared.refusal.Refusal.TheVariants as refusals;
+ghost use Rattle.tables.specs.declared.refusal.StageFault.TheVariants as faults;
 
-use giv_files::{FileId, Refusal, RowWhy, StageFault};
+use tables::{FileId, Refusal, RowWhy, StageFault};
 
 /// The rows of a file, where there is one for each of so many events; else the refusal of the whole
 /// file.

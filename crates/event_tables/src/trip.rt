@@ -1,11 +1,11 @@
 // Rows of trips.
 ghost use Rattle.std.specs.Prelude.{◌≡◌, ◌+◌, ◌<◌, ◌≤◌, nat_le, length, slice_index_or};
-ghost use Rattle.giv_files.specs.Tables.{no_row};
+ghost use Rattle.tables.specs.Tables.{no_row};
 ghost use Rattle.event_tables.specs.Cells.{trip, trip_end, trip_cells, AreSmall};
 
 use crate::cells::number;
 use crate::written_record::WrittenRecord;
-use giv_files::{Record, Table};
+use tables::{Record, Table};
 
 /// The start or the end of a trip: the id of an event of the day, the id of its periodic event, its
 /// stop, and its planned time in minutes.

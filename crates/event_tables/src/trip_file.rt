@@ -2,11 +2,11 @@
 ghost use Rattle.std.specs.Prelude.{ℕ, ◌≡◌, nat_eq, option_map, IfOk};
 ghost use Rattle.std.specs.HashSet.{contains};
 ghost use Rattle.std.specs.List.{list_any};
-ghost use Rattle.giv_files.specs.RowsOfTables.{ReadsFile};
+ghost use Rattle.tables.specs.RowsOfTables.{ReadsFile};
 ghost use Rattle.event_tables.specs.Trips.{trip_input, trip_rules, is_stop, lacks_stop, AreTrips};
 
 use crate::trip::Trip;
-use giv_files::{Counted, FileId, RowLimit, RowTests, RowWhy, StageFault, columns, read_file};
+use tables::{Counted, FileId, RowLimit, RowTests, RowWhy, StageFault, columns, read_file};
 use plan_num::NoMemory;
 use std::alloc::Global;
 use std::collections::HashSet;

@@ -1,10 +1,10 @@
 // Writing records as the text of a table.
 ghost use Rattle.std.specs.Prelude.{ℤ, ◌≡◌, ◌<◌, ◌^◌, List, All, IfOk};
-ghost use Rattle.giv_files.specs.Writing.{CanWrite, InColumns, IsHeader};
-ghost use Rattle.giv_files.specs.RowsOfTables.{ReadsAs, file_text};
+ghost use Rattle.tables.specs.Writing.{CanWrite, InColumns, IsHeader};
+ghost use Rattle.tables.specs.RowsOfTables.{ReadsAs, file_text};
 
 use crate::written_record::WrittenRecord;
-use giv_files::{ColumnKind, Table, write_table};
+use tables::{ColumnKind, Table, write_table};
 use plan_num::{NoMemory, Text};
 use std::alloc::Global;
 

@@ -1,7 +1,7 @@
 // Records that are written as rows of a table.
 ghost use Rattle.std.specs.Prelude.{ℤ, ◌≡◌, List};
 
-use giv_files::Record;
+use tables::Record;
 
 /// A record with the cells of its row.
 pub(crate) trait WrittenRecord<const C: usize>: Record<C> {

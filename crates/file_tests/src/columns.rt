@@ -1,11 +1,11 @@
 // What the macros unfold to.
 ghost use Rattle.std.specs.Prelude.{◌≡◌};
-ghost use Rattle.giv_files.specs.Columns.{stop_columns, edge_columns, load_columns, od_columns};
-ghost use Rattle.giv_files.specs.Columns.{pool_columns, pool_cost_columns, concept_columns};
-ghost use Rattle.giv_files.specs.Columns.{tree_columns, events_p_columns, activities_p_columns};
-ghost use Rattle.giv_files.specs.Columns.{times_p_columns, events_x_columns, activities_x_columns};
-ghost use Rattle.giv_files.specs.Columns.{trips_columns, schedule_columns, potential_columns};
-ghost use Rattle.giv_files.specs.Columns.{disposed_columns, reasons_columns, delays_columns};
+ghost use Rattle.tables.specs.Columns.{stop_columns, edge_columns, load_columns, od_columns};
+ghost use Rattle.tables.specs.Columns.{pool_columns, pool_cost_columns, concept_columns};
+ghost use Rattle.tables.specs.Columns.{tree_columns, events_p_columns, activities_p_columns};
+ghost use Rattle.tables.specs.Columns.{times_p_columns, events_x_columns, activities_x_columns};
+ghost use Rattle.tables.specs.Columns.{trips_columns, schedule_columns, potential_columns};
+ghost use Rattle.tables.specs.Columns.{disposed_columns, reasons_columns, delays_columns};
 
 use giv_files::{ColumnKind, cells, columns};
 use std::test::Fail;

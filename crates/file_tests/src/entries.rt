@@ -1,6 +1,6 @@
 // Entries of the keep.
 ghost use Rattle.std.specs.Prelude.{◌≡◌, ◌∷◌, [], IfOk};
-ghost use Rattle.giv_files.specs.declared.file_id.FileId.TheVariants as file;
+ghost use Rattle.tables.specs.declared.file_id.FileId.TheVariants as file;
 ghost use Rattle.giv_files.specs.declared.stage.Stage.TheVariants as stage;
 ghost use Rattle.giv_files.specs.MadeLists.{ids_of};
 

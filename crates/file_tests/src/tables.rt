@@ -3,7 +3,7 @@ ghost use Rattle.std.specs.Prelude.{◌<◌, ◌^◌, length};
 
 use crate::script::{cases, cut, same};
 use giv_files::{
-    ColumnKind, ReadFault, RowFault, RowWhy, Table, TextRow, TextRows, WordTable, read_table,
+    ColumnKind, ReadFault, RowFault, RowWhy, Table, TextRow, WordTable, read_table, rows_of,
 };
 use std::alloc::{AllocError, Global};
 use std::process::Abort;
@@ -213,7 +213,7 @@ fn push_fields(alloc: Global, told: &mut String, row: &TextRow) -> Result<(), Al
 
 // The rows of a text as they are written, or its fault.
 fn fields_told(alloc: Global, text: &[u8]) -> Result<String, Fail> {
-    let mut rows = match TextRows::new(alloc, text) {
+    let mut rows = match rows_of(alloc, text) {
         Ok(rows) => rows,
         Err(fault) => return Ok(fault_told(alloc, ReadFault::Row(fault))?),
     };

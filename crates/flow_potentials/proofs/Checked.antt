@@ -11,8 +11,8 @@ use Rattle.std.proofs.lemmas.Bool.Decides.{Decides-int_eq}
 use Rattle.std.proofs.lemmas.Float.{T_from_true}
 use Rattle.std.proofs.lemmas.Int.{ints}
 use Rattle.std.proofs.lemmas.Option.{none-some, slice_get-map}
-use Rattle.giv_files.proofs.Inputs.{first_append}
-use Rattle.giv_files.proofs.Ranges.{front_none, back_none}
+use Rattle.tables.proofs.Inputs.{first_append}
+use Rattle.tables.proofs.Ranges.{front_none, back_none}
 use Rattle.vehicle_model.specs.Plans.{plan_cost, IsCheapest}
 use Rattle.assignment.specs.Plans.{plan_gain, IsPlan}
 use Rattle.vehicle_model.specs.Trips.{TripsParts, links_of}

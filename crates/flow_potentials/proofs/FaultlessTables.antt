@@ -1,12 +1,12 @@
 -- A text without a fault as potentials is some.
 use Rattle.std.proofs.Common.{◌≡◌, ℕ, ◌+◌, ◌<◌, ◌≤◌, nat_lt, ◌&&◌, Bool, true, false, cond, List, [], ◌∷◌, ◌++◌, length, refl, arith}
 use Rattle.std.proofs.lemmas.Bool.{ltb-false, ltb-true}
-use Rattle.giv_files.specs.declared.read_fault.RowFault.{RowFault}
-use Rattle.giv_files.specs.declared.row_why.RowWhy.TheVariants as why
-use Rattle.giv_files.specs.Columns.{potential_columns}
-use Rattle.giv_files.specs.Reading.{faults, table_of}
-use Rattle.giv_files.specs.Tables.{TableRow}
-use Rattle.giv_files.proofs.Ranges.{table_in_columns}
+use Rattle.tables.specs.declared.read_fault.RowFault.{RowFault}
+use Rattle.tables.specs.declared.row_why.RowWhy.TheVariants as why
+use Rattle.tables.specs.Columns.{potential_columns}
+use Rattle.tables.specs.Reading.{faults, table_of}
+use Rattle.tables.specs.Tables.{TableRow}
+use Rattle.tables.proofs.Ranges.{table_in_columns}
 use Rattle.vehicle_model.specs.ReadSchedules.{or_others}
 use Rattle.assignment.specs.Potentials.{AreOver, ArePotentials}
 use Rattle.flow_potentials.specs.PotentialTables.{gaps_from, is_trip_row, potentials_of, table_faults}

@@ -5,17 +5,17 @@ use Rattle.std.proofs.Common.{IfOk, refl, ap, sym, ◌∙◌, subst, arith, eq-e
 use Rattle.std.proofs.lemmas.Bool.{lt-ltb}
 use Rattle.std.proofs.lemmas.Int.{ints}
 use Rattle.std.proofs.lemmas.List.Elements.{All-nil, All-cons}
-use Rattle.giv_files.specs.declared.read_fault.RowFault.{RowFault}
-use Rattle.giv_files.specs.declared.read_fault.ReadFault.{ReadFault}
-use Rattle.giv_files.specs.declared.read_fault.ReadFault.TheVariants as read
-use Rattle.giv_files.specs.declared.row_why.RowWhy.TheVariants as why
-use Rattle.giv_files.specs.Columns.{potential_columns}
-use Rattle.giv_files.specs.Reading.{faults, table_of, ReadGives}
-use Rattle.giv_files.specs.Tables.{TableRow}
-use Rattle.giv_files.specs.Writing.{table_text, CanWrite, ReadsBack}
-use Rattle.giv_files.proofs.Headers.{plain_header}
-use Rattle.giv_files.proofs.Ranges.{table_in_columns}
-use Rattle.giv_files.proofs.WrittenBack.{written_back}
+use Rattle.tables.specs.declared.read_fault.RowFault.{RowFault}
+use Rattle.tables.specs.declared.read_fault.ReadFault.{ReadFault}
+use Rattle.tables.specs.declared.read_fault.ReadFault.TheVariants as read
+use Rattle.tables.specs.declared.row_why.RowWhy.TheVariants as why
+use Rattle.tables.specs.Columns.{potential_columns}
+use Rattle.tables.specs.Reading.{faults, table_of, ReadGives}
+use Rattle.tables.specs.Tables.{TableRow}
+use Rattle.tables.specs.Writing.{table_text, CanWrite, ReadsBack}
+use Rattle.tables.proofs.Headers.{plain_header}
+use Rattle.tables.proofs.Ranges.{table_in_columns}
+use Rattle.tables.proofs.WrittenBack.{written_back}
 use Rattle.vehicle_model.specs.ReadSchedules.{or_others}
 use Rattle.assignment.specs.Potentials.{PotentialParts, IsSmall, ArePotentials}
 use Rattle.flow_potentials.specs.PotentialTables.{rows_from, potential_rows, potential_header, potentials_text, gaps_from, table_faults, column_of, potentials_in, potentials_of, IsReadBack, FitsColumns, PotentialsGive}

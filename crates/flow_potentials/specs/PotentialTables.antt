@@ -1,13 +1,13 @@
 -- The table of potentials: how it is written, and why a text is none.
 use Rattle.std.specs.Prelude.{ℕ, pos, ◌≡◌, ◌+◌, ◌==◌, ◌&&◌, nat_lt, if◌then◌else◌, Bool, List, [], ◌∷◌, ◌++◌, length, map, get_or, slice_get, unsigned_abs, codes, Some, Result, Ok, Err, ⊤}
-use Rattle.giv_files.specs.declared.read_fault.RowFault.{RowFault}
-use Rattle.giv_files.specs.declared.read_fault.ReadFault.{ReadFault}
-use Rattle.giv_files.specs.declared.read_fault.ReadFault.TheVariants as fault
-use Rattle.giv_files.specs.declared.row_why.RowWhy.TheVariants as why
-use Rattle.giv_files.specs.Columns.{potential_columns}
-use Rattle.giv_files.specs.Reading.{faults, table_of}
-use Rattle.giv_files.specs.Tables.{TableRow}
-use Rattle.giv_files.specs.Writing.{table_text, InColumns}
+use Rattle.tables.specs.declared.read_fault.RowFault.{RowFault}
+use Rattle.tables.specs.declared.read_fault.ReadFault.{ReadFault}
+use Rattle.tables.specs.declared.read_fault.ReadFault.TheVariants as fault
+use Rattle.tables.specs.declared.row_why.RowWhy.TheVariants as why
+use Rattle.tables.specs.Columns.{potential_columns}
+use Rattle.tables.specs.Reading.{faults, table_of}
+use Rattle.tables.specs.Tables.{TableRow}
+use Rattle.tables.specs.Writing.{table_text, InColumns}
 use Rattle.vehicle_model.specs.ReadSchedules.{or_others}
 use Rattle.assignment.specs.Potentials.{PotentialParts}
 

@@ -2,12 +2,12 @@
 ghost use Rattle.std.specs.Prelude.{◌≡◌, ◌+◌, ◌<◌, length, slice_index_or, unsigned_abs, All, IfOk};
 ghost use Rattle.assignment.specs.Potentials.{AreOver};
 ghost use Rattle.flow_potentials.specs.PotentialTables.{is_trip_row, table_faults, potentials_of, potentials_in, gaps_from, PotentialsGive, FitsColumns};
-ghost use Rattle.giv_files.specs.declared.read_fault.ReadFault.TheVariants as read_faults;
-ghost use Rattle.giv_files.specs.declared.row_why.RowWhy.TheVariants as why;
-ghost use Rattle.giv_files.specs.Tables.{no_row, cell_at};
+ghost use Rattle.tables.specs.declared.read_fault.ReadFault.TheVariants as read_faults;
+ghost use Rattle.tables.specs.declared.row_why.RowWhy.TheVariants as why;
+ghost use Rattle.tables.specs.Tables.{no_row, cell_at};
 
 use assignment::Potentials;
-use giv_files::{ReadFault, RowFault, RowWhy, Table, columns, read_table};
+use tables::{ReadFault, RowFault, RowWhy, Table, columns, read_table};
 use std::alloc::Global;
 
 /// The potentials of so many trips by a text, or its first fault: that it is no table of potentials,

@@ -4,7 +4,7 @@ ghost use Rattle.assignment.specs.Potentials.{at, ArePotentials};
 ghost use Rattle.flow_potentials.specs.PotentialTables.{potential_rows, potentials_text, IsReadBack};
 
 use assignment::Potentials;
-use giv_files::{Table, columns, write_table};
+use tables::{Table, columns, write_table};
 use plan_num::{NoMemory, Text};
 use std::alloc::Global;
 

@@ -30,10 +30,10 @@ use Rattle.giv_files.specs.KeyKinds.{all_word, greatest, key_words, least, none_
 use Rattle.giv_files.specs.Keys.{all_keys, allows, has_key, is_key, key_kind, key_name, stage_keys}
 use Rattle.giv_files.specs.Settings.{SettingsFit, is_allowed, value_of}
 use Rattle.giv_files.specs.SettingsText.{TellsSettings, key_line, settings_text, value_text, wait_text}
-use Rattle.giv_files.specs.Writing.{IsSmall}
-use Rattle.giv_files.proofs.CellTexts.{WordsGood, number_plain, plain_word}
+use Rattle.tables.specs.Writing.{IsSmall}
+use Rattle.tables.proofs.CellTexts.{WordsGood, number_plain, plain_word}
 use Rattle.giv_files.proofs.KeyPlaces.{same_key}
-use Rattle.giv_files.proofs.PlainBytes.{all_weaker, is_plain, plain_is}
+use Rattle.tables.proofs.PlainBytes.{all_weaker, is_plain, plain_is}
 use Rattle.giv_files.proofs.SettingFacts.{among_all, key_there, value_allowed}
 
 -- one key more adds its line

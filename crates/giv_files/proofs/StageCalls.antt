@@ -1,11 +1,14 @@
 -- What the call of a stage gives, from the faults of its inputs and from what is made.
-use Rattle.std.proofs.Common.{◌≡◌, List, [], ◌∷◌, refl, ap, sym, ◌∙◌, Ok, Err}
+use Rattle.std.proofs.Common.{◌≡◌, Bool, List, [], ◌∷◌, refl, ap, subst, sym, ◌∙◌, Ok, Err}
 use Rattle.std.proofs.lemmas.Option.{same_Some}
 use Rattle.giv_files.specs.declared.made.Made.{Made}
-use Rattle.giv_files.specs.declared.refusal.Refusal.{Refusal}
-use Rattle.giv_files.specs.declared.refusal.StageFault.{StageFault}
-use Rattle.giv_files.specs.declared.refusal.StageFault.TheVariants as stage
-use Rattle.giv_files.specs.Inputs.{Refuses}
+use Rattle.tables.specs.declared.file_id.FileId.{FileId}
+use Rattle.tables.specs.declared.refusal.Refusal.{Refusal}
+use Rattle.tables.specs.declared.refusal.StageFault.{StageFault}
+use Rattle.tables.specs.declared.refusal.StageFault.TheVariants as stage
+use Rattle.tables.specs.Inputs.{Refuses}
+use Rattle.tables.specs.NamedFiles.{NamesInput}
+use Rattle.tables.proofs.Named.{AllName}
 use Rattle.giv_files.specs.StageCalls.{unless_fault, StageGives}
 
 -- a fault that refuses the inputs is what the stage gives
@@ -27,3 +30,10 @@ made_unless (first ∷ more) made result e = absurd (cc)
 pub none_unless : (faults : List Refusal) (made result : Made) → unless_fault faults made ≡ Ok result → faults ≡ []
 none_unless [] made result e = refl
 none_unless (first ∷ more) made result e = absurd (cc)
+
+-- what is refused is one of the faults
+pub refused_names : (test : FileId → Bool) (faults : List Refusal) (made : Made) (reason : Refusal)
+    → AllName test faults → unless_fault faults made ≡ Err reason → NamesInput test reason
+refused_names test [] made reason h e = absurd (cc)
+refused_names test (first ∷ more) made reason h e =
+    let same : first ≡ reason = cc in subst (NamesInput test) same h.0

@@ -7,7 +7,7 @@ use Rattle.giv_files.specs.declared.key_kind.KeyKind.TheVariants as kind
 use Rattle.giv_files.specs.declared.key_words.KeyWords.{KeyWords}
 use Rattle.giv_files.specs.declared.key_words.KeyWords.TheVariants as words
 use Rattle.giv_files.specs.StageNames.{stage_name}
-use Rattle.giv_files.specs.Reading.{place_of}
+use Rattle.tables.specs.Reading.{place_of}
 use Rattle.giv_files.specs.Stages.{places}
 
 -- the words that a value may be, by their places from 0

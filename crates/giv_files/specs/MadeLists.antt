@@ -1,8 +1,8 @@
 -- Which lists of files a stage may make.
 use Rattle.std.specs.Prelude.{List, [], ◌∷◌, map}
 use Rattle.std.specs.List.{Contains}
-use Rattle.giv_files.specs.declared.file_id.FileId.{FileId}
-use Rattle.giv_files.specs.declared.file_id.FileId.TheVariants as file
+use Rattle.tables.specs.declared.file_id.FileId.{FileId}
+use Rattle.tables.specs.declared.file_id.FileId.TheVariants as file
 use Rattle.giv_files.specs.declared.made.MadeFile.{MadeFile}
 use Rattle.giv_files.specs.declared.stage.Stage.{Stage}
 use Rattle.giv_files.specs.declared.stage.Stage.TheVariants as stage

@@ -2,7 +2,7 @@
 ghost use Rattle.std.specs.Prelude.{◌≡◌};
 ghost use Rattle.giv_files.specs.KeyKinds.{least, greatest, wait_of, spelled_as};
 
-use crate::cells::is_same;
+use tables::is_same;
 use crate::key_words::KeyWords;
 use plan_num::{parse_fixed, parse_whole};
 

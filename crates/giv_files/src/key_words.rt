@@ -3,10 +3,10 @@ ghost use Rattle.std.specs.Prelude.{◌≡◌, ◌<◌, [], length, position, sl
 ghost use Rattle.std.specs.Str.{bytes_eq};
 ghost use Rattle.giv_files.specs.KeyKinds.{key_words};
 ghost use Rattle.giv_files.specs.StageNames.{stage_name};
-ghost use Rattle.giv_files.specs.Reading.{place_of};
+ghost use Rattle.tables.specs.Reading.{place_of};
 ghost use Rattle.giv_files.specs.Stages.{places};
 
-use crate::cells::{is_same, place_among};
+use tables::{is_same, place_among};
 use crate::stage::Stage;
 
 const LOAD_SOURCES: &[&str] = &["od", "file"];

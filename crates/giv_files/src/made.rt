@@ -1,7 +1,7 @@
 // What a stage makes.
 ghost use Rattle.std.specs.Prelude.{◌≡◌, ◌<◌, ◌∷◌, ◌++◌, [], length, slice_get, Some, OnOk, OnErr};
 
-use crate::file_id::FileId;
+use tables::FileId;
 use plan_num::{NoMemory, Text};
 use std::alloc::Global;
 use std::marker::Model;

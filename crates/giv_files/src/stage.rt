@@ -4,7 +4,7 @@ ghost use Rattle.giv_files.specs.StageNames.{stage_name};
 ghost use Rattle.giv_files.specs.Keys.{has_key};
 ghost use Rattle.giv_files.specs.Stages.{all_stages, places, stage_tag, stage_inputs, stage_makes};
 
-use crate::file_id::FileId;
+use tables::FileId;
 use crate::key::Key;
 
 /// A stage of the chain, in the order in which the stages run.

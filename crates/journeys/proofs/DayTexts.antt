@@ -1,8 +1,8 @@
 -- The day of texts, from what each of them gives.
 use Rattle.std.proofs.Common.{◌≡◌, ◌∙◌, ℕ, List, [], ◌++◌, Option, ap, sym, arith}
-use Rattle.giv_files.specs.declared.refusal.StageFault.{StageFault}
-use Rattle.giv_files.specs.Inputs.{Refuses, input_faults, records_of}
-use Rattle.giv_files.proofs.Inputs.{refused_append}
+use Rattle.tables.specs.declared.refusal.StageFault.{StageFault}
+use Rattle.tables.specs.Inputs.{Refuses, input_faults, records_of}
+use Rattle.tables.proofs.Inputs.{refused_append}
 use Rattle.event_tables.specs.declared.expanded_activity.ExpandedActivity.{ExpandedActivity}
 use Rattle.event_tables.specs.declared.expanded_event.ExpandedEvent.{ExpandedEvent}
 use Rattle.event_tables.specs.ExpandedFiles.{expanded_activity_input, expanded_event_input}

@@ -2,8 +2,8 @@
 use Rattle.std.proofs.Common.{◌≤◌, ◌≤ℤ◌, pos, List, map, All, arith}
 use Rattle.std.proofs.lemmas.Int.{ints}
 use Rattle.std.proofs.lemmas.List.Elements.{All-map, All-weaker}
-use Rattle.giv_files.specs.Columns.{events_x_columns}
-use Rattle.giv_files.specs.Writing.{InColumns}
+use Rattle.tables.specs.Columns.{events_x_columns}
+use Rattle.tables.specs.Writing.{InColumns}
 use Rattle.event_tables.specs.declared.expanded_event.ExpandedEvent.{ExpandedEvent}
 use Rattle.event_tables.specs.Cells.{expanded_event_cells}
 use Rattle.event_tables.specs.ExpandedFiles.{AreExpandedEvents}

@@ -1,8 +1,8 @@
 -- A day as passengers use it: its events at their planned or disposed times, and the activities
 -- that can be used between them.
 use Rattle.std.specs.Prelude.{ℕ, pos, ◌+◌, ◌-◌, ◌<◌, ◌≤◌, nat_le, Bool, List, [], ◌++◌, length, map, filter, get_or, zip, All, Option, Some, None}
-use Rattle.giv_files.specs.declared.refusal.Refusal.{Refusal}
-use Rattle.giv_files.specs.Inputs.{input_faults, records_of}
+use Rattle.tables.specs.declared.refusal.Refusal.{Refusal}
+use Rattle.tables.specs.Inputs.{input_faults, records_of}
 use Rattle.event_tables.specs.declared.event_kind.EventKind.TheVariants as kind
 use Rattle.event_tables.specs.declared.expanded_activity.ExpandedActivity.{ExpandedActivity}
 use Rattle.event_tables.specs.declared.expanded_event.ExpandedEvent.{ExpandedEvent}

@@ -1,6 +1,6 @@
 // Events of a day with the connections between them.
 ghost use Rattle.std.specs.Prelude.{◌≡◌, ◌<◌, ◌≤◌, length, slice_get, option_map, option_copied, All, true, Some, None, IfOk, IfNone, IfSome};
-ghost use Rattle.giv_files.specs.Inputs.{UnlessFault};
+ghost use Rattle.tables.specs.Inputs.{UnlessFault};
 ghost use Rattle.event_tables.specs.ExpandedFiles.{AreExpandedActivities, AreExpandedEvents};
 ghost use Rattle.journeys.specs.Earliest.{IsAnswer};
 ghost use Rattle.journeys.specs.JourneyNets.{IsConnection, IsNet, event_at, event_told, journey_faults, net_of, net_over};
@@ -25,7 +25,7 @@ use crate::ways::ways_from;
 use event_tables::{
     EventKind, ExpandedActivity, ExpandedEvent, expanded_activities, expanded_events,
 };
-use giv_files::StageFault;
+use tables::StageFault;
 use plan_num::NoMemory;
 use std::alloc::Global;
 use std::marker::Model;

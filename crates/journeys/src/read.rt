@@ -1,6 +1,6 @@
 // Events and connections of the rows of a day.
 ghost use Rattle.std.specs.Prelude.{◌≡◌, ◌≤◌, length, map, filter, option_copied, zip, All, IfOk};
-ghost use Rattle.giv_files.specs.Inputs.{UnlessFault};
+ghost use Rattle.tables.specs.Inputs.{UnlessFault};
 ghost use Rattle.event_tables.specs.ExpandedFiles.{AreExpandedEvents};
 ghost use Rattle.event_tables.specs.Places.{IsOneOf};
 ghost use Rattle.journeys.specs.JourneyNets.{connection_of, is_usable, time_faults_over, timed, times_over};
@@ -8,7 +8,7 @@ ghost use Rattle.journeys.specs.JourneyNets.{connection_of, is_usable, time_faul
 use crate::connection::Connection;
 use crate::timed_event::TimedEvent;
 use event_tables::{ExpandedActivity, ExpandedEvent, disposed_times};
-use giv_files::StageFault;
+use tables::StageFault;
 use plan_num::NoMemory;
 use std::alloc::Global;
 

@@ -1,12 +1,13 @@
 -- Which files the stage of costs names where it refuses a row.
 use Rattle.std.proofs.Common.{◌≡◌, ℕ, Bool, true, List, Err}
-use Rattle.giv_files.specs.declared.file_id.FileId.{FileId}
-use Rattle.giv_files.specs.declared.file_id.FileId.TheVariants as file
-use Rattle.giv_files.specs.declared.refusal.Refusal.{Refusal}
+use Rattle.tables.specs.declared.file_id.FileId.{FileId}
+use Rattle.tables.specs.declared.file_id.FileId.TheVariants as file
+use Rattle.tables.specs.declared.refusal.Refusal.{Refusal}
 use Rattle.giv_files.specs.Settings.{BundleParts}
 use Rattle.giv_files.specs.StageCalls.{input_text}
-use Rattle.giv_files.specs.NamedFiles.{NamesInput}
-use Rattle.giv_files.proofs.Named.{AllName, names_both, input_names, refused_names}
+use Rattle.tables.specs.NamedFiles.{NamesInput}
+use Rattle.tables.proofs.Named.{AllName, names_both, input_names}
+use Rattle.giv_files.proofs.StageCalls.{refused_names}
 use Rattle.ptn_network.specs.Networks.{NetworkParts, network_faults}
 use Rattle.ptn_network.proofs.NamedFaults.{network_names}
 use Rattle.line_pool.specs.Pools.{line_input, line_faults, pool_faults}
@@ -23,6 +24,6 @@ pub cost_stage_names : (test : FileId → Bool) → test file.Stop ≡ true → 
 unfolding cost_stage
 cost_stage_names test stop edge pool bundle reason e =
     let named : AllName test (cost_faults bundle) =
-    names_both test (network_faults (input_text bundle 0) (input_text bundle 1)) (pool_faults (network_in bundle) (input_text bundle 2))
-    (network_names test stop edge (input_text bundle 0) (input_text bundle 1)) (pool_names test pool (network_in bundle) (input_text bundle 2)) in
+    names_both test (network_faults (input_text bundle 0) (input_text bundle 1)) (pool_faults (network_in bundle.inputs) (input_text bundle 2))
+    (network_names test stop edge (input_text bundle 0) (input_text bundle 1)) (pool_names test pool (network_in bundle.inputs) (input_text bundle 2)) in
     refused_names test (cost_faults bundle) _ reason named e

@@ -2,15 +2,15 @@
 use Rattle.std.proofs.Common.{◌≡◌, refl, ap, sym, arith, Ok, Err, Result}
 use Rattle.std.specs.Prelude.{IfOk}
 use Rattle.giv_files.specs.declared.made.Made.{Made}
-use Rattle.giv_files.specs.declared.refusal.StageFault.{StageFault}
+use Rattle.tables.specs.declared.refusal.StageFault.{StageFault}
 use Rattle.giv_files.specs.declared.stage.Stage.TheVariants as stage
-use Rattle.giv_files.specs.Columns.{pool_cost_columns}
+use Rattle.tables.specs.Columns.{pool_cost_columns}
 use Rattle.giv_files.specs.Settings.{BundleParts, Fits}
 use Rattle.giv_files.specs.StageCalls.{input_text, StageGives}
-use Rattle.giv_files.specs.Writing.{table_text, ReadsBack}
-use Rattle.giv_files.proofs.Ranges.{front_none, back_none}
+use Rattle.tables.specs.Writing.{table_text, ReadsBack}
+use Rattle.tables.proofs.Ranges.{front_none, back_none}
 use Rattle.giv_files.proofs.StageCalls.{made_unless, none_unless}
-use Rattle.giv_files.proofs.WrittenBack.{written_back}
+use Rattle.tables.proofs.WrittenBack.{written_back}
 use Rattle.ptn_network.specs.Networks.{network_faults}
 use Rattle.ptn_network.proofs.Sound.{network_sound}
 use Rattle.line_pool.specs.CostStage.{cost_header, cost_stage, network_in}
@@ -18,9 +18,9 @@ use Rattle.line_pool.specs.declared.line_file.LineFile.TheVariants as kind
 use Rattle.line_pool.specs.Pools.{pool_faults}
 use Rattle.line_pool.specs.RightCosts.{lines_in, cost_rows, CostsAreRight}
 use Rattle.line_pool.proofs.CostCalls.{settings_modest}
-use Rattle.giv_files.proofs.Headers.{plain_header}
+use Rattle.tables.proofs.Headers.{plain_header}
 use Rattle.line_pool.proofs.CostRows.{rows_in_columns}
-use Rattle.giv_files.proofs.WrittenColumns.{columns_written}
+use Rattle.tables.proofs.WrittenColumns.{columns_written}
 use Rattle.line_pool.proofs.CostsAccepted.{costs_accepted}
 use Rattle.line_pool.proofs.SoundLines.{pool_sound}
 use Rattle.line_pool.proofs.WholeLines.{whole_lines}
@@ -31,12 +31,12 @@ unfolding cost_stage
 costs_are_right bundle made own fits is =
     let none = none_unless _ _ made is in
     let network = network_sound (input_text bundle 0) (input_text bundle 1) (front_none _ _ none) in
-    let later = back_none (network_faults (input_text bundle 0) (input_text bundle 1)) (pool_faults (network_in bundle) (input_text bundle 2)) none in
-    let lines = pool_sound kind.Pool (network_in bundle) (input_text bundle 2) network later in
+    let later = back_none (network_faults (input_text bundle 0) (input_text bundle 1)) (pool_faults (network_in bundle.inputs) (input_text bundle 2)) none in
+    let lines = pool_sound kind.Pool (network_in bundle.inputs) (input_text bundle 2) network later in
     let text = table_text cost_header pool_cost_columns (cost_rows bundle) in
     let reads : ReadsBack pool_cost_columns (cost_rows bundle) text =
     written_back cost_header pool_cost_columns (cost_rows bundle) (omega arith) (columns_written pool_cost_columns refl)
-    (rows_in_columns bundle.settings (network_in bundle).edges
+    (rows_in_columns bundle.settings (network_in bundle.inputs).edges
     (settings_modest bundle own fits) (lines_in bundle) lines)
     (refl, plain_header cost_header refl) in
     record {
@@ -44,7 +44,7 @@ costs_are_right bundle made own fits is =
       text = text;
       one = ap (λ (made : Made). made.files) (sym (made_unless _ _ made is));
       reads = reads;
-      accepted = costs_accepted bundle.settings (network_in bundle).edges (lines_in bundle) text (whole_lines kind.Pool (network_in bundle) (input_text bundle 2) network later).rise reads;
+      accepted = costs_accepted bundle.settings (network_in bundle.inputs).edges (lines_in bundle) text (whole_lines kind.Pool (network_in bundle.inputs) (input_text bundle 2) network later).rise reads;
     }
 
 -- what a call gives that meets the stage

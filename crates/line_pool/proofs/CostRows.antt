@@ -8,10 +8,10 @@ use Rattle.std.proofs.lemmas.List.{map_more}
 use Rattle.std.proofs.lemmas.List.Elements.{All-map, All-weaker, All-get_or}
 use Rattle.giv_files.specs.declared.key.Key.TheVariants as key
 use Rattle.giv_files.specs.declared.setting.Setting.{Setting}
-use Rattle.giv_files.specs.Columns.{pool_cost_columns}
+use Rattle.tables.specs.Columns.{pool_cost_columns}
 use Rattle.giv_files.specs.Settings.{amount}
-use Rattle.giv_files.specs.Tables.{TableRow}
-use Rattle.giv_files.specs.Writing.{InColumns}
+use Rattle.tables.specs.Tables.{TableRow}
+use Rattle.tables.specs.Writing.{InColumns}
 use Rattle.ptn_network.specs.declared.edge.Edge.{Edge}
 use Rattle.line_pool.specs.Pools.{LineParts}
 use Rattle.line_pool.specs.CostStage.{length_at, line_length, line_cost, cost_row}

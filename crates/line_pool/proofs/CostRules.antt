@@ -7,12 +7,12 @@ use Rattle.std.specs.Ordering.{int_eq}
 use Rattle.std.proofs.lemmas.List.{map_more}
 use Rattle.std.proofs.lemmas.List.Folds.{list_any_at, list_any_more}
 use Rattle.std.proofs.lemmas.Option.{slice_get-get_or, same_Some}
-use Rattle.giv_files.specs.declared.file_id.FileId.TheVariants as file
-use Rattle.giv_files.specs.declared.row_why.RowWhy.TheVariants as why
-use Rattle.giv_files.specs.declared.refusal.Refusal.TheVariants as refusal
-use Rattle.giv_files.specs.Inputs.{input_faults, records_of}
-use Rattle.giv_files.proofs.Found.{any_found}
-use Rattle.giv_files.proofs.WholeRules.{without_whole, refused_as_whole, sound_as_whole}
+use Rattle.tables.specs.declared.file_id.FileId.TheVariants as file
+use Rattle.tables.specs.declared.row_why.RowWhy.TheVariants as why
+use Rattle.tables.specs.declared.refusal.Refusal.TheVariants as refusal
+use Rattle.tables.specs.Inputs.{input_faults, records_of}
+use Rattle.tables.proofs.Found.{any_found}
+use Rattle.tables.proofs.WholeRules.{without_whole, refused_as_whole, sound_as_whole}
 use Rattle.line_pool.specs.GivenCosts.{cost_for, costs_over, costs_of}
 use Rattle.line_pool.specs.PoolCosts.{CostRow, pool_cost_input}
 use Rattle.line_pool.specs.Pools.{LineParts}

@@ -3,14 +3,14 @@ use Rattle.std.proofs.Common.{◌≡◌, ℕ, not, Bool, true, false, List, [], 
 use Rattle.std.specs.List.{AllByRecursion, list_any}
 use Rattle.std.specs.List.Sorted.{IsStrictlySortedBy}
 use Rattle.std.specs.Ordering.{int_eq, int_cmp}
-use Rattle.giv_files.specs.declared.file_id.FileId.TheVariants as file
-use Rattle.giv_files.specs.declared.row_why.RowWhy.TheVariants as why
+use Rattle.tables.specs.declared.file_id.FileId.TheVariants as file
+use Rattle.tables.specs.declared.row_why.RowWhy.TheVariants as why
 use Rattle.giv_files.specs.declared.setting.Setting.{Setting}
-use Rattle.giv_files.specs.Columns.{pool_cost_columns}
-use Rattle.giv_files.specs.Inputs.{broken_whys, records, input_faults}
-use Rattle.giv_files.specs.Writing.{ReadsBack}
-use Rattle.giv_files.proofs.Accepted.{accepted, whole_accepted, all_keep, each_known, none_missing}
-use Rattle.giv_files.proofs.Found.{any_mapped}
+use Rattle.tables.specs.Columns.{pool_cost_columns}
+use Rattle.tables.specs.Inputs.{broken_whys, records, input_faults}
+use Rattle.tables.specs.Writing.{ReadsBack}
+use Rattle.tables.proofs.Accepted.{accepted, whole_accepted, all_keep, each_known, none_missing}
+use Rattle.tables.proofs.Found.{any_mapped}
 use Rattle.ptn_network.specs.declared.edge.Edge.{Edge}
 use Rattle.line_pool.specs.CostStage.{cost_row}
 use Rattle.line_pool.specs.PoolCosts.{CostRow, cost_input, pool_cost_input}

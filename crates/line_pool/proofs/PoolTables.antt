@@ -5,14 +5,14 @@ use Rattle.std.specs.List.{All}
 use Rattle.std.proofs.lemmas.List.Elements.{All-weaker}
 use Rattle.ptn_network.specs.Networks.{NetworkParts}
 use Rattle.std.proofs.lemmas.Simd.{map-map}
-use Rattle.giv_files.specs.Tables.{TableRow}
-use Rattle.giv_files.specs.declared.refusal.StageFault.{StageFault}
-use Rattle.giv_files.specs.Inputs.{Input, Refuses, cell_faults, records, limit_faults, table_row_faults, table_faults}
-use Rattle.giv_files.proofs.Inputs.{refused_cells, faults_of_table, limit_kept, no_faults}
+use Rattle.tables.specs.Tables.{TableRow}
+use Rattle.tables.specs.declared.refusal.StageFault.{StageFault}
+use Rattle.tables.specs.Inputs.{Input, Refuses, cell_faults, records, limit_faults, table_row_faults, table_faults}
+use Rattle.tables.proofs.Inputs.{refused_cells, faults_of_table, limit_kept, no_faults}
 use Rattle.ptn_network.specs.declared.edge.Edge.{Edge}
 use Rattle.ptn_network.specs.Networks.{rising}
 use Rattle.line_pool.specs.declared.line_file.LineFile.{LineFile}
-use Rattle.giv_files.specs.Reading.{table_of}
+use Rattle.tables.specs.Reading.{table_of}
 use Rattle.line_pool.specs.declared.line_row.LineRow.{LineRow}
 use Rattle.line_pool.specs.Pools.{line_limit, LineParts, line_input, lines_over, lines_of, line_faults, file_of, columns_of, IsLine, AreLines}
 use Rattle.line_pool.specs.LinesSoFar.{LineEdges, line_so_far, whole_line, lines_in}

@@ -14,10 +14,10 @@ use Rattle.std.proofs.lemmas.Cmp.{int_eq_equiv}
 use Rattle.std.proofs.lemmas.List.{append-nil, map_push, length-map, length-set, take_more, same_lists, get_or-map, get_or-set_same, get_or-set_other}
 use Rattle.std.proofs.lemmas.List.Elements.{filter-append, filter_map-append}
 use Rattle.std.proofs.lemmas.List.Folds.{list_any-append, list_any_at}
-use Rattle.giv_files.specs.declared.row_why.RowWhy.{RowWhy}
-use Rattle.giv_files.specs.declared.row_why.RowWhy.TheVariants as why
-use Rattle.giv_files.specs.Inputs.{broken_whys}
-use Rattle.giv_files.specs.Tables.{TableRow, no_row, cell_at}
+use Rattle.tables.specs.declared.row_why.RowWhy.{RowWhy}
+use Rattle.tables.specs.declared.row_why.RowWhy.TheVariants as why
+use Rattle.tables.specs.Inputs.{broken_whys}
+use Rattle.tables.specs.Tables.{TableRow, no_row, cell_at}
 use Rattle.ptn_network.specs.declared.edge.Edge.{Edge}
 use Rattle.line_pool.specs.declared.ends.Ends.{Ends}
 use Rattle.line_pool.specs.declared.line_row.LineRow.{LineRow}

@@ -6,13 +6,13 @@ use Rattle.std.specs.Ordering.{int_eq}
 use Rattle.std.proofs.lemmas.Int.{ints}
 use Rattle.std.proofs.lemmas.List.{length-map}
 use Rattle.std.proofs.lemmas.List.Elements.{All-head, All-tail, All-map}
-use Rattle.giv_files.specs.declared.column.ColumnKind.TheVariants as kind
-use Rattle.giv_files.specs.Columns.{pool_cost_columns}
-use Rattle.giv_files.specs.Inputs.{records_of, input_faults}
-use Rattle.giv_files.specs.Reading.{table_of}
-use Rattle.giv_files.specs.Tables.{TableRow}
-use Rattle.giv_files.specs.Writing.{InColumns}
-use Rattle.giv_files.proofs.Inputs.{sound_rows}
+use Rattle.tables.specs.declared.column.ColumnKind.TheVariants as kind
+use Rattle.tables.specs.Columns.{pool_cost_columns}
+use Rattle.tables.specs.Inputs.{records_of, input_faults}
+use Rattle.tables.specs.Reading.{table_of}
+use Rattle.tables.specs.Tables.{TableRow}
+use Rattle.tables.specs.Writing.{InColumns}
+use Rattle.tables.proofs.Inputs.{sound_rows}
 use Rattle.line_pool.specs.GivenCosts.{cost_for, costs_of, IsCost}
 use Rattle.line_pool.specs.PoolCosts.{CostRow, cost_row_of, pool_cost_input}
 use Rattle.line_pool.specs.Pools.{LineParts}

@@ -20,16 +20,16 @@ use Rattle.std.proofs.lemmas.List.Sums.{sum-map, sum_by-le}
 use Rattle.std.proofs.lemmas.Map.Keys.{IsDistinct-push}
 use Rattle.std.proofs.lemmas.Map.Made.{is_member-Decides, length-le_from_is_member}
 use Rattle.std.proofs.lemmas.Option.{slice_get_past, slice_get-get_or}
-use Rattle.giv_files.specs.declared.column.ColumnKind.TheVariants as column
-use Rattle.giv_files.specs.Columns.{pool_columns, concept_columns}
-use Rattle.giv_files.specs.Inputs.{records, records_of, numbered, broken_whys, row_faults, input_faults}
-use Rattle.giv_files.specs.Reading.{table_of}
-use Rattle.giv_files.specs.Tables.{TableRow}
-use Rattle.giv_files.proofs.Inputs.{parts_sound, table_sound, sound_rows}
-use Rattle.giv_files.proofs.Ranges.{front_none, back_none, unmapped}
-use Rattle.giv_files.specs.Writing.{InColumns}
-use Rattle.giv_files.proofs.WriteFacts.{in_column}
-use Rattle.giv_files.proofs.Found.{any_mapped}
+use Rattle.tables.specs.declared.column.ColumnKind.TheVariants as column
+use Rattle.tables.specs.Columns.{pool_columns, concept_columns}
+use Rattle.tables.specs.Inputs.{records, records_of, numbered, broken_whys, row_faults, input_faults}
+use Rattle.tables.specs.Reading.{table_of}
+use Rattle.tables.specs.Tables.{TableRow}
+use Rattle.tables.proofs.Inputs.{parts_sound, table_sound, sound_rows}
+use Rattle.tables.proofs.Ranges.{front_none, back_none, unmapped}
+use Rattle.tables.specs.Writing.{InColumns}
+use Rattle.tables.proofs.WriteFacts.{in_column}
+use Rattle.tables.proofs.Found.{any_mapped}
 use Rattle.ptn_network.specs.declared.edge.Edge.{Edge}
 use Rattle.ptn_network.specs.Networks.{NetworkParts, IsEdge, IsNetwork, by_id, rising}
 use Rattle.line_pool.specs.declared.line_file.LineFile.{LineFile}

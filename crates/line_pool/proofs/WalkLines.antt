@@ -13,12 +13,12 @@ use Rattle.std.proofs.lemmas.List.{length-map, map-append}
 use Rattle.std.proofs.lemmas.List.Elements.{All-append, All-contains, All-cons}
 use Rattle.std.proofs.lemmas.List.Elements.{All-from_recursion, All-nil, filter-append}
 use Rattle.std.proofs.lemmas.Map.Made.{is_member-Decides, length-le_from_is_member}
-use Rattle.giv_files.specs.declared.counted.Counted.TheVariants as counted
-use Rattle.giv_files.specs.declared.refusal.Refusal.TheVariants as refusal
-use Rattle.giv_files.specs.Columns.{concept_columns, pool_columns}
-use Rattle.giv_files.specs.Tables.{TableRow}
-use Rattle.giv_files.specs.Writing.{ReadsBack}
-use Rattle.giv_files.proofs.Accepted.{KeepRules, accepted, each_known}
+use Rattle.tables.specs.declared.counted.Counted.TheVariants as counted
+use Rattle.tables.specs.declared.refusal.Refusal.TheVariants as refusal
+use Rattle.tables.specs.Columns.{concept_columns, pool_columns}
+use Rattle.tables.specs.Tables.{TableRow}
+use Rattle.tables.specs.Writing.{ReadsBack}
+use Rattle.tables.proofs.Accepted.{KeepRules, accepted, each_known}
 use Rattle.ptn_network.specs.declared.edge.Edge.{Edge}
 use Rattle.ptn_network.specs.Networks.{NetworkParts, rising}
 use Rattle.ptn_network.specs.Paths.{edges_at}

@@ -15,8 +15,8 @@ use Rattle.std.proofs.lemmas.List.{length_push}
 use Rattle.std.proofs.lemmas.List.Elements.{All-push, filter-append, filter_map-append}
 use Rattle.std.proofs.lemmas.List.Folds.{list_any-append}
 use Rattle.std.proofs.lemmas.Map.Keys.{IsDistinct-head, IsDistinct-tail}
-use Rattle.giv_files.specs.Inputs.{broken_whys}
-use Rattle.giv_files.proofs.Accepted.{KeepRules}
+use Rattle.tables.specs.Inputs.{broken_whys}
+use Rattle.tables.proofs.Accepted.{KeepRules}
 use Rattle.ptn_network.specs.declared.edge.Edge.{Edge}
 use Rattle.ptn_network.specs.Paths.{edges_at}
 use Rattle.ptn_network.specs.Walks.{across}

@@ -17,13 +17,13 @@ use Rattle.std.proofs.lemmas.List.Elements.{All-head, All-tail, All-map, All-wea
 use Rattle.std.proofs.lemmas.List.Quantifiers.{position-Some}
 use Rattle.std.proofs.lemmas.Map.Keys.{apart_from_distinct, IsDistinct-from_apart}
 use Rattle.std.proofs.lemmas.Option.{same_Some}
-use Rattle.giv_files.specs.declared.column.ColumnKind.TheVariants as column
-use Rattle.giv_files.specs.Inputs.{records, numbered, row_faults, input_faults}
-use Rattle.giv_files.specs.Reading.{table_of}
-use Rattle.giv_files.specs.Tables.{TableRow}
-use Rattle.giv_files.specs.Writing.{InColumns}
-use Rattle.giv_files.proofs.Inputs.{parts_sound, table_sound, sound_rows, few_rows}
-use Rattle.giv_files.proofs.Ranges.{front_none, back_none, unmapped}
+use Rattle.tables.specs.declared.column.ColumnKind.TheVariants as column
+use Rattle.tables.specs.Inputs.{records, numbered, row_faults, input_faults}
+use Rattle.tables.specs.Reading.{table_of}
+use Rattle.tables.specs.Tables.{TableRow}
+use Rattle.tables.specs.Writing.{InColumns}
+use Rattle.tables.proofs.Inputs.{parts_sound, table_sound, sound_rows, few_rows}
+use Rattle.tables.proofs.Ranges.{front_none, back_none, unmapped}
 use Rattle.ptn_network.specs.declared.edge.Edge.{Edge}
 use Rattle.ptn_network.specs.Networks.{NetworkParts, IsNetwork, rising}
 use Rattle.ptn_network.specs.Paths.{edges_at}

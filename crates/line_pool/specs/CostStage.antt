@@ -1,17 +1,17 @@
 -- The cost of each line, and the stage that writes them.
 use Rattle.std.specs.Prelude.{ℕ, pos, ◌+◌, ◌*◌, ◌/◌, List, [], ◌∷◌, ◌++◌, length, map, sum, codes, option_map, unwrap_or, slice_get, Result}
-use Rattle.giv_files.specs.declared.file_id.FileId.TheVariants as file
+use Rattle.tables.specs.declared.file_id.FileId.TheVariants as file
 use Rattle.giv_files.specs.declared.key.Key.TheVariants as key
 use Rattle.giv_files.specs.declared.made.Made.{Made}
-use Rattle.giv_files.specs.declared.refusal.Refusal.{Refusal}
+use Rattle.tables.specs.declared.refusal.Refusal.{Refusal}
 use Rattle.giv_files.specs.declared.setting.Setting.{Setting}
 use Rattle.giv_files.specs.declared.stage.Stage.TheVariants as stage
-use Rattle.giv_files.specs.Columns.{pool_cost_columns}
+use Rattle.tables.specs.Columns.{pool_cost_columns}
 use Rattle.giv_files.specs.ReportLines.{count_text, report_line}
 use Rattle.giv_files.specs.Settings.{BundleParts, amount}
 use Rattle.giv_files.specs.StageCalls.{input_text, unless_fault}
-use Rattle.giv_files.specs.Tables.{TableRow}
-use Rattle.giv_files.specs.Writing.{table_text}
+use Rattle.tables.specs.Tables.{TableRow}
+use Rattle.tables.specs.Writing.{table_text}
 use Rattle.ptn_network.specs.declared.edge.Edge.{Edge}
 use Rattle.ptn_network.specs.Networks.{network_faults}
 pub use Rattle.ptn_network.specs.Networks.{network_in}
@@ -48,8 +48,8 @@ costs_made settings edges lines = record {
 
 -- every fault of a bundle, in the order of its inputs: the texts of stops, of edges and of the pool
 abbrev pub cost_faults : BundleParts → List Refusal
-cost_faults bundle = network_faults (input_text bundle 0) (input_text bundle 1) ++ pool_faults (network_in bundle) (input_text bundle 2)
+cost_faults bundle = network_faults (input_text bundle 0) (input_text bundle 1) ++ pool_faults (network_in bundle.inputs) (input_text bundle 2)
 
 -- the stage: from settings and input texts to what is made, or the first fault
 unfoldable pub cost_stage : BundleParts → Result Made Refusal
-cost_stage bundle = unless_fault (cost_faults bundle) (costs_made bundle.settings (network_in bundle).edges (pool_of (network_in bundle) (input_text bundle 2)))
+cost_stage bundle = unless_fault (cost_faults bundle) (costs_made bundle.settings (network_in bundle.inputs).edges (pool_of (network_in bundle.inputs) (input_text bundle 2)))

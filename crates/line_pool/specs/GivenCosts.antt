@@ -2,7 +2,7 @@
 use Rattle.std.specs.Prelude.{ℕ, ℤ, pos, ◌≤ℤ◌, List, map, Option, option_map, unwrap_or}
 use Rattle.std.specs.List.{find}
 use Rattle.std.specs.Ordering.{int_eq}
-use Rattle.giv_files.specs.Inputs.{records_of}
+use Rattle.tables.specs.Inputs.{records_of}
 use Rattle.line_pool.specs.PoolCosts.{CostRow, pool_cost_input}
 use Rattle.line_pool.specs.Pools.{LineParts}
 

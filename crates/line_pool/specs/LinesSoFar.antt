@@ -1,7 +1,7 @@
 -- What is known of the lines of a pool after some of its rows.
 use Rattle.std.specs.Prelude.{ℕ, ℤ, pos, ◌++◌, List, [], ◌∷◌, map, unsigned_abs, Option, Some, None, option_and_then, unwrap_or}
 use Rattle.std.specs.Option.{option_or}
-use Rattle.giv_files.specs.Tables.{TableRow}
+use Rattle.tables.specs.Tables.{TableRow}
 use Rattle.ptn_network.specs.declared.edge.Edge.{Edge}
 pub use Rattle.ptn_network.specs.Ids.{StandsAt}
 use Rattle.ptn_network.specs.Walks.{across, end_from}

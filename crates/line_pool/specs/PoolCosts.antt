@@ -2,10 +2,10 @@
 use Rattle.std.specs.Prelude.{ℤ, pos, not, List, [], ◌∷◌, ◌++◌, get_or}
 use Rattle.std.specs.List.{list_any}
 use Rattle.std.specs.Ordering.{int_eq}
-use Rattle.giv_files.specs.declared.file_id.FileId.TheVariants as file
-use Rattle.giv_files.specs.declared.row_why.RowWhy.TheVariants as why
-use Rattle.giv_files.specs.Columns.{pool_cost_columns}
-use Rattle.giv_files.specs.Inputs.{Input, RowRule, TableRule, own_id, whole_rule}
+use Rattle.tables.specs.declared.file_id.FileId.TheVariants as file
+use Rattle.tables.specs.declared.row_why.RowWhy.TheVariants as why
+use Rattle.tables.specs.Columns.{pool_cost_columns}
+use Rattle.tables.specs.Inputs.{Input, RowRule, TableRule, own_id, whole_rule}
 pub use Rattle.line_pool.specs.declared.cost_row.CostRow.{CostRow}
 use Rattle.line_pool.specs.Pools.{LineParts}
 

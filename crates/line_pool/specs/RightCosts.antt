@@ -1,25 +1,25 @@
 -- What is right about the costs that are made.
 use Rattle.std.specs.Prelude.{◌≡◌, ℕ, List, [], ◌∷◌, map}
-use Rattle.giv_files.specs.declared.file_id.FileId.TheVariants as file
+use Rattle.tables.specs.declared.file_id.FileId.TheVariants as file
 use Rattle.giv_files.specs.declared.made.Made.{Made}
 use Rattle.giv_files.specs.declared.made.MadeFile.{MadeFile}
-use Rattle.giv_files.specs.Columns.{pool_cost_columns}
-use Rattle.giv_files.specs.Inputs.{input_faults}
+use Rattle.tables.specs.Columns.{pool_cost_columns}
+use Rattle.tables.specs.Inputs.{input_faults}
 use Rattle.giv_files.specs.Settings.{BundleParts}
 use Rattle.giv_files.specs.StageCalls.{input_text}
-use Rattle.giv_files.specs.Tables.{TableRow}
-use Rattle.giv_files.specs.Writing.{ReadsBack}
+use Rattle.tables.specs.Tables.{TableRow}
+use Rattle.tables.specs.Writing.{ReadsBack}
 use Rattle.line_pool.specs.CostStage.{network_in, cost_faults, cost_row}
 use Rattle.line_pool.specs.PoolCosts.{pool_cost_input}
 use Rattle.line_pool.specs.Pools.{LineParts, pool_of}
 
 -- the lines of a bundle, whose third input is the text of the pool
 abbrev pub lines_in : BundleParts → List LineParts
-lines_in bundle = pool_of (network_in bundle) (input_text bundle 2)
+lines_in bundle = pool_of (network_in bundle.inputs) (input_text bundle 2)
 
 -- the id, the length and the cost of each of its lines
 abbrev pub cost_rows : BundleParts → List TableRow
-cost_rows bundle = map (cost_row bundle.settings (network_in bundle).edges) (lines_in bundle)
+cost_rows bundle = map (cost_row bundle.settings (network_in bundle.inputs).edges) (lines_in bundle)
 
 -- The files that are made are right: the inputs have no fault, and there is one file. Read again,
 -- it has the length and the cost of each line over the inputs, and no fault by the rules of its

@@ -2,7 +2,7 @@
 ghost use Rattle.std.specs.Prelude.{◌≡◌, ⊤};
 ghost use Rattle.line_pool.specs.PoolCosts.{cost_row_of};
 
-use giv_files::{Record, Table};
+use tables::{Record, Table};
 
 /// A line with its length and its cost, each in millionths.
 #[derive(Clone, Copy)]

@@ -6,10 +6,8 @@ ghost use Rattle.line_pool.specs.CostStage.{length_at, cost_row, costs_made};
 ghost use Rattle.line_pool.specs.LineCosts.{IsModest, AreModest};
 
 use crate::pool::Pool;
-use giv_files::{
-    FileId, Key, Made, MadeFile, MadeList, Settings, Stage, Table, columns, count_text,
-    report_line, write_table,
-};
+use giv_files::{Key, Made, MadeFile, MadeList, Settings, Stage, count_text, report_line};
+use tables::{FileId, Table, columns, write_table};
 use plan_num::NoMemory;
 use ptn_network::Network;
 use std::alloc::Global;

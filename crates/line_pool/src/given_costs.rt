@@ -3,13 +3,13 @@ ghost use Rattle.std.specs.Prelude.{◌≡◌, ◌<◌, ⊤, length, slice_get, 
 ghost use Rattle.std.specs.Prelude.{if◌then◌else◌, None, Some, IfOk};
 ghost use Rattle.std.specs.List.{find, list_any, All};
 ghost use Rattle.std.specs.Ordering.{int_eq};
-ghost use Rattle.giv_files.specs.Inputs.{input_faults, UnlessFault};
+ghost use Rattle.tables.specs.Inputs.{input_faults, UnlessFault};
 ghost use Rattle.line_pool.specs.GivenCosts.{cost_for, costs_over, costs_of, IsCost};
 ghost use Rattle.line_pool.specs.PoolCosts.{pool_cost_input};
 
 use crate::cost_row::CostRow;
 use crate::pool::Pool;
-use giv_files::{FileId, Refusal, RowTests, RowWhy, StageFault, columns, read_file};
+use tables::{FileId, Refusal, RowTests, RowWhy, StageFault, columns, read_file};
 use plan_num::NoMemory;
 use std::alloc::Global;
 use std::marker::Model;

@@ -2,7 +2,7 @@
 ghost use Rattle.std.specs.Prelude.{◌≡◌};
 ghost use Rattle.line_pool.specs.Pools.{file_of};
 
-use giv_files::FileId;
+use tables::FileId;
 
 /// A file that has lines, row by row: the pool, or a line concept, which has the frequency of each
 /// line too.

@@ -1,9 +1,9 @@
 // A row of a file of lines.
 ghost use Rattle.std.specs.Prelude.{◌≡◌, ◌<◌, ◌≤◌, length, slice_index_or};
-ghost use Rattle.giv_files.specs.Tables.{no_row, cell_at};
+ghost use Rattle.tables.specs.Tables.{no_row, cell_at};
 ghost use Rattle.line_pool.specs.Pools.{line_row};
 
-use giv_files::Table;
+use tables::Table;
 
 /// A row of a file of lines: a line, a place in it from 1, the id of the edge there, and the
 /// frequency of the line, which is 0 in a pool.

@@ -2,7 +2,7 @@
 ghost use Rattle.std.specs.Prelude.{◌≡◌, ◌+◌, ◌<◌, ◌≤◌, ℤ, pos, true, not, List, [], length, map, slice_get, slice_set, slice_index_or, position, vec_len, Some, IfOk, OnOk, MatchResult};
 ghost use Rattle.std.specs.List.{list_any, IsDistinct};
 ghost use Rattle.std.specs.Ordering.{int_eq};
-ghost use Rattle.giv_files.specs.Inputs.{records, table_row_faults, broken_whys, UnlessFault};
+ghost use Rattle.tables.specs.Inputs.{records, table_row_faults, broken_whys, UnlessFault};
 ghost use Rattle.ptn_network.specs.Networks.{rising};
 ghost use Rattle.line_pool.specs.declared.line_row.LineRow.{LineRow};
 ghost use Rattle.line_pool.specs.Pools.{line_input, line_rules, rows_of};
@@ -12,7 +12,7 @@ use crate::line_file::LineFile;
 use crate::line_row::LineRow;
 use crate::line_so_far::LineSoFar;
 use crate::pool::Line;
-use giv_files::{Refusal, RowWhy, StageFault, Table};
+use tables::{Refusal, RowWhy, StageFault, Table};
 use indexmap::IndexSet;
 use plan_num::NoMemory;
 use ptn_network::{Edge, Network};

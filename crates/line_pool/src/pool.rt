@@ -1,12 +1,12 @@
 // The pool of lines.
 ghost use Rattle.std.specs.Prelude.{◌≡◌, ◌<◌, ◌≤◌, ◌^◌, length, slice_get, Some, option_map, IfOk};
-ghost use Rattle.giv_files.specs.Inputs.{records, table_faults, UnlessFault};
+ghost use Rattle.tables.specs.Inputs.{records, table_faults, UnlessFault};
 ghost use Rattle.ptn_network.specs.Networks.{IsNetwork};
 ghost use Rattle.line_pool.specs.Pools.{line_input, line_faults, lines_of, lines_over, columns_of, pool_of, pool_faults, concept_of, concept_faults, AreLines};
 
 use crate::line_file::LineFile;
 use crate::line_rows::{line_ids, lines_of_rows, whole_lines};
-use giv_files::{ColumnKind, Counted, Refusal, StageFault, Table, columns, read_input};
+use tables::{ColumnKind, Counted, Refusal, StageFault, Table, columns, read_input};
 use ptn_network::Network;
 use std::alloc::Global;
 use std::marker::Model;

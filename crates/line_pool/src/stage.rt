@@ -8,7 +8,8 @@ ghost use Rattle.line_pool.specs.RightCosts.{CostsAreRight};
 
 use crate::cost_table::costs_of_pool;
 use crate::pool::Pool;
-use giv_files::{Bundle, Made, StageFault};
+use giv_files::{Bundle, Made};
+use tables::StageFault;
 use plan_num::{Ledger, Steps};
 use ptn_network::Network;
 use std::alloc::Global;

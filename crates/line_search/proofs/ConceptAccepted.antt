@@ -7,13 +7,13 @@ use Rattle.std.specs.List.Sorted.{IsStrictlySortedBy}
 use Rattle.std.specs.Ordering.{int_cmp}
 use Rattle.std.specs.declared.cmp.Ordering.TheVariants.{Less}
 use Rattle.std.proofs.lemmas.List.{length-map, map-append}
-use Rattle.giv_files.specs.declared.file_id.FileId.TheVariants as file
-use Rattle.giv_files.specs.Columns.{concept_columns}
-use Rattle.giv_files.specs.Inputs.{input_faults}
+use Rattle.tables.specs.declared.file_id.FileId.TheVariants as file
+use Rattle.tables.specs.Columns.{concept_columns}
+use Rattle.tables.specs.Inputs.{input_faults}
 use Rattle.giv_files.specs.Settings.{BundleParts}
 use Rattle.giv_files.specs.StageCalls.{input_text}
-use Rattle.giv_files.specs.Writing.{ReadsBack}
-use Rattle.giv_files.proofs.Ranges.{front_none, back_none}
+use Rattle.tables.specs.Writing.{ReadsBack}
+use Rattle.tables.proofs.Ranges.{front_none, back_none}
 use Rattle.ptn_network.specs.declared.edge.Edge.{Edge}
 use Rattle.ptn_network.specs.declared.edge_load.EdgeLoad.{EdgeLoad}
 use Rattle.ptn_network.specs.Loads.{load_input, loads_of}
@@ -143,11 +143,11 @@ each_walked edges (line ∷ lines) (cost ∷ costs) own = (
 
 pub concept_accepted : (bundle : BundleParts) → problem_faults bundle ≡ [] → (frequencies text : List ℕ)
     → ReadsBack concept_columns (concept_rows (problem_of bundle) frequencies) text
-    → concept_faults (network_in bundle) text ≡ []
+    → concept_faults (network_in bundle.inputs) text ≡ []
 unfolding problem_faults problem_of loads_of line_faults
 concept_accepted bundle none frequencies text reads =
     let given = input_text bundle in
-    let network = network_in bundle in
+    let network = network_in bundle.inputs in
     let edges = network.edges in
     let lines = pool_of network (given 2) in
     let networks = network_faults (given 0) (given 1) in

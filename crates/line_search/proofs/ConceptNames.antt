@@ -2,15 +2,15 @@
 use Rattle.std.proofs.Common.{arith, ◌≡◌, ℕ, Bool, true, List, [], ◌∷◌, ◌++◌, slice_get, Option}
 use Rattle.std.proofs.Common.{Some, None, Result, Err, refl, subst}
 use Rattle.std.specs.Prelude.{ok_or}
-use Rattle.giv_files.specs.declared.file_id.FileId.{FileId}
-use Rattle.giv_files.specs.declared.file_id.FileId.TheVariants as file
+use Rattle.tables.specs.declared.file_id.FileId.{FileId}
+use Rattle.tables.specs.declared.file_id.FileId.TheVariants as file
 use Rattle.giv_files.specs.declared.made.Made.{Made}
-use Rattle.giv_files.specs.declared.refusal.Refusal.{Refusal}
-use Rattle.giv_files.specs.Inputs.{input_faults}
-use Rattle.giv_files.specs.NamedFiles.{NamesInput, NamesOnly}
+use Rattle.tables.specs.declared.refusal.Refusal.{Refusal}
+use Rattle.tables.specs.Inputs.{input_faults}
+use Rattle.tables.specs.NamedFiles.{NamesInput, NamesOnly}
 use Rattle.giv_files.specs.Settings.{BundleParts}
 use Rattle.giv_files.specs.StageCalls.{input_text}
-use Rattle.giv_files.proofs.Named.{AllName, input_names, names_both, names_only}
+use Rattle.tables.proofs.Named.{AllName, input_names, names_both, names_only}
 use Rattle.ptn_network.specs.Loads.{load_input}
 use Rattle.ptn_network.specs.Networks.{NetworkParts, network_faults, network_in}
 use Rattle.ptn_network.proofs.NamedFaults.{network_names}
@@ -52,20 +52,20 @@ pool_names test pool network text = input_names test _ text pool
 -- the faults of a bundle name the file of stops, of edges, of the pool, and what those of loads and costs do
 pub problem_names : (test : FileId → Bool) → test file.Stop ≡ true → test file.Edge ≡ true
     → test file.Pool ≡ true → (bundle : BundleParts)
-    → AllName test (input_faults (load_input file.Load (network_in bundle).edges) (input_text bundle 3))
+    → AllName test (input_faults (load_input file.Load (network_in bundle.inputs).edges) (input_text bundle 3))
     → AllName test (input_faults (pool_cost_input (lines_in bundle)) (input_text bundle 4))
     → AllName test (problem_faults bundle)
 unfolding problem_faults
 problem_names test stop edge pool bundle of_loads of_costs =
     let network = network_faults (input_text bundle 0) (input_text bundle 1) in
-    let lines = pool_faults (network_in bundle) (input_text bundle 2) in
-    let loads = input_faults (load_input file.Load (network_in bundle).edges) (input_text bundle 3)
+    let lines = pool_faults (network_in bundle.inputs) (input_text bundle 2) in
+    let loads = input_faults (load_input file.Load (network_in bundle.inputs).edges) (input_text bundle 3)
     in
     names_both test (network ++ lines ++ loads) _
     (names_both test (network ++ lines) loads
     (names_both test network lines
     (network_names test stop edge (input_text bundle 0) (input_text bundle 1))
-    (pool_names test pool (network_in bundle) (input_text bundle 2)))
+    (pool_names test pool (network_in bundle.inputs) (input_text bundle 2)))
     of_loads)
     of_costs
 
@@ -73,7 +73,7 @@ problem_names test stop edge pool bundle of_loads of_costs =
 pub input_faults_only : (bundle : BundleParts) → AllName (λ _. true) (problem_faults bundle)
 input_faults_only bundle =
     problem_names (λ _. true) refl refl refl bundle
-    (input_names (λ _. true) (load_input file.Load (network_in bundle).edges) (input_text bundle 3) refl)
+    (input_names (λ _. true) (load_input file.Load (network_in bundle.inputs).edges) (input_text bundle 3) refl)
     (input_names (λ _. true) (pool_cost_input (lines_in bundle)) (input_text bundle 4) refl)
 
 -- so what is refused and names no input is refused over inputs without a fault
@@ -104,7 +104,7 @@ input_refused bundle first is = first_named (λ _. true) (problem_faults bundle)
 -- so a refusal by a row names one of these
 pub concept_stage_names : (test : FileId → Bool) → test file.Stop ≡ true → test file.Edge ≡ true
     → test file.Pool ≡ true → (bundle : BundleParts)
-    → AllName test (input_faults (load_input file.Load (network_in bundle).edges) (input_text bundle 3))
+    → AllName test (input_faults (load_input file.Load (network_in bundle.inputs).edges) (input_text bundle 3))
     → AllName test (input_faults (pool_cost_input (lines_in bundle)) (input_text bundle 4))
     → (reason : Refusal) → concept_stage bundle ≡ Err reason → NamesOnly test reason
 unfolding concept_stage

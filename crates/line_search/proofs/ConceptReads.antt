@@ -10,18 +10,18 @@ use Rattle.std.specs.Cmp.Rules.{signed_items}
 use Rattle.std.proofs.lemmas.Bool.{cases_Bool}
 use lib.Pointwise.{pointwise, pointwise_decides}
 use Rattle.giv_files.specs.declared.made.Made.{Made}
-use Rattle.giv_files.specs.declared.refusal.Refusal.{Refusal}
-use Rattle.giv_files.specs.declared.refusal.Refusal.TheVariants as refusal
-use Rattle.giv_files.specs.declared.refusal.StageFault.{StageFault}
+use Rattle.tables.specs.declared.refusal.Refusal.{Refusal}
+use Rattle.tables.specs.declared.refusal.Refusal.TheVariants as refusal
+use Rattle.tables.specs.declared.refusal.StageFault.{StageFault}
 use Rattle.giv_files.specs.declared.stage.Stage.TheVariants as stage
-use Rattle.giv_files.specs.Columns.{concept_columns, tree_columns}
-use Rattle.giv_files.specs.Reading.{table_of}
+use Rattle.tables.specs.Columns.{concept_columns, tree_columns}
+use Rattle.tables.specs.Reading.{table_of}
 use Rattle.giv_files.specs.Settings.{BundleParts, Fits}
 use Rattle.giv_files.specs.StageCalls.{StageGives}
-use Rattle.giv_files.specs.Tables.{TableRow}
-use Rattle.giv_files.specs.Writing.{ReadsBack}
-use Rattle.giv_files.proofs.Headers.{plain_header}
-use Rattle.giv_files.proofs.WrittenBack.{written_back}
+use Rattle.tables.specs.Tables.{TableRow}
+use Rattle.tables.specs.Writing.{ReadsBack}
+use Rattle.tables.proofs.Headers.{plain_header}
+use Rattle.tables.proofs.WrittenBack.{written_back}
 use Rattle.line_cost_model.specs.declared.range.LineRange.{LineRange}
 use Rattle.line_cost_model.specs.Chosen.{IsChosen}
 use Rattle.line_cost_model.specs.Concepts.{IsFeasible, cost_of, is_feasible}
@@ -50,7 +50,7 @@ use Rattle.line_search.proofs.ChosenFound.{best_feasible, found_is_chosen, listi
 use Rattle.line_search.proofs.ChosenFound.{nodes_certify, some_find}
 use Rattle.line_search.proofs.ConceptAccepted.{concept_accepted}
 use Rattle.line_search.proofs.ConceptWritten.{concept_inside}
-use Rattle.giv_files.proofs.WrittenColumns.{columns_written}
+use Rattle.tables.proofs.WrittenColumns.{columns_written}
 use Rattle.line_search.proofs.FrequenciesBack.{frequencies_back}
 use Rattle.line_search.proofs.Judging.{by_tree}
 use Rattle.line_search.proofs.SoundProblems.{problem_sound}

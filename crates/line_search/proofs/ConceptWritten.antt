@@ -11,9 +11,9 @@ use Rattle.std.proofs.lemmas.List.Sums.{sum_by-cons}
 use Rattle.std.proofs.lemmas.Map.Steps.{length-le_from_distinct_below}
 use Rattle.std.proofs.lemmas.Nat.{mul-le}
 use Rattle.std.proofs.lemmas.List.Folds.{Any-from_list_any}
-use Rattle.giv_files.specs.Columns.{concept_columns}
-use Rattle.giv_files.specs.Tables.{TableRow}
-use Rattle.giv_files.specs.Writing.{InColumns, table_text}
+use Rattle.tables.specs.Columns.{concept_columns}
+use Rattle.tables.specs.Tables.{TableRow}
+use Rattle.tables.specs.Writing.{InColumns, table_text}
 use Rattle.line_cost_model.specs.Concepts.{cost_of}
 use Rattle.line_cost_model.specs.Problems.{CostedLine, IsCostedLine, IsId, IsProblem, ProblemParts}
 use Rattle.line_cost_model.proofs.FewLines.{few_edges, few_lines}

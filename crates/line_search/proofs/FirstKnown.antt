@@ -4,8 +4,8 @@ use Rattle.std.proofs.Common.{get_or, Option, Some, None, ap, sym, ◌∙◌}
 use Rattle.std.specs.Option.{option_or}
 use Rattle.std.specs.Ordering.{int_eq}
 use Rattle.std.proofs.lemmas.Bool.{cases_Bool}
-use Rattle.giv_files.specs.Tables.{TableRow, no_row}
-use Rattle.giv_files.proofs.Inputs.{records_more}
+use Rattle.tables.specs.Tables.{TableRow, no_row}
+use Rattle.tables.proofs.Inputs.{records_more}
 use Rattle.line_pool.specs.Pools.{differs}
 use Rattle.line_search.specs.PinnedConcepts.{first_of_line, frequency_at, line_in, pinned_input}
 use Rattle.line_search.specs.PinnedConcepts.{rows_with, same_frequency}

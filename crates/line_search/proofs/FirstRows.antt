@@ -6,7 +6,7 @@ use Rattle.std.specs.List.{find}
 use Rattle.std.specs.Ordering.{int_eq}
 use Rattle.std.proofs.lemmas.List.{drop_more, drop_all}
 use Rattle.std.proofs.lemmas.Option.{same_Some}
-use Rattle.giv_files.specs.Tables.{TableRow, cell_at, no_row}
+use Rattle.tables.specs.Tables.{TableRow, cell_at, no_row}
 use Rattle.line_cost_model.specs.Problems.{CostedLine}
 use Rattle.line_search.specs.ConceptTables.{frequency_in, frequency_of_row}
 

@@ -7,7 +7,7 @@ use Rattle.std.proofs.lemmas.List.{length-map, map-append}
 use Rattle.std.proofs.lemmas.List.Elements.{All-head, All-tail}
 use Rattle.std.proofs.lemmas.Simd.{map-map}
 use Rattle.std.proofs.lemmas.Bool.{cases_Bool}
-use Rattle.giv_files.specs.Tables.{TableRow, Wide}
+use Rattle.tables.specs.Tables.{TableRow, Wide}
 use Rattle.ptn_network.specs.Networks.{rising}
 use Rattle.line_search.specs.declared.pool_rows.PlacedEdge.{PlacedEdge}
 use Rattle.line_search.specs.PinnedConcepts.{by_lines, line_in, places_of}

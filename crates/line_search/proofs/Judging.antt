@@ -3,9 +3,9 @@ use Rattle.std.proofs.Common.{◌≡◌, ℕ, not, Bool, true, false, cond, List
 use Rattle.std.proofs.Common.{arith, Option, Some, None, IfNone, IfSome}
 use Rattle.std.specs.Option.{option_or}
 use Rattle.std.proofs.lemmas.Option.{same_Some}
-use Rattle.giv_files.specs.Columns.{concept_columns}
-use Rattle.giv_files.specs.Reading.{faults, table_of}
-use Rattle.giv_files.specs.Tables.{TableRow}
+use Rattle.tables.specs.Columns.{concept_columns}
+use Rattle.tables.specs.Reading.{faults, table_of}
+use Rattle.tables.specs.Tables.{TableRow}
 use Rattle.line_cost_model.specs.Problems.{ProblemParts}
 use Rattle.line_cost_model.specs.Concepts.{IsFeasible, is_feasible, cost_of}
 use Rattle.line_search.specs.declared.fault.ConceptFault.{ConceptFault}

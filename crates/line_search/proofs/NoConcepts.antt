@@ -5,10 +5,10 @@ use Rattle.std.proofs.Common.{Result, Ok, Err, option_map}
 use Rattle.std.specs.Prelude.{ok_or}
 use Rattle.std.proofs.lemmas.Bool.{le-leb}
 use Rattle.giv_files.specs.declared.made.Made.{Made}
-use Rattle.giv_files.specs.declared.refusal.Refusal.{Refusal}
-use Rattle.giv_files.specs.declared.refusal.Refusal.TheVariants as refusal
-use Rattle.giv_files.specs.declared.refusal.StageFault.{StageFault}
-use Rattle.giv_files.specs.declared.refusal.StageFault.TheVariants as stage
+use Rattle.tables.specs.declared.refusal.Refusal.{Refusal}
+use Rattle.tables.specs.declared.refusal.Refusal.TheVariants as refusal
+use Rattle.tables.specs.declared.refusal.StageFault.{StageFault}
+use Rattle.tables.specs.declared.refusal.StageFault.TheVariants as stage
 use Rattle.giv_files.specs.Settings.{BundleParts}
 use Rattle.giv_files.specs.StageCalls.{StageGives}
 use Rattle.line_cost_model.specs.Chosen.{IsChosen}

@@ -5,19 +5,19 @@ use Rattle.std.proofs.lemmas.List.{length-map}
 use Rattle.std.proofs.lemmas.Simd.{map-map}
 use Rattle.std.specs.Ordering.{int_eq}
 use lib.Pointwise.{pointwise}
-use Rattle.giv_files.specs.declared.file_id.FileId.TheVariants as file
+use Rattle.tables.specs.declared.file_id.FileId.TheVariants as file
 use Rattle.giv_files.specs.declared.made.Made.{Made}
-use Rattle.giv_files.specs.declared.refusal.Refusal.TheVariants as refusal
-use Rattle.giv_files.specs.declared.refusal.StageFault.{StageFault}
-use Rattle.giv_files.specs.declared.refusal.StageFault.TheVariants as stage
-use Rattle.giv_files.specs.declared.row_why.RowWhy.TheVariants as why
-use Rattle.giv_files.specs.Inputs.{Input, Refuses, input_faults, table_faults, table_row_faults}
-use Rattle.giv_files.specs.Inputs.{whole_rule}
+use Rattle.tables.specs.declared.refusal.Refusal.TheVariants as refusal
+use Rattle.tables.specs.declared.refusal.StageFault.{StageFault}
+use Rattle.tables.specs.declared.refusal.StageFault.TheVariants as stage
+use Rattle.tables.specs.declared.row_why.RowWhy.TheVariants as why
+use Rattle.tables.specs.Inputs.{Input, Refuses, input_faults, table_faults, table_row_faults}
+use Rattle.tables.specs.Inputs.{whole_rule}
 use Rattle.giv_files.specs.Settings.{BundleParts}
 use Rattle.giv_files.specs.StageCalls.{StageGives, input_text}
-use Rattle.giv_files.specs.Tables.{TableRow}
-use Rattle.giv_files.proofs.Inputs.{no_faults, refused_append, refused_whole, whole_rule_broken}
-use Rattle.giv_files.proofs.Inputs.{whole_rule_kept}
+use Rattle.tables.specs.Tables.{TableRow}
+use Rattle.tables.proofs.Inputs.{no_faults, refused_append, refused_whole, whole_rule_broken}
+use Rattle.tables.proofs.Inputs.{whole_rule_kept}
 use Rattle.giv_files.proofs.StageCalls.{stage_refused}
 use Rattle.line_cost_model.specs.Concepts.{cost_of, is_feasible}
 use Rattle.line_cost_model.specs.Problems.{ProblemParts}

@@ -2,18 +2,19 @@
 -- which file a refusal names.
 use Rattle.std.proofs.Common.{arith, ◌≡◌, Bool, true, Result, Ok, Err}
 use Rattle.std.specs.Prelude.{IfOk}
-use Rattle.giv_files.specs.declared.file_id.FileId.{FileId}
-use Rattle.giv_files.specs.declared.file_id.FileId.TheVariants as file
+use Rattle.tables.specs.declared.file_id.FileId.{FileId}
+use Rattle.tables.specs.declared.file_id.FileId.TheVariants as file
 use Rattle.giv_files.specs.declared.made.Made.{Made}
-use Rattle.giv_files.specs.declared.refusal.Refusal.{Refusal}
-use Rattle.giv_files.specs.declared.refusal.StageFault.{StageFault}
+use Rattle.tables.specs.declared.refusal.Refusal.{Refusal}
+use Rattle.tables.specs.declared.refusal.StageFault.{StageFault}
 use Rattle.giv_files.specs.declared.stage.Stage.TheVariants as stage
-use Rattle.giv_files.specs.Inputs.{input_faults}
+use Rattle.tables.specs.Inputs.{input_faults}
 use Rattle.giv_files.specs.MadeLists.{MakesAs, ids_of}
-use Rattle.giv_files.specs.NamedFiles.{NamesInput}
+use Rattle.tables.specs.NamedFiles.{NamesInput}
 use Rattle.giv_files.specs.Settings.{BundleParts, Fits}
 use Rattle.giv_files.specs.StageCalls.{StageGives, input_text}
-use Rattle.giv_files.proofs.Named.{AllName, input_names, names_both, refused_names}
+use Rattle.tables.proofs.Named.{AllName, input_names, names_both}
+use Rattle.giv_files.proofs.StageCalls.{refused_names}
 use Rattle.ptn_network.specs.Loads.{load_input}
 use Rattle.ptn_network.specs.Networks.{network_in}
 use Rattle.line_pool.specs.PoolCosts.{pool_cost_input}
@@ -46,7 +47,7 @@ pinned_files_given bundle (Err fault) given = tt
 -- what the faults of loads and of costs do
 pub pinned_concept_names : (test : FileId → Bool) → test file.Stop ≡ true → test file.Edge ≡ true
     → test file.Pool ≡ true → test file.PinnedConcept ≡ true → (bundle : BundleParts)
-    → AllName test (input_faults (load_input file.Load (network_in bundle).edges) (input_text bundle 3))
+    → AllName test (input_faults (load_input file.Load (network_in bundle.inputs).edges) (input_text bundle 3))
     → AllName test (input_faults (pool_cost_input (lines_in bundle)) (input_text bundle 4))
     → (reason : Refusal) → pinned_concept_stage bundle ≡ Err reason → NamesInput test reason
 unfolding pinned_concept_stage

@@ -26,7 +26,7 @@ module _ (bundle other : BundleParts) (same : HaveSameTexts bundle other) where
   unfolding problem_faults
   same_faults = rw (same.stops, same.edges, same.pool, same.loads, same.costs) refl
 
-  same_network : network_in bundle ≡ network_in other
+  same_network : network_in bundle.inputs ≡ network_in other.inputs
   same_network = rw (same.stops, same.edges) refl
 
   -- a concept that is right over the one is right over the other

@@ -4,15 +4,15 @@ use Rattle.std.proofs.Common.{slice_get, option_map, is_some, Option, Some, None
 use Rattle.std.proofs.Common.{◌∙◌, subst}
 use Rattle.std.proofs.lemmas.Simd.{map-map}
 use Rattle.giv_files.specs.declared.made.Made.{Made}
-use Rattle.giv_files.specs.declared.row_why.RowWhy.TheVariants as why
-use Rattle.giv_files.specs.Columns.{concept_columns}
-use Rattle.giv_files.specs.Inputs.{Input, records, whole_rule}
-use Rattle.giv_files.specs.Reading.{table_of}
+use Rattle.tables.specs.declared.row_why.RowWhy.TheVariants as why
+use Rattle.tables.specs.Columns.{concept_columns}
+use Rattle.tables.specs.Inputs.{Input, records, whole_rule}
+use Rattle.tables.specs.Reading.{table_of}
 use Rattle.giv_files.specs.Settings.{BundleParts}
 use Rattle.giv_files.specs.StageCalls.{input_text}
-use Rattle.giv_files.specs.Tables.{TableRow}
-use Rattle.giv_files.proofs.Inputs.{parts_sound, table_sound, whole_rule_sound}
-use Rattle.giv_files.proofs.Ranges.{back_none, front_none}
+use Rattle.tables.specs.Tables.{TableRow}
+use Rattle.tables.proofs.Inputs.{parts_sound, table_sound, whole_rule_sound}
+use Rattle.tables.proofs.Ranges.{back_none, front_none}
 use Rattle.giv_files.proofs.StageCalls.{made_unless, none_unless}
 use Rattle.line_cost_model.specs.Concepts.{IsFeasible, cost_of, is_feasible}
 use Rattle.line_cost_model.specs.Problems.{IsProblem, ProblemParts}

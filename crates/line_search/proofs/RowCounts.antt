@@ -10,7 +10,7 @@ use Rattle.std.proofs.lemmas.List.FromFn.{length-enumerate_from}
 use Rattle.std.proofs.lemmas.Option.{same_Some, slice_get-get_or}
 use Rattle.std.specs.Cmp.Rules.{signed_items}
 use lib.Pointwise.{pointwise, pointwise_decides}
-use Rattle.giv_files.specs.Tables.{TableRow}
+use Rattle.tables.specs.Tables.{TableRow}
 use Rattle.line_cost_model.specs.Problems.{CostedLine, ProblemParts}
 use Rattle.line_search.specs.ConceptTables.{concept_rows, line_rows, row_count}
 use Rattle.line_search.specs.Judged.{same_cells}

@@ -3,7 +3,7 @@ use Rattle.std.proofs.Common.{◌≡◌, true, List, map}
 use Rattle.std.specs.Ordering.{int_eq}
 use Rattle.std.specs.Cmp.Rules.{signed_items}
 use lib.Pointwise.{pointwise, pointwise_decides}
-use Rattle.giv_files.specs.Tables.{TableRow}
+use Rattle.tables.specs.Tables.{TableRow}
 use Rattle.line_search.specs.Judged.{same_cells}
 
 -- the test of cells is exact

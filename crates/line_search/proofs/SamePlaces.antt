@@ -4,7 +4,7 @@ use Rattle.std.proofs.Common.{get_or, ◌∙◌}
 use Rattle.std.specs.Ordering.{int_eq}
 use Rattle.std.proofs.lemmas.List.{at_drop_more}
 use lib.Pointwise.{pointwise}
-use Rattle.giv_files.specs.Tables.{TableRow, no_row}
+use Rattle.tables.specs.Tables.{TableRow, no_row}
 use Rattle.line_search.specs.declared.pool_rows.PlacedEdge.{PlacedEdge}
 use Rattle.line_search.specs.PinnedConcepts.{places_of}
 use Rattle.line_search.specs.PoolPlaces.{cells_of}

@@ -5,9 +5,9 @@ use Rattle.std.specs.List.Sorted.{IsStrictlySortedBy}
 use Rattle.std.specs.Ordering.{int_cmp}
 use Rattle.std.proofs.lemmas.List.{length-map}
 use Rattle.std.proofs.lemmas.List.Elements.{All-cons, All-head, All-nil, All-tail}
-use Rattle.giv_files.specs.declared.file_id.FileId.TheVariants as file
-use Rattle.giv_files.proofs.Ranges.{front_none, back_none}
-use Rattle.giv_files.specs.Inputs.{input_faults}
+use Rattle.tables.specs.declared.file_id.FileId.TheVariants as file
+use Rattle.tables.proofs.Ranges.{front_none, back_none}
+use Rattle.tables.specs.Inputs.{input_faults}
 use Rattle.giv_files.specs.Settings.{BundleParts}
 use Rattle.giv_files.specs.StageCalls.{input_text}
 use Rattle.ptn_network.specs.declared.edge.Edge.{Edge}
@@ -59,7 +59,7 @@ pub problem_sound : (bundle : BundleParts) → problem_faults bundle ≡ []
 unfolding problem_faults problem_of loads_of
 problem_sound bundle none =
     let text = input_text bundle in
-    let network = network_in bundle in
+    let network = network_in bundle.inputs in
     let edges = network.edges in
     let lines = pool_of network (text 2) in
     let networks = network_faults (text 0) (text 1) in

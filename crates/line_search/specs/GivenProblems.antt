@@ -1,9 +1,9 @@
 -- The line problem of a bundle, whose inputs are the texts of stops, of edges, of the pool, of loads
 -- with bounds of frequency and of costs.
 use Rattle.std.specs.Prelude.{ℤ, List, ◌++◌, map, zip, unsigned_abs}
-use Rattle.giv_files.specs.declared.file_id.FileId.TheVariants as file
-use Rattle.giv_files.specs.declared.refusal.Refusal.{Refusal}
-use Rattle.giv_files.specs.Inputs.{input_faults}
+use Rattle.tables.specs.declared.file_id.FileId.TheVariants as file
+use Rattle.tables.specs.declared.refusal.Refusal.{Refusal}
+use Rattle.tables.specs.Inputs.{input_faults}
 use Rattle.giv_files.specs.Settings.{BundleParts}
 use Rattle.giv_files.specs.StageCalls.{input_text}
 use Rattle.ptn_network.specs.declared.edge.Edge.{Edge}
@@ -18,14 +18,14 @@ use Rattle.line_cost_model.specs.Problems.{CostedLine, ProblemParts}
 
 -- the lines of its pool
 abbrev pub lines_in : BundleParts → List LineParts
-lines_in bundle = pool_of (network_in bundle) (input_text bundle 2)
+lines_in bundle = pool_of (network_in bundle.inputs) (input_text bundle 2)
 
 -- every fault of its inputs, in their order
 unfoldable pub problem_faults : BundleParts → List Refusal
 problem_faults bundle =
     network_faults (input_text bundle 0) (input_text bundle 1)
-    ++ pool_faults (network_in bundle) (input_text bundle 2)
-    ++ input_faults (load_input file.Load (network_in bundle).edges) (input_text bundle 3)
+    ++ pool_faults (network_in bundle.inputs) (input_text bundle 2)
+    ++ input_faults (load_input file.Load (network_in bundle.inputs).edges) (input_text bundle 3)
     ++ input_faults (pool_cost_input (lines_in bundle)) (input_text bundle 4)
 
 -- an edge with the bounds of its load
@@ -48,7 +48,7 @@ problem_over edges loads lines costs = record {
 unfoldable pub problem_of : BundleParts → ProblemParts
 problem_of bundle =
     problem_over
-    (network_in bundle).edges
-    (loads_of file.Load (network_in bundle).edges (input_text bundle 3))
+    (network_in bundle.inputs).edges
+    (loads_of file.Load (network_in bundle.inputs).edges (input_text bundle 3))
     (lines_in bundle)
     (costs_of (lines_in bundle) (input_text bundle 4))

@@ -6,17 +6,17 @@ use Rattle.std.specs.List.{flat_map}
 use Rattle.std.specs.Ordering.{int_eq}
 use lib.Pointwise.{pointwise}
 use Rattle.plan_num.specs.Print.{fixed_text}
-use Rattle.giv_files.specs.declared.file_id.FileId.TheVariants as file
+use Rattle.tables.specs.declared.file_id.FileId.TheVariants as file
 use Rattle.giv_files.specs.declared.made.Made.{Made}
-use Rattle.giv_files.specs.declared.refusal.Refusal.{Refusal}
-use Rattle.giv_files.specs.declared.row_why.RowWhy.TheVariants as why
+use Rattle.tables.specs.declared.refusal.Refusal.{Refusal}
+use Rattle.tables.specs.declared.row_why.RowWhy.TheVariants as why
 use Rattle.giv_files.specs.declared.stage.Stage.TheVariants as stage
-use Rattle.giv_files.specs.Columns.{concept_columns}
-use Rattle.giv_files.specs.Inputs.{Input, RowRule, input_faults, whole_rule}
+use Rattle.tables.specs.Columns.{concept_columns}
+use Rattle.tables.specs.Inputs.{Input, RowRule, input_faults, whole_rule}
 use Rattle.giv_files.specs.ReportLines.{report_line}
 use Rattle.giv_files.specs.Settings.{BundleParts}
 use Rattle.giv_files.specs.StageCalls.{input_text, unless_fault}
-use Rattle.giv_files.specs.Tables.{TableRow}
+use Rattle.tables.specs.Tables.{TableRow}
 use Rattle.ptn_network.specs.Networks.{rising}
 use Rattle.line_pool.specs.Pools.{differs}
 use Rattle.line_cost_model.specs.Concepts.{cost_of, is_feasible}

@@ -1,15 +1,15 @@
 -- What is right about the concept that a search finds, and about the files that are made of it.
 use Rattle.std.specs.Prelude.{◌≡◌, ◌≢◌, ℕ, pos, ◌+◌, ◌*◌, ◌≤◌, List, [], ◌∷◌, length, take, Option}
 use Rattle.std.specs.Prelude.{None, ◌⊎◌, IfSome, Result, Ok, Err, ⊤}
-use Rattle.giv_files.specs.declared.file_id.FileId.TheVariants as file
+use Rattle.tables.specs.declared.file_id.FileId.TheVariants as file
 use Rattle.giv_files.specs.declared.made.Made.{Made}
 use Rattle.giv_files.specs.declared.made.MadeFile.{MadeFile}
-use Rattle.giv_files.specs.declared.refusal.Refusal.TheVariants as refusal
-use Rattle.giv_files.specs.declared.refusal.StageFault.{StageFault}
-use Rattle.giv_files.specs.declared.refusal.StageFault.TheVariants as fault
-use Rattle.giv_files.specs.Columns.{concept_columns}
+use Rattle.tables.specs.declared.refusal.Refusal.TheVariants as refusal
+use Rattle.tables.specs.declared.refusal.StageFault.{StageFault}
+use Rattle.tables.specs.declared.refusal.StageFault.TheVariants as fault
+use Rattle.tables.specs.Columns.{concept_columns}
 use Rattle.giv_files.specs.Settings.{BundleParts}
-use Rattle.giv_files.specs.Writing.{ReadsBack}
+use Rattle.tables.specs.Writing.{ReadsBack}
 use Rattle.ptn_network.specs.Networks.{network_in}
 use Rattle.line_pool.specs.Pools.{concept_faults}
 use Rattle.std.specs.List.{AllByRecursion, AllPairs, Contains}
@@ -111,4 +111,4 @@ pub record ConceptFilesAreRight (bundle : BundleParts) (files : List MadeFile) :
   pub feasible : IsFeasible (problem_of bundle) frequencies
   pub marked : IfSome tree (IsMarked (problem_of bundle) frequencies)
   pub passes : first_broken (problem_of bundle) text tree ≡ None
-  pub accepted : concept_faults (network_in bundle) text ≡ []
+  pub accepted : concept_faults (network_in bundle.inputs) text ≡ []

@@ -1,10 +1,10 @@
 -- What is right about a concept from a planner's hand.
 use Rattle.std.specs.Prelude.{◌≡◌, ℕ, List, [], ◌∷◌, Option, None, IfSome}
-use Rattle.giv_files.specs.declared.file_id.FileId.TheVariants as file
+use Rattle.tables.specs.declared.file_id.FileId.TheVariants as file
 use Rattle.giv_files.specs.declared.made.MadeFile.{MadeFile}
-use Rattle.giv_files.specs.Columns.{concept_columns}
+use Rattle.tables.specs.Columns.{concept_columns}
 use Rattle.giv_files.specs.Settings.{BundleParts}
-use Rattle.giv_files.specs.Writing.{ReadsBack}
+use Rattle.tables.specs.Writing.{ReadsBack}
 use Rattle.ptn_network.specs.Networks.{network_in}
 use Rattle.line_pool.specs.Pools.{concept_faults}
 use Rattle.line_cost_model.specs.Concepts.{IsFeasible}
@@ -27,4 +27,4 @@ pub record ConceptIsRight (bundle : BundleParts) (files : List MadeFile) : Type 
   pub feasible : IsFeasible (problem_of bundle) frequencies
   pub marked : IfSome tree (λ tree. Marks (problem_of bundle) frequencies tree)
   pub passes : first_broken (problem_of bundle) text tree ≡ None
-  pub accepted : concept_faults (network_in bundle) text ≡ []
+  pub accepted : concept_faults (network_in bundle.inputs) text ≡ []

@@ -3,8 +3,8 @@
 use Rattle.std.specs.Prelude.{◌≡◌, ℕ, ℤ, pos, ◌≤◌, int_le, nat_le, if◌then◌else◌, Bool, true, false}
 use Rattle.std.specs.Prelude.{List, [], ◌∷◌, ◌++◌, length, take, All, Option, Some, None}
 use Rattle.std.specs.Prelude.{option_map, IfSome, Result, Ok, Err}
-use Rattle.giv_files.specs.declared.refusal.Refusal.{Refusal}
-use Rattle.giv_files.specs.declared.refusal.Refusal.TheVariants as refusal
+use Rattle.tables.specs.declared.refusal.Refusal.{Refusal}
+use Rattle.tables.specs.declared.refusal.Refusal.TheVariants as refusal
 use Rattle.std.specs.List.{AllByRecursion}
 use Rattle.line_cost_model.specs.declared.range.LineRange.{LineRange}
 use Rattle.line_cost_model.specs.Problems.{ProblemParts}

@@ -1,7 +1,7 @@
 // The test of a line concept.
 ghost use Rattle.std.specs.Prelude.{◌≡◌, IfOk, IfNone, option_copied};
 ghost use Rattle.giv_files.specs.declared.stage.Stage.TheVariants as stages;
-ghost use Rattle.giv_files.specs.Inputs.{UnlessFault};
+ghost use Rattle.tables.specs.Inputs.{UnlessFault};
 ghost use Rattle.giv_files.specs.Settings.{Fits};
 ghost use Rattle.line_search.specs.GivenProblems.{problem_faults, problem_of};
 ghost use Rattle.line_search.specs.Judged.{Passes, first_broken};
@@ -9,7 +9,8 @@ ghost use Rattle.line_search.specs.Judged.{Passes, first_broken};
 use crate::fault::ConceptFault;
 use crate::given::read_problem;
 use crate::judge::first_fault;
-use giv_files::{Bundle, StageFault};
+use giv_files::Bundle;
+use tables::StageFault;
 use std::alloc::Global;
 
 /// The first rule that the text of a line concept breaks, or that the text of a tree beside it

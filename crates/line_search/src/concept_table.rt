@@ -4,11 +4,11 @@ ghost use Rattle.std.specs.Prelude.{slice_index_or};
 ghost use Rattle.std.specs.Prelude.{nat_eq, option_map, Some, IfOk, OnOk};
 ghost use Rattle.std.specs.Ordering.{int_eq};
 ghost use lib.Pointwise.{pointwise};
-ghost use Rattle.giv_files.specs.Tables.{cell_at, no_row};
+ghost use Rattle.tables.specs.Tables.{cell_at, no_row};
 ghost use Rattle.line_search.specs.ConceptTables.{concept_rows, line_rows, row_at, row_count};
 ghost use Rattle.line_search.specs.Judged.{same_cells};
 
-use giv_files::Table;
+use tables::Table;
 use line_cost_model::LineProblem;
 use plan_num::NoMemory;
 use std::alloc::Global;

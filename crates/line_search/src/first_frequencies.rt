@@ -3,12 +3,12 @@ ghost use Rattle.std.specs.Prelude.{◌≡◌, ℤ, Some, None, if◌then◌else
 ghost use Rattle.std.specs.Option.{option_or};
 ghost use Rattle.std.specs.Ordering.{int_eq};
 ghost use Rattle.std.specs.HashMap.{get};
-ghost use Rattle.giv_files.specs.Inputs.{table_row_faults, UnlessFault};
+ghost use Rattle.tables.specs.Inputs.{table_row_faults, UnlessFault};
 ghost use Rattle.line_pool.specs.Pools.{differs};
 ghost use Rattle.line_cost_model.specs.Problems.{ProblemParts};
 ghost use Rattle.line_search.specs.PinnedConcepts.{pinned_input};
 
-use giv_files::{FileId, Refusal, RowWhy, StageFault, Table};
+use tables::{FileId, Refusal, RowWhy, StageFault, Table};
 use plan_num::NoMemory;
 use std::alloc::Global;
 use std::collections::HashMap;

@@ -1,7 +1,7 @@
 // What is made of the concept that a search found.
 ghost use Rattle.std.specs.Prelude.{◌≡◌, ◌++◌, ◌∷◌, pos, codes, option_map, IfOk, IfSome};
 ghost use Rattle.plan_num.specs.Print.{fixed_text};
-ghost use Rattle.giv_files.specs.declared.file_id.FileId.TheVariants as file;
+ghost use Rattle.tables.specs.declared.file_id.FileId.TheVariants as file;
 ghost use Rattle.giv_files.specs.StageCalls.{StageGives};
 ghost use Rattle.line_cost_model.specs.Concepts.{cost_of};
 ghost use Rattle.branch_certificate.specs.TreeTexts.{tree_text};
@@ -14,10 +14,8 @@ use crate::best::BestConcept;
 use crate::concept_table::rows_of_concept;
 use crate::search::Searched;
 use branch_certificate::{Tree, write_tree};
-use giv_files::{
-    FileId, Made, MadeFile, MadeList, Refusal, Stage, StageFault, columns, count_text, report_line,
-    write_table,
-};
+use giv_files::{Made, MadeFile, MadeList, Stage, count_text, report_line};
+use tables::{FileId, Refusal, StageFault, columns, write_table};
 use line_cost_model::LineProblem;
 use plan_num::{NoMemory, Text, print_fixed};
 use std::alloc::Global;

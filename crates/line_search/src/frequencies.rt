@@ -2,12 +2,12 @@
 ghost use Rattle.std.specs.Prelude.{◌≡◌, ◌<◌, ◌≤◌, length, slice_get, slice_index_or};
 ghost use Rattle.std.specs.Prelude.{option_map, Some, All, IfOk};
 ghost use Rattle.std.specs.Ordering.{int_eq};
-ghost use Rattle.giv_files.specs.Columns.{concept_columns};
-ghost use Rattle.giv_files.specs.Tables.{cell_at, no_row};
-ghost use Rattle.giv_files.specs.Writing.{InColumns};
+ghost use Rattle.tables.specs.Columns.{concept_columns};
+ghost use Rattle.tables.specs.Tables.{cell_at, no_row};
+ghost use Rattle.tables.specs.Writing.{InColumns};
 ghost use Rattle.line_search.specs.ConceptTables.{frequencies_in, frequency_in, frequency_of_row};
 
-use giv_files::Table;
+use tables::Table;
 use line_cost_model::LineProblem;
 use plan_num::NoMemory;
 use std::alloc::Global;

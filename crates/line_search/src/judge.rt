@@ -1,9 +1,9 @@
 // The rules of a line concept, in their order.
 ghost use Rattle.std.specs.Prelude.{◌≡◌, ◌≤◌, length, map, option_copied, if◌then◌else◌};
 ghost use Rattle.std.specs.Prelude.{None, Some, All, IfOk, IfNone, IfSome};
-ghost use Rattle.giv_files.specs.Columns.{concept_columns};
-ghost use Rattle.giv_files.specs.Reading.{faults, table_of};
-ghost use Rattle.giv_files.specs.Writing.{InColumns};
+ghost use Rattle.tables.specs.Columns.{concept_columns};
+ghost use Rattle.tables.specs.Reading.{faults, table_of};
+ghost use Rattle.tables.specs.Writing.{InColumns};
 ghost use Rattle.line_cost_model.specs.Concepts.{cost_of};
 ghost use Rattle.line_search.specs.ConceptTables.{frequencies_in};
 ghost use Rattle.line_search.specs.Judged.{Marks, Passes, first_broken, has_some, tree_rule};
@@ -12,7 +12,7 @@ use crate::concept_table::{has_row_count, have_same_cells, rows_of_concept};
 use crate::fault::ConceptFault;
 use crate::frequencies::line_frequencies;
 use branch_certificate::{TreeReadFault, check_tree, read_tree};
-use giv_files::{ReadFault, Table, columns, read_table};
+use tables::{ReadFault, Table, columns, read_table};
 use line_cost_model::LineProblem;
 use plan_num::NoMemory;
 use std::alloc::Global;

@@ -1,13 +1,13 @@
 // The stage that takes a planner's line concept.
 ghost use Rattle.std.specs.Prelude.{◌≡◌, ◌≤◌, [], length, option_map, All, IfOk};
-ghost use Rattle.giv_files.specs.declared.file_id.FileId.TheVariants as file;
-ghost use Rattle.giv_files.specs.declared.refusal.Refusal.TheVariants as refusal;
+ghost use Rattle.tables.specs.declared.file_id.FileId.TheVariants as file;
+ghost use Rattle.tables.specs.declared.refusal.Refusal.TheVariants as refusal;
 ghost use Rattle.giv_files.specs.declared.stage.Stage.TheVariants as stages;
-ghost use Rattle.giv_files.specs.Columns.{concept_columns};
-ghost use Rattle.giv_files.specs.Inputs.{input_faults, table_faults, UnlessFault};
+ghost use Rattle.tables.specs.Columns.{concept_columns};
+ghost use Rattle.tables.specs.Inputs.{input_faults, table_faults, UnlessFault};
 ghost use Rattle.giv_files.specs.Settings.{Fits};
 ghost use Rattle.giv_files.specs.StageCalls.{StageGives, TakesSteps};
-ghost use Rattle.giv_files.specs.Writing.{InColumns};
+ghost use Rattle.tables.specs.Writing.{InColumns};
 ghost use Rattle.line_cost_model.specs.Concepts.{cost_of};
 ghost use Rattle.line_search.specs.ConceptTables.{frequencies_in};
 ghost use Rattle.line_search.specs.Judged.{frequencies_of};
@@ -26,10 +26,8 @@ use crate::given::read_problem;
 use crate::judge::tree_fault;
 use crate::pool_rows::are_of_pool;
 use branch_certificate::copy_tree;
-use giv_files::{
-    Bundle, FileId, Made, ReadFault, Refusal, RowWhy, Stage, StageFault, Table, columns,
-    read_input, report_line,
-};
+use giv_files::{Bundle, Made, Stage, report_line};
+use tables::{FileId, ReadFault, Refusal, RowWhy, StageFault, Table, columns, read_input};
 use line_cost_model::LineProblem;
 use plan_num::{Ledger, NoMemory, Steps, Text};
 use std::alloc::Global;

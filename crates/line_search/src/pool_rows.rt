@@ -2,13 +2,13 @@
 ghost use Rattle.std.specs.Prelude.{◌≡◌, ◌<◌, length, map, take, slice_index_or, IfOk, OnOk};
 ghost use Rattle.std.specs.Ordering.{int_eq};
 ghost use lib.Pointwise.{pointwise};
-ghost use Rattle.giv_files.specs.Tables.{cell_at, no_row};
+ghost use Rattle.tables.specs.Tables.{cell_at, no_row};
 ghost use Rattle.line_search.specs.ConceptTables.{concept_rows};
 ghost use Rattle.line_search.specs.PinnedConcepts.{by_lines, places_of};
 ghost use Rattle.line_search.specs.PoolPlaces.{cells_of, grouped, placed, plain_rows};
 
 use crate::concept_table::rows_of_concept;
-use giv_files::Table;
+use tables::Table;
 use line_cost_model::LineProblem;
 use plan_num::NoMemory;
 use std::alloc::Global;

@@ -11,7 +11,8 @@ ghost use Rattle.line_search.specs.RightConcepts.{ListingIsWhole, SaysNone, Sear
 use crate::found::search_made;
 use crate::given::read_problem;
 use crate::search::search_concept;
-use giv_files::{Bundle, Key, Made, StageFault};
+use giv_files::{Bundle, Key, Made};
+use tables::StageFault;
 use plan_num::{Ledger, Steps};
 use std::alloc::Global;
 

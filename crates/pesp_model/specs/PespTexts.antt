@@ -1,7 +1,7 @@
 -- The problem of the texts of periodic events and of periodic activities.
 use Rattle.std.specs.Prelude.{ℕ, pos, ◌-◌, List, ◌++◌, length, map}
-use Rattle.giv_files.specs.declared.refusal.Refusal.{Refusal}
-use Rattle.giv_files.specs.Inputs.{input_faults, records_of}
+use Rattle.tables.specs.declared.refusal.Refusal.{Refusal}
+use Rattle.tables.specs.Inputs.{input_faults, records_of}
 use Rattle.event_tables.specs.declared.periodic_activity.PeriodicActivity.{PeriodicActivity}
 use Rattle.event_tables.specs.declared.periodic_event.PeriodicEvent.{PeriodicEvent}
 use Rattle.event_tables.specs.PeriodicFiles.{periodic_event_input, periodic_activity_input, periodic_event_ids}

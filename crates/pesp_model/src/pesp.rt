@@ -1,14 +1,14 @@
 // Periodic event scheduling problems.
 ghost use Rattle.std.specs.Prelude.{◌≡◌, ◌<◌, ◌≤◌, length, map, position, slice_get, not, is_none};
 ghost use Rattle.std.specs.Prelude.{Some, All, Decides, IfOk};
-ghost use Rattle.giv_files.specs.Inputs.{UnlessFault};
+ghost use Rattle.tables.specs.Inputs.{UnlessFault};
 ghost use Rattle.pesp_model.specs.PespTexts.{activity_of, problem_of, problem_faults};
 ghost use Rattle.pesp_model.specs.Timetables.{first_broken, keeps_in, IsActivity, IsFirstBroken};
 ghost use Rattle.pesp_model.specs.Timetables.{IsProblem, IsTimetable};
 
 use crate::activity::PespActivity;
 use event_tables::{PeriodicActivity, periodic_activities, periodic_events};
-use giv_files::StageFault;
+use tables::StageFault;
 use plan_num::NoMemory;
 use std::alloc::Global;
 use std::marker::Model;

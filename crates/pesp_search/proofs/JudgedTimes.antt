@@ -8,12 +8,12 @@ use Rattle.std.proofs.lemmas.Bool.{and_from, and_parts, eq-eqb, eqb-true, lt-ltb
 use Rattle.std.proofs.lemmas.List.{length-map}
 use Rattle.std.proofs.lemmas.Option.{same_Some}
 use Rattle.std.proofs.lemmas.List.Elements.{All-cons, All-nil}
-use Rattle.giv_files.specs.Columns.{times_p_columns}
-use Rattle.giv_files.specs.Reading.{faults, table_of}
-use Rattle.giv_files.specs.Tables.{TableRow}
+use Rattle.tables.specs.Columns.{times_p_columns}
+use Rattle.tables.specs.Reading.{faults, table_of}
+use Rattle.tables.specs.Tables.{TableRow}
 use Rattle.event_tables.specs.declared.periodic_time.PeriodicTime.{PeriodicTime}
 use Rattle.event_tables.specs.Cells.{periodic_time}
-use Rattle.giv_files.specs.RowsOfTables.{ReadsAs, records_by}
+use Rattle.tables.specs.RowsOfTables.{ReadsAs, records_by}
 use Rattle.pesp_model.specs.Timetables.{IsProblem, IsTimetable, Problem, first_broken}
 use Rattle.pesp_model.proofs.FirstBroken.{first_is, none_is}
 use Rattle.pesp_search.specs.declared.fault.TimetableFault.{TimetableFault}

@@ -2,21 +2,22 @@
 -- right, which file a refusal names, and what they are over the inputs of a search.
 use Rattle.std.proofs.Common.{arith, ◌≡◌, ℕ, ◌≤◌, Bool, true, cond, List, [], ◌∷◌, is_some, Option}
 use Rattle.std.proofs.Common.{None, Some, Ok, Err, refl, subst}
-use Rattle.giv_files.specs.declared.file_id.FileId.{FileId}
-use Rattle.giv_files.specs.declared.file_id.FileId.TheVariants as file
+use Rattle.tables.specs.declared.file_id.FileId.{FileId}
+use Rattle.tables.specs.declared.file_id.FileId.TheVariants as file
 use Rattle.giv_files.specs.declared.key.Key.TheVariants as key
 use Rattle.giv_files.specs.declared.made.Made.{Made}
 use Rattle.giv_files.specs.declared.made.MadeFile.{MadeFile}
-use Rattle.giv_files.specs.declared.refusal.Refusal.{Refusal}
-use Rattle.giv_files.specs.declared.refusal.Refusal.TheVariants as refusal
-use Rattle.giv_files.specs.declared.row_why.RowWhy.TheVariants as why
+use Rattle.tables.specs.declared.refusal.Refusal.{Refusal}
+use Rattle.tables.specs.declared.refusal.Refusal.TheVariants as refusal
+use Rattle.tables.specs.declared.row_why.RowWhy.TheVariants as why
 use Rattle.giv_files.specs.declared.stage.Stage.TheVariants as stage
-use Rattle.giv_files.specs.Inputs.{input_faults, or_else}
+use Rattle.tables.specs.Inputs.{input_faults, or_else}
 use Rattle.giv_files.specs.MadeLists.{MakesAs, ids_of}
-use Rattle.giv_files.specs.NamedFiles.{NamesInput}
+use Rattle.tables.specs.NamedFiles.{NamesInput}
 use Rattle.giv_files.specs.Settings.{BundleParts, Fits, SettingsFit}
 use Rattle.giv_files.specs.StageCalls.{input_text}
-use Rattle.giv_files.proofs.Named.{AllName, input_names, names_both, names_or_else, refused_names}
+use Rattle.tables.proofs.Named.{AllName, input_names, names_both, names_or_else}
+use Rattle.giv_files.proofs.StageCalls.{refused_names}
 use Rattle.giv_files.proofs.SettingFacts.{amount_within}
 use Rattle.pesp_model.specs.Timetables.{first_broken}
 use Rattle.pesp_search.specs.Judged.{times_in}

@@ -4,10 +4,10 @@ use Rattle.std.proofs.Common.{map, take, ap, arith}
 use Rattle.std.specs.List.{enumerate_from}
 use Rattle.std.proofs.lemmas.List.{get_or-map, length-map, take_all, take_more}
 use Rattle.std.proofs.lemmas.List.FromFn.{get_or-enumerate_from, length-enumerate_from}
-use Rattle.giv_files.specs.Tables.{TableRow, no_row}
+use Rattle.tables.specs.Tables.{TableRow, no_row}
 use Rattle.event_tables.specs.declared.periodic_time.PeriodicTime.{PeriodicTime}
 use Rattle.event_tables.specs.Cells.{number_in, periodic_time}
-use Rattle.giv_files.specs.RowsOfTables.{records_by}
+use Rattle.tables.specs.RowsOfTables.{records_by}
 use Rattle.pesp_search.specs.TimetableStage.{time_rows}
 
 no_time : PeriodicTime

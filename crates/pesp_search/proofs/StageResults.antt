@@ -4,15 +4,15 @@ use Rattle.std.proofs.Common.{length, All, Option, Some, None, Result, Ok, Err, 
 use Rattle.std.proofs.Common.{arith}
 use Rattle.std.proofs.lemmas.Option.{same_Some}
 use Rattle.giv_files.specs.declared.made.Made.{Made}
-use Rattle.giv_files.specs.declared.refusal.Refusal.{Refusal}
-use Rattle.giv_files.specs.declared.refusal.Refusal.TheVariants as refusal
-use Rattle.giv_files.specs.declared.refusal.StageFault.{StageFault}
-use Rattle.giv_files.specs.declared.refusal.StageFault.TheVariants as fault
-use Rattle.giv_files.specs.Columns.{times_p_columns}
-use Rattle.giv_files.specs.Inputs.{Refuses}
+use Rattle.tables.specs.declared.refusal.Refusal.{Refusal}
+use Rattle.tables.specs.declared.refusal.Refusal.TheVariants as refusal
+use Rattle.tables.specs.declared.refusal.StageFault.{StageFault}
+use Rattle.tables.specs.declared.refusal.StageFault.TheVariants as fault
+use Rattle.tables.specs.Columns.{times_p_columns}
+use Rattle.tables.specs.Inputs.{Refuses}
 use Rattle.giv_files.specs.Settings.{BundleParts}
 use Rattle.giv_files.specs.StageCalls.{StageGives, TakesSteps}
-use Rattle.giv_files.specs.Writing.{InColumns}
+use Rattle.tables.specs.Writing.{InColumns}
 use Rattle.event_tables.specs.Cells.{periodic_time_cells}
 use Rattle.pesp_model.specs.Timetables.{IsProblem, IsTimetable, Problem}
 use Rattle.pesp_search.specs.declared.search.FoundTimes.{FoundTimes}

@@ -7,23 +7,23 @@ use Rattle.std.proofs.lemmas.Int.{ints}
 use Rattle.std.proofs.lemmas.List.{length_push}
 use Rattle.std.proofs.lemmas.List.Elements.{All-cons, All-map, All-nil}
 use Rattle.std.proofs.lemmas.Simd.{map-map}
-use Rattle.giv_files.specs.declared.file_id.FileId.{FileId}
-use Rattle.giv_files.specs.declared.row_why.RowWhy.TheVariants as why
-use Rattle.giv_files.specs.Columns.{times_p_columns}
-use Rattle.giv_files.specs.Inputs.{broken_whys, input_faults, records}
-use Rattle.giv_files.specs.Reading.{table_of}
-use Rattle.giv_files.specs.Tables.{TableRow}
-use Rattle.giv_files.specs.Writing.{InColumns, ReadsBack}
-use Rattle.giv_files.proofs.Accepted.{KeepRules, accepted, whole_accepted}
-use Rattle.giv_files.proofs.Headers.{plain_header}
-use Rattle.giv_files.proofs.WrittenBack.{written_back}
+use Rattle.tables.specs.declared.file_id.FileId.{FileId}
+use Rattle.tables.specs.declared.row_why.RowWhy.TheVariants as why
+use Rattle.tables.specs.Columns.{times_p_columns}
+use Rattle.tables.specs.Inputs.{broken_whys, input_faults, records}
+use Rattle.tables.specs.Reading.{table_of}
+use Rattle.tables.specs.Tables.{TableRow}
+use Rattle.tables.specs.Writing.{InColumns, ReadsBack}
+use Rattle.tables.proofs.Accepted.{KeepRules, accepted, whole_accepted}
+use Rattle.tables.proofs.Headers.{plain_header}
+use Rattle.tables.proofs.WrittenBack.{written_back}
 use Rattle.event_tables.specs.declared.periodic_time.PeriodicTime.{PeriodicTime}
 use Rattle.event_tables.specs.Cells.{periodic_time, periodic_time_cells}
 use Rattle.event_tables.specs.Headers.{periodic_time_header}
 use Rattle.event_tables.specs.PeriodicFiles.{periodic_time_input, periodic_time_rules}
 use Rattle.event_tables.specs.Places.{is_none_of}
-use Rattle.giv_files.specs.RowsOfTables.{ReadsAs, records_by, rows_by}
-use Rattle.giv_files.proofs.WrittenColumns.{columns_written}
+use Rattle.tables.specs.RowsOfTables.{ReadsAs, records_by, rows_by}
+use Rattle.tables.proofs.WrittenColumns.{columns_written}
 use Rattle.event_tables.proofs.Numbering.{none_of_places, some_missing}
 use Rattle.pesp_search.specs.TimetableStage.{time_rows, times_text}
 

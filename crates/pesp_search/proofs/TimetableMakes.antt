@@ -1,17 +1,17 @@
 -- Which files the stage of timetables makes, and which it names where it refuses a row.
 use Rattle.std.proofs.Common.{arith, ◌≡◌, ℕ, Bool, true, List, [], ◌∷◌, Result, Ok, Err, ap, lit<}
 use Rattle.std.proofs.Common.{refl, subst}
-use Rattle.giv_files.specs.declared.file_id.FileId.{FileId}
-use Rattle.giv_files.specs.declared.file_id.FileId.TheVariants as file
+use Rattle.tables.specs.declared.file_id.FileId.{FileId}
+use Rattle.tables.specs.declared.file_id.FileId.TheVariants as file
 use Rattle.giv_files.specs.declared.made.Made.{Made}
-use Rattle.giv_files.specs.declared.refusal.Refusal.{Refusal}
+use Rattle.tables.specs.declared.refusal.Refusal.{Refusal}
 use Rattle.giv_files.specs.declared.stage.Stage.TheVariants as stage
-use Rattle.giv_files.specs.Inputs.{input_faults}
+use Rattle.tables.specs.Inputs.{input_faults}
 use Rattle.giv_files.specs.MadeLists.{MakesAs, ids_of}
-use Rattle.giv_files.specs.NamedFiles.{NamesInput, NamesOnly}
+use Rattle.tables.specs.NamedFiles.{NamesInput, NamesOnly}
 use Rattle.giv_files.specs.Settings.{BundleParts}
 use Rattle.giv_files.specs.StageCalls.{input_text}
-use Rattle.giv_files.proofs.Named.{AllName, input_names, names_both, names_only}
+use Rattle.tables.proofs.Named.{AllName, input_names, names_both, names_only}
 use Rattle.event_tables.specs.PeriodicFiles.{periodic_activity_input, periodic_event_ids, periodic_event_input}
 use Rattle.pesp_model.specs.PespTexts.{events_of, problem_faults}
 use Rattle.pesp_search.specs.Listings.{Listing, TimesFound, listing, result_within}

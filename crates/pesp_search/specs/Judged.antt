@@ -2,11 +2,11 @@
 use Rattle.std.specs.Prelude.{ℕ, ◌&&◌, ◌==◌, nat_lt, nat_eq, not, is_some, if◌then◌else◌, Bool}
 use Rattle.std.specs.Prelude.{List, [], ◌∷◌, ◌++◌, length, map, slice_get, Option}
 use Rattle.std.specs.List.{list_all, enumerate_from}
-use Rattle.giv_files.specs.Columns.{times_p_columns}
-use Rattle.giv_files.specs.Reading.{faults, table_of}
+use Rattle.tables.specs.Columns.{times_p_columns}
+use Rattle.tables.specs.Reading.{faults, table_of}
 use Rattle.event_tables.specs.declared.periodic_time.PeriodicTime.{PeriodicTime}
 use Rattle.event_tables.specs.Cells.{periodic_time}
-use Rattle.giv_files.specs.RowsOfTables.{ReadsAs, records_by}
+use Rattle.tables.specs.RowsOfTables.{ReadsAs, records_by}
 use Rattle.pesp_model.specs.Timetables.{Problem, first_broken, IsTimetable}
 use Rattle.pesp_search.specs.declared.fault.TimetableFault.{TimetableFault}
 use Rattle.pesp_search.specs.declared.fault.TimetableFault.TheVariants as fault

@@ -5,8 +5,8 @@ use Rattle.std.specs.Prelude.{List, [], ◌∷◌, length, map, filter, position
 use Rattle.std.specs.Prelude.{slice_set}
 use Rattle.std.specs.Prelude.{Option, Some, None, Result, Ok, Err}
 use Rattle.std.specs.List.{list_any, range_with_len}
-use Rattle.giv_files.specs.declared.refusal.Refusal.{Refusal}
-use Rattle.giv_files.specs.declared.refusal.Refusal.TheVariants as refusal
+use Rattle.tables.specs.declared.refusal.Refusal.{Refusal}
+use Rattle.tables.specs.declared.refusal.Refusal.TheVariants as refusal
 use Rattle.pesp_model.specs.Timetables.{Problem, IsTimetable}
 use Rattle.pesp_search.specs.TimeSets.{AreGreatest, LosesNone, RoundsSuffice, left_to, reduced}
 

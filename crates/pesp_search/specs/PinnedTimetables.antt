@@ -1,12 +1,12 @@
 -- The stage of a timetable that a planner gives.
 use Rattle.std.specs.Prelude.{ℕ, ◌∷◌, [], ◌++◌, if◌then◌else◌, List, length, codes, is_some, Result}
-use Rattle.giv_files.specs.declared.file_id.FileId.TheVariants as file
+use Rattle.tables.specs.declared.file_id.FileId.TheVariants as file
 use Rattle.giv_files.specs.declared.made.Made.{Made}
-use Rattle.giv_files.specs.declared.refusal.Refusal.{Refusal}
-use Rattle.giv_files.specs.declared.refusal.Refusal.TheVariants as refusal
-use Rattle.giv_files.specs.declared.row_why.RowWhy.TheVariants as why
+use Rattle.tables.specs.declared.refusal.Refusal.{Refusal}
+use Rattle.tables.specs.declared.refusal.Refusal.TheVariants as refusal
+use Rattle.tables.specs.declared.row_why.RowWhy.TheVariants as why
 use Rattle.giv_files.specs.declared.stage.Stage.TheVariants as stage
-use Rattle.giv_files.specs.Inputs.{Input, input_faults, or_else}
+use Rattle.tables.specs.Inputs.{Input, input_faults, or_else}
 use Rattle.giv_files.specs.ReportLines.{count_text, report_line}
 use Rattle.giv_files.specs.Settings.{BundleParts}
 use Rattle.giv_files.specs.StageCalls.{input_text, unless_fault}

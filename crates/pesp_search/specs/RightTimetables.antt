@@ -1,18 +1,18 @@
 -- What is right about the timetable that is made.
 use Rattle.std.specs.Prelude.{◌≡◌, ◌≢◌, ◌⊎◌, ◌≤◌, ℕ, List, [], ◌∷◌, None, Result, Err}
-use Rattle.giv_files.specs.declared.file_id.FileId.TheVariants as file
+use Rattle.tables.specs.declared.file_id.FileId.TheVariants as file
 use Rattle.giv_files.specs.declared.made.Made.{Made}
 use Rattle.giv_files.specs.declared.made.MadeFile.{MadeFile}
-use Rattle.giv_files.specs.declared.refusal.Refusal.TheVariants as refusal
-use Rattle.giv_files.specs.declared.refusal.StageFault.{StageFault}
-use Rattle.giv_files.specs.declared.refusal.StageFault.TheVariants as fault
-use Rattle.giv_files.specs.Columns.{times_p_columns}
-use Rattle.giv_files.specs.Inputs.{input_faults}
+use Rattle.tables.specs.declared.refusal.Refusal.TheVariants as refusal
+use Rattle.tables.specs.declared.refusal.StageFault.{StageFault}
+use Rattle.tables.specs.declared.refusal.StageFault.TheVariants as fault
+use Rattle.tables.specs.Columns.{times_p_columns}
+use Rattle.tables.specs.Inputs.{input_faults}
 use Rattle.giv_files.specs.Settings.{BundleParts}
 use Rattle.giv_files.specs.StageCalls.{input_text}
 use Rattle.event_tables.specs.Cells.{periodic_time}
 use Rattle.event_tables.specs.PeriodicFiles.{periodic_event_ids, periodic_time_input}
-use Rattle.giv_files.specs.RowsOfTables.{ReadsAs}
+use Rattle.tables.specs.RowsOfTables.{ReadsAs}
 use Rattle.pesp_model.specs.PespTexts.{events_of}
 use Rattle.pesp_model.specs.Timetables.{IsTimetable}
 use Rattle.pesp_search.specs.Judged.{first_broken_rule}

@@ -2,17 +2,17 @@
 use Rattle.std.specs.Prelude.{ℕ, ◌+◌, List, [], ◌∷◌, ◌++◌, length, map, codes, decimal, Result, Ok}
 use Rattle.std.specs.Prelude.{Err}
 use Rattle.std.specs.List.{enumerate_from}
-use Rattle.giv_files.specs.declared.file_id.FileId.TheVariants as file
+use Rattle.tables.specs.declared.file_id.FileId.TheVariants as file
 use Rattle.giv_files.specs.declared.key.Key.TheVariants as key
 use Rattle.giv_files.specs.declared.made.Made.{Made}
-use Rattle.giv_files.specs.declared.refusal.Refusal.{Refusal}
-use Rattle.giv_files.specs.Columns.{times_p_columns}
+use Rattle.tables.specs.declared.refusal.Refusal.{Refusal}
+use Rattle.tables.specs.Columns.{times_p_columns}
 use Rattle.giv_files.specs.Settings.{BundleParts, amount}
 use Rattle.giv_files.specs.StageCalls.{input_text}
 use Rattle.event_tables.specs.declared.periodic_time.PeriodicTime.{PeriodicTime}
 use Rattle.event_tables.specs.Cells.{periodic_time_cells}
 use Rattle.event_tables.specs.Headers.{periodic_time_header}
-use Rattle.giv_files.specs.RowsOfTables.{file_text}
+use Rattle.tables.specs.RowsOfTables.{file_text}
 use Rattle.pesp_model.specs.PespTexts.{problem_of, problem_faults}
 use Rattle.pesp_model.specs.Timetables.{Problem}
 use Rattle.pesp_search.specs.Listings.{TimesFound, listing, result_within, entries_listed}

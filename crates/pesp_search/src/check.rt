@@ -1,7 +1,7 @@
 // The test of a timetable.
 ghost use Rattle.std.specs.Prelude.{◌≡◌, IfOk, IfNone};
 ghost use Rattle.giv_files.specs.declared.stage.Stage.TheVariants as stages;
-ghost use Rattle.giv_files.specs.Inputs.{UnlessFault};
+ghost use Rattle.tables.specs.Inputs.{UnlessFault};
 ghost use Rattle.giv_files.specs.Settings.{Fits};
 ghost use Rattle.pesp_search.specs.Judged.{Passes, first_broken_rule};
 ghost use Rattle.pesp_search.specs.TimetableStage.{problem_in, timetable_faults};
@@ -9,7 +9,8 @@ ghost use Rattle.pesp_search.specs.TimetableStage.{problem_in, timetable_faults}
 use crate::fault::TimetableFault;
 use crate::judge::first_fault;
 use crate::stage::{period_of, read_pesp};
-use giv_files::{Bundle, StageFault};
+use giv_files::Bundle;
+use tables::StageFault;
 use std::alloc::Global;
 
 /// The first rule that the text of a timetable breaks, over the inputs of the search; none where

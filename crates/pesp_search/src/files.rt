@@ -1,15 +1,16 @@
 // The file of a timetable.
 ghost use Rattle.std.specs.Prelude.{◌≡◌, ◌≤◌, [], ◌∷◌, length, All, IfOk};
-ghost use Rattle.giv_files.specs.Columns.{times_p_columns};
-ghost use Rattle.giv_files.specs.Writing.{InColumns};
+ghost use Rattle.tables.specs.Columns.{times_p_columns};
+ghost use Rattle.tables.specs.Writing.{InColumns};
 ghost use Rattle.event_tables.specs.Cells.{periodic_time_cells};
-ghost use Rattle.giv_files.specs.declared.file_id.FileId.TheVariants as file;
+ghost use Rattle.tables.specs.declared.file_id.FileId.TheVariants as file;
 ghost use Rattle.pesp_search.specs.PinnedTimetables.{times_kept};
 ghost use Rattle.pesp_search.specs.TimetableStage.{time_rows, times_made, times_text};
 
 use crate::search::FoundTimes;
 use event_tables::{PeriodicTime, periodic_times_text};
-use giv_files::{FileId, Made, MadeFile, MadeList, Stage, count_text, report_line};
+use giv_files::{Made, MadeFile, MadeList, Stage, count_text, report_line};
+use tables::FileId;
 use plan_num::{NoMemory, Text};
 use std::alloc::Global;
 

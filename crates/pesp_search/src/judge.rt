@@ -2,17 +2,17 @@
 ghost use Rattle.std.specs.Prelude.{◌≡◌, ◌+◌, ◌<◌, ◌≤◌, ◌==◌, ◌&&◌, length, map, slice_get};
 ghost use Rattle.std.specs.Prelude.{slice_index_or};
 ghost use Rattle.std.specs.Prelude.{if◌then◌else◌, None, Some, All, IfOk, IfSome};
-ghost use Rattle.giv_files.specs.Columns.{times_p_columns};
-ghost use Rattle.giv_files.specs.Reading.{faults, table_of};
-ghost use Rattle.giv_files.specs.Tables.{no_row};
-ghost use Rattle.giv_files.specs.Writing.{InColumns};
+ghost use Rattle.tables.specs.Columns.{times_p_columns};
+ghost use Rattle.tables.specs.Reading.{faults, table_of};
+ghost use Rattle.tables.specs.Tables.{no_row};
+ghost use Rattle.tables.specs.Writing.{InColumns};
 ghost use Rattle.event_tables.specs.Cells.{number_in, periodic_time};
-ghost use Rattle.giv_files.specs.RowsOfTables.{records_by};
+ghost use Rattle.tables.specs.RowsOfTables.{records_by};
 ghost use Rattle.pesp_search.specs.Judged.{are_in_order, broken_rows, first_broken_rule, is_table};
 ghost use Rattle.pesp_search.specs.Judged.{is_time_of};
 
 use crate::fault::TimetableFault;
-use giv_files::{ReadFault, Table, columns, read_table};
+use tables::{ReadFault, Table, columns, read_table};
 use pesp_model::Pesp;
 use plan_num::NoMemory;
 use std::alloc::Global;

@@ -1,7 +1,7 @@
 // The stage that takes a timetable that a person gives.
 ghost use Rattle.std.specs.Prelude.{◌≡◌, [], map, IfOk};
 ghost use Rattle.giv_files.specs.declared.stage.Stage.TheVariants as stages;
-ghost use Rattle.giv_files.specs.Inputs.{UnlessFault, input_faults};
+ghost use Rattle.tables.specs.Inputs.{UnlessFault, input_faults};
 ghost use Rattle.giv_files.specs.Settings.{Fits};
 ghost use Rattle.giv_files.specs.StageCalls.{StageGives, TakesSteps, input_text};
 ghost use Rattle.pesp_search.specs.Judged.{times_in};
@@ -12,7 +12,8 @@ ghost use Rattle.pesp_search.specs.TimetableStage.{timetable_faults};
 use crate::files::times_kept;
 use crate::stage::{period_of, read_pesp};
 use event_tables::{PeriodicTime, periodic_events, periodic_times};
-use giv_files::{Bundle, FileId, Made, Refusal, RowWhy, StageFault};
+use giv_files::{Bundle, Made};
+use tables::{FileId, Refusal, RowWhy, StageFault};
 use plan_num::{Ledger, NoMemory, Steps};
 use std::alloc::Global;
 

@@ -15,7 +15,7 @@ use crate::marks::TimeMarks;
 use crate::reduce::reduce;
 use crate::standing::{first_open, first_times};
 use crate::time_sets::{Branch, TimeSets};
-use giv_files::{Refusal, StageFault};
+use tables::{Refusal, StageFault};
 use pesp_model::Pesp;
 use plan_num::{Ledger, NoMemory, Steps};
 use std::alloc::Global;

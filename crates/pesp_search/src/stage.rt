@@ -2,7 +2,7 @@
 ghost use Rattle.std.specs.Prelude.{◌≡◌, ◌≤◌, [], length, IfOk, IsTrue};
 ghost use Rattle.giv_files.specs.declared.key.Key.TheVariants as keys;
 ghost use Rattle.giv_files.specs.declared.stage.Stage.TheVariants as stages;
-ghost use Rattle.giv_files.specs.Inputs.{UnlessFault};
+ghost use Rattle.tables.specs.Inputs.{UnlessFault};
 ghost use Rattle.giv_files.specs.Keys.{has_key};
 ghost use Rattle.giv_files.specs.Settings.{Fits};
 ghost use Rattle.giv_files.specs.StageCalls.{StageGives, TakesSteps};
@@ -13,7 +13,8 @@ ghost use Rattle.pesp_search.specs.TimetableStage.{timetable_stage, timetable_wo
 
 use crate::files::times_made;
 use crate::search::search_times;
-use giv_files::{Bundle, Key, Made, StageFault};
+use giv_files::{Bundle, Key, Made};
+use tables::StageFault;
 use pesp_model::Pesp;
 use plan_num::{Ledger, Steps};
 use std::alloc::Global;

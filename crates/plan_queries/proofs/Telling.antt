@@ -2,11 +2,11 @@
 use Rattle.std.proofs.Common.{◌≡◌, ℕ, List, [], ◌∷◌, Option, Some, None, IfSome, Result, Ok, Err, subst, sym}
 use Rattle.plan_files.specs.declared.store.Got.{Got}
 use Rattle.plan_files.specs.Folder.{Folder}
-use Rattle.giv_files.specs.declared.refusal.Refusal.{Refusal}
-use Rattle.giv_files.specs.declared.refusal.StageFault.{StageFault}
-use Rattle.giv_files.specs.declared.refusal.StageFault.TheVariants as fault
+use Rattle.tables.specs.declared.refusal.Refusal.{Refusal}
+use Rattle.tables.specs.declared.refusal.StageFault.{StageFault}
+use Rattle.tables.specs.declared.refusal.StageFault.TheVariants as fault
 use Rattle.giv_files.specs.declared.stage.Stage.{Stage}
-use Rattle.giv_files.specs.Inputs.{Refuses, or_else}
+use Rattle.tables.specs.Inputs.{Refuses, or_else}
 use Rattle.giv_files.specs.Settings.{BundleParts}
 use Rattle.config_keys.specs.Items.{look_in}
 use Rattle.delay_management.specs.DispositionStage.{disposition_faults}

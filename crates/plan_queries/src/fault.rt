@@ -3,7 +3,8 @@ ghost use Rattle.std.specs.Prelude.{◌≡◌, false};
 ghost use Rattle.stage_chain.specs.Ends.{is_broken};
 ghost use Rattle.plan_queries.specs.Queries.{end_of_fault};
 
-use giv_files::{Stage, StageFault};
+use giv_files::Stage;
+use tables::StageFault;
 use stage_chain::{Cause, ChainEnd};
 
 /// What the fault of a call over what a stage is given ends.

@@ -12,7 +12,8 @@ ghost use Rattle.plan_queries.specs.Queries.{AnswersRight, IsRightIn, pool_over,
 use crate::answer::Answer;
 use crate::fault::end_of_fault;
 use command_line::QueryEnd;
-use giv_files::{FileId, Stage};
+use giv_files::Stage;
+use tables::FileId;
 use plan_files::Files;
 use plan_num::Text;
 use pool_maker::make_pool;

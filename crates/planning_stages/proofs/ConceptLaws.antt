@@ -1,15 +1,15 @@
 -- What the stages of the line concept owe to the chain, and what later stages take of the concept.
 use Rattle.std.proofs.Common.{◌≡◌, ℕ, ℤ, Bool, true, false, cond, inl, inr, List, [], Option, None, Some, refl, subst, sym}
 use Rattle.std.specs.List.{Contains}
-use Rattle.giv_files.specs.declared.file_id.FileId.{FileId}
-use Rattle.giv_files.specs.declared.file_id.FileId.TheVariants as file
+use Rattle.tables.specs.declared.file_id.FileId.{FileId}
+use Rattle.tables.specs.declared.file_id.FileId.TheVariants as file
 use Rattle.giv_files.specs.declared.key.Key.TheVariants as key
 use Rattle.giv_files.specs.declared.made.MadeFile.{MadeFile}
 use Rattle.giv_files.specs.declared.stage.Stage.TheVariants as stage
 use Rattle.giv_files.specs.MadeLists.{ids_of}
 use Rattle.giv_files.specs.Settings.{BundleParts}
 use Rattle.giv_files.specs.StageCalls.{input_text}
-use Rattle.giv_files.proofs.Named.{input_names, names_only}
+use Rattle.tables.proofs.Named.{input_names, names_only}
 use Rattle.ptn_network.specs.Loads.{load_input}
 use Rattle.ptn_network.specs.Networks.{network_in, network_of}
 use Rattle.line_pool.specs.PoolCosts.{pool_cost_input}
@@ -84,7 +84,7 @@ pinned_concept_laws = record {
   makes = pinned_concept_makes;
   right = pinned_concept_right;
   refuses = λ values look reason was is. names_only is_hand_file reason (pinned_concept_names is_hand_file refl refl refl refl (bundle_over values look stage.PinnedConcept) (fine (loads_accepted values look (was stage.Load refl))) (fine (costs_accepted values look (was stage.Cost refl))) reason is);
-  names = λ bundle reason is. inr (pinned_concept_names any refl refl refl refl bundle (input_names any (load_input file.Load (network_in bundle).edges) (input_text bundle 3) refl) (input_names any (pool_cost_input (lines_in bundle)) (input_text bundle 4) refl) reason is);
+  names = λ bundle reason is. inr (pinned_concept_names any refl refl refl refl bundle (input_names any (load_input file.Load (network_in bundle.inputs).edges) (input_text bundle 3) refl) (input_names any (pool_cost_input (lines_in bundle)) (input_text bundle 4) refl) reason is);
   stand = λ values folder bundle lacks none. either_stand folder file.Concept file.Tree refl lacks;
   unbroken = λ values look made own. refl;
 }

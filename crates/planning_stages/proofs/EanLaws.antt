@@ -1,11 +1,11 @@
 -- What the stage of the periodic network owes to the chain, and what later stages take of it.
 use Rattle.std.proofs.Common.{◌≡◌, ℕ, ℤ, List, [], Some, inr, refl, arith}
-use Rattle.giv_files.specs.declared.file_id.FileId.{FileId}
-use Rattle.giv_files.specs.declared.file_id.FileId.TheVariants as file
+use Rattle.tables.specs.declared.file_id.FileId.{FileId}
+use Rattle.tables.specs.declared.file_id.FileId.TheVariants as file
 use Rattle.giv_files.specs.declared.stage.Stage.TheVariants as stage
 use Rattle.giv_files.specs.StageCalls.{input_text}
-use Rattle.giv_files.proofs.Named.{names_only}
-use Rattle.giv_files.proofs.Ranges.{front_none}
+use Rattle.tables.proofs.Named.{names_only}
+use Rattle.tables.proofs.Ranges.{front_none}
 use Rattle.ptn_network.specs.Networks.{network_faults, network_of, stops_of}
 use Rattle.event_activity.specs.EanStage.{network_in}
 use Rattle.event_activity.specs.RightEan.{EanFilesAreRight, EanIsAccepted}
@@ -30,7 +30,7 @@ ean_laws = record {
   makes = ean_stage_makes;
   right = ean_is_right;
   refuses = λ values look reason was is. names_only is_hand_file reason (ean_stage_names is_hand_file refl refl (bundle_over values look stage.Ean) reason (fine (concept_accepted values look (was stage.Concept refl))) is);
-  names = λ bundle reason is. inr (ean_stage_names any refl refl bundle reason (concept_names any refl (network_in bundle) (input_text bundle 2)) is);
+  names = λ bundle reason is. inr (ean_stage_names any refl refl bundle reason (concept_names any refl (network_in bundle.inputs) (input_text bundle 2)) is);
   stand = λ values folder bundle lacks none. content_stands stage.Ean refl refl folder lacks;
   unbroken = λ values look made own. content_none stage.Ean _ made own.0;
 }

@@ -1,6 +1,6 @@
 -- Files over one look of texts, in which each file has one.
 use Rattle.std.proofs.Common.{◌≡◌, ℕ, List, [], ◌∷◌, ap, arith}
-use Rattle.giv_files.specs.declared.file_id.FileId.{FileId}
+use Rattle.tables.specs.declared.file_id.FileId.{FileId}
 use Rattle.giv_files.specs.declared.made.MadeFile.{MadeFile}
 use Rattle.giv_files.specs.MadeLists.{ids_of}
 use Rattle.stage_chain.specs.Laws.{files_over}

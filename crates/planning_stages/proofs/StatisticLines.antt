@@ -12,18 +12,18 @@ use Rattle.std.proofs.lemmas.List.{length-map, map_push}
 use Rattle.std.proofs.lemmas.List.Elements.{All-cons, All-contains, All-filter, All-map, All-nil, All-weaker, filter_passes}
 use Rattle.std.proofs.lemmas.List.Kept.{AllPairs-cons, AllPairs-filter}
 use Rattle.std.proofs.lemmas.Map.Made.{IsDistinct-from_AllPairs, is_member-Decides, length-le_from_is_member}
-use Rattle.giv_files.specs.declared.file_id.FileId.{FileId}
-use Rattle.giv_files.specs.declared.file_id.FileId.TheVariants as file
-use Rattle.giv_files.specs.declared.row_why.RowWhy.TheVariants as why
-use Rattle.giv_files.specs.Columns.{concept_columns, pool_cost_columns}
-use Rattle.giv_files.specs.Inputs.{Input, Numbered, RowRule, broken_whys, input_faults, row_faults}
-use Rattle.giv_files.specs.Reading.{table_of}
-use Rattle.giv_files.specs.Tables.{TableRow}
-use Rattle.giv_files.specs.Writing.{ReadsBack}
-use Rattle.giv_files.proofs.Accepted.{each_known}
-use Rattle.giv_files.proofs.Found.{any_mapped}
-use Rattle.giv_files.proofs.Inputs.{faults_of_table, limit_kept, no_faults, parts_sound, rule_kept, rules_sound, table_sound, whole_rule_sound}
-use Rattle.giv_files.proofs.Ranges.{back_none, front_none, unmapped}
+use Rattle.tables.specs.declared.file_id.FileId.{FileId}
+use Rattle.tables.specs.declared.file_id.FileId.TheVariants as file
+use Rattle.tables.specs.declared.row_why.RowWhy.TheVariants as why
+use Rattle.tables.specs.Columns.{concept_columns, pool_cost_columns}
+use Rattle.tables.specs.Inputs.{Input, Numbered, RowRule, broken_whys, input_faults, row_faults}
+use Rattle.tables.specs.Reading.{table_of}
+use Rattle.tables.specs.Tables.{TableRow}
+use Rattle.tables.specs.Writing.{ReadsBack}
+use Rattle.tables.proofs.Accepted.{each_known}
+use Rattle.tables.proofs.Found.{any_mapped}
+use Rattle.tables.proofs.Inputs.{faults_of_table, limit_kept, no_faults, parts_sound, rule_kept, rules_sound, table_sound, whole_rule_sound}
+use Rattle.tables.proofs.Ranges.{back_none, front_none, unmapped}
 use Rattle.ptn_network.specs.declared.edge.Edge.{Edge}
 use Rattle.line_pool.specs.PoolCosts.{cost_row_of, pool_cost_input}
 use Rattle.line_pool.specs.Pools.{LineParts, differs as differs_first, first_frequency, line_limit as pool_limit, line_row as pool_row, line_rules, rows_of}

@@ -5,13 +5,13 @@ use Rattle.std.specs.Ordering.{int_eq}
 use Rattle.std.proofs.lemmas.Cmp.{int_eq_equiv}
 use Rattle.std.proofs.lemmas.Int.{ints}
 use Rattle.std.proofs.lemmas.List.Elements.{All-contains, All-map, All-weaker}
-use Rattle.giv_files.specs.declared.column.ColumnKind.TheVariants as column
-use Rattle.giv_files.specs.Columns.{stop_columns}
-use Rattle.giv_files.specs.Inputs.{input_faults, records_of}
-use Rattle.giv_files.specs.Reading.{table_of}
-use Rattle.giv_files.specs.Tables.{TableRow}
-use Rattle.giv_files.proofs.Inputs.{sound_rows}
-use Rattle.giv_files.proofs.WriteFacts.{in_column}
+use Rattle.tables.specs.declared.column.ColumnKind.TheVariants as column
+use Rattle.tables.specs.Columns.{stop_columns}
+use Rattle.tables.specs.Inputs.{input_faults, records_of}
+use Rattle.tables.specs.Reading.{table_of}
+use Rattle.tables.specs.Tables.{TableRow}
+use Rattle.tables.proofs.Inputs.{sound_rows}
+use Rattle.tables.proofs.WriteFacts.{in_column}
 use Rattle.line_pool.proofs.SoundLines.{all_rising}
 use Rattle.ptn_network.specs.Inputs.{stop_input, stop_row}
 use Rattle.ptn_network.specs.Networks.{stops_of}

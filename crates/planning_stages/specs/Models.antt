@@ -1,6 +1,6 @@
 -- What it means that a check passes.
 use Rattle.std.specs.Prelude.{ℕ, ◌≡◌, List, [], ◌∷◌, Option}
-use Rattle.giv_files.specs.declared.file_id.FileId.TheVariants as file
+use Rattle.tables.specs.declared.file_id.FileId.TheVariants as file
 use Rattle.giv_files.specs.declared.made.MadeFile.{MadeFile}
 use Rattle.giv_files.specs.Settings.{BundleParts}
 use Rattle.line_search.specs.GivenProblems.{problem_faults, problem_of}

@@ -10,7 +10,8 @@ ghost use Rattle.planning_stages.specs.Verdicts.{content_found, files_found, sam
 
 use crate::stages::make_stage;
 use config_keys::Config;
-use giv_files::{Bundle, MadeFile, Stage, StageFault};
+use giv_files::{Bundle, MadeFile, Stage};
+use tables::StageFault;
 use plan_num::{NoMemory, Silent, Steps};
 use stage_chain::{Cause, Finding, Rule};
 use std::alloc::Global;

@@ -7,12 +7,13 @@ use Rattle.std.specs.Str.Lines.{strip_carriage_return}
 use Rattle.std.proofs.lemmas.List.{map-append}
 use Rattle.std.proofs.lemmas.List.Splits.{slice_split_none}
 use Rattle.std.proofs.lemmas.Bool.{cases_Bool}
-use Rattle.giv_files.specs.declared.column.ColumnKind.{ColumnKind}
-use Rattle.giv_files.specs.Reading.{has_mark, row_faults, table_row}
-use Rattle.giv_files.proofs.RowsLeft.{no_mark, table_is}
-use Rattle.giv_files.specs.Rows.{Row, has_byte, lines, parts_of, row_of, rows}
-use Rattle.giv_files.specs.Tables.{TableRow}
-use Rattle.giv_files.specs.Writing.{IsHeader, ReadsBack, cell_texts, joined, line_text, table_text}
+use Rattle.tables.specs.declared.column.ColumnKind.{ColumnKind}
+use Rattle.tables.specs.Reading.{row_faults, table_row}
+use Rattle.tables.proofs.FirstFaults.{table_is}
+use Rattle.tables.proofs.FirstFaults.{no_mark}
+use Rattle.text_fields.specs.Rows.{Row, has_byte, lines, parts_of, row_of, rows, has_mark}
+use Rattle.tables.specs.Tables.{TableRow}
+use Rattle.tables.specs.Writing.{IsHeader, ReadsBack, cell_texts, joined, line_text, table_text}
 
 -- ---- the lines of two texts, the first of which ends a line
 

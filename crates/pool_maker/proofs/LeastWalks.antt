@@ -13,8 +13,8 @@ use Rattle.ptn_network.specs.Networks.{IsEdge, IsNetwork, NetworkParts}
 use Rattle.ptn_network.specs.Walks.{AreLeastSums, IsLeastSum, IsWalk, across, least_of, least_sum}
 use Rattle.ptn_network.specs.Walks.{least_sums, walk_sum, walks_within}
 use Rattle.ptn_network.proofs.LastWalks.{starts_within}
-use Rattle.giv_files.proofs.Members.{Contains-cons, Contains-head, Contains-map}
-use Rattle.giv_files.proofs.Members.{Contains-rec}
+use Rattle.tables.proofs.Members.{Contains-cons, Contains-head, Contains-map}
+use Rattle.tables.proofs.Members.{Contains-rec}
 use Rattle.ptn_network.proofs.Walks.{IsUpTo, begins, edge_first, least_of_all}
 use Rattle.ptn_network.proofs.Walks.{least_of_there, walk_sum-cons, within_all, within_there}
 

@@ -1,9 +1,9 @@
 -- What the parts of a pool give together.
 use Rattle.std.proofs.Common.{◌≡◌, ℕ, ℤ, List, [], map, ap, subst, sym, ◌∙◌, arith}
-use Rattle.giv_files.specs.declared.refusal.StageFault.{StageFault}
-use Rattle.giv_files.specs.declared.refusal.StageFault.TheVariants as stage
-use Rattle.giv_files.specs.Inputs.{Refuses}
-use Rattle.giv_files.proofs.RowsLeft.{first_stays}
+use Rattle.tables.specs.declared.refusal.StageFault.{StageFault}
+use Rattle.tables.specs.declared.refusal.StageFault.TheVariants as stage
+use Rattle.tables.specs.Inputs.{Refuses}
+use Rattle.tables.proofs.FirstFaults.{first_stays}
 use Rattle.ptn_network.specs.Networks.{NetworkParts, network_faults, network_of, rising}
 use Rattle.pool_maker.specs.declared.terminals.Terminal.{Terminal}
 use Rattle.pool_maker.specs.PoolTexts.{pool_text, terminal_faults, text_of, unknown_terminals}

@@ -11,11 +11,11 @@ use Rattle.std.proofs.lemmas.List.FromFn.{get_or-range_with_len, length-range_wi
 use Rattle.std.proofs.lemmas.List.Sums.{AllPass-from_list_all}
 use Rattle.plan_num.specs.Number.{is_number_byte}
 use Rattle.plan_num.proofs.ReadBack.{whole_bytes}
-use Rattle.giv_files.specs.Columns.{pool_columns}
-use Rattle.giv_files.specs.Writing.{ReadsBack}
-use Rattle.giv_files.proofs.Headers.{plain_header}
-use Rattle.giv_files.proofs.Ranges.{back_none, front_none}
-use Rattle.giv_files.proofs.WrittenBack.{written_back}
+use Rattle.tables.specs.Columns.{pool_columns}
+use Rattle.tables.specs.Writing.{ReadsBack}
+use Rattle.tables.proofs.Headers.{plain_header}
+use Rattle.tables.proofs.Ranges.{back_none, front_none}
+use Rattle.tables.proofs.WrittenBack.{written_back}
 use Rattle.ptn_network.specs.Networks.{IsNetwork, NetworkParts, network_faults, network_of}
 use Rattle.ptn_network.proofs.Sound.{network_sound}
 use Rattle.line_pool.specs.Pools.{LineParts, pool_of}
@@ -30,7 +30,7 @@ use Rattle.pool_maker.specs.TerminalPaths.{uncontained, uncovered}
 use Rattle.pool_maker.proofs.Comments.{AreComments, back_with_comments, comment_more, no_comments}
 use Rattle.pool_maker.proofs.PoolsRead.{lines_are, no_pool_faults, numbers_back}
 use Rattle.pool_maker.proofs.RowsInside.{header_plain, own_id, rows_inside}
-use Rattle.giv_files.proofs.WrittenColumns.{columns_written}
+use Rattle.tables.proofs.WrittenColumns.{columns_written}
 use Rattle.pool_maker.proofs.TerminalWays.{IsTerminalPath, all_stops, few_lines, few_paths}
 use Rattle.pool_maker.proofs.TerminalWays.{lines_too, path_short, paths_right}
 use Rattle.pool_maker.proofs.ServedPaths.{each_path_is_served}

@@ -9,8 +9,8 @@ use Rattle.std.specs.declared.cmp.Ordering.TheVariants.{Less}
 use Rattle.std.proofs.lemmas.Bool.{lt-ltb}
 use Rattle.std.proofs.lemmas.List.{map-append}
 use Rattle.std.proofs.lemmas.List.Elements.{All-head, All-tail}
-use Rattle.giv_files.specs.Columns.{pool_columns}
-use Rattle.giv_files.specs.Writing.{ReadsBack}
+use Rattle.tables.specs.Columns.{pool_columns}
+use Rattle.tables.specs.Writing.{ReadsBack}
 use Rattle.ptn_network.specs.declared.edge.Edge.{Edge}
 use Rattle.ptn_network.specs.Networks.{NetworkParts}
 use Rattle.ptn_network.specs.Paths.{edges_at}

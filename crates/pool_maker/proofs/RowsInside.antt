@@ -5,10 +5,10 @@ use Rattle.std.specs.List.{enumerate_from, flat_map}
 use Rattle.std.proofs.lemmas.Int.{ints}
 use Rattle.std.proofs.lemmas.List.Elements.{All-append, All-cons, All-get_or, All-nil}
 use Rattle.std.proofs.lemmas.Option.{slice_get-get_or}
-use Rattle.giv_files.specs.Columns.{pool_columns}
-use Rattle.giv_files.specs.Tables.{TableRow}
-use Rattle.giv_files.specs.Writing.{InColumns, IsHeader}
-use Rattle.giv_files.proofs.Headers.{plain_header}
+use Rattle.tables.specs.Columns.{pool_columns}
+use Rattle.tables.specs.Tables.{TableRow}
+use Rattle.tables.specs.Writing.{InColumns, IsHeader}
+use Rattle.tables.proofs.Headers.{plain_header}
 use Rattle.ptn_network.specs.declared.edge.Edge.{Edge}
 use Rattle.ptn_network.specs.Networks.{NetworkParts}
 use Rattle.ptn_network.proofs.PathSteps.{no_edge}

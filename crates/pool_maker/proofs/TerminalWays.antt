@@ -16,8 +16,8 @@ use Rattle.std.proofs.lemmas.Map.Steps.{length-le_from_distinct_below}
 use Rattle.std.proofs.lemmas.Option.{same_Some}
 use Rattle.std.proofs.lemmas.List.Folds.{Any-from_list_any}
 use Rattle.std.proofs.lemmas.List.{length-map}
-use Rattle.giv_files.specs.declared.refusal.Refusal.{Refusal}
-use Rattle.giv_files.proofs.Found.{any_is}
+use Rattle.tables.specs.declared.refusal.Refusal.{Refusal}
+use Rattle.tables.proofs.Found.{any_is}
 use Rattle.ptn_network.specs.Networks.{IsNetwork, NetworkParts, index_in, rising}
 use Rattle.ptn_network.specs.Paths.{IsShortest, IsSimple, length_to, path, way}
 use Rattle.ptn_network.specs.Walks.{edge_length, least_sum, least_sums}

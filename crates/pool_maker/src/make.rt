@@ -1,6 +1,6 @@
 // Pools of shortest lines.
 ghost use Rattle.std.specs.Prelude.{◌≡◌, IfOk};
-ghost use Rattle.giv_files.specs.Inputs.{UnlessFault};
+ghost use Rattle.tables.specs.Inputs.{UnlessFault};
 ghost use Rattle.ptn_network.specs.Networks.{network_of};
 ghost use Rattle.pool_maker.specs.PoolTexts.{pool_text, terminal_faults};
 ghost use Rattle.plan_num.specs.Terminals.{AreTerminals};
@@ -10,7 +10,7 @@ use crate::lines::keep_lines;
 use crate::paths::paths_between;
 use crate::terminals::find_terminals;
 use crate::text::text_of_lines;
-use giv_files::StageFault;
+use tables::StageFault;
 use plan_num::Text;
 use ptn_network::Network;
 use std::alloc::Global;

@@ -2,13 +2,13 @@
 ghost use Rattle.std.specs.Prelude.{◌≡◌, ℤ, Bool, map, option_map, position, IfOk, MatchBool};
 ghost use Rattle.std.specs.List.{IsDistinct, list_any};
 ghost use Rattle.std.specs.Ordering.{int_eq};
-ghost use Rattle.giv_files.specs.Inputs.{UnlessFault};
+ghost use Rattle.tables.specs.Inputs.{UnlessFault};
 ghost use Rattle.ptn_network.specs.Networks.{rising};
 ghost use Rattle.pool_maker.specs.PoolTexts.{unknown_terminals};
 ghost use Rattle.plan_num.specs.Terminals.{AreTerminals};
 ghost use Rattle.pool_maker.specs.Terminals.{terminal_of};
 
-use giv_files::{FileId, Refusal, RowWhy, StageFault};
+use tables::{FileId, Refusal, RowWhy, StageFault};
 use plan_num::NoMemory;
 use ptn_network::Network;
 use std::alloc::Global;

@@ -6,7 +6,7 @@ ghost use Rattle.pool_maker.specs.TerminalPaths.{is_covered, uncovered, uncovere
 ghost use Rattle.pool_maker.specs.Tellable.{AreTellable, IsShort};
 
 use crate::path::Path;
-use giv_files::{Table, columns, write_table};
+use tables::{Table, columns, write_table};
 use plan_num::{NoMemory, Text};
 use ptn_network::Network;
 use std::alloc::Global;

@@ -8,7 +8,7 @@ use Rattle.std.proofs.lemmas.Bool.Decides.{Decides-int_eq}
 use Rattle.std.proofs.lemmas.List.Folds.{find_at}
 use Rattle.std.proofs.lemmas.List.Quantifiers.{position-Some}
 use Rattle.std.proofs.lemmas.Option.{cond_some, slice_get_past, slice_get-get_or}
-use Rattle.giv_files.proofs.CellFacts.{position-map}
+use Rattle.tables.proofs.CellFacts.{position-map}
 use Rattle.ptn_network.specs.declared.edge.Edge.{Edge}
 use Rattle.ptn_network.specs.Ids.{edge_with, StandsAt}
 use Rattle.ptn_network.proofs.PathSteps.{no_edge}

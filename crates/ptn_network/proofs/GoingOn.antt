@@ -10,7 +10,7 @@ use Rattle.ptn_network.specs.declared.label.Label.{Label}
 use Rattle.ptn_network.specs.declared.label.Label.TheVariants.{Unseen, Reached, Settled}
 use Rattle.ptn_network.specs.Labels.{label_at, is_reached_with, GoesOn, IsNearest}
 use Rattle.ptn_network.proofs.Settling.{at_set, reached_same}
-use Rattle.giv_files.proofs.Members.{Contains-head, Contains-cons, Contains-rec}
+use Rattle.tables.proofs.Members.{Contains-head, Contains-cons, Contains-rec}
 
 -- ---- one label
 

@@ -16,17 +16,17 @@ use Rattle.std.proofs.lemmas.List.Folds.{find-append}
 use Rattle.std.proofs.lemmas.Map.Keys.{Less-from_sorted}
 use Rattle.std.proofs.lemmas.Option.{same_Some}
 use Rattle.std.proofs.lemmas.Simd.{map-map}
-use Rattle.giv_files.specs.declared.row_why.RowWhy.TheVariants as why
-use Rattle.giv_files.specs.declared.file_id.FileId.{FileId}
-use Rattle.giv_files.specs.declared.refusal.Refusal.TheVariants as refusal
-use Rattle.giv_files.specs.Columns.{load_columns}
-use Rattle.giv_files.specs.Inputs.{Input, records_of, broken_whys, input_faults}
-use Rattle.giv_files.specs.Reading.{table_of}
-use Rattle.giv_files.specs.Writing.{InColumns}
-use Rattle.giv_files.proofs.Inputs.{sound_rows}
-use Rattle.giv_files.proofs.WholeRules.{without_whole, refused_as_whole, sound_as_whole}
-use Rattle.giv_files.specs.Tables.{TableRow}
-use Rattle.giv_files.proofs.Found.{any_mapped, any_found}
+use Rattle.tables.specs.declared.row_why.RowWhy.TheVariants as why
+use Rattle.tables.specs.declared.file_id.FileId.{FileId}
+use Rattle.tables.specs.declared.refusal.Refusal.TheVariants as refusal
+use Rattle.tables.specs.Columns.{load_columns}
+use Rattle.tables.specs.Inputs.{Input, records_of, broken_whys, input_faults}
+use Rattle.tables.specs.Reading.{table_of}
+use Rattle.tables.specs.Writing.{InColumns}
+use Rattle.tables.proofs.Inputs.{sound_rows}
+use Rattle.tables.proofs.WholeRules.{without_whole, refused_as_whole, sound_as_whole}
+use Rattle.tables.specs.Tables.{TableRow}
+use Rattle.tables.proofs.Found.{any_mapped, any_found}
 use Rattle.ptn_network.specs.declared.edge.Edge.{Edge}
 use Rattle.ptn_network.specs.declared.edge_load.EdgeLoad.{EdgeLoad}
 use Rattle.ptn_network.specs.declared.load_row.LoadRow.{LoadRow}

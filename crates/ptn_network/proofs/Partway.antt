@@ -15,7 +15,7 @@ use Rattle.ptn_network.specs.declared.weight.Weight.TheVariants as kind
 use Rattle.ptn_network.specs.Networks.{NetworkParts, IsEdge, IsNetwork}
 use Rattle.ptn_network.specs.Walks.{across, IsWalk, walk_sum, IsLeastSum, walks_within, least_sum}
 use Rattle.ptn_network.specs.Labels.{weight_of, most_of, most_sum, sum_of, label_at, reach_over, IsNearest, AreDone, WentOn}
-use Rattle.giv_files.proofs.Members.{Contains-map}
+use Rattle.tables.proofs.Members.{Contains-map}
 use Rattle.ptn_network.proofs.Walks.{IsUpTo, begins, edge_last, walk_sum-cons, walk_sum-push, walk_sum-small, within_all, within_there, least_of_is}
 use Rattle.ptn_network.proofs.Settling.{some_same, settled_same, sum_cases, reached_cases, settled_before, lowers, SettledUpTo, settled_up_to, at_set, is_settled, settled_count, over, over_size, over_count, keeps, meets}
 

@@ -16,7 +16,7 @@ use Rattle.ptn_network.specs.Walks.{across}
 use Rattle.ptn_network.specs.Labels.{sum_of, label_at, reached, reach, reach_over, WentOn}
 use Rattle.ptn_network.specs.StopEdges.{CanLeave, AreEdgesAt}
 use Rattle.ptn_network.proofs.PathSteps.{no_edge}
-use Rattle.giv_files.proofs.Members.{Contains-cons, Contains-rec, Contains-map}
+use Rattle.tables.proofs.Members.{Contains-cons, Contains-rec, Contains-map}
 use Rattle.ptn_network.proofs.Walks.{IsUpTo}
 
 -- the edge of an index among those at a stop, one more of which the walk goes on over

@@ -17,7 +17,7 @@ use Rattle.ptn_network.specs.Networks.{NetworkParts, IsEdge, IsNetwork}
 use Rattle.ptn_network.specs.Walks.{edge_length, walk_sum, least_sums, IsWalk, IsLeastSum, AreLeastSums}
 use Rattle.ptn_network.proofs.Walks as walks
 use Rattle.ptn_network.specs.Paths.{ends_least, last_edge, stop_before, path_within, path, length_to, edges_at, IsShortest}
-use Rattle.giv_files.proofs.Found.{any_is}
+use Rattle.tables.proofs.Found.{any_is}
 use Rattle.ptn_network.proofs.LastWalks.{splits, across_back, starts_within, passes}
 use Rattle.ptn_network.proofs.PathEdges.{IsStep, some_length, last_is_step, comes_from}
 use Rattle.ptn_network.proofs.PathSteps.{no_edge, none_there, last_step}

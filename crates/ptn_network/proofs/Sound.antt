@@ -19,18 +19,18 @@ use Rattle.std.proofs.lemmas.List.{length-map}
 use Rattle.std.proofs.lemmas.List.Elements.{All-cons, All-head, All-tail}
 use Rattle.std.proofs.lemmas.List.Quantifiers.{position-Some}
 use Rattle.std.proofs.lemmas.Map.Entries.{length-keys_of, length-values_of}
-use Rattle.giv_files.specs.declared.column.ColumnKind.TheVariants as kind
-use Rattle.giv_files.specs.declared.row_why.RowWhy.{RowWhy}
-use Rattle.giv_files.specs.declared.row_why.RowWhy.TheVariants as why
-use Rattle.giv_files.specs.Tables.{TableRow}
-use Rattle.giv_files.specs.Columns.{edge_columns}
-use Rattle.giv_files.specs.Reading.{table_of}
-use Rattle.giv_files.specs.Writing.{InColumns}
-use Rattle.giv_files.specs.declared.counted.Counted.TheVariants as counted
-use Rattle.giv_files.specs.Inputs.{records, records_of, row_limit, broken_whys, input_faults}
-use Rattle.giv_files.proofs.Inputs.{few_rows, sound_rows}
-use Rattle.giv_files.proofs.Ranges.{front_none, back_none}
-use Rattle.giv_files.proofs.WriteFacts.{in_column}
+use Rattle.tables.specs.declared.column.ColumnKind.TheVariants as kind
+use Rattle.tables.specs.declared.row_why.RowWhy.{RowWhy}
+use Rattle.tables.specs.declared.row_why.RowWhy.TheVariants as why
+use Rattle.tables.specs.Tables.{TableRow}
+use Rattle.tables.specs.Columns.{edge_columns}
+use Rattle.tables.specs.Reading.{table_of}
+use Rattle.tables.specs.Writing.{InColumns}
+use Rattle.tables.specs.declared.counted.Counted.TheVariants as counted
+use Rattle.tables.specs.Inputs.{records, records_of, row_limit, broken_whys, input_faults}
+use Rattle.tables.proofs.Inputs.{few_rows, sound_rows}
+use Rattle.tables.proofs.Ranges.{front_none, back_none}
+use Rattle.tables.proofs.WriteFacts.{in_column}
 use Rattle.ptn_network.specs.declared.edge.Edge.{Edge}
 use Rattle.ptn_network.specs.declared.edge_row.EdgeRow.{EdgeRow}
 use Rattle.ptn_network.specs.Inputs.{stop_input, edge_input, edge_row, edge_rules}

@@ -1,7 +1,7 @@
 -- The network of two texts, from what each of them gives.
 use Rattle.std.proofs.Common.{◌≡◌, ℕ, ℤ, List, [], map, arith}
 use Rattle.std.specs.Map.{values_of}
-use Rattle.giv_files.specs.Inputs.{records_of, input_faults}
+use Rattle.tables.specs.Inputs.{records_of, input_faults}
 use Rattle.ptn_network.specs.declared.edge.Edge.{Edge}
 use Rattle.ptn_network.specs.Inputs.{stop_input, edge_input}
 use Rattle.ptn_network.specs.Networks.{by_id, edge_entry, stops_of, network_of, network_faults}

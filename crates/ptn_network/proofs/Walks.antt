@@ -8,7 +8,7 @@ use Rattle.std.proofs.lemmas.Bool.Decides.{nat_tests}
 use Rattle.std.proofs.lemmas.List.{map-append}
 use Rattle.std.proofs.lemmas.List.Elements.{All-nil, All-cons, All-head, All-tail, All-append, All-push, All-map, All-contains, All-contains_itself, All-weaker, Contains-append_right}
 use Rattle.std.proofs.lemmas.List.Sums.{sum_by-cons, sum_by-append, fold_push}
-use Rattle.giv_files.proofs.Members.{Contains-head, Contains-cons, Contains-map, Contains-flat_map, All-flat_map}
+use Rattle.tables.proofs.Members.{Contains-head, Contains-cons, Contains-map, Contains-flat_map, All-flat_map}
 use Rattle.ptn_network.specs.declared.edge.Edge.{Edge}
 use Rattle.ptn_network.specs.Walks.{across, IsWalk, walk_sum, staying, behind, walks_within, or_less, least_of}
 

@@ -1,11 +1,11 @@
 -- The files of stops and of edges, and their rules.
 use Rattle.std.specs.Prelude.{ℤ, pos, ◌||◌, List, [], ◌∷◌, get_or, int_lt}
 use Rattle.std.specs.Ordering.{int_eq}
-use Rattle.giv_files.specs.declared.counted.Counted.TheVariants as counted
-use Rattle.giv_files.specs.declared.file_id.FileId.TheVariants as file
-use Rattle.giv_files.specs.declared.row_why.RowWhy.TheVariants as why
-use Rattle.giv_files.specs.Columns.{stop_columns, edge_columns}
-use Rattle.giv_files.specs.Inputs.{Input, RowRule, row_limit, own_id}
+use Rattle.tables.specs.declared.counted.Counted.TheVariants as counted
+use Rattle.tables.specs.declared.file_id.FileId.TheVariants as file
+use Rattle.tables.specs.declared.row_why.RowWhy.TheVariants as why
+use Rattle.tables.specs.Columns.{stop_columns, edge_columns}
+use Rattle.tables.specs.Inputs.{Input, RowRule, row_limit, own_id}
 use Rattle.ptn_network.specs.declared.edge_row.EdgeRow.{EdgeRow}
 use Rattle.ptn_network.specs.Ids.{known_stops}
 

@@ -2,10 +2,10 @@
 use Rattle.std.specs.Prelude.{ℕ, ℤ, pos, ◌≤ℤ◌, not, is_some, int_lt, List, [], ◌∷◌, map, get_or, Option, option_map, unwrap_or}
 use Rattle.std.specs.List.{list_any, find}
 use Rattle.std.specs.Ordering.{int_eq}
-use Rattle.giv_files.specs.declared.file_id.FileId.{FileId}
-use Rattle.giv_files.specs.declared.row_why.RowWhy.TheVariants as why
-use Rattle.giv_files.specs.Columns.{load_columns}
-use Rattle.giv_files.specs.Inputs.{Input, RowRule, TableRule, records_of, own_id, whole_rule}
+use Rattle.tables.specs.declared.file_id.FileId.{FileId}
+use Rattle.tables.specs.declared.row_why.RowWhy.TheVariants as why
+use Rattle.tables.specs.Columns.{load_columns}
+use Rattle.tables.specs.Inputs.{Input, RowRule, TableRule, records_of, own_id, whole_rule}
 use Rattle.ptn_network.specs.Ids.{known_edge}
 use Rattle.ptn_network.specs.declared.edge.Edge.{Edge}
 use Rattle.ptn_network.specs.declared.edge_load.EdgeLoad.{EdgeLoad}

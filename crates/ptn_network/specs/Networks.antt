@@ -1,15 +1,13 @@
 -- Networks: stops, and edges between them.
-use Rattle.std.specs.Prelude.{◌≡◌, ◌≢◌, ℕ, ℤ, pos, ◌<◌, ◌≤◌, ◌≤ℤ◌, List, [], ◌∷◌, ◌++◌, length, map, position}
+use Rattle.std.specs.Prelude.{◌≡◌, ◌≢◌, ℕ, ℤ, pos, ◌<◌, ◌≤◌, ◌≤ℤ◌, List, [], ◌∷◌, ◌++◌, length, map, position, slice_index_or}
 use Rattle.std.specs.List.{All}
 use Rattle.std.specs.List.Sorted.{IsStrictlySortedBy}
 use Rattle.std.specs.Option.{unwrap_or}
 use Rattle.std.specs.Ordering.{int_eq, int_cmp}
 use Rattle.std.specs.FinMap.{put}
 use Rattle.std.specs.Map.{keys_of, values_of}
-use Rattle.giv_files.specs.declared.refusal.Refusal.{Refusal}
-use Rattle.giv_files.specs.Inputs.{records_of, input_faults}
-use Rattle.giv_files.specs.Settings.{BundleParts}
-use Rattle.giv_files.specs.StageCalls.{input_text}
+use Rattle.tables.specs.declared.refusal.Refusal.{Refusal}
+use Rattle.tables.specs.Inputs.{records_of, input_faults}
 use Rattle.ptn_network.specs.declared.edge.Edge.{Edge}
 use Rattle.ptn_network.specs.declared.edge_row.EdgeRow.{EdgeRow}
 use Rattle.ptn_network.specs.Inputs.{stop_input, edge_input}
@@ -96,6 +94,6 @@ network_faults stops_text edges_text =
     input_faults stop_input stops_text
     ++ input_faults (edge_input (stops_of stops_text)) edges_text
 
--- the network of a bundle whose first inputs are the texts of stops and of edges
-abbrev pub network_in : BundleParts → NetworkParts
-network_in bundle = network_of (input_text bundle 0) (input_text bundle 1)
+-- the network of texts of which the first two are those of stops and of edges
+abbrev pub network_in : List (List ℕ) → NetworkParts
+network_in texts = network_of (slice_index_or texts 0 []) (slice_index_or texts 1 [])

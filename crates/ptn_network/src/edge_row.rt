@@ -1,12 +1,12 @@
 // Rows of a file of edges: how they are read, and the rules that each meets by itself.
 ghost use Rattle.std.specs.Prelude.{◌≡◌, ◌<◌, [], length, slice_get, slice_index_or};
-ghost use Rattle.giv_files.specs.Inputs.{broken_whys};
-ghost use Rattle.giv_files.specs.Tables.{no_row};
+ghost use Rattle.tables.specs.Inputs.{broken_whys};
+ghost use Rattle.tables.specs.Tables.{no_row};
 ghost use Rattle.ptn_network.specs.Inputs.{edge_row, own_rules, two_ends, some_length, bounds_in_order};
 ghost use Rattle.ptn_network.specs.Networks.{edge_between};
 
 use crate::edge::Edge;
-use giv_files::{RowWhy, Table};
+use tables::{RowWhy, Table};
 
 /// An edge between the stops of two ids.
 #[derive(Clone, Copy)]

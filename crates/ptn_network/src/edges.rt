@@ -2,7 +2,7 @@
 ghost use Rattle.std.specs.Prelude.{◌≡◌, ⊤, [], List, map, is_some, MatchResult, slice_get, Some};
 ghost use Rattle.std.specs.List.{list_any};
 ghost use Rattle.std.specs.Ordering.{int_eq};
-ghost use Rattle.giv_files.specs.Inputs.{input_faults, records_of, broken_whys, UnlessFault};
+ghost use Rattle.tables.specs.Inputs.{input_faults, records_of, broken_whys, UnlessFault};
 ghost use Rattle.indexmap.specs.IndexMap.{get};
 ghost use Rattle.ptn_network.specs.declared.edge_row.EdgeRow.{EdgeRow};
 ghost use Rattle.ptn_network.specs.Inputs.{edge_input, edge_row, edge_rules};
@@ -10,9 +10,7 @@ ghost use Rattle.ptn_network.specs.Networks.{by_id, edge_entry, edge_of};
 
 use crate::edge::Edge;
 use crate::edge_row::EdgeRow;
-use giv_files::{
-    Counted, FileId, RowFold, RowLimit, RowWhy, StageFault, Table, columns, fold_file,
-};
+use tables::{Counted, FileId, RowFold, RowLimit, RowWhy, StageFault, Table, columns, fold_file};
 use indexmap::{IndexMap, IndexSet};
 use plan_num::NoMemory;
 use std::alloc::Global;

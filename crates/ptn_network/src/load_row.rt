@@ -1,10 +1,10 @@
 // Rows of given loads.
 ghost use Rattle.std.specs.Prelude.{◌≡◌, ◌<◌, int_lt, length, slice_index_or};
-ghost use Rattle.giv_files.specs.Tables.{no_row};
+ghost use Rattle.tables.specs.Tables.{no_row};
 ghost use Rattle.ptn_network.specs.Loads.{load_row_of};
 
 use crate::edge_load::EdgeLoad;
-use giv_files::Table;
+use tables::Table;
 
 /// The load of the edge of an id.
 #[derive(Clone, Copy)]

@@ -1,7 +1,7 @@
 // Loads that a file has.
 ghost use Rattle.std.specs.Prelude.{◌≡◌, ◌<◌, ⊤, [], List, length, map, slice_get, slice_index_or, not, is_some, option_map, unwrap_or, if◌then◌else◌, None, Some, IfOk, MatchResult};
 ghost use Rattle.std.specs.List.{list_any, All};
-ghost use Rattle.giv_files.specs.Inputs.{input_faults, broken_whys, UnlessFault};
+ghost use Rattle.tables.specs.Inputs.{input_faults, broken_whys, UnlessFault};
 ghost use Rattle.ptn_network.specs.Networks.{IsNetwork};
 ghost use Rattle.ptn_network.specs.declared.load_row.LoadRow.{LoadRow};
 ghost use Rattle.ptn_network.specs.Ids.{StandsAt};
@@ -10,7 +10,7 @@ ghost use Rattle.ptn_network.specs.Loads.{load_input, load_row_of, load_rules, g
 use crate::edge_load::EdgeLoad;
 use crate::load_row::LoadRow;
 use crate::network::Network;
-use giv_files::{FileId, Refusal, RowFold, RowWhy, StageFault, Table, columns, fold_file};
+use tables::{FileId, Refusal, RowFold, RowWhy, StageFault, Table, columns, fold_file};
 use plan_num::NoMemory;
 use std::alloc::Global;
 use std::marker::Model;

@@ -1,7 +1,7 @@
 // Networks.
 ghost use Rattle.std.specs.Prelude.{◌≡◌, ◌<◌, length, slice_get, position, Some, map};
 ghost use Rattle.std.specs.Ordering.{int_eq};
-ghost use Rattle.giv_files.specs.Inputs.{UnlessFault};
+ghost use Rattle.tables.specs.Inputs.{UnlessFault};
 ghost use Rattle.ptn_network.specs.Networks.{network_of, network_faults, IsEdge, IsNetwork};
 ghost use Rattle.ptn_network.specs.StopEdges.{AreEdgesAt};
 
@@ -9,7 +9,7 @@ use crate::edge::Edge;
 use crate::edges::read_edges;
 use crate::stop_edges::StopEdges;
 use crate::stops::read_stops;
-use giv_files::StageFault;
+use tables::StageFault;
 use indexmap::{IndexMap, IndexSet};
 use std::alloc::Global;
 use std::marker::Model;

@@ -1,12 +1,10 @@
 // Reading stops.
 ghost use Rattle.std.specs.Prelude.{◌≡◌, ⊤};
-ghost use Rattle.giv_files.specs.Inputs.{input_faults, UnlessFault};
+ghost use Rattle.tables.specs.Inputs.{input_faults, UnlessFault};
 ghost use Rattle.ptn_network.specs.Inputs.{stop_input, stop_row};
 ghost use Rattle.ptn_network.specs.Networks.{stops_of};
 
-use giv_files::{
-    Counted, FileId, RowFold, RowLimit, RowWhy, StageFault, Table, columns, fold_file,
-};
+use tables::{Counted, FileId, RowFold, RowLimit, RowWhy, StageFault, Table, columns, fold_file};
 use indexmap::IndexSet;
 use plan_num::NoMemory;
 use std::alloc::Global;

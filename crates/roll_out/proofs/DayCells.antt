@@ -6,9 +6,9 @@ use Rattle.std.proofs.lemmas.Int.{ints}
 use Rattle.std.proofs.lemmas.List.Elements.{All-nil, All-cons, All-append, All-head, All-tail, All-map, All-filter, All-weaker, All-from_recursion, recursion_from_All}
 use Rattle.std.proofs.lemmas.List.{length-map}
 use Rattle.std.proofs.lemmas.List.FromFn.{length-enumerate_from, get_or-enumerate_from}
-use Rattle.giv_files.specs.declared.words.WordTable.TheVariants as table
-use Rattle.giv_files.specs.Columns.{activities_p_columns, activities_x_columns, events_x_columns, trips_columns, word}
-use Rattle.giv_files.specs.Writing.{InColumn, InColumns}
+use Rattle.tables.specs.declared.words.WordTable.TheVariants as table
+use Rattle.tables.specs.Columns.{activities_p_columns, activities_x_columns, events_x_columns, trips_columns, word}
+use Rattle.tables.specs.Writing.{InColumn, InColumns}
 use Rattle.event_tables.specs.declared.activity_kind.ActivityKind.{ActivityKind}
 use Rattle.event_tables.specs.declared.activity_kind.ActivityKind.TheVariants as day_kind
 use Rattle.event_tables.specs.declared.event_kind.EventKind.{EventKind}

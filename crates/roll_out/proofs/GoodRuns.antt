@@ -8,7 +8,7 @@ use Rattle.std.proofs.lemmas.List.{get_or-map}
 use Rattle.std.proofs.lemmas.List.Elements.{All-from_recursion, recursion_from_All}
 use Rattle.std.proofs.lemmas.List.FromFn.{get_or-enumerate_from, get_or-range_with_len, length-enumerate_from}
 use Rattle.std.proofs.lemmas.List.Sums.{sum_by-cons}
-use Rattle.giv_files.proofs.Ranges.{front_none, back_none, unmapped as nothing_mapped}
+use Rattle.tables.proofs.Ranges.{front_none, back_none, unmapped as nothing_mapped}
 use Rattle.event_tables.specs.declared.event_kind.EventKind.{EventKind}
 use Rattle.event_tables.specs.declared.event_kind.EventKind.TheVariants as kinds
 use Rattle.event_tables.specs.declared.periodic_activity.PeriodicActivity.{PeriodicActivity}

@@ -5,13 +5,13 @@ use Rattle.std.specs.List.{AllByRecursion, list_any}
 use Rattle.std.specs.List.Sorted.{IsStrictlySortedBy}
 use Rattle.std.specs.Ordering.{int_cmp, int_eq}
 use Rattle.std.proofs.lemmas.Bool.{le-ltb, lt-leb}
-use Rattle.giv_files.specs.declared.counted.Counted.TheVariants as counted
-use Rattle.giv_files.specs.Columns.{activities_x_columns, events_x_columns, trips_columns}
-use Rattle.giv_files.specs.Inputs.{RowRule, broken_whys, input_faults, records}
-use Rattle.giv_files.specs.Writing.{InColumns, ReadsBack}
-use Rattle.giv_files.proofs.Accepted.{KeepRules, accepted, all_keep}
-use Rattle.giv_files.proofs.Headers.{plain_header}
-use Rattle.giv_files.proofs.InTurn.{under_limit}
+use Rattle.tables.specs.declared.counted.Counted.TheVariants as counted
+use Rattle.tables.specs.Columns.{activities_x_columns, events_x_columns, trips_columns}
+use Rattle.tables.specs.Inputs.{RowRule, broken_whys, input_faults, records}
+use Rattle.tables.specs.Writing.{InColumns, ReadsBack}
+use Rattle.tables.proofs.Accepted.{KeepRules, accepted, all_keep}
+use Rattle.tables.proofs.Headers.{plain_header}
+use Rattle.tables.proofs.InTurn.{under_limit}
 use Rattle.event_tables.specs.declared.expanded_activity.ExpandedActivity.{ExpandedActivity}
 use Rattle.event_tables.specs.declared.expanded_event.ExpandedEvent.{ExpandedEvent}
 use Rattle.event_tables.specs.declared.trip.Trip.{Trip}
@@ -19,9 +19,9 @@ use Rattle.event_tables.specs.Cells.{expanded_activity, expanded_activity_cells,
 use Rattle.event_tables.specs.ExpandedFiles.{IsExpandedActivity, expanded_activity_input, expanded_event_ids, expanded_event_input, forward, no_sync}
 use Rattle.event_tables.specs.Headers.{expanded_activity_header, expanded_event_header, trip_header}
 use Rattle.event_tables.specs.Places.{AreNumbered, IsOneOf, bounds_in_order, is_none_of, known_ends}
-use Rattle.giv_files.specs.RowsOfTables.{ReadsAs, file_text, rows_by}
+use Rattle.tables.specs.RowsOfTables.{ReadsAs, file_text, rows_by}
 use Rattle.event_tables.specs.Trips.{lacks_stop, trip_input, trip_rules}
-use Rattle.giv_files.proofs.WrittenColumns.{columns_written}
+use Rattle.tables.proofs.WrittenColumns.{columns_written}
 use Rattle.event_tables.proofs.CellsBack.{expanded_activity_same, expanded_event_same, trip_same}
 use Rattle.event_tables.proofs.PlacesKept.{is_known, places_keep}
 use Rattle.event_tables.proofs.WrittenRecords.{file_back, records_back, text_as}

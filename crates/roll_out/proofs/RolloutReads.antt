@@ -6,20 +6,20 @@ use Rattle.std.specs.List.{AllByRecursion}
 use Rattle.std.proofs.lemmas.List.{length-map}
 use Rattle.std.proofs.lemmas.List.Elements.{All-from_recursion}
 use Rattle.std.proofs.lemmas.List.FromFn.{length-enumerate_from}
-use Rattle.giv_files.specs.declared.counted.Counted.TheVariants as counted
-use Rattle.giv_files.specs.declared.file_id.FileId.TheVariants as file
+use Rattle.tables.specs.declared.counted.Counted.TheVariants as counted
+use Rattle.tables.specs.declared.file_id.FileId.TheVariants as file
 use Rattle.giv_files.specs.declared.key.Key.TheVariants as key
 use Rattle.giv_files.specs.declared.made.Made.{Made}
-use Rattle.giv_files.specs.declared.refusal.StageFault.{StageFault}
-use Rattle.giv_files.specs.declared.row_why.RowWhy.TheVariants as why
+use Rattle.tables.specs.declared.refusal.StageFault.{StageFault}
+use Rattle.tables.specs.declared.row_why.RowWhy.TheVariants as why
 use Rattle.giv_files.specs.declared.stage.Stage.TheVariants as stage
-use Rattle.giv_files.specs.Columns.{activities_x_columns, events_x_columns, trips_columns}
-use Rattle.giv_files.specs.Inputs.{input_faults, records_of}
+use Rattle.tables.specs.Columns.{activities_x_columns, events_x_columns, trips_columns}
+use Rattle.tables.specs.Inputs.{input_faults, records_of}
 use Rattle.giv_files.specs.Settings.{BundleParts, Fits, SettingsFit}
 use Rattle.giv_files.specs.StageCalls.{StageGives, input_text}
-use Rattle.giv_files.proofs.Ranges.{front_none, back_none, unmapped as nothing_mapped}
+use Rattle.tables.proofs.Ranges.{front_none, back_none, unmapped as nothing_mapped}
 use Rattle.giv_files.proofs.SettingFacts.{amount_within}
-use Rattle.giv_files.proofs.InTurn.{none_first, none_after}
+use Rattle.tables.proofs.InTurn.{none_first, none_after}
 use Rattle.giv_files.proofs.StageCalls.{made_unless, none_unless}
 use Rattle.event_tables.specs.Cells.{expanded_activity_cells, expanded_event_cells, trip_cells}
 use Rattle.event_tables.specs.ExpandedFiles.{IsExpandedActivity, expanded_activity_input}
@@ -27,7 +27,7 @@ use Rattle.event_tables.specs.Headers.{expanded_activity_header, expanded_event_
 use Rattle.event_tables.specs.PeriodicFiles.{periodic_activity_input, periodic_time_input}
 use Rattle.event_tables.specs.PeriodicRuns.{runs_of}
 use Rattle.event_tables.specs.Places.{AreNumbered}
-use Rattle.giv_files.specs.RowsOfTables.{file_text}
+use Rattle.tables.specs.RowsOfTables.{file_text}
 use Rattle.event_tables.specs.RunRules.{KeepRunRules}
 use Rattle.event_tables.specs.Trips.{trip_input}
 use Rattle.event_tables.proofs.SoundFiles.{periodic_activities_sound, periodic_events_sound}

@@ -5,17 +5,17 @@ use Rattle.std.specs.List.{flat_map, enumerate_from, zip, AllByRecursion}
 use Rattle.std.proofs.lemmas.List.{length-map, get_or-map}
 use Rattle.std.proofs.lemmas.List.Elements.{All-filter, All-map, All-append, All-nil, All-from_recursion}
 use Rattle.std.proofs.lemmas.List.FromFn.{get_or-range_with_len}
-use Rattle.giv_files.specs.declared.file_id.FileId.TheVariants as file
-use Rattle.giv_files.specs.declared.refusal.Refusal.{Refusal}
-use Rattle.giv_files.specs.declared.refusal.StageFault.{StageFault}
-use Rattle.giv_files.specs.declared.row_why.RowWhy.TheVariants as why
-use Rattle.giv_files.specs.Columns.{events_p_columns, activities_p_columns}
-use Rattle.giv_files.specs.Inputs.{Input, Refuses, UnlessFault, cell_faults, input_faults, records_of}
-use Rattle.giv_files.specs.Reading.{table_of}
+use Rattle.tables.specs.declared.file_id.FileId.TheVariants as file
+use Rattle.tables.specs.declared.refusal.Refusal.{Refusal}
+use Rattle.tables.specs.declared.refusal.StageFault.{StageFault}
+use Rattle.tables.specs.declared.row_why.RowWhy.TheVariants as why
+use Rattle.tables.specs.Columns.{events_p_columns, activities_p_columns}
+use Rattle.tables.specs.Inputs.{Input, Refuses, UnlessFault, cell_faults, input_faults, records_of}
+use Rattle.tables.specs.Reading.{table_of}
 use Rattle.giv_files.specs.Settings.{BundleParts}
 use Rattle.giv_files.specs.StageCalls.{input_text}
-use Rattle.giv_files.specs.Tables.{TableRow}
-use Rattle.giv_files.proofs.Inputs.{parts_sound, refused_append}
+use Rattle.tables.specs.Tables.{TableRow}
+use Rattle.tables.proofs.Inputs.{parts_sound, refused_append}
 use Rattle.event_tables.specs.declared.periodic_activity.PeriodicActivity.{PeriodicActivity}
 use Rattle.event_tables.specs.declared.periodic_event.PeriodicEvent.{PeriodicEvent}
 use Rattle.event_tables.specs.PeriodicFiles.{periodic_activity_input, periodic_event_ids, periodic_event_input}

@@ -5,8 +5,8 @@ use Rattle.std.proofs.Common.{get_or, Option, Some, None, refl, ap, subst, sym, 
 use Rattle.std.specs.List.{flat_map, AllByRecursion}
 use Rattle.std.proofs.lemmas.List.{length-map, map-append}
 use Rattle.std.proofs.lemmas.List.Elements.{recursion_from_All, All-from_recursion}
-use Rattle.giv_files.specs.Columns.{events_p_columns, activities_p_columns}
-use Rattle.giv_files.specs.Writing.{InColumns}
+use Rattle.tables.specs.Columns.{events_p_columns, activities_p_columns}
+use Rattle.tables.specs.Writing.{InColumns}
 use Rattle.event_tables.specs.declared.periodic_activity.PeriodicActivity.{PeriodicActivity}
 use Rattle.event_tables.specs.declared.periodic_event.PeriodicEvent.{PeriodicEvent}
 use Rattle.event_tables.specs.Cells.{periodic_event_cells, periodic_activity_cells}

@@ -2,8 +2,8 @@
 use Rattle.std.specs.Prelude.{Bool, slice_set, ◌<◌, ◌&&◌, ◌||◌, ℕ, ◌≡◌, ◌+◌, ◌-◌, ◌*◌, ◌/◌, ◌==◌, ◌≤◌, nat_le, if◌then◌else◌, List, [], ◌∷◌, ◌++◌, length, map, filter, get_or, sum_by, All, IfSome}
 use Rattle.std.specs.Int.{div_ceil}
 use Rattle.std.specs.List.{flat_map, range_with_len, enumerate_from}
-use Rattle.giv_files.specs.Columns.{events_p_columns, activities_p_columns}
-use Rattle.giv_files.specs.Writing.{InColumns}
+use Rattle.tables.specs.Columns.{events_p_columns, activities_p_columns}
+use Rattle.tables.specs.Writing.{InColumns}
 use Rattle.event_tables.specs.declared.expanded_activity.ExpandedActivity.{ExpandedActivity}
 use Rattle.event_tables.specs.declared.periodic_activity.PeriodicActivity.{PeriodicActivity}
 use Rattle.event_tables.specs.declared.periodic_event.PeriodicEvent.{PeriodicEvent}

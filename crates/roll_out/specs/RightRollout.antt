@@ -1,10 +1,10 @@
 -- What is right about the files of a day that are made.
 use Rattle.std.specs.Prelude.{ℕ, ℤ, ◌≡◌, true, List, [], ◌∷◌, All, Option, Some, None, ⊤}
-use Rattle.giv_files.specs.declared.file_id.FileId.TheVariants as file
+use Rattle.tables.specs.declared.file_id.FileId.TheVariants as file
 use Rattle.giv_files.specs.declared.made.Made.{Made}
 use Rattle.giv_files.specs.declared.made.MadeFile.{MadeFile}
-use Rattle.giv_files.specs.Columns.{events_x_columns, activities_x_columns, trips_columns}
-use Rattle.giv_files.specs.Inputs.{input_faults, records_of}
+use Rattle.tables.specs.Columns.{events_x_columns, activities_x_columns, trips_columns}
+use Rattle.tables.specs.Inputs.{input_faults, records_of}
 use Rattle.giv_files.specs.Settings.{BundleParts}
 use Rattle.event_tables.specs.declared.event_kind.EventKind.{EventKind}
 use Rattle.event_tables.specs.declared.event_kind.EventKind.TheVariants as kind
@@ -15,7 +15,7 @@ use Rattle.event_tables.specs.declared.trip.TripEnd.{TripEnd}
 use Rattle.event_tables.specs.Cells.{expanded_event, expanded_activity, trip}
 use Rattle.event_tables.specs.ExpandedFiles.{expanded_event_input, expanded_activity_input}
 use Rattle.event_tables.specs.ForwardOrder.{event_with}
-use Rattle.giv_files.specs.RowsOfTables.{ReadsAs}
+use Rattle.tables.specs.RowsOfTables.{ReadsAs}
 use Rattle.event_tables.specs.Trips.{is_stop, trip_input}
 use Rattle.roll_out.specs.DayActivities.{day_changes}
 use Rattle.roll_out.specs.DayInWords.{AreChangesOf, AreTripsOf}

@@ -1,23 +1,23 @@
 -- The stage that rolls a timetable out over a day.
 use Rattle.std.specs.Prelude.{ℕ, ◌-◌, List, [], ◌∷◌, ◌++◌, length, map, codes, Result}
-use Rattle.giv_files.specs.declared.column.ColumnKind.{ColumnKind}
-use Rattle.giv_files.specs.declared.counted.Counted.TheVariants as counted
-use Rattle.giv_files.specs.declared.file_id.FileId.{FileId}
-use Rattle.giv_files.specs.declared.file_id.FileId.TheVariants as file
+use Rattle.tables.specs.declared.column.ColumnKind.{ColumnKind}
+use Rattle.tables.specs.declared.counted.Counted.TheVariants as counted
+use Rattle.tables.specs.declared.file_id.FileId.{FileId}
+use Rattle.tables.specs.declared.file_id.FileId.TheVariants as file
 use Rattle.giv_files.specs.declared.key.Key.TheVariants as key
 use Rattle.giv_files.specs.declared.made.Made.{Made}
-use Rattle.giv_files.specs.declared.refusal.Refusal.{Refusal}
-use Rattle.giv_files.specs.declared.refusal.Refusal.TheVariants as refusal
-use Rattle.giv_files.specs.declared.row_why.RowWhy.{RowWhy}
-use Rattle.giv_files.specs.declared.row_why.RowWhy.TheVariants as why
+use Rattle.tables.specs.declared.refusal.Refusal.{Refusal}
+use Rattle.tables.specs.declared.refusal.Refusal.TheVariants as refusal
+use Rattle.tables.specs.declared.row_why.RowWhy.{RowWhy}
+use Rattle.tables.specs.declared.row_why.RowWhy.TheVariants as why
 use Rattle.giv_files.specs.declared.stage.Stage.TheVariants as stage
-use Rattle.giv_files.specs.Columns.{events_p_columns, activities_p_columns, events_x_columns, activities_x_columns, trips_columns}
-use Rattle.giv_files.specs.Inputs.{Input, input_faults, limit_faults, or_else, records_of, row_limit}
-use Rattle.giv_files.specs.Reading.{table_of}
+use Rattle.tables.specs.Columns.{events_p_columns, activities_p_columns, events_x_columns, activities_x_columns, trips_columns}
+use Rattle.tables.specs.Inputs.{Input, input_faults, limit_faults, or_else, records_of, row_limit}
+use Rattle.tables.specs.Reading.{table_of}
 use Rattle.giv_files.specs.ReportLines.{count_text, report_line}
 use Rattle.giv_files.specs.Settings.{BundleParts, amount}
 use Rattle.giv_files.specs.StageCalls.{input_text, unless_fault}
-use Rattle.giv_files.specs.Tables.{row_number}
+use Rattle.tables.specs.Tables.{row_number}
 use Rattle.event_tables.specs.declared.expanded_activity.ExpandedActivity.{ExpandedActivity}
 use Rattle.event_tables.specs.declared.expanded_event.ExpandedEvent.{ExpandedEvent}
 use Rattle.event_tables.specs.declared.periodic_time.PeriodicTime.{PeriodicTime}
@@ -25,7 +25,7 @@ use Rattle.event_tables.specs.declared.trip.Trip.{Trip}
 use Rattle.event_tables.specs.Cells.{expanded_event_cells, expanded_activity_cells, trip_cells}
 use Rattle.event_tables.specs.Headers.{expanded_event_header, expanded_activity_header, trip_header}
 use Rattle.event_tables.specs.PeriodicFiles.{periodic_event_ids, periodic_time_input}
-use Rattle.giv_files.specs.RowsOfTables.{file_text}
+use Rattle.tables.specs.RowsOfTables.{file_text}
 use Rattle.event_tables.specs.RunRules.{broken_events, unjoined_events, stray_activities}
 use Rattle.pesp_model.specs.PespTexts.{events_of, activities_of, problem_faults}
 use Rattle.roll_out.specs.declared.day.Day.{Day}

@@ -1,7 +1,7 @@
 // The files of a day.
 ghost use Rattle.std.specs.Prelude.{◌≡◌, All, IfOk};
-ghost use Rattle.giv_files.specs.Columns.{events_x_columns, activities_x_columns, trips_columns};
-ghost use Rattle.giv_files.specs.Writing.{InColumns};
+ghost use Rattle.tables.specs.Columns.{events_x_columns, activities_x_columns, trips_columns};
+ghost use Rattle.tables.specs.Writing.{InColumns};
 ghost use Rattle.event_tables.specs.Cells.{expanded_event_cells, expanded_activity_cells, trip_cells};
 ghost use Rattle.roll_out.specs.RolloutStage.{rollout_made};
 
@@ -9,7 +9,8 @@ use event_tables::{
     ExpandedActivity, ExpandedEvent, Trip, expanded_activities_text, expanded_events_text,
     trips_text,
 };
-use giv_files::{FileId, Made, MadeFile, MadeList, Stage, count_text, report_line};
+use giv_files::{Made, MadeFile, MadeList, Stage, count_text, report_line};
+use tables::FileId;
 use plan_num::NoMemory;
 use std::alloc::Global;
 

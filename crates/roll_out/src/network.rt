@@ -1,7 +1,7 @@
 // Timetables over periodic events and activities.
 ghost use Rattle.std.specs.Prelude.{◌≡◌, ◌<◌, ◌≤◌, filter, length, All, IfOk};
 ghost use Rattle.giv_files.specs.declared.stage.Stage.TheVariants as stages;
-ghost use Rattle.giv_files.specs.Inputs.{UnlessFault};
+ghost use Rattle.tables.specs.Inputs.{UnlessFault};
 ghost use Rattle.giv_files.specs.Settings.{Fits};
 ghost use Rattle.event_tables.specs.Places.{IsOneOf};
 ghost use Rattle.event_tables.specs.RunRules.{leads};
@@ -14,7 +14,8 @@ use event_tables::{
     PeriodicActivity, PeriodicEvent, PeriodicTime, periodic_activities, periodic_events,
     periodic_times,
 };
-use giv_files::{Bundle, FileId, Key, StageFault};
+use giv_files::{Bundle, Key};
+use tables::{FileId, StageFault};
 use pesp_model::tension;
 use std::alloc::Global;
 use std::marker::Model;

@@ -1,19 +1,19 @@
 // Refusals by the rules of runs, and of lists that would be too long.
 ghost use Rattle.std.specs.Prelude.{◌≡◌, ◌<◌, ◌^◌, [], length, Some, All};
-ghost use Rattle.giv_files.specs.declared.counted.Counted.{Counted};
-ghost use Rattle.giv_files.specs.declared.refusal.Refusal.TheVariants as refusals;
-ghost use Rattle.giv_files.specs.declared.refusal.StageFault.TheVariants as faults;
-ghost use Rattle.giv_files.specs.Inputs.{Refuses, UnlessFault, cell_faults, input_faults};
-ghost use Rattle.giv_files.specs.Reading.{table_of};
-ghost use Rattle.giv_files.specs.Columns.{activities_p_columns, events_p_columns};
-ghost use Rattle.giv_files.specs.declared.file_id.FileId.TheVariants as files;
+ghost use Rattle.tables.specs.declared.counted.Counted.{Counted};
+ghost use Rattle.tables.specs.declared.refusal.Refusal.TheVariants as refusals;
+ghost use Rattle.tables.specs.declared.refusal.StageFault.TheVariants as faults;
+ghost use Rattle.tables.specs.Inputs.{Refuses, UnlessFault, cell_faults, input_faults};
+ghost use Rattle.tables.specs.Reading.{table_of};
+ghost use Rattle.tables.specs.Columns.{activities_p_columns, events_p_columns};
+ghost use Rattle.tables.specs.declared.file_id.FileId.TheVariants as files;
 ghost use Rattle.event_tables.specs.PeriodicFiles.{periodic_activity_input, periodic_event_ids, periodic_event_input};
 ghost use Rattle.event_tables.specs.Places.{IsOneOf};
 ghost use Rattle.pesp_model.specs.PespTexts.{activities_of, events_of};
 ghost use Rattle.roll_out.specs.RolloutStage.{faults_at};
 
 use event_tables::PeriodicEvent;
-use giv_files::{ColumnKind, Counted, FileId, Refusal, RowWhy, StageFault, columns, read_input};
+use tables::{ColumnKind, Counted, FileId, Refusal, RowWhy, StageFault, columns, read_input};
 use std::alloc::Global;
 
 /// Refuses the row of the first of some periodic events by their ids, if there is one.

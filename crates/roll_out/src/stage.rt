@@ -1,7 +1,7 @@
 // The stage that rolls a timetable out over a day.
 ghost use Rattle.std.specs.Prelude.{◌≡◌, ◌≤◌, [], length, IfOk};
 ghost use Rattle.giv_files.specs.declared.stage.Stage.TheVariants as stages;
-ghost use Rattle.giv_files.specs.Inputs.{UnlessFault};
+ghost use Rattle.tables.specs.Inputs.{UnlessFault};
 ghost use Rattle.giv_files.specs.Settings.{Fits};
 ghost use Rattle.giv_files.specs.StageCalls.{StageGives, TakesSteps};
 ghost use Rattle.event_tables.specs.PeriodicRuns.{runs_of};
@@ -22,7 +22,8 @@ use crate::run::{Run, runs_of};
 use crate::trip::{DayTrip, day_events, day_trips, event_count, trip_count, trip_rows};
 use crate::ways::{add_ways, way_count, with_numbers};
 use event_tables::ExpandedActivity;
-use giv_files::{Bundle, Counted, Made, RowWhy, StageFault};
+use giv_files::{Bundle, Made};
+use tables::{Counted, RowWhy, StageFault};
 use plan_num::{Ledger, NoMemory, Steps};
 use std::alloc::Global;
 

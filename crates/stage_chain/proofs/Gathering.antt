@@ -4,7 +4,7 @@ use Rattle.std.proofs.Common.{drop, Option, Some, None, IfSome, Result, Ok, Err,
 use Rattle.std.proofs.Common.{append-nil, append_assoc}
 use Rattle.std.proofs.lemmas.List.{at_drop_more, at_drop_all}
 use Rattle.plan_files.specs.Folder.{Folder}
-use Rattle.giv_files.specs.declared.file_id.FileId.{FileId}
+use Rattle.tables.specs.declared.file_id.FileId.{FileId}
 use Rattle.giv_files.specs.declared.stage.Stage.{Stage}
 use Rattle.giv_files.specs.Settings.{BundleParts}
 use Rattle.stage_chain.specs.declared.cause.Cause.{Cause}

@@ -1,7 +1,7 @@
 -- People write the files that no stage makes.
 use Rattle.std.proofs.Common.{◌≡◌, refl}
-use Rattle.giv_files.specs.declared.file_id.FileId.{FileId}
-use Rattle.giv_files.specs.declared.file_id.FileId.TheVariants as file
+use Rattle.tables.specs.declared.file_id.FileId.{FileId}
+use Rattle.tables.specs.declared.file_id.FileId.TheVariants as file
 use Rattle.stage_chain.specs.Chain.{origin_of}
 use Rattle.stage_chain.specs.Findings.{is_of_people}
 use Rattle.stage_chain.specs.Hand.{is_hand, is_hand_file}

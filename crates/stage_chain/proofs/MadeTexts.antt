@@ -4,9 +4,9 @@ use Rattle.std.proofs.Common.{map, filter, Result, Ok, Err, refl, ap, subst, sym
 use Rattle.std.proofs.lemmas.Bool.{false≢true, and_parts}
 use Rattle.std.proofs.lemmas.List.{map-append}
 use Rattle.std.proofs.lemmas.Slice.Eq.{bytes_eq-Decides}
-use Rattle.giv_files.specs.declared.file_id.FileId.{FileId}
+use Rattle.tables.specs.declared.file_id.FileId.{FileId}
 use Rattle.giv_files.specs.declared.made.MadeFile.{MadeFile}
-use Rattle.giv_files.specs.FileNames.{file_name}
+use Rattle.tables.specs.FileNames.{file_name}
 use Rattle.giv_files.specs.MadeLists.{ids_of}
 use Rattle.stage_chain.specs.declared.cause.Cause.{Cause}
 use Rattle.stage_chain.specs.declared.cause.Cause.TheVariants as cause

@@ -11,12 +11,12 @@ use Rattle.plan_files.specs.declared.write.Write.{Write}
 use Rattle.plan_files.specs.declared.write.Write.TheVariants.{Removal}
 use Rattle.plan_files.specs.Changes.{write_name}
 use Rattle.plan_files.specs.Folder.{Folder}
-use Rattle.giv_files.specs.declared.file_id.FileId.{FileId}
-use Rattle.giv_files.specs.declared.file_id.FileId.TheVariants as file
+use Rattle.tables.specs.declared.file_id.FileId.{FileId}
+use Rattle.tables.specs.declared.file_id.FileId.TheVariants as file
 use Rattle.giv_files.specs.declared.made.MadeFile.{MadeFile}
 use Rattle.giv_files.specs.declared.stage.Stage.{Stage}
 use Rattle.giv_files.specs.declared.stage.Stage.TheVariants as stage
-use Rattle.giv_files.specs.FileNames.{file_name}
+use Rattle.tables.specs.FileNames.{file_name}
 use Rattle.config_keys.specs.Config.{last_stage_of}
 use Rattle.stage_keep.specs.Entries.{keep_name}
 use Rattle.stage_chain.specs.Built.{files_of}

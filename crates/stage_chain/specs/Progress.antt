@@ -7,7 +7,7 @@ use Rattle.plan_files.specs.Folder.{Folder}
 use Rattle.plan_files.specs.Others.{AreOutside}
 use Rattle.giv_files.specs.declared.made.Made.{Made}
 use Rattle.giv_files.specs.declared.made.MadeFile.{MadeFile}
-use Rattle.giv_files.specs.declared.refusal.Refusal.{Refusal}
+use Rattle.tables.specs.declared.refusal.Refusal.{Refusal}
 use Rattle.giv_files.specs.Settings.{BundleParts}
 use Rattle.stage_chain.specs.declared.chain_end.ChainEnd.{ChainEnd}
 use Rattle.stage_chain.specs.declared.chain_end.ChainEnd.TheVariants as end

@@ -1,14 +1,14 @@
 -- The lines of a report.
 use Rattle.std.specs.Prelude.{ℕ, List, [], ◌∷◌, ◌++◌, codes, decimal, Option, Some, None}
 use Rattle.std.specs.List.{flat_map}
-use Rattle.giv_files.specs.declared.refusal.Refusal.{Refusal}
-use Rattle.giv_files.specs.declared.refusal.Refusal.TheVariants as refusal
+use Rattle.tables.specs.declared.refusal.Refusal.{Refusal}
+use Rattle.tables.specs.declared.refusal.Refusal.TheVariants as refusal
 use Rattle.giv_files.specs.declared.stage.Stage.{Stage}
-use Rattle.giv_files.specs.CountedTexts.{counted_text}
-use Rattle.giv_files.specs.FileNames.{file_name}
+use Rattle.tables.specs.CountedTexts.{counted_text}
+use Rattle.tables.specs.FileNames.{file_name}
 use Rattle.giv_files.specs.Keys.{key_name}
 use Rattle.giv_files.specs.StageNames.{stage_name}
-use Rattle.giv_files.specs.WhyTexts.{why_text}
+use Rattle.tables.specs.WhyTexts.{why_text}
 use Rattle.config_keys.specs.declared.config_fault.ConfigFault.{ConfigFault}
 use Rattle.config_keys.specs.declared.config_fault.ConfigFault.TheVariants as fault
 use Rattle.command_line.specs.declared.ends.RunEnd.{RunEnd}

@@ -4,10 +4,10 @@ use Rattle.std.specs.Prelude.{Err, IfSome, IfOk, Contains}
 use Rattle.std.specs.Option.{ok_or}
 use Rattle.std.specs.FinMap as files
 use Rattle.plan_files.specs.Folder.{Folder}
-use Rattle.giv_files.specs.declared.file_id.FileId.{FileId}
+use Rattle.tables.specs.declared.file_id.FileId.{FileId}
 use Rattle.giv_files.specs.declared.made.MadeFile.{MadeFile}
-use Rattle.giv_files.specs.FileNames.{file_name}
-use Rattle.giv_files.specs.NamedFiles.{NamesOnly}
+use Rattle.tables.specs.FileNames.{file_name}
+use Rattle.tables.specs.NamedFiles.{NamesOnly}
 use Rattle.giv_files.specs.Settings.{BundleParts}
 use Rattle.giv_files.specs.Stages.{stage_makes}
 use Rattle.config_keys.specs.Items.{look_in}

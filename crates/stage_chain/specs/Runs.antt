@@ -11,7 +11,7 @@ use Rattle.plan_files.specs.Folder.{Folder}
 pub use Rattle.plan_files.specs.Folder.{same_bytes}
 use Rattle.plan_files.specs.Others.{AreOutside}
 use Rattle.giv_files.specs.declared.made.MadeFile.{MadeFile}
-use Rattle.giv_files.specs.FileNames.{file_name}
+use Rattle.tables.specs.FileNames.{file_name}
 use Rattle.stage_chain.specs.declared.outcome.ChainFault.{ChainFault}
 use Rattle.command_line.specs.declared.mode.Mode.{Mode}
 use Rattle.command_line.specs.declared.mode.Mode.TheVariants as mode

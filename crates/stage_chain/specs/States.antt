@@ -5,11 +5,11 @@ use Rattle.std.specs.Prelude.{Option, Some, None, Result, Ok, Err, IfOk}
 use Rattle.std.specs.List.{list_all, list_any}
 use Rattle.std.specs.FinMap as files
 use Rattle.plan_files.specs.Folder.{Folder}
-use Rattle.giv_files.specs.declared.file_id.FileId.{FileId}
+use Rattle.tables.specs.declared.file_id.FileId.{FileId}
 use Rattle.giv_files.specs.declared.made.Made.{Made}
 use Rattle.giv_files.specs.declared.made.MadeFile.{MadeFile}
 use Rattle.giv_files.specs.declared.stage.Stage.{Stage}
-use Rattle.giv_files.specs.FileNames.{file_name}
+use Rattle.tables.specs.FileNames.{file_name}
 use Rattle.giv_files.specs.Settings.{BundleParts}
 use Rattle.giv_files.specs.StageNames.{stage_name}
 use Rattle.giv_files.specs.Stages.{stage_inputs, stage_makes}

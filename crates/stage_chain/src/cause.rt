@@ -1,6 +1,7 @@
 // Why a chain ends before its last stage.
 use config_keys::ConfigFault;
-use giv_files::{FileId, Refusal, Stage};
+use giv_files::Stage;
+use tables::{FileId, Refusal};
 
 /// Why a chain ends before its last stage.
 #[derive(Debug, Drop)]

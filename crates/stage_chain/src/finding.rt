@@ -6,7 +6,8 @@ ghost use Rattle.stage_chain.specs.Findings.{finding_of, is_of_people, names_han
 use crate::cause::Cause;
 use crate::origin::{Origin, origin_of};
 use crate::rule::Rule;
-use giv_files::{FileId, Refusal, Stage};
+use giv_files::Stage;
+use tables::{FileId, Refusal};
 
 /// Why a dataset does not pass.
 #[derive(Debug, Drop)]

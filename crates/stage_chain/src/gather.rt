@@ -2,7 +2,7 @@
 ghost use Rattle.std.specs.Prelude.{◌≡◌, false, IfSome, IfOk, None, option_copied};
 ghost use Rattle.plan_files.specs.Reads.{OnlyReads};
 ghost use Rattle.config_keys.specs.Items.{look_in};
-ghost use Rattle.giv_files.specs.FileNames.{file_name};
+ghost use Rattle.tables.specs.FileNames.{file_name};
 ghost use Rattle.giv_files.specs.Settings.{Fits};
 ghost use Rattle.giv_files.specs.Stages.{stage_inputs};
 ghost use Rattle.stage_chain.specs.Chain.{bundle_told, hand_text, made_text, texts_by};
@@ -15,7 +15,8 @@ use crate::chain_end::ChainEnd;
 use crate::origin::{Origin, chosen, origin_of};
 use crate::standing::text_at;
 use config_keys::{Config, FILE_LIMIT};
-use giv_files::{Bundle, FileId, MadeFile, Stage};
+use giv_files::{Bundle, MadeFile, Stage};
+use tables::FileId;
 use plan_files::{Files, Got};
 use plan_num::Text;
 use stage_keep::{Given, LentText};

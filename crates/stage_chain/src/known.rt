@@ -5,7 +5,8 @@ ghost use Rattle.stage_chain.specs.States.{known_with, lacks_input, is_one_of, n
 use crate::holding::Holding;
 use crate::origin::chosen;
 use config_keys::Config;
-use giv_files::{FileId, MadeFile, Stage};
+use giv_files::{MadeFile, Stage};
+use tables::FileId;
 use plan_num::NoMemory;
 use std::alloc::Global;
 use std::marker::Model;

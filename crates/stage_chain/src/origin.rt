@@ -3,7 +3,8 @@ ghost use Rattle.std.specs.Prelude.{◌≡◌};
 ghost use Rattle.stage_chain.specs.Chain.{origin_of, chosen};
 
 use config_keys::Config;
-use giv_files::{FileId, Key};
+use giv_files::Key;
+use tables::FileId;
 
 /// Where an input of a stage comes from.
 #[derive(Clone, Copy)]

@@ -18,7 +18,8 @@ use crate::rule::Rule;
 use crate::state::{StageState, StatesEnd, StatesOutcome};
 use command_line::RunEnd;
 use config_keys::ConfigFault;
-use giv_files::{Refusal, Stage};
+use giv_files::Stage;
+use tables::Refusal;
 use plan_num::{NoMemory, Text};
 use std::alloc::Global;
 

@@ -9,7 +9,8 @@ ghost use Rattle.stage_chain.specs.StageParts.{StageParts, staged};
 
 use crate::finding::Finding;
 use config_keys::Config;
-use giv_files::{Bundle, Made, MadeFile, Stage, StageFault};
+use giv_files::{Bundle, Made, MadeFile, Stage};
+use tables::StageFault;
 use plan_num::{Ledger, NoMemory, Steps};
 use std::alloc::Global;
 

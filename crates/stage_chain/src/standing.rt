@@ -4,13 +4,14 @@ ghost use Rattle.std.specs.Prelude.{◌++◌, if◌then◌else◌};
 ghost use Rattle.std.specs.FinMap as map;
 ghost use Rattle.plan_files.specs.Folder.{has_failed};
 ghost use Rattle.plan_files.specs.Reads.{OnlyReads};
-ghost use Rattle.giv_files.specs.FileNames.{file_name};
+ghost use Rattle.tables.specs.FileNames.{file_name};
 ghost use Rattle.stage_chain.specs.Checks.{found_one, is_certificate, is_lacking};
 ghost use Rattle.stage_chain.specs.Checks.{lacks_file, standing};
 ghost use Rattle.stage_chain.specs.Ends.{has_failed as has_broken};
 
 use crate::outcome::ChainFault;
-use giv_files::{FileId, MadeFile, Stage};
+use giv_files::{MadeFile, Stage};
+use tables::FileId;
 use plan_files::{FileFault, Files, Got};
 use plan_num::{NoMemory, Text};
 use std::alloc::Global;

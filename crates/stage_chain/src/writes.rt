@@ -1,13 +1,14 @@
 // The writes that bring a folder to what a chain made.
 ghost use Rattle.std.specs.Prelude.{◌≡◌, ◌++◌, map, IfOk, OnOk};
-ghost use Rattle.giv_files.specs.FileNames.{file_name};
+ghost use Rattle.tables.specs.FileNames.{file_name};
 ghost use Rattle.giv_files.specs.Stages.{stage_makes};
 ghost use Rattle.plan_files.specs.declared.write.Write.TheVariants.{Removal};
 ghost use Rattle.stage_chain.specs.Hand.{is_among, names_made_by};
 ghost use Rattle.stage_chain.specs.Runs.{name_of, put_of, names_besides, writes_for};
 
 use crate::stages::Stages;
-use giv_files::{FileId, MadeFile, Stage};
+use giv_files::{MadeFile, Stage};
+use tables::FileId;
 use plan_files::{Name, Write};
 use plan_num::NoMemory;
 use std::alloc::Global;

@@ -4,11 +4,11 @@ use Rattle.std.proofs.lemmas.Int.{ints}
 use Rattle.std.specs.FinMap as files
 use Rattle.std.specs.Option.{ok_or}
 use Rattle.plan_files.specs.Folder.{Folder}
-use Rattle.giv_files.specs.declared.file_id.FileId.{FileId}
-use Rattle.giv_files.specs.declared.file_id.FileId.TheVariants as file
+use Rattle.tables.specs.declared.file_id.FileId.{FileId}
+use Rattle.tables.specs.declared.file_id.FileId.TheVariants as file
 use Rattle.giv_files.specs.declared.made.MadeFile.{MadeFile}
 use Rattle.giv_files.specs.declared.stage.Stage.TheVariants as stage
-use Rattle.giv_files.specs.FileNames.{file_name}
+use Rattle.tables.specs.FileNames.{file_name}
 use Rattle.giv_files.specs.MadeLists.{ids_of}
 use Rattle.giv_files.specs.Settings.{BundleParts}
 use Rattle.config_keys.specs.Items.{look_in}

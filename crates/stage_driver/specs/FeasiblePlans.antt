@@ -1,7 +1,7 @@
 -- That the plans which stand in a folder are feasible.
 use Rattle.std.specs.Prelude.{Bool}
 use Rattle.plan_files.specs.Folder.{Folder}
-use Rattle.giv_files.specs.declared.file_id.FileId.TheVariants as file
+use Rattle.tables.specs.declared.file_id.FileId.TheVariants as file
 use Rattle.giv_files.specs.declared.stage.Stage.{Stage}
 use Rattle.giv_files.specs.declared.stage.Stage.TheVariants as stage
 use Rattle.line_cost_model.specs.Concepts.{IsFeasible}

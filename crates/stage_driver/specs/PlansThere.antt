@@ -2,15 +2,15 @@
 use Rattle.std.specs.Prelude.{◌≡◌, ℕ, ℤ, Bool, true, false, is_some, List, [], Some, Ok, Result, Err}
 use Rattle.std.specs.FinMap as files
 use Rattle.plan_files.specs.Folder.{Folder}
-use Rattle.giv_files.specs.declared.file_id.FileId.{FileId}
-use Rattle.giv_files.specs.declared.file_id.FileId.TheVariants as file
+use Rattle.tables.specs.declared.file_id.FileId.{FileId}
+use Rattle.tables.specs.declared.file_id.FileId.TheVariants as file
 use Rattle.giv_files.specs.declared.stage.Stage.{Stage}
 use Rattle.giv_files.specs.declared.stage.Stage.TheVariants as stage
-use Rattle.giv_files.specs.Columns.{concept_columns, disposed_columns, times_p_columns}
-use Rattle.giv_files.specs.FileNames.{file_name}
-use Rattle.giv_files.specs.RowsOfTables.{ReadsAs}
+use Rattle.tables.specs.Columns.{concept_columns, disposed_columns, times_p_columns}
+use Rattle.tables.specs.FileNames.{file_name}
+use Rattle.tables.specs.RowsOfTables.{ReadsAs}
 use Rattle.giv_files.specs.Settings.{BundleParts}
-use Rattle.giv_files.specs.Writing.{ReadsBack}
+use Rattle.tables.specs.Writing.{ReadsBack}
 use Rattle.config_keys.specs.declared.config_fault.ConfigFault.{ConfigFault}
 use Rattle.config_keys.specs.Items.{look_in}
 use Rattle.config_keys.specs.Values.{effective}

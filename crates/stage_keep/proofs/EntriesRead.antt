@@ -6,7 +6,7 @@ use Rattle.std.proofs.Common.{option_and_then, codes, slice_get, append_assoc, a
 use Rattle.std.specs.List.{Contains, cons_option, filter_map, flat_map, zip}
 use Rattle.std.proofs.lemmas.List.{get_or-drop, length-append, length-drop, length-map, length-take-le}
 use Rattle.std.proofs.lemmas.Option.{same_Some}
-use Rattle.giv_files.specs.declared.file_id.FileId.{FileId}
+use Rattle.tables.specs.declared.file_id.FileId.{FileId}
 use Rattle.giv_files.specs.declared.made.Made.{Made}
 use Rattle.giv_files.specs.declared.stage.Stage.{Stage}
 use Rattle.giv_files.specs.MadeLists.{MakesAs, ids_of, made_lists}

@@ -27,7 +27,7 @@ use Rattle.std.specs.Prelude.{
 }
 use Rattle.std.specs.List.{starts_with, range_with_len}
 use Rattle.std.specs.Str.{bytes_eq}
-use Rattle.giv_files.specs.declared.file_id.FileId.{FileId}
+use Rattle.tables.specs.declared.file_id.FileId.{FileId}
 use Rattle.giv_files.specs.declared.made.Made.{Made}
 use Rattle.giv_files.specs.declared.made.MadeFile.{MadeFile}
 use Rattle.giv_files.specs.declared.stage.Stage.{Stage}

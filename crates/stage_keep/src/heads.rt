@@ -3,7 +3,8 @@ ghost use Rattle.std.specs.Prelude.{◌≡◌, IfOk};
 ghost use Rattle.stage_keep.specs.Entries.{first_line, made_head};
 ghost use Rattle.stage_keep.specs.EntryReading.{heads, last_heads};
 
-use giv_files::{FileId, Stage};
+use giv_files::Stage;
+use tables::FileId;
 use plan_num::{NoMemory, Text};
 use std::alloc::Global;
 

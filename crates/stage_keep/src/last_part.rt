@@ -7,7 +7,8 @@ ghost use Rattle.stage_keep.specs.Places.{IsWithin, part_of};
 
 use crate::heads::last_heads;
 use crate::place::{Place, longest_of, places_at};
-use giv_files::{FileId, Made, MadeFile, MadeList, Stage};
+use giv_files::{Made, MadeFile, MadeList, Stage};
+use tables::FileId;
 use plan_num::{NoMemory, Text};
 use std::alloc::Global;
 

@@ -13,7 +13,8 @@ ghost use Rattle.stage_keep.specs.EntryReading.{read_entry, texts_at};
 use crate::block::{behind, block_at};
 use crate::entry::Entry;
 use crate::heads::{first_line, heads};
-use giv_files::{FileId, Made, MadeFile, MadeList, Stage};
+use giv_files::{Made, MadeFile, MadeList, Stage};
+use tables::FileId;
 use plan_num::{NoMemory, Text};
 use std::alloc::Global;
 

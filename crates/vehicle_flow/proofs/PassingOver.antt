@@ -2,7 +2,7 @@
 use Rattle.std.proofs.Common.{◌≡◌, List, [], ◌∷◌, ℕ, map, slice_get, Option, Some, None, Result, Ok, Err, IfOk, IfNone, IfSome, refl, sym, subst}
 use Rattle.std.specs.Prelude.{⊤}
 use Rattle.std.proofs.lemmas.Option.{none-some}
-use Rattle.giv_files.specs.declared.read_fault.RowFault.{RowFault}
+use Rattle.tables.specs.declared.read_fault.RowFault.{RowFault}
 use Rattle.giv_files.specs.Settings.{BundleParts}
 use Rattle.vehicle_model.specs.declared.plan_fault.PlanFault.{PlanFault}
 use Rattle.vehicle_model.specs.declared.plan_fault.PlanFault.TheVariants as plan_fault

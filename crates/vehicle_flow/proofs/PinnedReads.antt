@@ -3,7 +3,7 @@ use Rattle.std.proofs.Common.{◌≡◌, ℕ, List, [], ◌∷◌, length, map, 
 use Rattle.giv_files.specs.declared.made.Made.{Made}
 use Rattle.giv_files.specs.Settings.{BundleParts}
 use Rattle.giv_files.specs.StageCalls.{input_text}
-use Rattle.giv_files.proofs.Ranges.{back_none, front_none}
+use Rattle.tables.proofs.Ranges.{back_none, front_none}
 use Rattle.giv_files.proofs.StageCalls.{made_unless, none_unless}
 use Rattle.vehicle_model.specs.Plans.{IsCheapest}
 use Rattle.assignment.specs.Plans.{IsPlan}

@@ -10,19 +10,19 @@ use Rattle.event_tables.specs.Cells.{schedule_row, schedule_cells}
 use Rattle.event_tables.specs.ExpandedFiles.{expanded_event_ids}
 use Rattle.event_tables.specs.Headers.{schedule_header}
 use Rattle.event_tables.specs.Places.{is_none_of}
-use Rattle.giv_files.specs.RowsOfTables.{rows_by}
+use Rattle.tables.specs.RowsOfTables.{rows_by}
 use Rattle.event_tables.specs.Schedules.{ends_early, goes_back, is_empty_row, is_trip_row, lacks_room, schedule_input, schedule_rules}
-use Rattle.giv_files.proofs.WrittenColumns.{columns_written}
+use Rattle.tables.proofs.WrittenColumns.{columns_written}
 use Rattle.event_tables.proofs.CellsBack.{schedule_row_same}
 use Rattle.event_tables.proofs.WrittenRecords.{rows_inside}
-use Rattle.giv_files.specs.declared.counted.Counted.TheVariants as counted
-use Rattle.giv_files.specs.declared.refusal.Refusal.TheVariants as refusal
-use Rattle.giv_files.specs.Columns.{schedule_columns}
-use Rattle.giv_files.specs.Inputs.{input_faults, limit_faults, records}
-use Rattle.giv_files.specs.Writing.{ReadsBack}
-use Rattle.giv_files.proofs.Accepted.{KeepRules, accepted}
-use Rattle.giv_files.proofs.Headers.{plain_header}
-use Rattle.giv_files.proofs.WrittenBack.{written_back}
+use Rattle.tables.specs.declared.counted.Counted.TheVariants as counted
+use Rattle.tables.specs.declared.refusal.Refusal.TheVariants as refusal
+use Rattle.tables.specs.Columns.{schedule_columns}
+use Rattle.tables.specs.Inputs.{input_faults, limit_faults, records}
+use Rattle.tables.specs.Writing.{ReadsBack}
+use Rattle.tables.proofs.Accepted.{KeepRules, accepted}
+use Rattle.tables.proofs.Headers.{plain_header}
+use Rattle.tables.proofs.WrittenBack.{written_back}
 use Rattle.assignment.specs.Plans.{next, IsPlan}
 use Rattle.vehicle_model.specs.Schedules.{dead_between, empty_row, no_trip, plan_rows, plan_text, rows_behind, rows_from, tours, trip_of, trip_row}
 use Rattle.vehicle_model.specs.Trips.{TripsParts, AreTrips, links_of}

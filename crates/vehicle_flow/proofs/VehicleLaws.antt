@@ -1,12 +1,12 @@
 -- What the stage of vehicles makes of a bundle that fits it is right.
 use Rattle.std.proofs.Common.{◌≡◌, true, [], Some, Result, Ok, Err, IfOk, ap}
 use Rattle.giv_files.specs.declared.made.Made.{Made}
-use Rattle.giv_files.specs.declared.refusal.StageFault.{StageFault}
+use Rattle.tables.specs.declared.refusal.StageFault.{StageFault}
 use Rattle.giv_files.specs.declared.stage.Stage.TheVariants as stage
-use Rattle.giv_files.specs.Inputs.{input_faults}
+use Rattle.tables.specs.Inputs.{input_faults}
 use Rattle.giv_files.specs.Settings.{BundleParts, Fits}
 use Rattle.giv_files.specs.StageCalls.{StageGives, input_text}
-use Rattle.giv_files.proofs.Ranges.{back_none, front_none}
+use Rattle.tables.proofs.Ranges.{back_none, front_none}
 use Rattle.giv_files.proofs.StageCalls.{none_unless}
 use Rattle.ptn_network.specs.Networks.{network_faults, network_of, stops_of}
 use Rattle.ptn_network.proofs.Sound.{network_sound}

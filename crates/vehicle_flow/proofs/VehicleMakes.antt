@@ -1,17 +1,18 @@
 -- Which files the stage of vehicles makes, which it names where it refuses a row, and what it gives.
 use Rattle.std.proofs.Common.{◌≡◌, [], true, Bool, Some, Ok, Err, ap, lit<, arith}
-use Rattle.giv_files.specs.declared.file_id.FileId.{FileId}
-use Rattle.giv_files.specs.declared.file_id.FileId.TheVariants as file
+use Rattle.tables.specs.declared.file_id.FileId.{FileId}
+use Rattle.tables.specs.declared.file_id.FileId.TheVariants as file
 use Rattle.giv_files.specs.declared.made.Made.{Made}
-use Rattle.giv_files.specs.declared.refusal.Refusal.{Refusal}
-use Rattle.giv_files.specs.declared.refusal.StageFault.{StageFault}
+use Rattle.tables.specs.declared.refusal.Refusal.{Refusal}
+use Rattle.tables.specs.declared.refusal.StageFault.{StageFault}
 use Rattle.giv_files.specs.declared.stage.Stage.TheVariants as stage
-use Rattle.giv_files.specs.Inputs.{Refuses, input_faults}
+use Rattle.tables.specs.Inputs.{Refuses, input_faults}
 use Rattle.giv_files.specs.MadeLists.{MakesAs, ids_of}
-use Rattle.giv_files.specs.NamedFiles.{NamesInput}
+use Rattle.tables.specs.NamedFiles.{NamesInput}
 use Rattle.giv_files.specs.Settings.{BundleParts}
 use Rattle.giv_files.specs.StageCalls.{StageGives, input_text}
-use Rattle.giv_files.proofs.Named.{AllName, names_both, refused_names}
+use Rattle.tables.proofs.Named.{AllName, names_both}
+use Rattle.giv_files.proofs.StageCalls.{refused_names}
 use Rattle.giv_files.proofs.StageCalls.{made_unless, stage_refused}
 use Rattle.ptn_network.specs.Networks.{network_faults, stops_of}
 use Rattle.ptn_network.proofs.NamedFaults.{network_names}

@@ -1,7 +1,7 @@
 -- A vehicle schedule as an input of later stages, over the events of the day of which the trips were
 -- made.
 use Rattle.std.specs.Prelude.{ℕ, ◌≡◌, List, [], All, Some}
-use Rattle.giv_files.specs.Inputs.{input_faults}
+use Rattle.tables.specs.Inputs.{input_faults}
 use Rattle.event_tables.specs.declared.event_kind.EventKind.{EventKind}
 use Rattle.event_tables.specs.declared.event_kind.EventKind.TheVariants as kind
 use Rattle.event_tables.specs.declared.expanded_event.ExpandedEvent.{ExpandedEvent}

@@ -1,6 +1,6 @@
 -- What is right about a vehicle schedule and its potentials.
 use Rattle.std.specs.Prelude.{ℕ, ◌≡◌, List, [], ◌∷◌, map, Option, Some, None, option_to_list}
-use Rattle.giv_files.specs.declared.file_id.FileId.TheVariants as file
+use Rattle.tables.specs.declared.file_id.FileId.TheVariants as file
 use Rattle.giv_files.specs.declared.made.Made.{Made}
 use Rattle.giv_files.specs.declared.made.MadeFile.{MadeFile}
 use Rattle.giv_files.specs.Settings.{BundleParts}

@@ -1,7 +1,7 @@
 // The test of a vehicle schedule.
 ghost use Rattle.std.specs.Prelude.{◌≡◌, None, IfOk, IfNone, option_copied};
 ghost use Rattle.giv_files.specs.declared.stage.Stage.TheVariants as stages;
-ghost use Rattle.giv_files.specs.Inputs.{UnlessFault};
+ghost use Rattle.tables.specs.Inputs.{UnlessFault};
 ghost use Rattle.giv_files.specs.Settings.{Fits};
 ghost use Rattle.vehicle_flow.specs.RightSchedules.{passed_over, ScheduleIsRight};
 ghost use Rattle.vehicle_flow.specs.RightVehicles.{VehiclesAreRight, files_of};
@@ -11,7 +11,8 @@ ghost use Rattle.vehicle_flow.specs.VehicleStage.{trips_in, vehicles_faults};
 use crate::given::given_trips;
 use crate::judge::first_fault;
 use crate::schedule_fault::ScheduleFault;
-use giv_files::{Bundle, StageFault};
+use giv_files::Bundle;
+use tables::StageFault;
 use std::alloc::Global;
 
 /// The first rule that the text of a vehicle schedule breaks, or that the text of potentials beside

@@ -1,10 +1,11 @@
 // The trips of the inputs of a stage.
 ghost use Rattle.std.specs.Prelude.{◌≡◌, true};
-ghost use Rattle.giv_files.specs.Inputs.{UnlessFault};
+ghost use Rattle.tables.specs.Inputs.{UnlessFault};
 ghost use Rattle.giv_files.specs.Settings.{Fits};
 ghost use Rattle.vehicle_flow.specs.VehicleStage.{takes_trips, trips_in, vehicles_faults};
 
-use giv_files::{Bundle, Key, StageFault};
+use giv_files::{Bundle, Key};
+use tables::StageFault;
 use std::alloc::Global;
 use vehicle_model::Trips;
 

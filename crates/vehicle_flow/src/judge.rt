@@ -7,7 +7,7 @@ ghost use Rattle.vehicle_model.specs.Trips.{links_of};
 
 use crate::schedule_fault::ScheduleFault;
 use flow_potentials::{check_potentials, read_potentials};
-use giv_files::ReadFault;
+use tables::ReadFault;
 use plan_num::NoMemory;
 use std::alloc::Global;
 use vehicle_model::{Plan, Trips, read_plan};

@@ -2,7 +2,7 @@
 ghost use Rattle.std.specs.Prelude.{◌≡◌, ◌++◌, length, map, IfOk, IfSome, OnOk};
 ghost use Rattle.assignment.specs.Potentials.{AreOver};
 ghost use Rattle.giv_files.specs.declared.stage.Stage.TheVariants as stages;
-ghost use Rattle.giv_files.specs.Inputs.{UnlessFault};
+ghost use Rattle.tables.specs.Inputs.{UnlessFault};
 ghost use Rattle.giv_files.specs.Settings.{Fits};
 ghost use Rattle.giv_files.specs.StageCalls.{StageGives, TakesSteps};
 ghost use Rattle.vehicle_flow.specs.PinnedSchedules.{marking_potentials, pinned_vehicles_stage};
@@ -16,7 +16,8 @@ ghost use Rattle.vehicle_model.specs.Trips.{links_of};
 use crate::given::given_trips;
 use crate::report::pinned_line;
 use flow_potentials::{Potentials, check_potentials, read_potentials, write_potentials};
-use giv_files::{Bundle, FileId, Made, MadeFile, MadeList, ReadFault, Refusal, RowWhy, StageFault};
+use giv_files::{Bundle, Made, MadeFile, MadeList};
+use tables::{FileId, ReadFault, Refusal, RowWhy, StageFault};
 use plan_num::{Ledger, NoMemory, Steps};
 use std::alloc::Global;
 use vehicle_model::{Plan, PlanFault, Trips, read_plan, write_plan};

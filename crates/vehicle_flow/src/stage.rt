@@ -8,7 +8,8 @@ ghost use Rattle.vehicle_flow.specs.VehicleStage.{vehicles_stage};
 
 use crate::given::given_trips;
 use crate::made::vehicles_made;
-use giv_files::{Bundle, Made, StageFault};
+use giv_files::{Bundle, Made};
+use tables::StageFault;
 use plan_num::{Ledger, Steps};
 use std::alloc::Global;
 

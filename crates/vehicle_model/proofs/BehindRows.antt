@@ -10,9 +10,9 @@ use Rattle.std.proofs.lemmas.Option.{none-some}
 use Rattle.std.proofs.lemmas.Simd.{map-map}
 use Rattle.event_tables.specs.declared.schedule_row.ScheduleRow.{ScheduleRow}
 use Rattle.event_tables.specs.Cells.{schedule_row}
-use Rattle.giv_files.specs.RowsOfTables.{records_by, numbered_by}
-use Rattle.giv_files.specs.Inputs.{Numbered}
-use Rattle.giv_files.specs.Tables.{TableRow, no_row, row_number}
+use Rattle.tables.specs.RowsOfTables.{records_by, numbered_by}
+use Rattle.tables.specs.Inputs.{Numbered}
+use Rattle.tables.specs.Tables.{TableRow, no_row, row_number}
 use Rattle.vehicle_model.specs.declared.plan_fault.PlanFault.{PlanFault}
 use Rattle.vehicle_model.specs.declared.plan_fault.PlanFault.TheVariants as fault
 use Rattle.assignment.specs.Plans.{next, IsPlan}

@@ -7,11 +7,11 @@ use Rattle.std.proofs.lemmas.List.Elements.{All-weaker}
 use Rattle.std.proofs.lemmas.Option.{none-some, same_Some, slice_get-map}
 use Rattle.event_tables.specs.declared.schedule_row.ScheduleRow.{ScheduleRow}
 use Rattle.event_tables.specs.Cells.{schedule_row}
-use Rattle.giv_files.specs.declared.read_fault.RowFault.{RowFault}
-use Rattle.giv_files.specs.Columns.{schedule_columns}
-use Rattle.giv_files.specs.Inputs.{Numbered}
-use Rattle.giv_files.specs.Reading.{faults, table_of}
-use Rattle.giv_files.specs.RowsOfTables.{records_by, numbered_by}
+use Rattle.tables.specs.declared.read_fault.RowFault.{RowFault}
+use Rattle.tables.specs.Columns.{schedule_columns}
+use Rattle.tables.specs.Inputs.{Numbered}
+use Rattle.tables.specs.Reading.{faults, table_of}
+use Rattle.tables.specs.RowsOfTables.{records_by, numbered_by}
 use Rattle.vehicle_model.specs.declared.plan_fault.PlanFault.{PlanFault}
 use Rattle.vehicle_model.specs.declared.plan_fault.PlanFault.TheVariants as fault
 use Rattle.vehicle_model.specs.DrivenSchedules.{IsScheduleOf, Drives, IsLateIn, IsPlanOf, ReadsWhatIsDriven}

@@ -5,14 +5,14 @@ use Rattle.std.proofs.lemmas.Option.{slice_get-map}
 use Rattle.event_tables.specs.declared.schedule_row.ScheduleRow.{ScheduleRow}
 use Rattle.event_tables.specs.Cells.{schedule_row, schedule_cells}
 use Rattle.event_tables.specs.Headers.{schedule_header}
-use Rattle.giv_files.specs.RowsOfTables.{numbered_by, rows_by, ReadsAs}
-use Rattle.giv_files.specs.Columns.{schedule_columns}
-use Rattle.giv_files.specs.Inputs.{Numbered}
-use Rattle.giv_files.specs.Reading.{table_of}
-use Rattle.giv_files.specs.Writing.{table_text}
-use Rattle.giv_files.proofs.Headers.{plain_header}
-use Rattle.giv_files.proofs.WrittenBack.{written_back}
-use Rattle.giv_files.proofs.WrittenColumns.{columns_written}
+use Rattle.tables.specs.RowsOfTables.{numbered_by, rows_by, ReadsAs}
+use Rattle.tables.specs.Columns.{schedule_columns}
+use Rattle.tables.specs.Inputs.{Numbered}
+use Rattle.tables.specs.Reading.{table_of}
+use Rattle.tables.specs.Writing.{table_text}
+use Rattle.tables.proofs.Headers.{plain_header}
+use Rattle.tables.proofs.WrittenBack.{written_back}
+use Rattle.tables.proofs.WrittenColumns.{columns_written}
 use Rattle.event_tables.proofs.CellsBack.{schedule_row_same}
 use Rattle.event_tables.proofs.WrittenRecords.{rows_inside, reads_as}
 use Rattle.vehicle_model.specs.declared.plan_fault.PlanFault.TheVariants as fault

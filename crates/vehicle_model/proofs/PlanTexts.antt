@@ -3,15 +3,15 @@ use Rattle.std.proofs.Common.{arith, ◌≡◌, ℕ, List, [], ◌∷◌, length
 use Rattle.std.proofs.Common.{All, Result, Err, refl, ap, sym, subst}
 use Rattle.std.proofs.lemmas.Option.{same_Some}
 use Rattle.event_tables.specs.Cells.{schedule_row, AreSmall}
-use Rattle.giv_files.specs.RowsOfTables.{records_by, numbered_by}
+use Rattle.tables.specs.RowsOfTables.{records_by, numbered_by}
 use Rattle.event_tables.proofs.CellFacts.{small_cells}
-use Rattle.giv_files.specs.declared.read_fault.ReadFault.{ReadFault}
-use Rattle.giv_files.specs.declared.read_fault.ReadFault.TheVariants as read
-use Rattle.giv_files.specs.declared.read_fault.RowFault.{RowFault}
-use Rattle.giv_files.specs.Columns.{schedule_columns}
-use Rattle.giv_files.specs.Reading.{faults, table_of, ReadGives}
-use Rattle.giv_files.specs.Tables.{TableRow}
-use Rattle.giv_files.proofs.Ranges.{table_in_columns}
+use Rattle.tables.specs.declared.read_fault.ReadFault.{ReadFault}
+use Rattle.tables.specs.declared.read_fault.ReadFault.TheVariants as read
+use Rattle.tables.specs.declared.read_fault.RowFault.{RowFault}
+use Rattle.tables.specs.Columns.{schedule_columns}
+use Rattle.tables.specs.Reading.{faults, table_of, ReadGives}
+use Rattle.tables.specs.Tables.{TableRow}
+use Rattle.tables.proofs.Ranges.{table_in_columns}
 use Rattle.vehicle_model.specs.declared.plan_fault.PlanFault.{PlanFault}
 use Rattle.vehicle_model.specs.declared.plan_fault.PlanFault.TheVariants as fault
 use Rattle.vehicle_model.specs.PlanFaults.{fault_of}

@@ -7,8 +7,8 @@ use Rattle.std.proofs.lemmas.List.{length-map}
 use Rattle.std.proofs.lemmas.List.Elements.{All-nil, All-cons, All-map}
 use Rattle.event_tables.specs.declared.schedule_row.ScheduleRow.{ScheduleRow}
 use Rattle.event_tables.specs.Cells.{trip_cells, schedule_cells}
-use Rattle.giv_files.specs.Columns.{trips_columns, schedule_columns}
-use Rattle.giv_files.specs.Writing.{InColumns}
+use Rattle.tables.specs.Columns.{trips_columns, schedule_columns}
+use Rattle.tables.specs.Writing.{InColumns}
 use Rattle.vehicle_model.specs.Plans.{starts}
 use Rattle.assignment.specs.Plans.{next, is_next, IsPlan}
 use Rattle.vehicle_model.specs.Schedules.{trip_of, no_trip, dead_between, tour, tours, trip_row, empty_row, rows_behind, rows_from, plan_rows}

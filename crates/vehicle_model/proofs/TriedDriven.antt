@@ -2,10 +2,10 @@
 use Rattle.std.proofs.Common.{◌≡◌, ℕ, refl, List, [], ◌∷◌, ◌++◌, codes, map, nat_eq, length, filter, slice_get, Some}
 use Rattle.std.specs.List.{concat, range_with_len}
 use Rattle.event_tables.specs.Cells.{schedule_row}
-use Rattle.giv_files.specs.Columns.{schedule_columns}
-use Rattle.giv_files.specs.Reading.{table_of, cells_from, cell_of, values}
-use Rattle.giv_files.specs.Rows.{rows, cleaned}
-use Rattle.giv_files.specs.RowsOfTables.{records_by}
+use Rattle.tables.specs.Columns.{schedule_columns}
+use Rattle.tables.specs.Reading.{table_of, cells_from, cell_of, values}
+use Rattle.text_fields.specs.Rows.{rows, cleaned}
+use Rattle.tables.specs.RowsOfTables.{records_by}
 use Rattle.plan_num.specs.Number.{spelling_of, value_of, value_at, fixed_of, whole_of}
 use Rattle.ptn_network.specs.Networks.{by_id, stops_of, network_of}
 use Rattle.ptn_network.specs.Walks.{walks_within, least_of, least_sum}

@@ -6,7 +6,7 @@ use Rattle.std.proofs.lemmas.List.{take_more}
 use Rattle.std.proofs.lemmas.Option.{get_or_from_slice_get, slice_get_within}
 use Rattle.event_tables.specs.declared.trip.Trip.{Trip}
 use Rattle.event_tables.specs.Trips.{trip_input}
-use Rattle.giv_files.specs.Inputs.{records_of, input_faults}
+use Rattle.tables.specs.Inputs.{records_of, input_faults}
 use Rattle.ptn_network.specs.Networks.{NetworkParts, stops_of, network_of, network_faults}
 use Rattle.vehicle_model.specs.Trips.{trips_of, trips_faults}
 

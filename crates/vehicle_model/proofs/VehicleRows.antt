@@ -9,8 +9,8 @@ use Rattle.std.proofs.lemmas.List.Elements.{All-filter}
 use Rattle.std.proofs.lemmas.List.FromFn.{get_or-range_with_len, length-range_with_len}
 use Rattle.event_tables.specs.declared.schedule_row.ScheduleRow.{ScheduleRow}
 use Rattle.event_tables.specs.Cells.{schedule_row}
-use Rattle.giv_files.specs.RowsOfTables.{ReadsAs}
-use Rattle.giv_files.specs.Columns.{schedule_columns}
+use Rattle.tables.specs.RowsOfTables.{ReadsAs}
+use Rattle.tables.specs.Columns.{schedule_columns}
 use Rattle.vehicle_model.specs.Plans.{starts}
 use Rattle.assignment.specs.Plans.{next, is_next, IsPlan}
 use Rattle.vehicle_model.specs.ReadSchedules.{IsReadBack}

@@ -5,9 +5,9 @@ use Rattle.event_tables.specs.declared.schedule_row.ScheduleRow.{ScheduleRow}
 use Rattle.event_tables.specs.declared.trip.Trip.{Trip}
 use Rattle.event_tables.specs.Cells.{schedule_row}
 use Rattle.event_tables.specs.Schedules.{is_empty_row}
-use Rattle.giv_files.specs.Columns.{schedule_columns}
-use Rattle.giv_files.specs.Reading.{faults, table_of}
-use Rattle.giv_files.specs.RowsOfTables.{records_by}
+use Rattle.tables.specs.Columns.{schedule_columns}
+use Rattle.tables.specs.Reading.{faults, table_of}
+use Rattle.tables.specs.RowsOfTables.{records_by}
 use Rattle.ptn_network.specs.Walks.{edge_time, least_sum}
 use Rattle.vehicle_model.specs.declared.plan_fault.PlanFault.{PlanFault}
 use Rattle.vehicle_model.specs.declared.plan_fault.PlanFault.TheVariants as fault

@@ -1,6 +1,6 @@
 -- Inner words: the fault of a plan that a fault of its table is.
-use Rattle.giv_files.specs.declared.read_fault.ReadFault.{ReadFault}
-use Rattle.giv_files.specs.declared.read_fault.ReadFault.TheVariants as read
+use Rattle.tables.specs.declared.read_fault.ReadFault.{ReadFault}
+use Rattle.tables.specs.declared.read_fault.ReadFault.TheVariants as read
 use Rattle.vehicle_model.specs.declared.plan_fault.PlanFault.{PlanFault}
 use Rattle.vehicle_model.specs.declared.plan_fault.PlanFault.TheVariants as fault
 

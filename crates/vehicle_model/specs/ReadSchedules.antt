@@ -6,11 +6,11 @@ use Rattle.event_tables.specs.declared.schedule_row.ScheduleRow.{ScheduleRow}
 use Rattle.event_tables.specs.declared.trip.Trip.{Trip}
 use Rattle.event_tables.specs.declared.trip.TripEnd.{TripEnd}
 use Rattle.event_tables.specs.Cells.{schedule_row}
-use Rattle.giv_files.specs.RowsOfTables.{records_by, numbered_by}
+use Rattle.tables.specs.RowsOfTables.{records_by, numbered_by}
 use Rattle.event_tables.specs.Schedules.{is_trip_row, is_empty_row}
-use Rattle.giv_files.specs.Columns.{schedule_columns}
-use Rattle.giv_files.specs.Inputs.{Numbered}
-use Rattle.giv_files.specs.Reading.{faults, table_of}
+use Rattle.tables.specs.Columns.{schedule_columns}
+use Rattle.tables.specs.Inputs.{Numbered}
+use Rattle.tables.specs.Reading.{faults, table_of}
 use Rattle.vehicle_model.specs.declared.plan_fault.PlanFault.{PlanFault}
 use Rattle.vehicle_model.specs.declared.plan_fault.PlanFault.TheVariants as fault
 use Rattle.vehicle_model.specs.Trips.{TripsParts, link_minutes}

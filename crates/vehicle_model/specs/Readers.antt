@@ -1,7 +1,7 @@
 -- Inner words: what a reader of the rows of a schedule keeps, and what it knows by that.
 use Rattle.std.specs.Prelude.{ℕ, ◌≡◌, ◌<◌, is_some, if◌then◌else◌, Bool, true, false, List, ◌++◌, length, get_or, slice_set, drop, map, filter, slice_get, Option, Some, None, option_map, IfSome, Result, Ok, Err}
 use Rattle.event_tables.specs.declared.schedule_row.ScheduleRow.{ScheduleRow}
-use Rattle.giv_files.specs.Inputs.{Numbered}
+use Rattle.tables.specs.Inputs.{Numbered}
 use Rattle.vehicle_model.specs.declared.plan_fault.PlanFault.{PlanFault}
 use Rattle.vehicle_model.specs.declared.plan_fault.PlanFault.TheVariants as fault
 use Rattle.assignment.specs.Plans.{next, is_next, AreSuccessors}

@@ -7,8 +7,8 @@ use Rattle.event_tables.specs.declared.trip.Trip.{Trip}
 use Rattle.event_tables.specs.declared.trip.TripEnd.{TripEnd}
 use Rattle.event_tables.specs.Cells.{schedule_cells}
 use Rattle.event_tables.specs.Headers.{schedule_header}
-use Rattle.giv_files.specs.RowsOfTables.{file_text}
-use Rattle.giv_files.specs.Columns.{schedule_columns}
+use Rattle.tables.specs.RowsOfTables.{file_text}
+use Rattle.tables.specs.Columns.{schedule_columns}
 use Rattle.vehicle_model.specs.Trips.{TripsParts, dead_minutes}
 use Rattle.vehicle_model.specs.Plans.{starts}
 use Rattle.assignment.specs.Plans.{next}

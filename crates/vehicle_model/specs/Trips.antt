@@ -3,8 +3,8 @@ use Rattle.std.specs.Prelude.{ℕ, ℤ, pos, ◌≡◌, ◌+◌, ◌*◌, ◌≤
 use Rattle.assignment.specs.Links.{Links}
 use Rattle.event_tables.specs.declared.trip.Trip.{Trip}
 use Rattle.event_tables.specs.Trips.{trip_input, AreTrips as AreTripRows}
-use Rattle.giv_files.specs.declared.refusal.Refusal.{Refusal}
-use Rattle.giv_files.specs.Inputs.{records_of, input_faults}
+use Rattle.tables.specs.declared.refusal.Refusal.{Refusal}
+use Rattle.tables.specs.Inputs.{records_of, input_faults}
 use Rattle.ptn_network.specs.Networks.{NetworkParts, IsNetwork, index_in, network_of, network_faults, stops_of}
 use Rattle.ptn_network.specs.Walks.{edge_time, least_sum, IsLeastSum}
 

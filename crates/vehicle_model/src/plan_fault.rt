@@ -3,7 +3,7 @@ ghost use Rattle.std.specs.Prelude.{◌≡◌};
 ghost use Rattle.vehicle_model.specs.declared.plan_fault.PlanFault.TheVariants as plan_faults;
 ghost use Rattle.vehicle_model.specs.PlanFaults.{fault_of};
 
-use giv_files::{ReadFault, RowFault};
+use tables::{ReadFault, RowFault};
 use plan_num::NoMemory;
 use std::alloc::AllocFailed;
 

@@ -2,10 +2,10 @@
 ghost use Rattle.std.specs.Prelude.{◌≡◌, ◌+◌, ◌<◌, ◌≤◌, length, slice_index_or, All};
 ghost use Rattle.event_tables.specs.Cells.{number_in, trip_end, schedule_row, AreSmall};
 ghost use Rattle.event_tables.specs.Kinds.{schedule_kind_at};
-ghost use Rattle.giv_files.specs.Tables.{no_row};
+ghost use Rattle.tables.specs.Tables.{no_row};
 
 use event_tables::{ScheduleKind, ScheduleRow, Trip, TripEnd};
-use giv_files::Table;
+use tables::Table;
 
 /// What a row of a table stands for.
 pub(crate) fn row_at(table: &Table<13>, row: usize) -> ScheduleRow

@@ -1,8 +1,8 @@
 // Reading plans.
 ghost use Rattle.std.specs.Prelude.{◌≡◌, ◌+◌, ◌<◌, length, slice_get, slice_index_or, option_map, All, IfOk};
 ghost use Rattle.event_tables.specs.Cells.{schedule_row, AreSmall};
-ghost use Rattle.giv_files.specs.RowsOfTables.{records_by, numbered_by};
-ghost use Rattle.giv_files.specs.Tables.{no_row};
+ghost use Rattle.tables.specs.RowsOfTables.{records_by, numbered_by};
+ghost use Rattle.tables.specs.Tables.{no_row};
 ghost use Rattle.vehicle_model.specs.DrivenSchedules.{ReadsWhatIsDriven};
 ghost use Rattle.assignment.specs.Plans.{IsPlan};
 ghost use Rattle.vehicle_model.specs.ReadSchedules.{plan_faults, plan_of, plan_by, links_in, nothing_read, row_faults, PlanGives};
@@ -14,7 +14,7 @@ use crate::schedule_cells::row_at;
 use crate::trips::Trips;
 use assignment::Plan;
 use event_tables::ScheduleRow;
-use giv_files::{Table, columns, read_table};
+use tables::{Table, columns, read_table};
 use std::alloc::Global;
 
 /// The plan of a text over some trips, or its first fault: that it is no table of a schedule, else

@@ -1,8 +1,8 @@
 // Writing plans.
 ghost use Rattle.std.specs.Prelude.{◌≡◌, ◌+◌, ◌<◌, ◌≤◌, ◌++◌, true, length, is_some, Some, All, IfOk, OnOk};
 ghost use Rattle.event_tables.specs.Cells.{schedule_cells};
-ghost use Rattle.giv_files.specs.Columns.{schedule_columns};
-ghost use Rattle.giv_files.specs.Writing.{InColumns};
+ghost use Rattle.tables.specs.Columns.{schedule_columns};
+ghost use Rattle.tables.specs.Writing.{InColumns};
 ghost use Rattle.vehicle_model.specs.Plans.{starts};
 ghost use Rattle.assignment.specs.Plans.{IsPlan};
 ghost use Rattle.vehicle_model.specs.ReadSchedules.{IsReadBack};

@@ -1,7 +1,7 @@
 // Trips over a network.
 ghost use Rattle.std.specs.Prelude.{ℕ, ◌≡◌, ◌≤◌, ◌<◌, ◌↔◌, ◌+◌, ◌*◌, ◌≤ℤ◌, pos, neg_ℤ, true, length, map, position, is_some, unsigned_abs, Some, IfOk, IfSome};
 ghost use Rattle.event_tables.specs.Trips.{AreTrips as AreTripRows};
-ghost use Rattle.giv_files.specs.Inputs.{UnlessFault};
+ghost use Rattle.tables.specs.Inputs.{UnlessFault};
 ghost use Rattle.ptn_network.specs.Networks.{IsNetwork};
 ghost use Rattle.ptn_network.specs.Walks.{edge_time, IsLeastSum};
 ghost use Rattle.vehicle_model.specs.ReadSchedules.{same_run, trip_in};
@@ -11,7 +11,7 @@ ghost use Rattle.vehicle_model.specs.Trips.{trips_of, trips_faults, link_minutes
 use crate::dead_times::DeadTimes;
 use crate::row_form::{is_empty_row, same_run};
 use event_tables::{ScheduleRow, Trip};
-use giv_files::StageFault;
+use tables::StageFault;
 use plan_num::NoMemory;
 use ptn_network::Network;
 use std::alloc::Global;

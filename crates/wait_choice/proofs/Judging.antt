@@ -8,7 +8,7 @@ use Rattle.wait_choice.specs.declared.node.WaitNode.{WaitNode}
 use Rattle.wait_choice.specs.declared.rule.WaitRule.TheVariants as rule
 use Rattle.wait_choice.specs.Certified.{any_low, are_tree, are_trees, has_low_leaf, leaves_of}
 use Rattle.std.specs.Ordering.{int_eq}
-use Rattle.giv_files.specs.Reading.{faults}
+use Rattle.tables.specs.Reading.{faults}
 use Rattle.wait_choice.specs.declared.row.WaitRow.{WaitRow}
 use Rattle.wait_choice.specs.Choices.{cost_of}
 use Rattle.wait_choice.specs.WaitTexts.{waits_columns}

@@ -13,13 +13,13 @@ use Rattle.std.proofs.Math.Seq.{take-append_seam}
 use Rattle.std.proofs.lemmas.List.{get_or-map, length-append, length-map, length-take-le, take-append-drop}
 use Rattle.std.proofs.lemmas.List.Elements.{All-nil}
 use Rattle.std.proofs.lemmas.List.Quantifiers.{position-Some}
-use Rattle.giv_files.specs.Reading.{faults, table_of}
-use Rattle.giv_files.specs.Tables.{TableRow}
-use Rattle.giv_files.specs.Writing.{InColumns}
-use Rattle.giv_files.proofs.Ranges.{back_none, front_none, table_in_columns}
+use Rattle.tables.specs.Reading.{faults, table_of}
+use Rattle.tables.specs.Tables.{TableRow}
+use Rattle.tables.specs.Writing.{InColumns}
+use Rattle.tables.proofs.Ranges.{back_none, front_none, table_in_columns}
 use Rattle.event_tables.specs.Cells.{number_in}
 use Rattle.event_tables.proofs.CellFacts.{in_column}
-use Rattle.giv_files.specs.RowsOfTables.{ReadsAs, records_by}
+use Rattle.tables.specs.RowsOfTables.{ReadsAs, records_by}
 use Rattle.delay_management.specs.declared.step.Activity.{Activity}
 use Rattle.delay_management.specs.Problems.{DelayProblem, IsForward}
 use Rattle.delay_management.specs.Waiting.{chosen_changes}

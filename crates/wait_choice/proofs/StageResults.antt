@@ -2,10 +2,10 @@
 use Rattle.std.proofs.Common.{◌≡◌, ◌∙◌, ℕ, ◌+◌, ◌≤◌, List, [], ◌∷◌, slice_get, Option, Some, None}
 use Rattle.std.proofs.Common.{Err, ap, sym, subst, arith}
 use Rattle.std.specs.Prelude.{IsSome}
-use Rattle.giv_files.specs.declared.refusal.Refusal.{Refusal}
-use Rattle.giv_files.specs.declared.refusal.StageFault.{StageFault}
-use Rattle.giv_files.specs.declared.refusal.StageFault.TheVariants as fault
-use Rattle.giv_files.specs.Inputs.{Refuses, UnlessFault, or_else}
+use Rattle.tables.specs.declared.refusal.Refusal.{Refusal}
+use Rattle.tables.specs.declared.refusal.StageFault.{StageFault}
+use Rattle.tables.specs.declared.refusal.StageFault.TheVariants as fault
+use Rattle.tables.specs.Inputs.{Refuses, UnlessFault, or_else}
 use Rattle.giv_files.specs.Settings.{BundleParts}
 use Rattle.giv_files.specs.StageCalls.{TakesSteps}
 use Rattle.delay_management.specs.DispositionStage.{disposition_faults, problem_in}

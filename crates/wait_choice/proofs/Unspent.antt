@@ -3,14 +3,14 @@ use Rattle.std.proofs.Common.{arith, ◌≡◌, ℕ, Bool, true, false, cond, Li
 use Rattle.std.proofs.Common.{nat_lt, slice_get, Option, Some, None, Err, subst}
 use Rattle.std.specs.Prelude.{⊤}
 use Rattle.std.specs.List.{flat_map}
-use Rattle.giv_files.specs.declared.file_id.FileId.{FileId}
-use Rattle.giv_files.specs.declared.row_why.RowWhy.{RowWhy}
-use Rattle.giv_files.specs.declared.refusal.Refusal.{Refusal}
-use Rattle.giv_files.specs.declared.refusal.Refusal.TheVariants as refusal
-use Rattle.giv_files.specs.declared.refusal.StageFault.{StageFault}
-use Rattle.giv_files.specs.declared.refusal.StageFault.TheVariants as fault
-use Rattle.giv_files.specs.Reading.{faults, table_of}
-use Rattle.giv_files.specs.Inputs.{Input, Numbered, RowRule, TableRule, Refuses, broken_whys, cell_faults, fault_at, input_faults, limit_faults, numbered, or_else, records, row_faults, table_row_faults, whole_faults}
+use Rattle.tables.specs.declared.file_id.FileId.{FileId}
+use Rattle.tables.specs.declared.row_why.RowWhy.{RowWhy}
+use Rattle.tables.specs.declared.refusal.Refusal.{Refusal}
+use Rattle.tables.specs.declared.refusal.Refusal.TheVariants as refusal
+use Rattle.tables.specs.declared.refusal.StageFault.{StageFault}
+use Rattle.tables.specs.declared.refusal.StageFault.TheVariants as fault
+use Rattle.tables.specs.Reading.{faults, table_of}
+use Rattle.tables.specs.Inputs.{Input, Numbered, RowRule, TableRule, Refuses, broken_whys, cell_faults, fault_at, input_faults, limit_faults, numbered, or_else, records, row_faults, table_row_faults, whole_faults}
 use Rattle.giv_files.specs.Settings.{BundleParts}
 use Rattle.delay_management.specs.DispositionStage.{disposition_faults}
 use Rattle.wait_choice.specs.ChoiceStage.{IsUnspent, IsWhole}

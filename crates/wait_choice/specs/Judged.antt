@@ -2,8 +2,8 @@
 use Rattle.std.specs.Prelude.{ℕ, ℤ, pos, ◌+◌, ◌≡◌, ◌&&◌, ◌==◌, nat_le, not, if◌then◌else◌, Bool, true, false, List, [], ◌∷◌, ◌++◌, length, map, take, drop, zip, slice_get, Option, unwrap_or, position}
 use Rattle.std.specs.List.{list_all}
 use Rattle.std.specs.Ordering.{int_eq}
-use Rattle.giv_files.specs.Reading.{faults, table_of}
-use Rattle.giv_files.specs.RowsOfTables.{ReadsAs, records_by}
+use Rattle.tables.specs.Reading.{faults, table_of}
+use Rattle.tables.specs.RowsOfTables.{ReadsAs, records_by}
 use Rattle.delay_management.specs.declared.step.Activity.{Activity}
 use Rattle.delay_management.specs.Problems.{DelayProblem}
 use Rattle.wait_choice.specs.declared.node.WaitNode.{WaitNode}

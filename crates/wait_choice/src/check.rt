@@ -1,7 +1,7 @@
 // The test of a waiting decision.
 ghost use Rattle.std.specs.Prelude.{◌≡◌, ◌≤◌, IfOk, IfNone, None};
 ghost use Rattle.giv_files.specs.declared.stage.Stage.TheVariants as stages;
-ghost use Rattle.giv_files.specs.Inputs.{UnlessFault};
+ghost use Rattle.tables.specs.Inputs.{UnlessFault};
 ghost use Rattle.giv_files.specs.Settings.{Fits};
 ghost use Rattle.delay_management.specs.DispositionStage.{disposition_faults, problem_in};
 ghost use Rattle.wait_choice.specs.Judged.{KeepsBest, Passes, first_broken_rule};
@@ -9,7 +9,8 @@ ghost use Rattle.wait_choice.specs.Judged.{KeepsBest, Passes, first_broken_rule}
 use crate::judge::first_broken_rule;
 use crate::rule::WaitRule;
 use delay_management::Propagation;
-use giv_files::{Bundle, StageFault};
+use giv_files::Bundle;
+use tables::StageFault;
 use std::alloc::Global;
 
 /// The first rule that the text of a waiting decision breaks at a penalty in minutes, over the inputs

@@ -1,7 +1,7 @@
 // The choice of a waiting decision.
 ghost use Rattle.std.specs.Prelude.{◌≡◌, ◌≤◌, Some, IfOk};
 ghost use Rattle.giv_files.specs.declared.stage.Stage.TheVariants as stages;
-ghost use Rattle.giv_files.specs.Inputs.{UnlessFault};
+ghost use Rattle.tables.specs.Inputs.{UnlessFault};
 ghost use Rattle.giv_files.specs.Settings.{Fits};
 ghost use Rattle.giv_files.specs.StageCalls.{TakesSteps};
 ghost use Rattle.delay_management.specs.DispositionStage.{problem_in};
@@ -12,7 +12,8 @@ ghost use Rattle.wait_choice.specs.RightListings.{IsListed};
 use crate::search::search_waits;
 use crate::waits::Waits;
 use delay_management::Propagation;
-use giv_files::{Bundle, Refusal, StageFault};
+use giv_files::Bundle;
+use tables::{Refusal, StageFault};
 use plan_num::{Ledger, Steps};
 use std::alloc::Global;
 

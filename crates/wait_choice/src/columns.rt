@@ -2,7 +2,7 @@
 ghost use Rattle.std.specs.Prelude.{◌≡◌};
 ghost use Rattle.wait_choice.specs.WaitTexts.{waits_columns};
 
-use giv_files::{ColumnKind, cells};
+use tables::{ColumnKind, cells};
 
 /// A word, an id or 0, and a number.
 pub(crate) fn waits_columns() -> [ColumnKind; 3]

@@ -1,9 +1,9 @@
 // The text of a waiting decision.
 ghost use Rattle.std.specs.Prelude.{ℕ, ◌≡◌, ◌<◌, ◌++◌, [], get_or, length, map, zip, unsigned_abs, None, All, IfOk, OnOk};
 ghost use Rattle.giv_files.specs.declared.stage.Stage.TheVariants as stages;
-ghost use Rattle.giv_files.specs.Inputs.{UnlessFault};
+ghost use Rattle.tables.specs.Inputs.{UnlessFault};
 ghost use Rattle.giv_files.specs.Settings.{Fits};
-ghost use Rattle.giv_files.specs.RowsOfTables.{ReadsAs};
+ghost use Rattle.tables.specs.RowsOfTables.{ReadsAs};
 ghost use Rattle.delay_management.specs.DispositionStage.{disposition_faults, problem_in};
 ghost use Rattle.delay_management.specs.declared.step.Activity.{Activity};
 ghost use Rattle.wait_choice.specs.declared.row.WaitRow.TheVariants as rows;
@@ -20,7 +20,8 @@ use crate::text::rows_text;
 use crate::tree::WaitTree;
 use crate::waits::Waits;
 use delay_management::Propagation;
-use giv_files::{Bundle, StageFault};
+use giv_files::Bundle;
+use tables::StageFault;
 use plan_num::{NoMemory, Text};
 use std::alloc::Global;
 

@@ -1,15 +1,15 @@
 // The rows of a text of a waiting decision from any hand.
 ghost use Rattle.std.specs.Prelude.{◌≡◌, ◌<◌, ◌==◌, length, map, if◌then◌else◌, None, Some, slice_index_or, All, IfOk, IfSome};
-ghost use Rattle.giv_files.specs.Reading.{faults, table_of};
-ghost use Rattle.giv_files.specs.Tables.{no_row};
-ghost use Rattle.giv_files.specs.Writing.{InColumns};
+ghost use Rattle.tables.specs.Reading.{faults, table_of};
+ghost use Rattle.tables.specs.Tables.{no_row};
+ghost use Rattle.tables.specs.Writing.{InColumns};
 ghost use Rattle.event_tables.specs.Cells.{number_in};
-ghost use Rattle.giv_files.specs.RowsOfTables.{records_by};
+ghost use Rattle.tables.specs.RowsOfTables.{records_by};
 ghost use Rattle.wait_choice.specs.WaitTexts.{said_by, wait_row, waits_columns, where_zero};
 
 use crate::columns::waits_columns;
 use crate::row::WaitRow;
-use giv_files::{ReadFault, Table, read_table};
+use tables::{ReadFault, Table, read_table};
 use plan_num::NoMemory;
 use std::alloc::Global;
 

@@ -1,12 +1,12 @@
 // The text of rows of a waiting decision.
 ghost use Rattle.std.specs.Prelude.{◌≡◌, ◌≤◌, All, IfOk};
-ghost use Rattle.giv_files.specs.RowsOfTables.{ReadsAs, file_text, rows_by};
+ghost use Rattle.tables.specs.RowsOfTables.{ReadsAs, file_text, rows_by};
 ghost use Rattle.wait_choice.specs.PrintedRows.{RowFits};
 ghost use Rattle.wait_choice.specs.WaitTexts.{cells_with, wait_cells, wait_row, waits_columns, waits_header};
 
 use crate::columns::waits_columns;
 use crate::row::WaitRow;
-use giv_files::{Table, write_table};
+use tables::{Table, write_table};
 use plan_num::{NoMemory, Text};
 use std::alloc::Global;
 

@@ -1,12 +1,13 @@
 use Rattle.std.proofs.Common.{◌≡◌, ◌∷◌, ◌++◌, ◌∙◌, [], List, Ok, ap, map, subst, sym, append-nil, slice_index_or}
 use Rattle.std.specs.List.{flat_map}
 use Rattle.std.proofs.lemmas.Result.{err_from_is_err_and}
-use Rattle.giv_files.specs.Columns.{tree_columns}
-use Rattle.giv_files.specs.Reading.{row_faults, table_of, table_row}
-use Rattle.giv_files.specs.Tables.{TableRow, no_row}
-use Rattle.giv_files.specs.Writing.{InColumns, line_text}
-use Rattle.giv_files.proofs.Ranges.{row_in_columns}
-use Rattle.giv_files.proofs.RowsLeft.{mark_first, no_mark, row_ends, table_is}
+use Rattle.tables.specs.Columns.{tree_columns}
+use Rattle.tables.specs.Reading.{row_faults, table_of, table_row}
+use Rattle.tables.specs.Tables.{TableRow, no_row}
+use Rattle.tables.specs.Writing.{InColumns, line_text}
+use Rattle.tables.proofs.Ranges.{row_in_columns}
+use Rattle.tables.proofs.FirstFaults.{no_mark}
+use Rattle.tables.proofs.FirstFaults.{row_ends, mark_first, table_is}
 use Rattle.branch_certificate.proofs.RowsKept.{lines_first, lines_next, trees_copied}
 use Rattle.branch_certificate.proofs.copy.copy_tree.Goals as goal
 

@@ -1,14 +1,15 @@
 use Rattle.std.proofs.Common.{◌≡◌, ◌∷◌, ◌++◌, ◌+◌, ◌∙◌, List, [], ap, map, refl, subst, sym, get_or, slice_get, Some}
 use Rattle.std.specs.List.{flat_map}
 use Rattle.std.proofs.lemmas.Result.{err_from_is_err_and}
-use Rattle.giv_files.specs.declared.read_fault.RowFault.{RowFault}
-use Rattle.giv_files.specs.declared.refusal.Refusal.{Refusal}
-use Rattle.giv_files.specs.Columns.{tree_columns}
-use Rattle.giv_files.specs.Inputs.{or_else, table_row_faults}
-use Rattle.giv_files.specs.Reading.{row_faults, table_of, table_row}
-use Rattle.giv_files.specs.Tables.{TableRow, no_row}
-use Rattle.giv_files.proofs.Inputs.{records_all, rows_met}
-use Rattle.giv_files.proofs.RowsLeft.{mark_first, no_mark, row_ends, table_is}
+use Rattle.tables.specs.declared.read_fault.RowFault.{RowFault}
+use Rattle.tables.specs.declared.refusal.Refusal.{Refusal}
+use Rattle.tables.specs.Columns.{tree_columns}
+use Rattle.tables.specs.Inputs.{or_else, table_row_faults}
+use Rattle.tables.specs.Reading.{row_faults, table_of, table_row}
+use Rattle.tables.specs.Tables.{TableRow, no_row}
+use Rattle.tables.proofs.Inputs.{records_all, rows_met}
+use Rattle.tables.proofs.FirstFaults.{no_mark}
+use Rattle.tables.proofs.FirstFaults.{row_ends, mark_first, table_is}
 use Rattle.branch_certificate.specs.ReadRows.{IsReadSoFar, IsReadUpTo}
 use Rattle.branch_certificate.specs.TreeFiles.{tree_input}
 use Rattle.branch_certificate.proofs.ReadLines.{by_cell, cell_refused, in_order, no_cells, nothing_read}

@@ -1,7 +1,7 @@
 use Rattle.std.proofs.Common.{refl}
 use Rattle.std.proofs.lemmas.Result.{err_from_is_err_and}
-use Rattle.giv_files.specs.Columns.{tree_columns}
-use Rattle.giv_files.specs.Reading.{table_of}
+use Rattle.tables.specs.Columns.{tree_columns}
+use Rattle.tables.specs.Reading.{table_of}
 use Rattle.branch_certificate.proofs.ReadLines.{one_of_both}
 use Rattle.branch_certificate.proofs.ReadTexts.{IsRead, cells_refuse, rows_refuse, due_refuses}
 use Rattle.branch_certificate.proofs.ReadTexts.{tree_read}

@@ -2,9 +2,9 @@ use Rattle.std.proofs.Common.{◌≤◌, ◌++◌, ◌∷◌, ◌∙◌, List, m
 use Rattle.std.specs.List.{flat_map}
 use Rattle.std.proofs.lemmas.Int.{to_z-of_z}
 use Rattle.std.proofs.lemmas.List.{take_all}
-use Rattle.giv_files.specs.Columns.{tree_columns}
-use Rattle.giv_files.specs.Tables.{TableRow}
-use Rattle.giv_files.specs.Writing.{InColumns, line_text}
+use Rattle.tables.specs.Columns.{tree_columns}
+use Rattle.tables.specs.Tables.{TableRow}
+use Rattle.tables.specs.Writing.{InColumns, line_text}
 use Rattle.line_cost_model.specs.declared.multipliers.Multiplier.{Multiplier}
 use Rattle.branch_certificate.specs.TreeTexts.{cells_row, edge_id, row_with}
 use Rattle.branch_certificate.proofs.ReadIds.{kept_more}

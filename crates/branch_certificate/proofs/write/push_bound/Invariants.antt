@@ -1,8 +1,8 @@
 -- Behind the line of the bound stand those of the multipliers so far.
 use Rattle.std.proofs.Common.{◌≡◌, ◌++◌, ◌∷◌, length, map, pos, take}
 use Rattle.std.specs.List.{flat_map}
-use Rattle.giv_files.specs.Columns.{tree_columns}
-use Rattle.giv_files.specs.Writing.{line_text}
+use Rattle.tables.specs.Columns.{tree_columns}
+use Rattle.tables.specs.Writing.{line_text}
 use Rattle.branch_certificate.specs.TreeTexts.{edge_id, row_with}
 use Rattle.branch_certificate.proofs.write.push_bound.Given as goal
 

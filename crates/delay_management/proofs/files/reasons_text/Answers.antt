@@ -1,11 +1,11 @@
 use Rattle.std.proofs.Common.{◌≡◌, ◌∙◌, ◌+◌, ◌++◌, ◌∷◌, [], ℕ, ℤ, List, All, IfOk, get_or, take, ap, refl, sym, subst, arith}
 use Rattle.std.proofs.lemmas.List.{map_push}
-use Rattle.giv_files.specs.Columns.{reasons_columns}
-use Rattle.giv_files.specs.Tables.{TableRow}
-use Rattle.giv_files.specs.Writing.{InColumns, table_text}
-use Rattle.giv_files.proofs.Headers.{plain_header}
-use Rattle.giv_files.specs.RowsOfTables.{rows_by}
-use Rattle.giv_files.proofs.WrittenColumns.{columns_written}
+use Rattle.tables.specs.Columns.{reasons_columns}
+use Rattle.tables.specs.Tables.{TableRow}
+use Rattle.tables.specs.Writing.{InColumns, table_text}
+use Rattle.tables.proofs.Headers.{plain_header}
+use Rattle.tables.specs.RowsOfTables.{rows_by}
+use Rattle.tables.proofs.WrittenColumns.{columns_written}
 use Rattle.delay_management.specs.declared.reason.Reason.{Reason}
 use Rattle.delay_management.specs.declared.reason.Reason.TheVariants as reasons
 use Rattle.delay_management.specs.DispositionStage.{ReasonRow}

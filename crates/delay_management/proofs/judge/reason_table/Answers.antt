@@ -1,8 +1,8 @@
 use Rattle.std.proofs.Common.{sym, subst}
 use Rattle.std.specs.List.{All}
-use Rattle.giv_files.specs.Columns.{reasons_columns}
-use Rattle.giv_files.specs.Writing.{InColumns}
-use Rattle.giv_files.proofs.Ranges.{table_in_columns}
+use Rattle.tables.specs.Columns.{reasons_columns}
+use Rattle.tables.specs.Writing.{InColumns}
+use Rattle.tables.proofs.Ranges.{table_in_columns}
 use Rattle.delay_management.proofs.judge.reason_table.Goals as goal
 
 pub returns-in-Ok-clause-cells : goal.returns-in-Ok-clause-cells

@@ -1,7 +1,7 @@
 -- What is left of the rows tells whether all of them are in order.
 use Rattle.std.proofs.Common.{◌≡◌, ◌+◌, drop, map, nat_eq}
 use Rattle.std.specs.List.{enumerate_from, list_all}
-use Rattle.giv_files.specs.RowsOfTables.{records_by}
+use Rattle.tables.specs.RowsOfTables.{records_by}
 use Rattle.event_tables.specs.Cells.{disposed_time}
 use Rattle.delay_management.proofs.rows.are_all_times.Given as goal
 

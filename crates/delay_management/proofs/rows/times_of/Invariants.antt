@@ -1,7 +1,7 @@
 -- The times so far are those of the first rows.
 use Rattle.std.proofs.Common.{◌≡◌, ◌≤◌, All, map, take}
 use Rattle.event_tables.specs.Cells.{disposed_time}
-use Rattle.giv_files.specs.RowsOfTables.{records_by}
+use Rattle.tables.specs.RowsOfTables.{records_by}
 use Rattle.delay_management.proofs.rows.times_of.Given as goal
 
 abbrev pub invariant-loop-row : goal.invariant-loop-row

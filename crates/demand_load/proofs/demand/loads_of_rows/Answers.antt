@@ -2,13 +2,13 @@ use Rattle.std.proofs.Common.{◌≡◌, ◌+◌, ◌≤◌, ◌≤ℤ◌, pos, 
 use Rattle.std.proofs.lemmas.List.Elements.{All-get_or}
 use Rattle.std.proofs.lemmas.List.FromFn.{fill_by_all}
 use Rattle.std.proofs.lemmas.List.Sums.{sum_by_push}
-use Rattle.giv_files.specs.declared.file_id.FileId.TheVariants as file
-use Rattle.giv_files.specs.declared.refusal.Refusal.TheVariants as refusal
-use Rattle.giv_files.specs.Columns.{od_columns}
-use Rattle.giv_files.specs.Inputs.{records, broken_whys}
-use Rattle.giv_files.specs.Tables.{no_row}
-use Rattle.giv_files.specs.Writing.{InColumns}
-use Rattle.giv_files.proofs.Inputs.{row_met, row_refused, rows_met, records_all, records_more}
+use Rattle.tables.specs.declared.file_id.FileId.TheVariants as file
+use Rattle.tables.specs.declared.refusal.Refusal.TheVariants as refusal
+use Rattle.tables.specs.Columns.{od_columns}
+use Rattle.tables.specs.Inputs.{records, broken_whys}
+use Rattle.tables.specs.Tables.{no_row}
+use Rattle.tables.specs.Writing.{InColumns}
+use Rattle.tables.proofs.Inputs.{row_met, row_refused, rows_met, records_all, records_more}
 use Rattle.demand_load.specs.Demand.{demand_input, load_of, row_load}
 use Rattle.demand_load.proofs.SmallLoads.{customers_in}
 use Rattle.demand_load.proofs.DemandRows.{none_broken}

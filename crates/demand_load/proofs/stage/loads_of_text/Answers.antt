@@ -1,9 +1,9 @@
 use Rattle.std.proofs.Common.{◌≡◌, ◌≤◌, ap, map, subst, sym, ◌∙◌}
 use Rattle.std.specs.List.{All}
 use Rattle.std.proofs.lemmas.Result.{err_from_is_err_and}
-use Rattle.giv_files.specs.Inputs.{Refuses}
-use Rattle.giv_files.proofs.Inputs.{UnlessFault-weaker}
-use Rattle.giv_files.specs.declared.file_id.FileId.TheVariants as file
+use Rattle.tables.specs.Inputs.{Refuses}
+use Rattle.tables.proofs.Inputs.{UnlessFault-weaker}
+use Rattle.tables.specs.declared.file_id.FileId.TheVariants as file
 use Rattle.ptn_network.specs.Loads.{loads_of}
 use Rattle.demand_load.specs.LoadStage.{bounded, loads_by}
 use Rattle.demand_load.proofs.LoadCalls.{given_faults, loads_given, demand_faults, loads_of_demand}

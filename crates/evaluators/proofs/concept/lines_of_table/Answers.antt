@@ -1,7 +1,7 @@
 use Rattle.std.proofs.Common.{◌≤◌, [], length, map, ap, ◌∙◌, arith, refl}
 use Rattle.std.proofs.lemmas.Result.{err_from_is_err_and}
-use Rattle.giv_files.specs.Inputs.{records}
-use Rattle.giv_files.proofs.Inputs.{limit_kept, no_faults, refused_rows}
+use Rattle.tables.specs.Inputs.{records}
+use Rattle.tables.proofs.Inputs.{limit_kept, no_faults, refused_rows}
 use Rattle.evaluators.specs.CostedLines.{costed}
 use Rattle.evaluators.specs.StatisticInputs.{concept_input, line_limit, lines_of}
 use Rattle.evaluators.proofs.concept.lines_of_table.Goals as goal

@@ -1,7 +1,7 @@
 use Rattle.std.proofs.Common.{◌≡◌, map, ap, ◌∙◌}
 use Rattle.std.proofs.lemmas.Result.{err_from_is_err_and}
-use Rattle.giv_files.specs.Inputs.{records, records_of}
-use Rattle.giv_files.proofs.Inputs.{refused_cells, faults_of_table, UnlessFault-weaker}
+use Rattle.tables.specs.Inputs.{records, records_of}
+use Rattle.tables.proofs.Inputs.{refused_cells, faults_of_table, UnlessFault-weaker}
 use Rattle.evaluators.specs.CostedLines.{costed}
 use Rattle.evaluators.specs.StatisticInputs.{concept_input, lines_of}
 use Rattle.evaluators.proofs.concept.read_concept.Goals as goal

@@ -3,7 +3,7 @@ use Rattle.std.specs.HashSet.{contains}
 use Rattle.std.specs.List.{list_any}
 use Rattle.std.specs.Ordering.{int_eq}
 use Rattle.std.proofs.lemmas.Int.{to_z-of_z}
-use Rattle.giv_files.specs.Tables.{TableRow, no_row}
+use Rattle.tables.specs.Tables.{TableRow, no_row}
 use Rattle.evaluators.specs.declared.rows.LineRow.{LineRow}
 use Rattle.evaluators.specs.StatisticInputs.{line_row}
 use Rattle.evaluators.proofs.FirstRowFacts.{no_firsts}

@@ -1,8 +1,8 @@
 use Rattle.std.proofs.Common.{◌≤◌, All, arith, length, refl, ap, subst, sym, slice_get, ◌∙◌}
-use Rattle.giv_files.specs.declared.counted.Counted.TheVariants as counted
-use Rattle.giv_files.specs.Columns.{events_p_columns, activities_p_columns}
-use Rattle.giv_files.specs.Writing.{InColumns}
-use Rattle.giv_files.proofs.InTurn.{over_limit, under_limit}
+use Rattle.tables.specs.declared.counted.Counted.TheVariants as counted
+use Rattle.tables.specs.Columns.{events_p_columns, activities_p_columns}
+use Rattle.tables.specs.Writing.{InColumns}
+use Rattle.tables.proofs.InTurn.{over_limit, under_limit}
 use Rattle.event_tables.specs.Cells.{periodic_event_cells, periodic_activity_cells}
 use Rattle.event_activity.specs.Activities.{concept_activities}
 use Rattle.event_activity.specs.EanStage.{ean_made}

@@ -1,12 +1,12 @@
 use Rattle.std.proofs.Common.{◌≡◌, refl, sym, ◌∙◌, arith}
 use Rattle.std.proofs.lemmas.Result.{err_from_is_err_and}
 use Rattle.std.proofs.lemmas.List.Elements.{All-weaker}
-use Rattle.giv_files.specs.declared.refusal.StageFault.TheVariants as stage
-use Rattle.giv_files.specs.Columns.{schedule_columns}
-use Rattle.giv_files.specs.Inputs.{input_faults, records_of}
-use Rattle.giv_files.specs.Writing.{InColumns}
-use Rattle.giv_files.proofs.FileFaults.{limits_refuse, none_broken, rows_read}
-use Rattle.giv_files.proofs.Inputs.{refused_cells}
+use Rattle.tables.specs.declared.refusal.StageFault.TheVariants as stage
+use Rattle.tables.specs.Columns.{schedule_columns}
+use Rattle.tables.specs.Inputs.{input_faults, records_of}
+use Rattle.tables.specs.Writing.{InColumns}
+use Rattle.tables.proofs.FileFaults.{limits_refuse, none_broken, rows_read}
+use Rattle.tables.proofs.Inputs.{refused_cells}
 use Rattle.event_tables.specs.Cells.{AreSmall}
 use Rattle.event_tables.specs.Schedules.{schedule_input, AreScheduleRows}
 use Rattle.event_tables.proofs.CellFacts.{small_cells}

@@ -1,7 +1,7 @@
 use Rattle.std.proofs.Common.{ap, subst, sym, ◌∙◌, arith, All}
 use Rattle.std.proofs.lemmas.List.{take_all}
-use Rattle.giv_files.specs.Writing.{InColumns}
-use Rattle.giv_files.specs.RowsOfTables.{rows_by}
+use Rattle.tables.specs.Writing.{InColumns}
+use Rattle.tables.specs.RowsOfTables.{rows_by}
 use Rattle.event_tables.proofs.WrittenRecords.{rows_inside, reads_as}
 use Rattle.event_tables.proofs.writing.write_records.Goals as goal
 

@@ -1,10 +1,10 @@
 use Rattle.std.proofs.Common.{refl, arith, subst, sym, All}
-use Rattle.giv_files.specs.Columns.{pool_cost_columns}
-use Rattle.giv_files.specs.Writing.{InColumns}
+use Rattle.tables.specs.Columns.{pool_cost_columns}
+use Rattle.tables.specs.Writing.{InColumns}
 use Rattle.line_pool.specs.CostStage.{cost_header}
-use Rattle.giv_files.proofs.Headers.{plain_header}
+use Rattle.tables.proofs.Headers.{plain_header}
 use Rattle.line_pool.proofs.CostRows.{rows_in_columns}
-use Rattle.giv_files.proofs.WrittenColumns.{columns_written}
+use Rattle.tables.proofs.WrittenColumns.{columns_written}
 use Rattle.line_pool.proofs.cost_table.costs_of_pool.Goals as goal
 
 pub write_table-requires : goal.write_table-requires

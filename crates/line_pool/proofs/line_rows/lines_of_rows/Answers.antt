@@ -5,9 +5,9 @@ use Rattle.std.specs.Ordering.{int_eq}
 use Rattle.std.proofs.lemmas.Int.{to_z-of_z}
 use Rattle.std.proofs.lemmas.List.{length-map}
 use Rattle.std.proofs.lemmas.List.Quantifiers.{position-Some}
-use Rattle.giv_files.specs.declared.refusal.Refusal.TheVariants as refusal
-use Rattle.giv_files.specs.Inputs.{records, broken_whys}
-use Rattle.giv_files.proofs.Inputs.{row_met, row_refused, rows_met, records_all, records_more}
+use Rattle.tables.specs.declared.refusal.Refusal.TheVariants as refusal
+use Rattle.tables.specs.Inputs.{records, broken_whys}
+use Rattle.tables.proofs.Inputs.{row_met, row_refused, rows_met, records_all, records_more}
 use Rattle.line_pool.specs.Pools.{file_of, line_input, rows_of}
 use Rattle.line_pool.specs.LinesSoFar.{line_so_far, with_edge, no_line}
 use Rattle.line_pool.proofs.RowsOfLines.{line_listed, line_at, new_told, lines_more, pair_noted}

@@ -3,8 +3,8 @@ use Rattle.std.proofs.Common.{◌≡◌, ℤ, ◌&&◌, map, take}
 use Rattle.std.specs.List.{list_any}
 use Rattle.std.specs.HashSet.{contains}
 use Rattle.std.specs.Ordering.{int_eq}
-use Rattle.giv_files.specs.Inputs.{records}
-use Rattle.giv_files.proofs.Inputs.{SoundBefore}
+use Rattle.tables.specs.Inputs.{records}
+use Rattle.tables.proofs.Inputs.{SoundBefore}
 use Rattle.line_pool.specs.Pools.{line_input, rows_of}
 use Rattle.line_pool.specs.LinesSoFar.{line_so_far}
 use Rattle.line_pool.proofs.line_rows.lines_of_rows.Given as goal

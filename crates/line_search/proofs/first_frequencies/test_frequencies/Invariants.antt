@@ -3,7 +3,7 @@
 use Rattle.std.proofs.Common.{◌≡◌, ℤ, take}
 use Rattle.std.specs.Ordering.{int_eq}
 use Rattle.std.specs.HashMap.{get}
-use Rattle.giv_files.proofs.Inputs.{SoundBefore}
+use Rattle.tables.proofs.Inputs.{SoundBefore}
 use Rattle.line_cost_model.specs.Problems.{ProblemParts}
 use Rattle.line_search.specs.PinnedConcepts.{first_of_line, pinned_input, rows_with}
 use Rattle.line_search.specs.PoolPlaces.{plain_rows}

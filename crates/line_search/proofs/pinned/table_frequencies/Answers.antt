@@ -1,6 +1,6 @@
 use Rattle.std.proofs.Common.{ap, nat_eq, refl, sym, ◌∙◌, Some}
 use Rattle.std.proofs.lemmas.Result.{err_from_is_err_and}
-use Rattle.giv_files.proofs.Inputs.{refused_rows}
+use Rattle.tables.proofs.Inputs.{refused_rows}
 use Rattle.line_cost_model.specs.Concepts.{is_feasible}
 use Rattle.line_search.specs.ConceptTables.{frequencies_in, row_count}
 use Rattle.line_search.specs.PinnedConcepts.{pinned_input}

@@ -2,7 +2,7 @@
 use Rattle.std.proofs.Common.{◌≡◌, ◌+◌, drop}
 use Rattle.std.specs.List.{enumerate_from, list_all}
 use Rattle.event_tables.specs.Cells.{periodic_time}
-use Rattle.giv_files.specs.RowsOfTables.{records_by}
+use Rattle.tables.specs.RowsOfTables.{records_by}
 use Rattle.pesp_search.specs.Judged.{is_time_of}
 use Rattle.pesp_search.proofs.judge.are_in_order.Given as goal
 

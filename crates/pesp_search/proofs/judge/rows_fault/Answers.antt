@@ -1,6 +1,6 @@
 use Rattle.std.proofs.Common.{◌<◌, All, sym, subst, ◌∙◌}
 use Rattle.event_tables.specs.Cells.{periodic_time}
-use Rattle.giv_files.specs.RowsOfTables.{records_by}
+use Rattle.tables.specs.RowsOfTables.{records_by}
 use Rattle.pesp_search.proofs.JudgedTimes.{in_order}
 use Rattle.pesp_search.proofs.judge.rows_fault.Goals as goal
 

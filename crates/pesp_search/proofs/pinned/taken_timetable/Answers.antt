@@ -1,7 +1,7 @@
 use Rattle.std.proofs.Common.{◌<◌, All, length, ap, sym, subst, ◌∙◌}
 use Rattle.std.proofs.lemmas.Result.{err_from_is_err_and}
-use Rattle.giv_files.specs.Columns.{times_p_columns}
-use Rattle.giv_files.specs.Writing.{InColumns}
+use Rattle.tables.specs.Columns.{times_p_columns}
+use Rattle.tables.specs.Writing.{InColumns}
 use Rattle.event_tables.specs.Cells.{periodic_time_cells}
 use Rattle.giv_files.specs.StageCalls.{input_text}
 use Rattle.pesp_search.specs.Judged.{times_in}

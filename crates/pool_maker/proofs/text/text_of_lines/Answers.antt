@@ -1,8 +1,8 @@
 use Rattle.std.proofs.Common.{All, arith, refl, subst, sym}
-use Rattle.giv_files.specs.Columns.{pool_columns}
-use Rattle.giv_files.specs.Writing.{InColumns}
+use Rattle.tables.specs.Columns.{pool_columns}
+use Rattle.tables.specs.Writing.{InColumns}
 use Rattle.pool_maker.proofs.RowsInside.{header_plain, rows_inside}
-use Rattle.giv_files.proofs.WrittenColumns.{columns_written}
+use Rattle.tables.proofs.WrittenColumns.{columns_written}
 use Rattle.pool_maker.proofs.text.text_of_lines.Goals as goal
 
 pub write_table-requires : goal.write_table-requires

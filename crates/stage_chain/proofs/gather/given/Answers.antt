@@ -1,7 +1,7 @@
 use Rattle.std.proofs.Common.{◌≡◌, Err, ap, ◌∙◌, ◌∷◌, [], ◌+◌, length, length-append}
 use Rattle.plan_files.proofs.Reading.{both_read}
 use Rattle.std.proofs.lemmas.Result.{err_from_is_err_and}
-use Rattle.giv_files.specs.declared.file_id.FileId.TheVariants.{Stop}
+use Rattle.tables.specs.declared.file_id.FileId.TheVariants.{Stop}
 use Rattle.giv_files.specs.Settings.{BundleParts}
 use Rattle.stage_chain.specs.Chain.{bundle_for}
 use Rattle.stage_chain.specs.Looks.{look_over}

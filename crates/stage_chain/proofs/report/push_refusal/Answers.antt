@@ -1,6 +1,6 @@
 use Rattle.std.proofs.Common.{◌++◌, codes, ap, sym, ◌∙◌, append_assoc}
 use Rattle.std.specs.Fmt.{decimal}
-use Rattle.giv_files.specs.CountedTexts.{counted_text}
+use Rattle.tables.specs.CountedTexts.{counted_text}
 use Rattle.stage_chain.proofs.report.push_refusal.Goals as goal
 
 pub returns-in_ok-extend_from_slice-in-TooMany : goal.returns-in_ok-extend_from_slice-in-TooMany

@@ -1,6 +1,6 @@
 use Rattle.std.proofs.Common.{◌<◌, ◌∙◌, sym, arith, length, map, []}
 use Rattle.std.proofs.lemmas.List.{get_or-map, length-map}
-use Rattle.giv_files.specs.declared.file_id.FileId.TheVariants.{Stop}
+use Rattle.tables.specs.declared.file_id.FileId.TheVariants.{Stop}
 use Rattle.stage_keep.specs.Places.{part_of}
 use Rattle.stage_keep.proofs.Reading.{file_pushed}
 use Rattle.stage_keep.proofs.last_part.add_copies.Goals as goal

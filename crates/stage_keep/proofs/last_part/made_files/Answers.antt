@@ -1,5 +1,5 @@
 use Rattle.std.proofs.Common.{◌≡◌, ◌<◌, ◌∙◌, ◌∷◌, ◌++◌, [], List, ap, arith, get_or, length, refl}
-use Rattle.giv_files.specs.declared.file_id.FileId.TheVariants.{Stop}
+use Rattle.tables.specs.declared.file_id.FileId.TheVariants.{Stop}
 use Rattle.giv_files.specs.declared.made.MadeFile.{MadeFile}
 use Rattle.stage_keep.specs.Places.{part_of}
 use Rattle.stage_keep.proofs.Parts.{all_there, copies_are, files_joined}

@@ -1,7 +1,7 @@
 use Rattle.std.proofs.Common.{Err}
 use Rattle.std.proofs.lemmas.Result.{err_from_is_err_and}
-use Rattle.giv_files.specs.Columns.{schedule_columns}
-use Rattle.giv_files.specs.Reading.{table_of}
+use Rattle.tables.specs.Columns.{schedule_columns}
+use Rattle.tables.specs.Reading.{table_of}
 use Rattle.vehicle_model.specs.PlanFaults.{fault_of}
 use Rattle.vehicle_model.proofs.Driven.{reads_driven}
 use Rattle.vehicle_model.proofs.PlanTexts.{no_table, small_table, rows_read}

@@ -1,6 +1,6 @@
 use Rattle.std.proofs.Common.{◌≡◌, ◌∙◌, ◌+◌, Some, ap, sym, subst, arith}
 use Rattle.std.proofs.lemmas.Result.{err_from_is_err_and}
-use Rattle.giv_files.specs.Inputs.{UnlessFault}
+use Rattle.tables.specs.Inputs.{UnlessFault}
 use Rattle.giv_files.specs.StageCalls.{TakesSteps}
 use Rattle.wait_choice.specs.Budgets.{entries_listed}
 use Rattle.wait_choice.specs.ChoiceStage.{IsUnspent, IsWhole, waits_in, waits_refusals, waits_work}

@@ -1,6 +1,6 @@
 use Rattle.std.proofs.Common.{◌≡◌, ◌∙◌, ◌==◌, length, slice_get, ap, sym}
-use Rattle.giv_files.specs.RowsOfTables.{records_by}
-use Rattle.giv_files.specs.Reading.{faults, table_of}
+use Rattle.tables.specs.RowsOfTables.{records_by}
+use Rattle.tables.specs.Reading.{faults, table_of}
 use Rattle.wait_choice.specs.Judged.{broken_rows, first_broken_rule}
 use Rattle.wait_choice.specs.WaitTexts.{wait_row, waits_columns}
 use Rattle.wait_choice.proofs.Judging.{no_table, row_first, rows_first, the_table}

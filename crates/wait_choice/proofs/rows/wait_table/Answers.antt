@@ -1,8 +1,8 @@
 use Rattle.std.proofs.Common.{◌∙◌, ap, sym, subst}
 use Rattle.std.specs.List.{All}
-use Rattle.giv_files.specs.Writing.{InColumns}
-use Rattle.giv_files.specs.Reading.{faults, table_of}
-use Rattle.giv_files.proofs.Ranges.{table_in_columns}
+use Rattle.tables.specs.Writing.{InColumns}
+use Rattle.tables.specs.Reading.{faults, table_of}
+use Rattle.tables.proofs.Ranges.{table_in_columns}
 use Rattle.wait_choice.specs.WaitTexts.{waits_columns}
 use Rattle.wait_choice.proofs.rows.wait_table.Goals as goal
 

@@ -1,6 +1,6 @@
 use Rattle.std.proofs.Common.{sym, refl, ◌∙◌}
 use Rattle.std.proofs.lemmas.Result.{IfOk-weaker}
-use Rattle.giv_files.specs.declared.row_why.RowWhy.TheVariants as why
+use Rattle.tables.specs.declared.row_why.RowWhy.TheVariants as why
 use Rattle.config_keys.specs.declared.settings_file.BadRow.TheVariants as bad
 use Rattle.config_keys.specs.SettingsFiles.{RowGives, IncludeTold}
 use Rattle.config_keys.proofs.Rows.{odd_row, setting_row, include_row}

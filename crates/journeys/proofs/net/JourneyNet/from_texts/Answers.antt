@@ -1,7 +1,7 @@
 use Rattle.std.proofs.Common.{◌≡◌, ◌∙◌, List, [], ap, sym, subst}
 use Rattle.std.specs.Prelude.{option_copied}
 use Rattle.std.proofs.lemmas.Result.{err_from_is_err_and}
-use Rattle.giv_files.specs.Inputs.{Refuses, input_faults, records_of}
+use Rattle.tables.specs.Inputs.{Refuses, input_faults, records_of}
 use Rattle.event_tables.specs.declared.expanded_event.ExpandedEvent.{ExpandedEvent}
 use Rattle.event_tables.specs.ExpandedFiles.{expanded_activity_input}
 use Rattle.journeys.specs.JourneyNets.{net_over, time_faults_over, times_over}

@@ -1,7 +1,7 @@
 use Rattle.std.proofs.Common.{subst, sym}
 use Rattle.std.specs.List.{All}
 use Rattle.std.proofs.lemmas.Result.{err_from_is_err_and}
-use Rattle.giv_files.proofs.WholeRules.{refused_without}
+use Rattle.tables.proofs.WholeRules.{refused_without}
 use Rattle.line_pool.specs.GivenCosts.{IsCost}
 use Rattle.line_pool.specs.PoolCosts.{pool_cost_input}
 use Rattle.line_pool.proofs.CostRules.{line_missing_of_text, costs_given}

@@ -1,6 +1,6 @@
 use Rattle.std.proofs.Common.{◌≤◌, map, length, ap, sym, subst, ◌∙◌}
 use Rattle.std.proofs.lemmas.Result.{err_from_is_err_and}
-use Rattle.giv_files.specs.Inputs.{Refuses}
+use Rattle.tables.specs.Inputs.{Refuses}
 use Rattle.pesp_model.specs.PespTexts.{activity_of}
 use Rattle.pesp_model.proofs.Texts.{refused_events, activity_faults, problem_is, problem_sound}
 use Rattle.pesp_model.proofs.pesp.Pesp.from_texts.Goals as goal

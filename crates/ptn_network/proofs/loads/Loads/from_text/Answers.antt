@@ -1,7 +1,7 @@
 use Rattle.std.proofs.Common.{subst, sym}
 use Rattle.std.specs.List.{All}
 use Rattle.std.proofs.lemmas.Result.{err_from_is_err_and}
-use Rattle.giv_files.proofs.WholeRules.{refused_without}
+use Rattle.tables.proofs.WholeRules.{refused_without}
 use Rattle.ptn_network.specs.Loads.{load_input, IsLoad}
 use Rattle.ptn_network.proofs.LoadRows.{edge_missing, loads_given, loads_sound}
 use Rattle.ptn_network.proofs.loads.Loads.from_text.Goals as goal

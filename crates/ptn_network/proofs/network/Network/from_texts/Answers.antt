@@ -1,8 +1,8 @@
 use Rattle.std.proofs.Common.{◌≡◌, All, length, sym, subst, ◌∙◌, rules}
 use Rattle.std.specs.Map.{values_of}
 use Rattle.std.proofs.lemmas.Result.{err_from_is_err_and}
-use Rattle.giv_files.specs.Inputs.{input_faults, Refuses}
-use Rattle.giv_files.proofs.Inputs.{refused_append}
+use Rattle.tables.specs.Inputs.{input_faults, Refuses}
+use Rattle.tables.proofs.Inputs.{refused_append}
 use Rattle.ptn_network.specs.Inputs.{stop_input}
 use Rattle.ptn_network.specs.Networks.{network_faults, AreKeyed, IsEdge, IsNetwork}
 use Rattle.ptn_network.specs.StopEdges.{AreStopEdges}

@@ -1,6 +1,6 @@
 use Rattle.std.proofs.Common.{◌≡◌, [], ap, subst, sym, ◌∙◌}
 use Rattle.std.proofs.lemmas.Result.{err_from_is_err_and}
-use Rattle.giv_files.specs.Inputs.{input_faults, records_of}
+use Rattle.tables.specs.Inputs.{input_faults, records_of}
 use Rattle.giv_files.specs.StageCalls.{input_text}
 use Rattle.event_tables.specs.PeriodicFiles.{periodic_activity_input, periodic_event_ids}
 use Rattle.roll_out.proofs.FilesRead.{events_refused, activities_refused, times_refused, all_fine, network_is}

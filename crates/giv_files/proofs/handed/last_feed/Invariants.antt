@@ -1,9 +1,0 @@
--- All line feeds stand before the end.
-use Rattle.std.proofs.Common.{◌≤◌, length}
-use Rattle.giv_files.proofs.handed.last_feed.Given as goal
-
-abbrev pub invariant-bytes : goal.invariant-bytes
-invariant-bytes l = l.end ≤ length l.text
-
-abbrev pub decreases-bytes : goal.decreases-bytes
-decreases-bytes l = l.end

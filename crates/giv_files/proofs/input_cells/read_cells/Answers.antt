@@ -1,5 +1,0 @@
-use Rattle.giv_files.proofs.FileFaults.{cells_inside}
-use Rattle.giv_files.proofs.input_cells.read_cells.Goals as goal
-
-pub returns-clause-cells : goal.returns-clause-cells
-returns-clause-cells g c = cells_inside c.args.file c.args.kinds.now c.args.text.now c.read_input.result c.read_input.ensures

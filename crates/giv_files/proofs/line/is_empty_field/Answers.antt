@@ -1,6 +1,0 @@
-use Rattle.std.proofs.Common.{◌∙◌}
-use Rattle.giv_files.proofs.Lines.{empty_if}
-use Rattle.giv_files.proofs.line.is_empty_field.Goals as goal
-
-pub returns : goal.returns
-returns c = c.is_empty.ensures ∙ empty_if c.args.field.now _ c.behind_blanks.ensures

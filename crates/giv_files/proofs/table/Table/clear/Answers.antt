@@ -1,5 +1,0 @@
-use Rattle.giv_files.proofs.TableRows.{rows_none}
-use Rattle.giv_files.proofs.table.Table.clear.Goals as goal
-
-pub returns : goal.returns
-returns g c = rw (c.clear.ensures.items) (rows_none g.row.C _)

@@ -1,8 +1,0 @@
--- The texts so far.
-use Rattle.std.proofs.Common.{◌≡◌, ◌++◌, take}
-use Rattle.giv_files.specs.Writing.{cell_texts, joined}
-use Rattle.giv_files.proofs.write.push_line.Given as goal
-
-abbrev pub invariant-loop-column : goal.invariant-loop-column
-invariant-loop-column l =
-    l.bytes.items ≡ l.initial.bytes.items ++ joined (take l.column (cell_texts l.kinds l.cells))

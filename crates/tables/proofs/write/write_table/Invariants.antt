@@ -1,0 +1,8 @@
+-- The lines so far.
+use Rattle.std.proofs.Common.{◌≡◌, ◌++◌, ◌∷◌, take}
+use Rattle.std.specs.List.{flat_map}
+use Rattle.tables.specs.Writing.{line_text}
+use Rattle.tables.proofs.write.write_table.Given as goal
+
+abbrev pub invariant-loop-row : goal.invariant-loop-row
+invariant-loop-row g l = l.bytes.items ≡ l.fn.header ++ 10 ∷ flat_map (line_text l.kinds) (take l.row l.table)

@@ -1,0 +1,12 @@
+pub mod Columns
+pub mod CountedTexts
+pub mod FileNames
+pub mod InnerReading
+pub mod Inputs
+pub mod NamedFiles
+pub mod Names
+pub mod Reading
+pub mod RowsOfTables
+pub mod Tables
+pub mod WhyTexts
+pub mod Writing

@@ -1,0 +1,13 @@
+pub mod FedFacts
+pub mod FieldFacts
+pub mod GivenFacts
+pub mod HandedFacts
+pub mod HandedLines
+pub mod Lines
+pub mod LinePieces
+pub mod LinesRead
+pub mod PlainRows
+pub mod RowsLeft
+pub mod SplitFacts
+pub mod Skipping
+pub mod ToldFacts
