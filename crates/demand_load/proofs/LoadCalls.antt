@@ -19,7 +19,7 @@ use Rattle.giv_files.proofs.SettingFacts.{amount_within}
 use Rattle.giv_files.proofs.StageCalls.{stage_refused}
 use Rattle.ptn_network.specs.Networks.{NetworkParts, network_of, network_faults}
 use Rattle.ptn_network.specs.declared.edge_load.EdgeLoad.{EdgeLoad}
-use Rattle.demand_load.specs.Demand.{demand_input, demand_loads}
+use Rattle.demand_paths.specs.Demand.{demand_input, demand_loads}
 use Rattle.tables.specs.declared.file_id.FileId.TheVariants as file
 use Rattle.ptn_network.specs.Loads.{load_input, loads_of}
 use Rattle.ptn_network.proofs.LoadRows.{loads_count as edge_loads_count}

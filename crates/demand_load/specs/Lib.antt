@@ -1,6 +1,3 @@
-pub mod Demand
-pub mod Known
 pub mod LoadStage
 pub mod LoadTables
 pub mod RightLoads
-pub mod Wanted

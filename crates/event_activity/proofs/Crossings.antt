@@ -8,7 +8,7 @@ use Rattle.std.proofs.lemmas.List.Elements.{All-head, All-tail}
 use Rattle.std.proofs.lemmas.Option.{slice_get-get_or, same_Some}
 use Rattle.event_tables.specs.declared.direction.Direction.{Direction}
 use Rattle.event_tables.specs.declared.direction.Direction.TheVariants as direction
-use Rattle.line_pool.specs.Pools.{LineParts, walk_from, or_walk, walk_of, IsLine}
+use Rattle.line_walks.specs.Pools.{LineParts, walk_from, or_walk, walk_of, IsLine}
 use Rattle.ptn_network.specs.declared.edge.Edge.{Edge}
 use Rattle.ptn_network.specs.Networks.{NetworkParts}
 use Rattle.ptn_network.specs.Paths.{edges_at}

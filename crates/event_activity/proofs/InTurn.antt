@@ -11,7 +11,7 @@ use Rattle.event_tables.specs.declared.direction.Direction.{Direction}
 use Rattle.event_tables.specs.declared.direction.Direction.TheVariants as direction
 use Rattle.event_tables.specs.Kinds.{event_kind_at, same_direction}
 use Rattle.event_tables.specs.PeriodicRuns.{same_run}
-use Rattle.line_pool.specs.Pools.{LineParts}
+use Rattle.line_walks.specs.Pools.{LineParts}
 use Rattle.ptn_network.specs.Networks.{NetworkParts}
 use Rattle.event_activity.specs.declared.run_event.RunEvent.{RunEvent}
 use Rattle.event_activity.specs.ActivitiesOfRuns.{Crosses}

@@ -14,7 +14,7 @@ use Rattle.event_tables.specs.Cells.{periodic_event}
 use Rattle.event_tables.specs.Kinds.{is_arrival, event_kind_at}
 use Rattle.event_tables.specs.PeriodicRuns.{is_next, joins, same_run}
 use Rattle.event_tables.specs.RunRules.{lacks_way, goes_between, is_placed, drives_at_once, is_stray, KeepRunRules}
-use Rattle.line_pool.specs.Pools.{LineParts}
+use Rattle.line_walks.specs.Pools.{LineParts}
 use Rattle.ptn_network.specs.Networks.{NetworkParts, IsEdge}
 use Rattle.tables.proofs.Members.{Contains-map as contains_map}
 use Rattle.event_activity.specs.declared.run_event.RunEvent.{RunEvent}

@@ -7,7 +7,7 @@ use Rattle.std.proofs.lemmas.List.{length-append, length-map, take_all}
 use Rattle.std.proofs.lemmas.List.FromFn.{length-map-range_with_len, length-enumerate_from}
 use Rattle.event_tables.specs.declared.direction.Direction.{Direction}
 use Rattle.event_tables.specs.declared.direction.Direction.TheVariants as direction
-use Rattle.line_pool.specs.Pools.{LineParts}
+use Rattle.line_walks.specs.Pools.{LineParts}
 use Rattle.ptn_network.specs.Networks.{NetworkParts}
 use Rattle.event_activity.specs.declared.run_event.RunEvent.{RunEvent}
 use Rattle.event_activity.specs.Runs.{AreServed, no_line, line_at, runs, line_events, with_id, concept_events}

@@ -7,7 +7,7 @@ use Rattle.std.specs.Ordering.{int_cmp}
 use Rattle.std.specs.declared.cmp.Ordering.TheVariants.{Less}
 use Rattle.std.proofs.lemmas.Int.{ints}
 use Rattle.std.proofs.lemmas.List.Elements.{All-head, All-tail}
-use Rattle.line_pool.specs.Pools.{LineParts, IsLine}
+use Rattle.line_walks.specs.Pools.{LineParts, IsLine}
 use Rattle.ptn_network.specs.Networks.{NetworkParts}
 use Rattle.event_activity.specs.Runs.{AreServed, line_events, concept_events}
 use Rattle.event_activity.proofs.Crossings.{drive_crosses}

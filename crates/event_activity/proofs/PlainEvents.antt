@@ -5,7 +5,7 @@ use Rattle.std.specs.List.{flat_map, range_with_len, enumerate_from}
 use Rattle.std.proofs.lemmas.List.Elements.{All-append, All-map, All-weaker, All-contains, All-contains_itself, All-get_or, Contains-append_left, Contains-append_right, Contains-get_or}
 use Rattle.event_tables.specs.declared.direction.Direction.{Direction}
 use Rattle.event_tables.specs.declared.direction.Direction.TheVariants as direction
-use Rattle.line_pool.specs.Pools.{LineParts, IsLine}
+use Rattle.line_walks.specs.Pools.{LineParts, IsLine}
 use Rattle.ptn_network.specs.Networks.{NetworkParts}
 use Rattle.tables.proofs.Members.{Contains-flat_map as contains_part, Contains-map as contains_map, All-flat_map as all_parts}
 use Rattle.event_activity.specs.declared.run_event.RunEvent.{RunEvent}

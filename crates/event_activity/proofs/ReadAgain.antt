@@ -13,7 +13,7 @@ use Rattle.event_activity.specs.Runs.{concept_events}
 use Rattle.event_activity.proofs.LineEvents.{numbered_size}
 use Rattle.event_activity.proofs.Numbered.{numbers_are}
 use Rattle.event_activity.proofs.PlainEvents.{events_are}
-use Rattle.line_pool.specs.Pools.{LineParts}
+use Rattle.line_walks.specs.Pools.{LineParts}
 use Rattle.ptn_network.specs.Networks.{NetworkParts}
 
 -- the ids of events are their places

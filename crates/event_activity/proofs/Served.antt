@@ -9,10 +9,10 @@ use Rattle.tables.specs.Tables.{TableRow}
 use Rattle.tables.proofs.Inputs.{sound_rows}
 use Rattle.tables.proofs.Ranges.{front_none}
 use Rattle.tables.proofs.WriteFacts.{in_column}
-use Rattle.line_pool.specs.LineCosts.{IsModest}
-use Rattle.line_pool.specs.Pools.{LineParts, AreLines, concept_of, concept_faults}
-use Rattle.line_pool.proofs.SoundLines.{all_rising, pool_sound}
-use Rattle.line_pool.proofs.WholeLines.{whole_lines}
+use Rattle.line_walks.specs.LineLengths.{IsModest}
+use Rattle.line_walks.specs.Pools.{LineParts, AreLines, concept_of, concept_faults}
+use Rattle.line_walks.proofs.SoundLines.{all_rising, pool_sound}
+use Rattle.line_walks.proofs.WholeLines.{whole_lines}
 use Rattle.ptn_network.specs.Inputs.{stop_input, stop_row}
 use Rattle.ptn_network.specs.Networks.{NetworkParts, IsNetwork, stops_of, network_of, network_faults}
 use Rattle.ptn_network.proofs.Sound.{network_sound}

@@ -5,7 +5,7 @@ use Rattle.std.proofs.lemmas.Int.{ints}
 use Rattle.std.proofs.lemmas.List.Elements.{All-get_or}
 use Rattle.std.proofs.lemmas.Option.{slice_get-get_or, same_Some}
 use Rattle.event_tables.specs.declared.direction.Direction.{Direction}
-use Rattle.line_pool.specs.Pools.{LineParts, IsLine}
+use Rattle.line_walks.specs.Pools.{LineParts, IsLine}
 use Rattle.ptn_network.specs.Networks.{NetworkParts}
 use Rattle.event_activity.specs.Fitting.{IsId}
 use Rattle.event_activity.specs.Runs.{AreServed, along, no_line, line_at, stop_id}

@@ -18,7 +18,7 @@ use Rattle.tables.specs.RowsOfTables.{file_text}
 use Rattle.event_activity.specs.declared.run_event.RunEvent.{RunEvent}
 use Rattle.event_activity.specs.Activities.{concept_activities}
 use Rattle.event_activity.specs.Runs.{concept_events}
-use Rattle.line_pool.specs.Pools.{LineParts, concept_of, concept_faults}
+use Rattle.line_walks.specs.Pools.{LineParts, concept_of, concept_faults}
 use Rattle.ptn_network.specs.Networks.{network_faults}
 pub use Rattle.ptn_network.specs.Networks.{network_in}
 

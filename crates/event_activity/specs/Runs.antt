@@ -5,7 +5,7 @@ use Rattle.event_tables.specs.declared.direction.Direction.{Direction}
 use Rattle.event_tables.specs.declared.direction.Direction.TheVariants as direction
 use Rattle.event_tables.specs.Kinds.{event_kind_at}
 use Rattle.event_activity.specs.declared.run_event.RunEvent.{RunEvent}
-use Rattle.line_pool.specs.Pools.{LineParts, AreLines}
+use Rattle.line_walks.specs.Pools.{LineParts, AreLines}
 use Rattle.ptn_network.specs.declared.edge.Edge.{Edge}
 use Rattle.ptn_network.specs.Networks.{NetworkParts, IsNetwork}
 

@@ -5,7 +5,7 @@ ghost use Rattle.event_activity.specs.Runs.{AreServed, along, edge_at, line_at, 
 
 use crate::run_event::RunEvent;
 use event_tables::{Direction, EventKind, PeriodicEvent};
-use line_pool::Pool;
+use line_walks::Pool;
 use ptn_network::Network;
 
 /// The event at a place of a run of a line. It has no number yet.

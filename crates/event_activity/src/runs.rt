@@ -8,7 +8,7 @@ ghost use Rattle.event_activity.specs.Runs.{AreServed, line_at, run, runs, line_
 use crate::run_event::RunEvent;
 use crate::run_place::run_event;
 use event_tables::{Direction, PeriodicEvent};
-use line_pool::Pool;
+use line_walks::Pool;
 use plan_num::NoMemory;
 use ptn_network::Network;
 use std::alloc::Global;

@@ -18,7 +18,7 @@ use crate::run_event::RunEvent;
 use crate::runs::{concept_events, event_count};
 use giv_files::{Bundle, Made, Settings};
 use tables::{Counted, Refusal, StageFault};
-use line_pool::Pool;
+use line_walks::Pool;
 use plan_num::{Ledger, Steps};
 use ptn_network::Network;
 use std::alloc::Global;

@@ -13,7 +13,7 @@ use Rattle.giv_files.proofs.StageCalls.{stage_refused}
 use Rattle.ptn_network.specs.Networks.{NetworkParts, network_of, network_faults}
 use Rattle.line_pool.specs.CostStage.{costs_made, cost_faults, cost_stage}
 use Rattle.line_pool.specs.LineCosts.{AreModest}
-use Rattle.line_pool.specs.Pools.{LineParts, pool_of, pool_faults}
+use Rattle.line_walks.specs.Pools.{LineParts, pool_of, pool_faults}
 
 -- the settings of a bundle that fits are within their ranges
 pub settings_modest : (bundle : BundleParts) → bundle.stage ≡ stage.Cost → Fits bundle

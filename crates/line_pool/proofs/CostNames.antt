@@ -10,8 +10,8 @@ use Rattle.tables.proofs.Named.{AllName, names_both, input_names}
 use Rattle.giv_files.proofs.StageCalls.{refused_names}
 use Rattle.ptn_network.specs.Networks.{NetworkParts, network_faults}
 use Rattle.ptn_network.proofs.NamedFaults.{network_names}
-use Rattle.line_pool.specs.Pools.{line_input, line_faults, pool_faults}
-use Rattle.line_pool.specs.declared.line_file.LineFile.TheVariants as kind
+use Rattle.line_walks.specs.Pools.{line_input, line_faults, pool_faults}
+use Rattle.line_walks.specs.declared.line_file.LineFile.TheVariants as kind
 use Rattle.line_pool.specs.CostStage.{network_in, cost_faults, cost_stage}
 
 -- the faults of a pool name its file

@@ -14,16 +14,16 @@ use Rattle.tables.proofs.WrittenBack.{written_back}
 use Rattle.ptn_network.specs.Networks.{network_faults}
 use Rattle.ptn_network.proofs.Sound.{network_sound}
 use Rattle.line_pool.specs.CostStage.{cost_header, cost_stage, network_in}
-use Rattle.line_pool.specs.declared.line_file.LineFile.TheVariants as kind
-use Rattle.line_pool.specs.Pools.{pool_faults}
+use Rattle.line_walks.specs.declared.line_file.LineFile.TheVariants as kind
+use Rattle.line_walks.specs.Pools.{pool_faults}
 use Rattle.line_pool.specs.RightCosts.{lines_in, cost_rows, CostsAreRight}
 use Rattle.line_pool.proofs.CostCalls.{settings_modest}
 use Rattle.tables.proofs.Headers.{plain_header}
 use Rattle.line_pool.proofs.CostRows.{rows_in_columns}
 use Rattle.tables.proofs.WrittenColumns.{columns_written}
 use Rattle.line_pool.proofs.CostsAccepted.{costs_accepted}
-use Rattle.line_pool.proofs.SoundLines.{pool_sound}
-use Rattle.line_pool.proofs.WholeLines.{whole_lines}
+use Rattle.line_walks.proofs.SoundLines.{pool_sound}
+use Rattle.line_walks.proofs.WholeLines.{whole_lines}
 
 -- what the stage makes of inputs without a fault
 pub costs_are_right : (bundle : BundleParts) (made : Made) → bundle.stage ≡ stage.Cost → Fits bundle → cost_stage bundle ≡ Ok made → CostsAreRight bundle made

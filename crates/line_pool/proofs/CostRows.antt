@@ -13,9 +13,11 @@ use Rattle.giv_files.specs.Settings.{amount}
 use Rattle.tables.specs.Tables.{TableRow}
 use Rattle.tables.specs.Writing.{InColumns}
 use Rattle.ptn_network.specs.declared.edge.Edge.{Edge}
-use Rattle.line_pool.specs.Pools.{LineParts}
-use Rattle.line_pool.specs.CostStage.{length_at, line_length, line_cost, cost_row}
-use Rattle.line_pool.specs.LineCosts.{IsModest, AreModest}
+use Rattle.line_walks.specs.Pools.{LineParts}
+use Rattle.line_pool.specs.CostStage.{line_cost, cost_row}
+use Rattle.line_walks.specs.LineLengths.{line_length, IsModest}
+use Rattle.line_walks.specs.LineLengths.{length_at}
+use Rattle.line_pool.specs.LineCosts.{AreModest}
 
 product : (a b c d : ℕ) → a ≤ c → b ≤ d → a * b ≤ c * d
 product a b c d h k = grind arith

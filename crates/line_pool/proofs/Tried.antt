@@ -16,7 +16,7 @@ use Rattle.plan_num.specs.Print.{digits_at}
 use Rattle.std.specs.Fmt.{digits}
 use Rattle.ptn_network.specs.declared.edge.Edge.{Edge}
 use Rattle.ptn_network.specs.Networks.{NetworkParts, by_id, stops_of, network_of, network_faults}
-use Rattle.line_pool.specs.Pools.{walk_from, lines_of, line_faults, pool_of, pool_faults}
+use Rattle.line_walks.specs.Pools.{walk_from, lines_of, line_faults, pool_of, pool_faults}
 use Rattle.line_pool.specs.CostStage.{cost_stage}
 
 abbrev edge : ℕ → ℕ → ℕ → ℕ → Edge

@@ -1,5 +1,5 @@
 -- The cost of each line, and the stage that writes them.
-use Rattle.std.specs.Prelude.{ℕ, pos, ◌+◌, ◌*◌, ◌/◌, List, [], ◌∷◌, ◌++◌, length, map, sum, codes, option_map, unwrap_or, slice_get, Result}
+use Rattle.std.specs.Prelude.{ℕ, pos, ◌+◌, ◌*◌, ◌/◌, List, [], ◌∷◌, ◌++◌, length, map, codes, Result}
 use Rattle.tables.specs.declared.file_id.FileId.TheVariants as file
 use Rattle.giv_files.specs.declared.key.Key.TheVariants as key
 use Rattle.giv_files.specs.declared.made.Made.{Made}
@@ -15,16 +15,8 @@ use Rattle.tables.specs.Writing.{table_text}
 use Rattle.ptn_network.specs.declared.edge.Edge.{Edge}
 use Rattle.ptn_network.specs.Networks.{network_faults}
 pub use Rattle.ptn_network.specs.Networks.{network_in}
-use Rattle.ptn_network.specs.Walks.{edge_length}
-use Rattle.line_pool.specs.Pools.{LineParts, pool_of, pool_faults}
-
--- the length of the edge at an index, in millionths
-abbrev pub length_at : List Edge → ℕ → ℕ
-length_at edges index = unwrap_or (option_map edge_length (slice_get edges index)) 0
-
--- the length of a line: the sum of the lengths of its edges
-abbrev pub line_length : List Edge → LineParts → ℕ
-line_length edges line = sum (map (length_at edges) line.edges)
+use Rattle.line_walks.specs.LineLengths.{line_length}
+use Rattle.line_walks.specs.Pools.{LineParts, pool_of, pool_faults}
 
 -- the cost of a line in millionths: a fixed part, a part by its length, rounded down to a
 -- millionth, and a part for each edge

@@ -10,8 +10,8 @@ use Rattle.giv_files.specs.StageCalls.{input_text}
 use Rattle.tables.specs.Tables.{TableRow}
 use Rattle.tables.specs.Writing.{ReadsBack}
 use Rattle.line_pool.specs.CostStage.{network_in, cost_faults, cost_row}
-use Rattle.line_pool.specs.PoolCosts.{pool_cost_input}
-use Rattle.line_pool.specs.Pools.{LineParts, pool_of}
+use Rattle.line_walks.specs.PoolCosts.{pool_cost_input}
+use Rattle.line_walks.specs.Pools.{LineParts, pool_of}
 
 -- the lines of a bundle, whose third input is the text of the pool
 abbrev pub lines_in : BundleParts → List LineParts

@@ -2,10 +2,11 @@
 ghost use Rattle.std.specs.Prelude.{◌≡◌, ◌+◌, ◌*◌, ◌/◌, ◌<◌, ◌≤◌, length, map, sum, All, IfOk};
 ghost use Rattle.giv_files.specs.declared.key.Key.TheVariants as key;
 ghost use Rattle.giv_files.specs.Settings.{amount};
-ghost use Rattle.line_pool.specs.CostStage.{length_at, cost_row, costs_made};
-ghost use Rattle.line_pool.specs.LineCosts.{IsModest, AreModest};
+ghost use Rattle.line_pool.specs.CostStage.{cost_row, costs_made};
+ghost use Rattle.line_walks.specs.LineLengths.{length_at, IsModest};
+ghost use Rattle.line_pool.specs.LineCosts.{AreModest};
 
-use crate::pool::Pool;
+use line_walks::Pool;
 use giv_files::{Key, Made, MadeFile, MadeList, Settings, Stage, count_text, report_line};
 use tables::{FileId, Table, columns, write_table};
 use plan_num::NoMemory;

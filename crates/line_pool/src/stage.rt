@@ -7,7 +7,7 @@ ghost use Rattle.line_pool.specs.CostStage.{cost_stage};
 ghost use Rattle.line_pool.specs.RightCosts.{CostsAreRight};
 
 use crate::cost_table::costs_of_pool;
-use crate::pool::Pool;
+use line_walks::Pool;
 use giv_files::{Bundle, Made};
 use tables::StageFault;
 use plan_num::{Ledger, Steps};

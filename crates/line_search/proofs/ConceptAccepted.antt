@@ -20,15 +20,15 @@ use Rattle.ptn_network.specs.Loads.{load_input, loads_of}
 use Rattle.ptn_network.specs.Networks.{network_faults, network_in}
 use Rattle.ptn_network.specs.Paths.{edges_at}
 use Rattle.ptn_network.proofs.Sound.{network_sound}
-use Rattle.line_pool.specs.GivenCosts.{costs_of}
-use Rattle.line_pool.specs.PoolCosts.{pool_cost_input}
-use Rattle.line_pool.specs.Pools.{IsLine, LineParts, concept_faults, line_faults}
-use Rattle.line_pool.specs.Pools.{pool_faults, pool_of, walk_of}
-use Rattle.line_pool.proofs.SoundCosts.{costs_count}
-use Rattle.line_pool.proofs.WalkLines.{IsWalked, RowsLine, ids_for, rows_at, rows_for, told_row, told_rows}
-use Rattle.line_pool.proofs.WalkLines.{concept_accepted as accepted_as_concept}
-use Rattle.line_pool.proofs.WalkRows.{id_at, row_to, rows_from}
-use Rattle.line_pool.proofs.WholeLines.{whole_lines}
+use Rattle.line_walks.specs.GivenCosts.{costs_of}
+use Rattle.line_walks.specs.PoolCosts.{pool_cost_input}
+use Rattle.line_walks.specs.Pools.{IsLine, LineParts, concept_faults, line_faults}
+use Rattle.line_walks.specs.Pools.{pool_faults, pool_of, walk_of}
+use Rattle.line_walks.proofs.SoundCosts.{costs_count}
+use Rattle.line_walks.proofs.WalkLines.{IsWalked, RowsLine, ids_for, rows_at, rows_for, told_row, told_rows}
+use Rattle.line_walks.proofs.WalkLines.{concept_accepted as accepted_as_concept}
+use Rattle.line_walks.proofs.WalkRows.{id_at, row_to, rows_from}
+use Rattle.line_walks.proofs.WholeLines.{whole_lines}
 use Rattle.line_cost_model.specs.Problems.{CostedLine, IsCostedLine, ProblemParts}
 use Rattle.branch_certificate.specs.TreeTexts.{edge_id}
 use Rattle.line_search.specs.ConceptTables.{concept_rows, line_rows, row_at}

@@ -14,8 +14,8 @@ use Rattle.tables.proofs.Named.{AllName, input_names, names_both, names_only}
 use Rattle.ptn_network.specs.Loads.{load_input}
 use Rattle.ptn_network.specs.Networks.{NetworkParts, network_faults, network_in}
 use Rattle.ptn_network.proofs.NamedFaults.{network_names}
-use Rattle.line_pool.specs.PoolCosts.{pool_cost_input}
-use Rattle.line_pool.specs.Pools.{line_faults, pool_faults}
+use Rattle.line_walks.specs.PoolCosts.{pool_cost_input}
+use Rattle.line_walks.specs.Pools.{line_faults, pool_faults}
 use Rattle.line_cost_model.specs.Problems.{ProblemParts}
 use Rattle.line_search.specs.Budgets.{FoundConcept, result_within}
 use Rattle.line_search.specs.ConceptStage.{after_faults, concept_stage, search_made}

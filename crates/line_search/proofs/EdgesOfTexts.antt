@@ -4,8 +4,8 @@ use Rattle.std.specs.List.{All}
 use Rattle.std.proofs.lemmas.List.Elements.{All-weaker}
 use Rattle.ptn_network.specs.declared.edge.Edge.{Edge}
 use Rattle.ptn_network.specs.Networks.{network_faults, network_of}
-use Rattle.line_pool.proofs.EdgesOfTexts.{HasId}
-use Rattle.line_pool.proofs.EdgesOfTexts as texts
+use Rattle.line_walks.proofs.EdgesOfTexts.{HasId}
+use Rattle.line_walks.proofs.EdgesOfTexts as texts
 use Rattle.line_cost_model.specs.Problems.{IsId}
 
 -- each is one

@@ -6,7 +6,7 @@ use Rattle.std.specs.Ordering.{int_eq}
 use Rattle.std.proofs.lemmas.Bool.{cases_Bool}
 use Rattle.tables.specs.Tables.{TableRow, no_row}
 use Rattle.tables.proofs.Inputs.{records_more}
-use Rattle.line_pool.specs.Pools.{differs}
+use Rattle.line_walks.specs.Pools.{differs}
 use Rattle.line_search.specs.PinnedConcepts.{first_of_line, frequency_at, line_in, pinned_input}
 use Rattle.line_search.specs.PinnedConcepts.{rows_with, same_frequency}
 use Rattle.line_search.specs.PoolPlaces.{plain_rows}

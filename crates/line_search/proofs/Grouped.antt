@@ -18,7 +18,7 @@ use Rattle.std.proofs.lemmas.List.Sorted.{ranks_by, sorted_far}
 use Rattle.std.proofs.lemmas.Map.Lookups.{exact_signed}
 use Rattle.ptn_network.specs.Networks.{by_id, rising}
 use Rattle.ptn_network.proofs.Sound.{rising_rises}
-use Rattle.line_pool.proofs.SoundLines.{all_rising}
+use Rattle.line_walks.proofs.SoundLines.{all_rising}
 use Rattle.line_search.specs.Judged.{has_some}
 use Rattle.line_search.specs.PoolPlaces.{grouped}
 use Rattle.line_search.proofs.RisingIds.{apart, rising_has, same_rising, tied, units}

@@ -17,7 +17,7 @@ use Rattle.tables.proofs.Named.{AllName, input_names, names_both}
 use Rattle.giv_files.proofs.StageCalls.{refused_names}
 use Rattle.ptn_network.specs.Loads.{load_input}
 use Rattle.ptn_network.specs.Networks.{network_in}
-use Rattle.line_pool.specs.PoolCosts.{pool_cost_input}
+use Rattle.line_walks.specs.PoolCosts.{pool_cost_input}
 use Rattle.line_search.specs.GivenProblems.{lines_in, problem_faults, problem_of}
 use Rattle.line_search.specs.PinnedConcepts.{made_of_texts, pinned_concept_faults}
 use Rattle.line_search.specs.PinnedConcepts.{pinned_concept_stage, pinned_input}

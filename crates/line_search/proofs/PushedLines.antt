@@ -7,8 +7,8 @@ use Rattle.std.specs.List.Sorted.{IsStrictlySortedBy}
 use Rattle.std.specs.Ordering.{int_cmp}
 use Rattle.std.proofs.lemmas.Option.{same_Some, slice_get-map}
 use Rattle.ptn_network.specs.declared.edge.Edge.{Edge}
-use Rattle.line_pool.specs.GivenCosts.{IsCost}
-use Rattle.line_pool.specs.Pools.{LineParts, IsLine}
+use Rattle.line_walks.specs.GivenCosts.{IsCost}
+use Rattle.line_walks.specs.Pools.{LineParts, IsLine}
 use Rattle.line_cost_model.specs.Problems.{CostedLine, IsCostedLine, IsId}
 use Rattle.line_cost_model.proofs.Mapped.{map_more, map_whole}
 use Rattle.line_search.specs.GivenProblems.{costed_by}

@@ -10,9 +10,9 @@ use Rattle.tables.proofs.Inputs.{refused_append}
 use Rattle.ptn_network.specs.declared.edge_load.EdgeLoad.{EdgeLoad}
 use Rattle.ptn_network.specs.Loads.{load_input, loads_of}
 use Rattle.ptn_network.specs.Networks.{NetworkParts, network_faults, network_of}
-use Rattle.line_pool.specs.GivenCosts.{costs_of}
-use Rattle.line_pool.specs.PoolCosts.{pool_cost_input}
-use Rattle.line_pool.specs.Pools.{LineParts, pool_of, pool_faults}
+use Rattle.line_walks.specs.GivenCosts.{costs_of}
+use Rattle.line_walks.specs.PoolCosts.{pool_cost_input}
+use Rattle.line_walks.specs.Pools.{LineParts, pool_of, pool_faults}
 use Rattle.line_cost_model.specs.Problems.{ProblemParts}
 use Rattle.line_search.specs.GivenProblems.{problem_faults, problem_of, problem_over}
 

@@ -16,11 +16,11 @@ use Rattle.ptn_network.specs.Loads.{IsLoad, load_input, loads_of}
 use Rattle.ptn_network.specs.Networks.{network_faults, network_in}
 use Rattle.ptn_network.proofs.LoadRows.{loads_sound}
 use Rattle.ptn_network.proofs.Sound.{network_sound}
-use Rattle.line_pool.specs.GivenCosts.{IsCost, costs_of}
-use Rattle.line_pool.specs.PoolCosts.{pool_cost_input}
-use Rattle.line_pool.specs.Pools.{IsLine, LineParts, pool_faults, pool_of}
-use Rattle.line_pool.proofs.SoundCosts.{costs_count, costs_sound}
-use Rattle.line_pool.proofs.WholeLines.{whole_lines}
+use Rattle.line_walks.specs.GivenCosts.{IsCost, costs_of}
+use Rattle.line_walks.specs.PoolCosts.{pool_cost_input}
+use Rattle.line_walks.specs.Pools.{IsLine, LineParts, pool_faults, pool_of}
+use Rattle.line_walks.proofs.SoundCosts.{costs_count, costs_sound}
+use Rattle.line_walks.proofs.WholeLines.{whole_lines}
 use Rattle.line_cost_model.specs.Problems.{IsBoundedEdge, IsCostedLine, IsId, IsProblem}
 use Rattle.line_search.specs.GivenProblems.{bounded_by, costed_by, problem_faults, problem_of}
 use Rattle.line_search.proofs.EdgesOfTexts.{edge_ids}

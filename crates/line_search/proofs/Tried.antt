@@ -15,8 +15,8 @@ use Rattle.plan_num.specs.Print.{digits_at}
 use Rattle.std.specs.Fmt.{digits}
 use Rattle.ptn_network.specs.Loads.{loads_of}
 use Rattle.ptn_network.specs.Networks.{by_id, stops_of, network_of, network_faults}
-use Rattle.line_pool.specs.GivenCosts.{costs_of}
-use Rattle.line_pool.specs.Pools.{walk_from, lines_of, line_faults}
+use Rattle.line_walks.specs.GivenCosts.{costs_of}
+use Rattle.line_walks.specs.Pools.{walk_from, lines_of, line_faults}
 use Rattle.line_cost_model.specs.declared.edge.BoundedEdge.{BoundedEdge}
 use Rattle.line_cost_model.specs.Problems.{CostedLine, ProblemParts}
 use Rattle.line_cost_model.specs.Concepts.{is_feasible}

@@ -18,7 +18,7 @@ use Rattle.giv_files.specs.Settings.{BundleParts}
 use Rattle.giv_files.specs.StageCalls.{input_text, unless_fault}
 use Rattle.tables.specs.Tables.{TableRow}
 use Rattle.ptn_network.specs.Networks.{rising}
-use Rattle.line_pool.specs.Pools.{differs}
+use Rattle.line_walks.specs.Pools.{differs}
 use Rattle.line_cost_model.specs.Concepts.{cost_of, is_feasible}
 use Rattle.line_cost_model.specs.Problems.{ProblemParts}
 use Rattle.branch_certificate.specs.declared.node.Node.{Node}

@@ -11,7 +11,7 @@ use Rattle.tables.specs.Columns.{concept_columns}
 use Rattle.giv_files.specs.Settings.{BundleParts}
 use Rattle.tables.specs.Writing.{ReadsBack}
 use Rattle.ptn_network.specs.Networks.{network_in}
-use Rattle.line_pool.specs.Pools.{concept_faults}
+use Rattle.line_walks.specs.Pools.{concept_faults}
 use Rattle.std.specs.List.{AllByRecursion, AllPairs, Contains}
 use Rattle.line_cost_model.specs.declared.range.LineRange.{LineRange}
 use Rattle.line_cost_model.specs.Chosen.{IsChosen}

@@ -6,7 +6,7 @@ use Rattle.tables.specs.Columns.{concept_columns}
 use Rattle.giv_files.specs.Settings.{BundleParts}
 use Rattle.tables.specs.Writing.{ReadsBack}
 use Rattle.ptn_network.specs.Networks.{network_in}
-use Rattle.line_pool.specs.Pools.{concept_faults}
+use Rattle.line_walks.specs.Pools.{concept_faults}
 use Rattle.line_cost_model.specs.Concepts.{IsFeasible}
 use Rattle.line_search.specs.ConceptTables.{concept_rows}
 use Rattle.line_search.specs.GivenProblems.{problem_faults, problem_of}

@@ -4,7 +4,7 @@ ghost use Rattle.std.specs.Option.{option_or};
 ghost use Rattle.std.specs.Ordering.{int_eq};
 ghost use Rattle.std.specs.HashMap.{get};
 ghost use Rattle.tables.specs.Inputs.{table_row_faults, UnlessFault};
-ghost use Rattle.line_pool.specs.Pools.{differs};
+ghost use Rattle.line_walks.specs.Pools.{differs};
 ghost use Rattle.line_cost_model.specs.Problems.{ProblemParts};
 ghost use Rattle.line_search.specs.PinnedConcepts.{pinned_input};
 

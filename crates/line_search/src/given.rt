@@ -3,14 +3,14 @@ ghost use Rattle.std.specs.Prelude.{◌≡◌, ◌≤◌, ◌≤ℤ◌, pos, [],
 ghost use Rattle.std.specs.Prelude.{All, IfOk};
 ghost use Rattle.tables.specs.Inputs.{UnlessFault};
 ghost use Rattle.line_cost_model.specs.Problems.{IsId};
-ghost use Rattle.line_pool.specs.Pools.{AreLines};
+ghost use Rattle.line_walks.specs.Pools.{AreLines};
 ghost use Rattle.line_search.specs.GivenProblems.{bounded_by, problem_over};
 ghost use Rattle.line_search.specs.GivenProblems.{problem_faults, problem_of};
 
 use giv_files::Bundle;
 use tables::{FileId, StageFault};
 use line_cost_model::LineProblem;
-use line_pool::{LineCosts, Pool};
+use line_walks::{LineCosts, Pool};
 use plan_num::NoMemory;
 use ptn_network::{Loads, Network};
 use std::alloc::Global;

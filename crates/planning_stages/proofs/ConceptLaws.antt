@@ -12,8 +12,8 @@ use Rattle.giv_files.specs.StageCalls.{input_text}
 use Rattle.tables.proofs.Named.{input_names, names_only}
 use Rattle.ptn_network.specs.Loads.{load_input}
 use Rattle.ptn_network.specs.Networks.{network_in, network_of}
-use Rattle.line_pool.specs.PoolCosts.{pool_cost_input}
-use Rattle.line_pool.specs.Pools.{concept_faults}
+use Rattle.line_walks.specs.PoolCosts.{pool_cost_input}
+use Rattle.line_walks.specs.Pools.{concept_faults}
 use Rattle.line_search.specs.GivenProblems.{lines_in}
 use Rattle.line_search.specs.ConceptStage.{mark_files}
 use Rattle.line_search.specs.RightPinned.{ConceptIsRight}

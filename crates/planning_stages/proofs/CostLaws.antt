@@ -6,8 +6,8 @@ use Rattle.giv_files.specs.declared.stage.Stage.TheVariants as stage
 use Rattle.tables.specs.Inputs.{input_faults}
 use Rattle.tables.proofs.Named.{names_only}
 use Rattle.ptn_network.specs.Networks.{network_of}
-use Rattle.line_pool.specs.PoolCosts.{pool_cost_input}
-use Rattle.line_pool.specs.Pools.{pool_of}
+use Rattle.line_walks.specs.PoolCosts.{pool_cost_input}
+use Rattle.line_walks.specs.Pools.{pool_of}
 use Rattle.line_pool.proofs.CostMakes.{cost_stage_makes}
 use Rattle.line_pool.proofs.CostNames.{cost_stage_names}
 use Rattle.line_pool.proofs.CostReads.{costs_are_right}

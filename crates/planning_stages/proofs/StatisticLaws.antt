@@ -16,10 +16,10 @@ use Rattle.tables.proofs.Ranges.{back_none, front_none}
 use Rattle.config_keys.specs.Config.{part_of}
 use Rattle.ptn_network.specs.Networks.{NetworkParts, network_faults, network_of}
 use Rattle.ptn_network.proofs.Sound.{network_sound}
-use Rattle.line_pool.specs.GivenCosts.{costs_of as pool_costs}
-use Rattle.line_pool.specs.Pools.{line_faults, pool_faults, pool_of}
+use Rattle.line_walks.specs.GivenCosts.{costs_of as pool_costs}
+use Rattle.line_walks.specs.Pools.{line_faults, pool_faults, pool_of}
 use Rattle.line_pool.specs.RightCosts.{CostFilesAreRight}
-use Rattle.line_pool.proofs.WholeLines.{whole_lines}
+use Rattle.line_walks.proofs.WholeLines.{whole_lines}
 use Rattle.line_search.specs.ConceptTables.{concept_rows}
 use Rattle.line_search.specs.GivenProblems.{problem_of}
 use Rattle.line_search.specs.ConceptStage.{mark_files}

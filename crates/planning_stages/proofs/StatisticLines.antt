@@ -25,8 +25,8 @@ use Rattle.tables.proofs.Found.{any_mapped}
 use Rattle.tables.proofs.Inputs.{faults_of_table, limit_kept, no_faults, parts_sound, rule_kept, rules_sound, table_sound, whole_rule_sound}
 use Rattle.tables.proofs.Ranges.{back_none, front_none, unmapped}
 use Rattle.ptn_network.specs.declared.edge.Edge.{Edge}
-use Rattle.line_pool.specs.PoolCosts.{cost_row_of, pool_cost_input}
-use Rattle.line_pool.specs.Pools.{LineParts, differs as differs_first, first_frequency, line_limit as pool_limit, line_row as pool_row, line_rules, rows_of}
+use Rattle.line_walks.specs.PoolCosts.{cost_row_of, pool_cost_input}
+use Rattle.line_walks.specs.Pools.{LineParts, differs as differs_first, first_frequency, line_limit as pool_limit, line_row as pool_row, line_rules, rows_of}
 use Rattle.line_search.specs.ConceptTables.{concept_rows, line_rows, row_at}
 use Rattle.line_search.specs.GivenProblems.{costed_by, problem_of}
 use Rattle.evaluators.specs.declared.rows.LineRow.{LineRow}

@@ -12,7 +12,7 @@ use Rattle.tables.specs.Reading.{table_of}
 use Rattle.tables.specs.Tables.{TableRow}
 use Rattle.tables.proofs.Inputs.{sound_rows}
 use Rattle.tables.proofs.WriteFacts.{in_column}
-use Rattle.line_pool.proofs.SoundLines.{all_rising}
+use Rattle.line_walks.proofs.SoundLines.{all_rising}
 use Rattle.ptn_network.specs.Inputs.{stop_input, stop_row}
 use Rattle.ptn_network.specs.Networks.{stops_of}
 use Rattle.event_tables.specs.declared.periodic_event.PeriodicEvent.{PeriodicEvent}

@@ -5,7 +5,7 @@ use Rattle.std.specs.List.{flat_map}
 use Rattle.std.proofs.lemmas.List.Elements.{All-map, All-weaker, filter_map-append}
 use Rattle.ptn_network.specs.Networks.{NetworkParts, index_in, rising}
 use Rattle.ptn_network.specs.Paths.{way}
-use Rattle.line_pool.proofs.SoundLines.{all_rising}
+use Rattle.line_walks.proofs.SoundLines.{all_rising}
 use Rattle.pool_maker.specs.PoolTexts.{unknown_terminals}
 use Rattle.pool_maker.specs.TerminalPaths.{paths_of}
 use Rattle.pool_maker.specs.Terminals.{AreStops, paths_over, terminal_of, way_between}

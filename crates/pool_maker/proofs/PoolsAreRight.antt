@@ -18,8 +18,8 @@ use Rattle.tables.proofs.Ranges.{back_none, front_none}
 use Rattle.tables.proofs.WrittenBack.{written_back}
 use Rattle.ptn_network.specs.Networks.{IsNetwork, NetworkParts, network_faults, network_of}
 use Rattle.ptn_network.proofs.Sound.{network_sound}
-use Rattle.line_pool.specs.Pools.{LineParts, pool_of}
-use Rattle.line_pool.proofs.EdgesOfTexts.{HasId, edge_ids}
+use Rattle.line_walks.specs.Pools.{LineParts, pool_of}
+use Rattle.line_walks.proofs.EdgesOfTexts.{HasId, edge_ids}
 use Rattle.pool_maker.specs.PoolTexts.{edge_id, pool_header, pool_rows, pool_text, terminal_faults}
 use Rattle.pool_maker.specs.PoolTexts.{text_of, uncovered_line, unknown_terminals}
 use Rattle.plan_num.specs.Terminals.{AreTerminals}

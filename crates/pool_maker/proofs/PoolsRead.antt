@@ -17,12 +17,12 @@ use Rattle.ptn_network.specs.Paths.{edges_at}
 use Rattle.ptn_network.specs.Walks.{IsWalk}
 use Rattle.ptn_network.proofs.PathEdges.{ends_are}
 use Rattle.ptn_network.proofs.Walks.{begins}
-use Rattle.line_pool.specs.Pools.{lines_over, or_walk, pool_faults, pool_of, walk_from}
-use Rattle.line_pool.specs.Pools.{walk_of}
-use Rattle.line_pool.proofs.LinesBack.{HasEdge, edges_back, ids_back, pool_back}
-use Rattle.line_pool.proofs.WalkLines.{IsWalked, RowsLine, ids_for, pool_accepted, rows_at}
-use Rattle.line_pool.proofs.WalkLines.{rows_for, told_row}
-use Rattle.line_pool.proofs.WalkRows.{row_to, rows_from}
+use Rattle.line_walks.specs.Pools.{lines_over, or_walk, pool_faults, pool_of, walk_from}
+use Rattle.line_walks.specs.Pools.{walk_of}
+use Rattle.line_walks.proofs.LinesBack.{HasEdge, edges_back, ids_back, pool_back}
+use Rattle.line_walks.proofs.WalkLines.{IsWalked, RowsLine, ids_for, pool_accepted, rows_at}
+use Rattle.line_walks.proofs.WalkLines.{rows_for, told_row}
+use Rattle.line_walks.proofs.WalkRows.{row_to, rows_from}
 use Rattle.pool_maker.specs.PoolTexts.{line_rows, pool_rows, row_at}
 use Rattle.pool_maker.proofs.TerminalWays.{IsTerminalPath}
 

@@ -25,8 +25,8 @@ use Rattle.ptn_network.proofs.PathEdges.{path_simple}
 use Rattle.ptn_network.proofs.ShortestPaths.{path_shortest}
 use Rattle.ptn_network.proofs.Sound.{rising_rises}
 use Rattle.ptn_network.proofs.Walks.{staying_end}
-use Rattle.line_pool.proofs.SoundLines.{all_rising}
-use Rattle.line_pool.proofs.WalkLines.{rising_length}
+use Rattle.line_walks.proofs.SoundLines.{all_rising}
+use Rattle.line_walks.proofs.WalkLines.{rising_length}
 use Rattle.pool_maker.specs.PoolTexts.{unknown_terminals}
 use Rattle.pool_maker.specs.RightPools.{IsShortestLine}
 use Rattle.pool_maker.specs.Tellable.{IsShort}

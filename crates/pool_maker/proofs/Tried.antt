@@ -13,7 +13,7 @@ use Rattle.ptn_network.specs.declared.edge.Edge.{Edge}
 use Rattle.ptn_network.specs.Networks.{NetworkParts, by_id, network_faults, network_of, stops_of}
 use Rattle.ptn_network.specs.Paths.{path_within}
 use Rattle.ptn_network.specs.Walks.{least_of, least_sum, walks_within}
-use Rattle.line_pool.specs.Pools.{line_faults, lines_of, pool_faults, pool_of, walk_from}
+use Rattle.line_walks.specs.Pools.{line_faults, lines_of, pool_faults, pool_of, walk_from}
 use Rattle.pool_maker.specs.PoolTexts.{pool_text, terminal_faults, pool_header}
 use Rattle.pool_maker.specs.TerminalPaths.{lines_between, pairs_of}
 

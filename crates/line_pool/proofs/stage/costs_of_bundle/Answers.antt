@@ -2,10 +2,10 @@ use Rattle.std.proofs.Common.{subst, sym}
 use Rattle.std.proofs.lemmas.Result.{err_from_is_err_and}
 use Rattle.ptn_network.specs.Networks.{IsNetwork}
 use Rattle.ptn_network.proofs.Sound.{network_sound}
-use Rattle.line_pool.specs.declared.line_file.LineFile.TheVariants as kind
+use Rattle.line_walks.specs.declared.line_file.LineFile.TheVariants as kind
 use Rattle.line_pool.specs.LineCosts.{AreModest}
 use Rattle.line_pool.proofs.CostCalls.{settings_modest, network_refused, pool_refused, costs_given}
-use Rattle.line_pool.proofs.SoundLines.{pool_sound}
+use Rattle.line_walks.proofs.SoundLines.{pool_sound}
 use Rattle.line_pool.proofs.stage.costs_of_bundle.Goals as goal
 
 pub returns-in_err-network : goal.returns-in_err-network

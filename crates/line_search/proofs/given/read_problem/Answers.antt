@@ -5,7 +5,7 @@ use Rattle.tables.specs.declared.file_id.FileId.TheVariants as file
 use Rattle.ptn_network.specs.Networks.{NetworkParts}
 use Rattle.ptn_network.proofs.LoadRows.{loads_count}
 use Rattle.line_cost_model.specs.Problems.{IsId}
-use Rattle.line_pool.proofs.SoundCosts.{costs_count}
+use Rattle.line_walks.proofs.SoundCosts.{costs_count}
 use Rattle.line_search.proofs.EdgesOfTexts.{edge_ids}
 use Rattle.line_search.proofs.Refusals.{network_refused, pool_refused, loads_refused, costs_refused, given}
 use Rattle.line_search.proofs.given.read_problem.Goals as goal

@@ -2,7 +2,7 @@ use Rattle.std.proofs.Common.{ℤ, ◌<ℤ◌, ◌∷◌, ◌++◌, [], length, 
 use Rattle.std.specs.List.{All}
 use Rattle.line_cost_model.specs.Problems.{CostedLine, ProblemParts, IsCostedLine, IsId}
 use Rattle.line_cost_model.proofs.Proving.{holds_at as held}
-use Rattle.line_pool.specs.Pools.{IsLine}
+use Rattle.line_walks.specs.Pools.{IsLine}
 use Rattle.line_search.specs.GivenProblems.{costed_by}
 use Rattle.line_search.proofs.PushedEdges.{bounded, bounded_length, told_id}
 use Rattle.line_search.proofs.PushedLines.{is_costed, line_at, lines_below, lines_more, lines_whole, told_line}

@@ -1,0 +1,6 @@
+pub mod DemandRows
+pub mod FarStops
+pub mod Handing
+pub mod SmallLoads
+pub mod WantedLists
+pub mod WantedSums

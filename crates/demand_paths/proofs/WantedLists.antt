@@ -1,0 +1,58 @@
+-- The lists of customers who want to go, by the stop where they start.
+use Rattle.std.proofs.Common.{◌≡◌, ℕ, ◌+◌, ◌<◌, ◌≤◌, Bool, true, false, cond, List, [], length}
+use Rattle.std.proofs.Common.{get_or, set, replicate, refl, ap, arith, get_or-set_other}
+use Rattle.std.proofs.Common.{get_or-set_same}
+use Rattle.std.proofs.lemmas.Bool.{cases_eq}
+use Rattle.std.proofs.lemmas.List.{length-set}
+use Rattle.ptn_network.specs.Networks.{NetworkParts}
+use Rattle.demand_paths.specs.Wanted.{sum_where, sum_between, everyone, AreWanted}
+use Rattle.demand_paths.proofs.WantedSums.{sum_where-set, sum_where-one, sum_where-zeros, sum_between-set, sum_between-one}
+
+module _ (network : NetworkParts) (wanted : List (List ℕ)) (from : ℕ)
+    (are : AreWanted network wanted) (within : from < length network.stops) where
+  -- another list at one stop
+  pub list_set : (amounts : List ℕ) → length amounts ≡ length network.stops
+      → AreWanted network (set wanted from amounts)
+  list_set amounts size =
+      grind (arith, length-set, cases_eq, get_or, get_or-set_same, get_or-set_other)
+
+  pub list_there : (amounts : List ℕ) → get_or (set wanted from amounts) from [] ≡ amounts
+  list_there amounts = grind (arith, get_or-set_same)
+
+  -- a list of zeros in the place of none
+  pub zeros_same : get_or wanted from [] ≡ [] → (passes : ℕ → ℕ → Bool)
+      → sum_between passes 0 (set wanted from (replicate (length network.stops) 0))
+      ≡ sum_between passes 0 wanted
+  unfolding sum_where
+  zeros_same none passes = grind (arith, sum_between-set, get_or, sum_where-zeros)
+
+  -- customers more
+  module _ (amounts : List ℕ) (is : amounts ≡ get_or wanted from []) (to customers : ℕ)
+      (size : length amounts ≡ length network.stops) (there : to < length network.stops) where
+    pub one_more : (passes : ℕ → ℕ → Bool)
+        → sum_between passes 0 (set wanted from (set amounts to (get_or amounts to 0 + customers)))
+        ≡ sum_between passes 0 wanted + cond (passes from to) customers 0
+    one_more passes =
+        let here : from < length wanted = omega (arith, are.size) in
+        let outer = sum_between-set passes 0 from from wanted
+        (set amounts to (get_or amounts to 0 + customers)) (omega arith) here in
+        let old = ap (sum_where (passes from) 0) is in
+        let inner = sum_where-set (passes from) 0 to to amounts (get_or amounts to 0 + customers)
+        (omega arith) (omega arith) in
+        let apart = added (passes from to) (get_or amounts to 0) customers in
+        omega arith
+      where
+        added : (b : Bool) (n m : ℕ) → cond b (n + m) 0 ≡ cond b n 0 + cond b m 0
+        added true n m = refl
+        added false n m = refl
+
+    pub more_fits : sum_between (λ _. everyone) 0 wanted + customers < 18446744073709551616
+        → get_or amounts to 0 + customers < 18446744073709551616
+    more_fits room =
+        let here : from < length wanted = omega (arith, are.size) in
+        let all : sum_where everyone 0 (get_or wanted from [])
+        ≤ sum_between (λ _. everyone) 0 wanted = sum_between-one (λ _. everyone) from wanted here in
+        let same = ap (sum_where everyone 0) is in
+        let one : get_or amounts to 0 ≤ sum_where everyone 0 amounts =
+        sum_where-one everyone to amounts (omega arith) in
+        omega arith

@@ -1,8 +1,0 @@
--- None of the lines so far has the id.
-use Rattle.std.proofs.Common.{◌≡◌, false, take}
-use Rattle.std.specs.List.{list_any}
-use Rattle.std.specs.Ordering.{int_eq}
-use Rattle.line_pool.proofs.given_costs.has_line.Given as goal
-
-abbrev pub invariant-loop-line : goal.invariant-loop-line
-invariant-loop-line l = list_any (λ line. int_eq l.id line.id) (take l.line l.pool) ≡ false

@@ -1,9 +1,0 @@
--- The ids are those of the lines of the rows so far.
-use Rattle.std.proofs.Common.{◌≡◌, ℤ, take}
-use Rattle.std.specs.List.{list_any}
-use Rattle.std.specs.Ordering.{int_eq}
-use Rattle.line_pool.specs.LinesSoFar.{lines_in}
-use Rattle.line_pool.proofs.line_rows.line_ids.Given as goal
-
-abbrev pub invariant-loop-i : goal.invariant-loop-i
-invariant-loop-i g l = (id : ℤ) → list_any (int_eq id) l.ids.keys ≡ list_any (int_eq id) (lines_in (take l.i l.table))

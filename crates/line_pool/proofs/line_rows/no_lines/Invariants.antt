@@ -1,7 +1,0 @@
--- There is a line for each id so far.
-use Rattle.std.proofs.Common.{◌≡◌, map, take}
-use Rattle.line_pool.specs.LinesSoFar.{no_line}
-use Rattle.line_pool.proofs.line_rows.no_lines.Given as goal
-
-abbrev pub invariant-loop-id : goal.invariant-loop-id
-invariant-loop-id l = l.lines.items ≡ map no_line (take l.id-index l.ids.keys)

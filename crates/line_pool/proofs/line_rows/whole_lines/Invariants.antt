@@ -1,7 +1,0 @@
--- The whole lines so far and those that are left make all of them.
-use Rattle.std.proofs.Common.{◌≡◌, ◌++◌, map}
-use Rattle.line_pool.specs.LinesSoFar.{whole_line}
-use Rattle.line_pool.proofs.line_rows.whole_lines.Given as goal
-
-abbrev pub invariant-loop-line : goal.invariant-loop-line
-invariant-loop-line l = l.whole.items ++ map whole_line l.line-iterator.rest.items ≡ map whole_line l.fn.lines.items

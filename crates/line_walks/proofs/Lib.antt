@@ -1,0 +1,12 @@
+pub mod CostRules
+pub mod EdgesOfTexts
+pub mod LineIds
+pub mod LinesBack
+pub mod PoolTables
+pub mod RowsOfLines
+pub mod SoundCosts
+pub mod SoundLines
+pub mod WalkLines
+pub mod WalkRows
+pub mod Walks
+pub mod WholeLines
