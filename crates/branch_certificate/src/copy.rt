@@ -2,9 +2,9 @@
 ghost use Rattle.branch_certificate.specs.TreeTexts.{CopiesTrees, CopyGives};
 
 use crate::write::header_line;
-use tables::{ReadFault, Table, TextRow, columns, push_line, rows_of};
 use plan_num::Text;
 use std::alloc::Global;
+use tables::{ReadFault, Table, TextRow, columns, push_line, rows_of};
 
 /// The text of a table of a tree written anew, or its first row with a cell at fault. Where the text
 /// is a tree, that is what `write_tree` writes of this tree. It goes row by row, with no tree and no

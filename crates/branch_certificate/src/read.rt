@@ -17,10 +17,10 @@ use crate::read_fault::TreeReadFault;
 use crate::read_so_far::ReadSoFar;
 use crate::tree::Tree;
 use crate::tree_row::TreeRow;
-use tables::{RowFault, RowWhy, Table, TextRow, columns, rows_of};
 use line_cost_model::LineProblem;
 use plan_num::NoMemory;
 use std::alloc::Global;
+use tables::{RowFault, RowWhy, Table, TextRow, columns, rows_of};
 
 // A text that ends where a multiplier is due.
 const ENDS_EARLY: TreeReadFault = TreeReadFault::Row(RowFault {

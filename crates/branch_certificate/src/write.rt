@@ -12,10 +12,10 @@ ghost use Rattle.branch_certificate.specs.TreeTexts.{node_rows, side_place, tree
 
 use crate::node::Node;
 use crate::tree::Tree;
-use tables::{columns, push_line};
 use line_cost_model::{LineProblem, Multipliers, Side};
 use plan_num::{NoMemory, Text};
 use std::alloc::Global;
+use tables::{columns, push_line};
 
 /// The text of a tree over a line problem, which `read_tree` reads back. Each split of a node is at
 /// 1,000,000,000 at most. It is written row by row, with no table of it.

@@ -1,7 +1,7 @@
 // Why settings are refused.
 use giv_files::Key;
-use tables::RowWhy;
 use plan_num::Text;
+use tables::RowWhy;
 
 /// Why settings are refused. The name is that of the file in which the fault stands, as a path below the
 /// dataset's folder. A missing or too long file is named itself.

@@ -9,10 +9,10 @@ use crate::include::{inside, path_of};
 use crate::said::Said;
 use crate::word::is_word;
 use giv_files::Key;
-use tables::{RowWhy, TextRow, TextRows, rows_of};
 use plan_num::NoMemory;
 use std::alloc::Global;
 use std::mem::replace;
+use tables::{RowWhy, TextRow, TextRows, rows_of};
 
 /// The most include rows that are read.
 pub(crate) const MOST_INCLUDES: u64 = 1_000;

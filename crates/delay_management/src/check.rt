@@ -12,8 +12,8 @@ use crate::propagation::Propagation;
 use crate::stage::wait_of;
 use crate::waiting::waiting_changes;
 use giv_files::Bundle;
-use tables::StageFault;
 use std::alloc::Global;
+use tables::StageFault;
 
 /// The first rule that the texts of times and of their reasons break, over the inputs of the
 /// stage; none exactly where they pass, and then no feasible times are earlier at any event.

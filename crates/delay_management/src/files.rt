@@ -8,10 +8,10 @@ use crate::propagation::Propagation;
 use crate::reason::Reason;
 use event_tables::{DisposedTime, disposed_times_text};
 use giv_files::{Made, MadeFile, MadeList, Stage, count_text, report_line};
-use tables::{FileId, Table, columns, write_table};
 use itoa::Buffer;
 use plan_num::{NoMemory, Text};
 use std::alloc::Global;
+use tables::{FileId, Table, columns, write_table};
 
 /// What is made of times and of their reasons: two files, and the line of the report.
 pub(crate) fn disposition_made(

@@ -14,8 +14,8 @@ use event_tables::{
     expanded_activities, expanded_events, schedule_rows,
 };
 use giv_files::{Bundle, Key};
-use tables::StageFault;
 use std::alloc::Global;
+use tables::StageFault;
 
 /// The events, or the first fault of their text.
 #[tactic(auto, unfolding(crate::specs::DispositionStage::events_in))]

@@ -17,9 +17,9 @@ use crate::rows::{are_all_reasons, are_all_times, reasons_of, times_of};
 use crate::step::Activity;
 use crate::waiting::kept_activities;
 use crate::wrong::first_wrong;
-use tables::{ReadFault, Table, columns, read_table};
 use plan_num::NoMemory;
 use std::alloc::Global;
+use tables::{ReadFault, Table, columns, read_table};
 
 /// The first rule that the texts of times and of reasons break, where some changes are kept.
 pub(crate) fn first_fault(

@@ -23,10 +23,10 @@ use crate::step::{Activity, Step};
 use crate::turns::turns_of;
 use event_tables::{DelayRow, ExpandedActivity, ExpandedEvent, ScheduleRow};
 use giv_files::Bundle;
-use tables::StageFault;
 use plan_num::NoMemory;
 use std::alloc::Global;
 use std::marker::Model;
+use tables::StageFault;
 
 /// The events of a day with their earliest times, and the steps by which delays go on. Contracts
 /// see it as these.

@@ -12,9 +12,9 @@ use crate::propagation::Propagation;
 use crate::reasons::canonical_reasons;
 use crate::waiting::waiting_changes;
 use giv_files::{Bundle, Key, Made};
-use tables::StageFault;
 use plan_num::{Ledger, Steps};
 use std::alloc::Global;
+use tables::StageFault;
 
 /// Makes the disposition of the inputs of the stage, which is the least feasible vector of times
 /// (Schöbel 2006 states the problem), and a reason for the time of each event.

@@ -5,10 +5,10 @@ ghost use Rattle.demand_load.specs.LoadStage.{bounded, frequency_faults};
 ghost use Rattle.demand_load.specs.LoadTables.{HasSpread};
 
 use giv_files::{Key, Settings};
-use tables::{Counted, Refusal, StageFault};
 use plan_num::NoMemory;
 use ptn_network::EdgeLoad;
 use std::alloc::Global;
+use tables::{Counted, Refusal, StageFault};
 
 const MOST_FREQUENT: i64 = 1_000;
 

@@ -4,10 +4,10 @@ ghost use Rattle.ptn_network.specs.Loads.{IsBounded};
 ghost use Rattle.demand_load.specs.LoadTables.{load_row, load_rows, loads_made, HasId};
 
 use giv_files::{Made, MadeFile, MadeList, Stage, count_text, report_line};
-use tables::{FileId, Table, columns, write_table};
 use plan_num::NoMemory;
 use ptn_network::{Edge, EdgeLoad, Network};
 use std::alloc::Global;
+use tables::{FileId, Table, columns, write_table};
 
 /// What is made of the loads of the edges of a network: their table, and the line of the report.
 pub(crate) fn loads_made(

@@ -10,14 +10,14 @@ ghost use Rattle.demand_load.specs.LoadStage.{load_stage, loads_by, text_faults}
 ghost use Rattle.demand_load.specs.LoadTables.{HasSpread};
 ghost use Rattle.demand_load.specs.RightLoads.{LoadsAreRight};
 
-use demand_paths::read_demand;
 use crate::frequency::{bounds_of, check_frequencies};
 use crate::load_table::loads_made;
+use demand_paths::read_demand;
 use giv_files::{Bundle, Key, Made, Settings};
-use tables::{FileId, StageFault};
 use plan_num::{Ledger, Steps};
 use ptn_network::{EdgeLoad, Loads, Network};
 use std::alloc::Global;
+use tables::{FileId, StageFault};
 
 /// The loads of edges with the bounds of their frequencies, from the settings and the texts of
 /// stops, edges, and demand or given loads. It takes one step.

@@ -13,20 +13,16 @@ use crate::demand_row::DemandRow;
 use crate::known_paths::KnownPaths;
 use crate::on_edges::loads_of_wanted;
 use crate::wanted::Wanted;
-use tables::{Counted, FileId, Refusal, RowWhy, StageFault, Table, columns, read_input};
 use plan_num::NoMemory;
 use ptn_network::Network;
 use std::alloc::Global;
+use tables::{Counted, FileId, Refusal, RowWhy, StageFault, Table, columns, read_input};
 
 const MOST_ROWS: usize = 100_000;
 
 /// How many customers, in millionths, go over each edge by the demand of a text, or the first fault
 /// of the text.
-pub fn read_demand(
-    alloc: Global,
-    network: &Network,
-    text: &[u8],
-) -> Result<Vec<u64>, StageFault>
+pub fn read_demand(alloc: Global, network: &Network, text: &[u8]) -> Result<Vec<u64>, StageFault>
     ensures { UnlessFault (input_faults (demand_input network.now) text.now)
         (λ loads. loads.items ≡ demand_loads network.now
         (records_of (demand_input network.now) text.now)) result }

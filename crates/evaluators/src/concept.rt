@@ -10,11 +10,11 @@ ghost use Rattle.evaluators.specs.StatisticInputs.{concept_input, cost_with, lin
 use crate::costed_line::CostedLine;
 use crate::first_rows::first_rows;
 use crate::rows::{CostRow, LineRow};
+use plan_num::NoMemory;
+use std::alloc::Global;
 use tables::{
     Counted, FileId, Refusal, RowFold, RowWhy, StageFault, Table, columns, fold_rows, read_input,
 };
-use plan_num::NoMemory;
-use std::alloc::Global;
 
 const MOST_LINES: usize = 200;
 

@@ -8,10 +8,10 @@ ghost use Rattle.evaluators.specs.StatisticInputs.{cost_input};
 
 use crate::rows::CostRow;
 use crate::seen::note;
-use tables::{FileId, RowTests, RowWhy, StageFault, columns, read_file};
 use plan_num::NoMemory;
 use std::alloc::Global;
 use std::collections::HashSet;
+use tables::{FileId, RowTests, RowWhy, StageFault, columns, read_file};
 
 /// The costs of lines of a text, or its first fault.
 pub(crate) fn read_costs(alloc: Global, text: &[u8]) -> Result<Vec<CostRow>, StageFault>

@@ -18,9 +18,9 @@ use event_tables::{
     ActivityKind, DisposedTime, ExpandedActivity, ExpandedEvent, ScheduleRow, disposed_times,
     expanded_activities, expanded_events, schedule_rows,
 };
-use tables::StageFault;
 use plan_num::NoMemory;
 use std::alloc::Global;
+use tables::StageFault;
 
 /// The values of the texts of expanded events and activities, of a vehicle schedule and of disposed
 /// times, or their first fault.

@@ -8,10 +8,10 @@ ghost use Rattle.evaluators.specs.StatisticInputs.{line_row, lines_of};
 use crate::rows::LineRow;
 use crate::seen::note;
 use event_tables::ScheduleRow;
-use tables::Table;
 use plan_num::NoMemory;
 use std::alloc::Global;
 use std::collections::HashSet;
+use tables::Table;
 
 /// The first row of each line.
 pub(crate) fn first_rows(alloc: Global, table: &Table<4>) -> Result<Vec<LineRow>, NoMemory>

@@ -9,8 +9,8 @@ use crate::concept::read_concept;
 use crate::costed_line::CostedLine;
 use crate::costs::read_costs;
 use crate::line_values::LineValues;
-use tables::StageFault;
 use std::alloc::Global;
+use tables::StageFault;
 
 /// The values of the texts of costs and of the line concept, or their first fault.
 pub(crate) fn line_values(

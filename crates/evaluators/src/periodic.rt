@@ -12,9 +12,9 @@ use event_tables::{
     PeriodicActivity, PeriodicEvent, PeriodicKind, PeriodicTime, periodic_activities,
     periodic_events, periodic_times,
 };
-use tables::{FileId, StageFault};
 use pesp_model::tension;
 use std::alloc::Global;
+use tables::{FileId, StageFault};
 
 /// The values of the texts of periodic events, activities and times, or their first fault.
 pub(crate) fn periodic_values(

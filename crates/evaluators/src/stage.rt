@@ -16,9 +16,9 @@ use crate::statistic::Statistic;
 use crate::text::statistic_made;
 use event_tables::{Trip, trips};
 use giv_files::{Bundle, Key, Made};
-use tables::StageFault;
 use plan_num::{Ledger, Steps};
 use std::alloc::Global;
+use tables::StageFault;
 
 /// Makes the statistic of the inputs of the stage: the cost of the line concept, of each line once;
 /// the minutes of the periodic timetable by kind; trips, vehicles and what their schedule costs;

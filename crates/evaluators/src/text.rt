@@ -6,9 +6,9 @@ ghost use Rattle.evaluators.specs.StatisticStage.{statistic_made, statistic_text
 use crate::measure::Measure;
 use crate::statistic::Statistic;
 use giv_files::{Made, MadeFile, MadeList};
-use tables::FileId;
 use plan_num::{NoMemory, Text, print_fixed};
 use std::alloc::Global;
+use tables::FileId;
 
 /// What is made of a statistic: its file, and the line of the report.
 pub(crate) fn statistic_made(alloc: Global, all: &Statistic) -> Result<Made, NoMemory>

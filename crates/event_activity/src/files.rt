@@ -10,9 +10,9 @@ use event_tables::{
     PeriodicActivity, PeriodicEvent, periodic_activities_text, periodic_events_text,
 };
 use giv_files::{Made, MadeFile, MadeList, Stage, count_text, report_line};
-use tables::FileId;
 use plan_num::NoMemory;
 use std::alloc::Global;
+use tables::FileId;
 
 /// What is made of events and activities: their files, and the line of the report.
 pub(crate) fn ean_made(

@@ -17,11 +17,11 @@ use crate::files::{ean_made, rows_of};
 use crate::run_event::RunEvent;
 use crate::runs::{concept_events, event_count};
 use giv_files::{Bundle, Made, Settings};
-use tables::{Counted, Refusal, StageFault};
 use line_walks::Pool;
 use plan_num::{Ledger, Steps};
 use ptn_network::Network;
 use std::alloc::Global;
+use tables::{Counted, Refusal, StageFault};
 
 const MOST_EVENTS: usize = 4_000;
 

@@ -11,10 +11,10 @@ use crate::delay_row::DelayRow;
 use crate::expanded_activity::ExpandedActivity;
 use crate::expanded_event::ExpandedEvent;
 use crate::place::is_unknown;
-use tables::{FileId, RowTests, RowWhy, StageFault, columns, read_file};
 use plan_num::NoMemory;
 use std::alloc::Global;
 use std::collections::HashSet;
+use tables::{FileId, RowTests, RowWhy, StageFault, columns, read_file};
 
 /// The delays of the events of a day by a text, or its first fault.
 pub fn event_delays(

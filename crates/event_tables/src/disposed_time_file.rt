@@ -10,9 +10,9 @@ use crate::disposed_time::DisposedTime;
 use crate::expanded_event::ExpandedEvent;
 use crate::place::{is_next_place, is_unknown};
 use crate::times::all_there;
-use tables::{FileId, RowTests, RowWhy, StageFault, columns, read_file};
 use plan_num::NoMemory;
 use std::alloc::Global;
+use tables::{FileId, RowTests, RowWhy, StageFault, columns, read_file};
 
 /// The disposed times of the events of a day by a text, or its first fault.
 pub fn disposed_times(

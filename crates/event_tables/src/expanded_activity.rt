@@ -5,8 +5,8 @@ ghost use Rattle.event_tables.specs.Cells.{expanded_activity, expanded_activity_
 use crate::activity_kind::ActivityKind;
 use crate::cells::number;
 use crate::written_record::WrittenRecord;
-use tables::{Record, Table};
 use std::mem::size_of;
+use tables::{Record, Table};
 
 /// An activity of a day: its id, the id of its periodic activity, its kind, the ids of its two
 /// events, and its bounds in minutes.

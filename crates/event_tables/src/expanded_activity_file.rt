@@ -8,9 +8,9 @@ use crate::expanded_activity::ExpandedActivity;
 use crate::expanded_event::ExpandedEvent;
 use crate::forward::goes_forward;
 use crate::place::{is_either_unknown, is_next_place};
-use tables::{Counted, FileId, RowLimit, RowTests, RowWhy, StageFault, columns, read_file};
 use plan_num::NoMemory;
 use std::alloc::Global;
+use tables::{Counted, FileId, RowLimit, RowTests, RowWhy, StageFault, columns, read_file};
 
 const LIMIT: RowLimit = RowLimit {
     what: Counted::ExpandedActivities,

@@ -6,9 +6,9 @@ ghost use Rattle.event_tables.specs.Places.{own_place};
 
 use crate::expanded_event::ExpandedEvent;
 use crate::place::is_next_place;
-use tables::{Counted, FileId, RowLimit, RowTests, RowWhy, StageFault, columns, read_file};
 use plan_num::NoMemory;
 use std::alloc::Global;
+use tables::{Counted, FileId, RowLimit, RowTests, RowWhy, StageFault, columns, read_file};
 
 const LIMIT: RowLimit = RowLimit {
     what: Counted::ExpandedEvents,

@@ -15,9 +15,9 @@ use crate::periodic_time::PeriodicTime;
 use crate::schedule_row::ScheduleRow;
 use crate::trip::Trip;
 use crate::writing::write_records;
-use tables::columns;
 use plan_num::{NoMemory, Text};
 use std::alloc::Global;
+use tables::columns;
 
 /// The text of the file of periodic events. It is read back to them.
 pub fn periodic_events_text(alloc: Global, events: &[PeriodicEvent]) -> Result<Text, NoMemory>

@@ -9,9 +9,9 @@ use crate::periodic_event::PeriodicEvent;
 use crate::periodic_time::PeriodicTime;
 use crate::place::{is_next_place, is_unknown};
 use crate::times::all_there;
-use tables::{FileId, RowTests, RowWhy, StageFault, columns, read_file};
 use plan_num::NoMemory;
 use std::alloc::Global;
+use tables::{FileId, RowTests, RowWhy, StageFault, columns, read_file};
 
 /// The times of periodic events in a period of so many minutes, by a text of a file, or its first
 /// fault.

@@ -11,12 +11,12 @@ use crate::expanded_event::ExpandedEvent;
 use crate::forward::{event_of, goes_forward};
 use crate::place::is_either_unknown;
 use crate::schedule_row::ScheduleRow;
+use plan_num::NoMemory;
+use std::alloc::Global;
 use tables::{
     Counted, FileId, Record, Refusal, RowLimit, RowTests, RowWhy, StageFault, Table, columns,
     read_cells, read_records, too_many,
 };
-use plan_num::NoMemory;
-use std::alloc::Global;
 
 // Of each kind there may be so many rows.
 const LIMIT: RowLimit = RowLimit {

@@ -6,10 +6,10 @@ ghost use Rattle.tables.specs.RowsOfTables.{ReadsFile};
 ghost use Rattle.event_tables.specs.Trips.{trip_input, trip_rules, is_stop, lacks_stop, AreTrips};
 
 use crate::trip::Trip;
-use tables::{Counted, FileId, RowLimit, RowTests, RowWhy, StageFault, columns, read_file};
 use plan_num::NoMemory;
 use std::alloc::Global;
 use std::collections::HashSet;
+use tables::{Counted, FileId, RowLimit, RowTests, RowWhy, StageFault, columns, read_file};
 
 const LIMIT: RowLimit = RowLimit {
     what: Counted::Trips,

@@ -4,9 +4,9 @@ ghost use Rattle.tables.specs.Writing.{CanWrite, InColumns, IsHeader};
 ghost use Rattle.tables.specs.RowsOfTables.{ReadsAs, file_text};
 
 use crate::written_record::WrittenRecord;
-use tables::{ColumnKind, Table, write_table};
 use plan_num::{NoMemory, Text};
 use std::alloc::Global;
+use tables::{ColumnKind, Table, write_table};
 
 /// The text of a file with a row for each record. It is read back to the same records.
 pub(crate) fn write_records<const C: usize, X: WrittenRecord<C>>(

@@ -7,8 +7,8 @@ ghost use Rattle.tables.specs.declared.row_why.RowWhy.TheVariants as why;
 ghost use Rattle.tables.specs.Tables.{no_row, cell_at};
 
 use assignment::Potentials;
-use tables::{ReadFault, RowFault, RowWhy, Table, columns, read_table};
 use std::alloc::Global;
+use tables::{ReadFault, RowFault, RowWhy, Table, columns, read_table};
 
 /// The potentials of so many trips by a text, or its first fault: that it is no table of potentials,
 /// else a row that is not that of the next trip, else, at row 0, that trips are left.

@@ -4,9 +4,9 @@ ghost use Rattle.assignment.specs.Potentials.{at, ArePotentials};
 ghost use Rattle.flow_potentials.specs.PotentialTables.{potential_rows, potentials_text, IsReadBack};
 
 use assignment::Potentials;
-use tables::{Table, columns, write_table};
 use plan_num::{NoMemory, Text};
 use std::alloc::Global;
+use tables::{Table, columns, write_table};
 
 /// The text of potentials as a table: a row for each trip, counted from 1. It is read back to them.
 pub fn write_potentials(alloc: Global, potentials: &Potentials) -> Result<Text, NoMemory>

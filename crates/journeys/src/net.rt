@@ -25,10 +25,10 @@ use crate::ways::ways_from;
 use event_tables::{
     EventKind, ExpandedActivity, ExpandedEvent, expanded_activities, expanded_events,
 };
-use tables::StageFault;
 use plan_num::NoMemory;
 use std::alloc::Global;
 use std::marker::Model;
+use tables::StageFault;
 
 /// The events of a day at their planned or disposed times, and the connections between them.
 /// Contracts see it as these two lists.

@@ -8,9 +8,9 @@ ghost use Rattle.journeys.specs.JourneyNets.{connection_of, is_usable, time_faul
 use crate::connection::Connection;
 use crate::timed_event::TimedEvent;
 use event_tables::{ExpandedActivity, ExpandedEvent, disposed_times};
-use tables::StageFault;
 use plan_num::NoMemory;
 use std::alloc::Global;
+use tables::StageFault;
 
 /// The times of events by a text, or their planned times where there is none.
 pub(crate) fn times_of(

@@ -6,12 +6,12 @@ ghost use Rattle.line_pool.specs.CostStage.{cost_row, costs_made};
 ghost use Rattle.line_walks.specs.LineLengths.{length_at, IsModest};
 ghost use Rattle.line_pool.specs.LineCosts.{AreModest};
 
-use line_walks::Pool;
 use giv_files::{Key, Made, MadeFile, MadeList, Settings, Stage, count_text, report_line};
-use tables::{FileId, Table, columns, write_table};
+use line_walks::Pool;
 use plan_num::NoMemory;
 use ptn_network::Network;
 use std::alloc::Global;
+use tables::{FileId, Table, columns, write_table};
 
 /// What is made of the lines of a pool: the table of their costs, and the line of the report.
 pub(crate) fn costs_of_pool(

@@ -7,12 +7,12 @@ ghost use Rattle.line_pool.specs.CostStage.{cost_stage};
 ghost use Rattle.line_pool.specs.RightCosts.{CostsAreRight};
 
 use crate::cost_table::costs_of_pool;
-use line_walks::Pool;
 use giv_files::{Bundle, Made};
-use tables::StageFault;
+use line_walks::Pool;
 use plan_num::{Ledger, Steps};
 use ptn_network::Network;
 use std::alloc::Global;
+use tables::StageFault;
 
 /// The costs of the lines of a pool, from the settings and the texts of stops, edges and the pool.
 /// It takes one step.

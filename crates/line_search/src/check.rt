@@ -10,8 +10,8 @@ use crate::fault::ConceptFault;
 use crate::given::read_problem;
 use crate::judge::first_fault;
 use giv_files::Bundle;
-use tables::StageFault;
 use std::alloc::Global;
+use tables::StageFault;
 
 /// The first rule that the text of a line concept breaks, or that the text of a tree beside it
 /// does, over the inputs of the search; none where the concept passes. Refused is only what these

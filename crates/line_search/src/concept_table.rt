@@ -8,10 +8,10 @@ ghost use Rattle.tables.specs.Tables.{cell_at, no_row};
 ghost use Rattle.line_search.specs.ConceptTables.{concept_rows, line_rows, row_at, row_count};
 ghost use Rattle.line_search.specs.Judged.{same_cells};
 
-use tables::Table;
 use line_cost_model::LineProblem;
 use plan_num::NoMemory;
 use std::alloc::Global;
+use tables::Table;
 
 /// The rows of the lines at some frequencies.
 pub(crate) fn rows_of_concept(

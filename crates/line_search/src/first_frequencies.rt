@@ -8,10 +8,10 @@ ghost use Rattle.line_walks.specs.Pools.{differs};
 ghost use Rattle.line_cost_model.specs.Problems.{ProblemParts};
 ghost use Rattle.line_search.specs.PinnedConcepts.{pinned_input};
 
-use tables::{FileId, Refusal, RowWhy, StageFault, Table};
 use plan_num::NoMemory;
 use std::alloc::Global;
 use std::collections::HashMap;
+use tables::{FileId, Refusal, RowWhy, StageFault, Table};
 
 /// Refuses the first row with another frequency than its line's first row. What the pool is makes
 /// no difference.

@@ -15,10 +15,10 @@ use crate::concept_table::rows_of_concept;
 use crate::search::Searched;
 use branch_certificate::{Tree, write_tree};
 use giv_files::{Made, MadeFile, MadeList, Stage, count_text, report_line};
-use tables::{FileId, Refusal, StageFault, columns, write_table};
 use line_cost_model::LineProblem;
 use plan_num::{NoMemory, Text, print_fixed};
 use std::alloc::Global;
+use tables::{FileId, Refusal, StageFault, columns, write_table};
 
 /// What is made of the concept that a search within a budget found, or why it found none.
 pub(crate) fn search_made(

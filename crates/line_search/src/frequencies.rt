@@ -7,10 +7,10 @@ ghost use Rattle.tables.specs.Tables.{cell_at, no_row};
 ghost use Rattle.tables.specs.Writing.{InColumns};
 ghost use Rattle.line_search.specs.ConceptTables.{frequencies_in, frequency_in, frequency_of_row};
 
-use tables::Table;
 use line_cost_model::LineProblem;
 use plan_num::NoMemory;
 use std::alloc::Global;
+use tables::Table;
 
 /// The frequency of each line, which is that of its first row, and 0 where there is none.
 pub(crate) fn line_frequencies(

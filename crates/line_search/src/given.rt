@@ -8,12 +8,12 @@ ghost use Rattle.line_search.specs.GivenProblems.{bounded_by, problem_over};
 ghost use Rattle.line_search.specs.GivenProblems.{problem_faults, problem_of};
 
 use giv_files::Bundle;
-use tables::{FileId, StageFault};
 use line_cost_model::LineProblem;
 use line_walks::{LineCosts, Pool};
 use plan_num::NoMemory;
 use ptn_network::{Loads, Network};
 use std::alloc::Global;
+use tables::{FileId, StageFault};
 
 /// The line problem of the inputs of the search, or their first fault.
 pub(crate) fn read_problem(alloc: Global, bundle: &Bundle) -> Result<LineProblem, StageFault>

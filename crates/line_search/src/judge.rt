@@ -12,10 +12,10 @@ use crate::concept_table::{has_row_count, have_same_cells, rows_of_concept};
 use crate::fault::ConceptFault;
 use crate::frequencies::line_frequencies;
 use branch_certificate::{TreeReadFault, check_tree, read_tree};
-use tables::{ReadFault, Table, columns, read_table};
 use line_cost_model::LineProblem;
 use plan_num::NoMemory;
 use std::alloc::Global;
+use tables::{ReadFault, Table, columns, read_table};
 
 /// The first rule that the text of a line concept breaks, or that the text of a tree beside it
 /// does.

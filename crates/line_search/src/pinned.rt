@@ -27,10 +27,10 @@ use crate::judge::tree_fault;
 use crate::pool_rows::are_of_pool;
 use branch_certificate::copy_tree;
 use giv_files::{Bundle, Made, Stage, report_line};
-use tables::{FileId, ReadFault, Refusal, RowWhy, StageFault, Table, columns, read_input};
 use line_cost_model::LineProblem;
 use plan_num::{Ledger, NoMemory, Steps, Text};
 use std::alloc::Global;
+use tables::{FileId, ReadFault, Refusal, RowWhy, StageFault, Table, columns, read_input};
 
 /// Takes a planner's line concept over the inputs of the search: its rows are those of the pool,
 /// with one frequency for each line, and these are feasible. It is marked exactly where the

@@ -8,10 +8,10 @@ ghost use Rattle.line_search.specs.PinnedConcepts.{by_lines, places_of};
 ghost use Rattle.line_search.specs.PoolPlaces.{cells_of, grouped, placed, plain_rows};
 
 use crate::concept_table::rows_of_concept;
-use tables::Table;
 use line_cost_model::LineProblem;
 use plan_num::NoMemory;
 use std::alloc::Global;
+use tables::Table;
 
 /// The id of a line, a place in it, and the id of the edge there.
 #[derive(Clone, Copy)]

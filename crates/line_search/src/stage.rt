@@ -12,9 +12,9 @@ use crate::found::search_made;
 use crate::given::read_problem;
 use crate::search::search_concept;
 use giv_files::{Bundle, Key, Made};
-use tables::StageFault;
 use plan_num::{Ledger, Steps};
 use std::alloc::Global;
+use tables::StageFault;
 
 /// Searches a line concept of least cost over the inputs of the stage by branch and bound, with at
 /// most as many entries as the budget allows. Where the whole search fits into it, the concept is

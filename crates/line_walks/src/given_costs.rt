@@ -9,10 +9,10 @@ ghost use Rattle.line_walks.specs.PoolCosts.{pool_cost_input};
 
 use crate::cost_row::CostRow;
 use crate::pool::Pool;
-use tables::{FileId, Refusal, RowTests, RowWhy, StageFault, columns, read_file};
 use plan_num::NoMemory;
 use std::alloc::Global;
 use std::marker::Model;
+use tables::{FileId, Refusal, RowTests, RowWhy, StageFault, columns, read_file};
 
 /// The costs of the lines of a pool in millionths, in the order of the lines. Contracts see it as
 /// the list of them.

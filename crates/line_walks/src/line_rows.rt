@@ -12,12 +12,12 @@ use crate::line_file::LineFile;
 use crate::line_row::LineRow;
 use crate::line_so_far::LineSoFar;
 use crate::pool::Line;
-use tables::{Refusal, RowWhy, StageFault, Table};
 use indexmap::IndexSet;
 use plan_num::NoMemory;
 use ptn_network::{Edge, Network};
 use std::alloc::Global;
 use std::collections::HashSet;
+use tables::{Refusal, RowWhy, StageFault, Table};
 
 /// The ids of the lines of a table, rising.
 pub(crate) fn line_ids<const C: usize>(

@@ -6,10 +6,10 @@ ghost use Rattle.line_walks.specs.Pools.{line_input, line_faults, lines_of, line
 
 use crate::line_file::LineFile;
 use crate::line_rows::{line_ids, lines_of_rows, whole_lines};
-use tables::{ColumnKind, Counted, Refusal, StageFault, Table, columns, read_input};
 use ptn_network::Network;
 use std::alloc::Global;
 use std::marker::Model;
+use tables::{ColumnKind, Counted, Refusal, StageFault, Table, columns, read_input};
 
 const MOST_LINES: usize = 200;
 

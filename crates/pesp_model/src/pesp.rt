@@ -8,10 +8,10 @@ ghost use Rattle.pesp_model.specs.Timetables.{IsProblem, IsTimetable};
 
 use crate::activity::PespActivity;
 use event_tables::{PeriodicActivity, periodic_activities, periodic_events};
-use tables::StageFault;
 use plan_num::NoMemory;
 use std::alloc::Global;
 use std::marker::Model;
+use tables::StageFault;
 
 /// A period, events, and activities between them. Contracts see it as these three; an event is
 /// its index.

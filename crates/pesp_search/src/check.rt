@@ -10,8 +10,8 @@ use crate::fault::TimetableFault;
 use crate::judge::first_fault;
 use crate::stage::{period_of, read_pesp};
 use giv_files::Bundle;
-use tables::StageFault;
 use std::alloc::Global;
+use tables::StageFault;
 
 /// The first rule that the text of a timetable breaks, over the inputs of the search; none where
 /// the timetable passes. Refused is only what these inputs are refused for.

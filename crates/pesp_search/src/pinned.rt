@@ -13,9 +13,9 @@ use crate::files::times_kept;
 use crate::stage::{period_of, read_pesp};
 use event_tables::{PeriodicTime, periodic_events, periodic_times};
 use giv_files::{Bundle, Made};
-use tables::{FileId, Refusal, RowWhy, StageFault};
 use plan_num::{Ledger, NoMemory, Steps};
 use std::alloc::Global;
+use tables::{FileId, Refusal, RowWhy, StageFault};
 
 /// Takes the timetable that the last input of the stage gives: one time for each event, which keep
 /// the bounds of each activity. Its file is written as that of a timetable that was searched.

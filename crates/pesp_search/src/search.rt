@@ -15,10 +15,10 @@ use crate::marks::TimeMarks;
 use crate::reduce::reduce;
 use crate::standing::{first_open, first_times};
 use crate::time_sets::{Branch, TimeSets};
-use tables::{Refusal, StageFault};
 use pesp_model::Pesp;
 use plan_num::{Ledger, NoMemory, Steps};
 use std::alloc::Global;
+use tables::{Refusal, StageFault};
 
 /// A timetable that was found, and how many entries were listed.
 #[derive(Drop)]

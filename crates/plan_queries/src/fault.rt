@@ -4,8 +4,8 @@ ghost use Rattle.stage_chain.specs.Ends.{is_broken};
 ghost use Rattle.plan_queries.specs.Queries.{end_of_fault};
 
 use giv_files::Stage;
-use tables::StageFault;
 use stage_chain::{Cause, ChainEnd};
+use tables::StageFault;
 
 /// What the fault of a call over what a stage is given ends.
 pub(crate) fn end_of_fault(stage: Stage, fault: StageFault) -> ChainEnd

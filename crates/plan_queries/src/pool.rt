@@ -13,12 +13,12 @@ use crate::answer::Answer;
 use crate::fault::end_of_fault;
 use command_line::QueryEnd;
 use giv_files::Stage;
-use tables::FileId;
 use plan_files::Files;
 use plan_num::Text;
 use pool_maker::make_pool;
 use stage_chain::{ChainEnd, standing_text};
 use std::alloc::Global;
+use tables::FileId;
 
 /// The pool of shortest lines between terminals.
 pub(crate) fn pool<F: Files>(

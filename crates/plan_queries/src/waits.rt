@@ -14,11 +14,11 @@ use crate::answer::Answer;
 use crate::fault::end_of_fault;
 use command_line::QueryEnd;
 use giv_files::{Bundle, Stage};
-use tables::{Refusal, StageFault};
 use plan_files::Files;
 use plan_num::{Ledger, NoMemory, Steps, Text};
 use stage_chain::{ChainEnd, standing_bundle};
 use std::alloc::Global;
+use tables::{Refusal, StageFault};
 use wait_choice::{choose_waits, print_waits};
 
 /// The waiting decision of least cost at a penalty for each missed change, within a budget.

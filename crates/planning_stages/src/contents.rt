@@ -11,10 +11,10 @@ ghost use Rattle.planning_stages.specs.Verdicts.{content_found, files_found, sam
 use crate::stages::make_stage;
 use config_keys::Config;
 use giv_files::{Bundle, MadeFile, Stage};
-use tables::StageFault;
 use plan_num::{NoMemory, Silent, Steps};
 use stage_chain::{Cause, Finding, Rule};
 use std::alloc::Global;
+use tables::StageFault;
 
 /// What is found of files. Where nothing is, and all of them are to be there, they are right.
 pub(crate) fn judge_contents(

@@ -15,7 +15,6 @@ use demand_load::make_load;
 use evaluators::make_statistic;
 use event_activity::make_ean;
 use giv_files::{Bundle, Made, MadeFile, Stage};
-use tables::StageFault;
 use line_pool::make_cost;
 use line_search::{make_concept, take_concept};
 use pesp_search::{make_timetable, take_timetable};
@@ -23,6 +22,7 @@ use plan_num::{Ledger, NoMemory, Steps};
 use roll_out::make_rollout;
 use stage_chain::Finding;
 use std::alloc::Global;
+use tables::StageFault;
 use vehicle_flow::{make_vehicles, take_vehicles};
 
 // The list of the stages: of each, the call that makes its files, and the one that judges files in

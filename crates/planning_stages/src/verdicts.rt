@@ -21,12 +21,12 @@ use crate::rules::{bare_rule, concept_rule, reason_rule, schedule_rule, timetabl
 use config_keys::Config;
 use delay_management::check_reasons;
 use giv_files::{Bundle, Key, MadeFile, Stage};
-use tables::StageFault;
 use line_search::check_concept;
 use pesp_search::check_timetable;
 use plan_num::NoMemory;
 use stage_chain::{Cause, Finding, Rule};
 use std::alloc::Global;
+use tables::StageFault;
 use vehicle_flow::{ScheduleFault, check_schedule};
 
 /// What is found of a concept, with the tree that may stand behind it.

@@ -10,10 +10,10 @@ use crate::lines::keep_lines;
 use crate::paths::paths_between;
 use crate::terminals::find_terminals;
 use crate::text::text_of_lines;
-use tables::StageFault;
 use plan_num::Text;
 use ptn_network::Network;
 use std::alloc::Global;
+use tables::StageFault;
 
 /// The text of a pool whose lines are shortest paths between terminals, told by the ids of their
 /// stops. A path whose edges are all among those of another one is left out. Behind the lines, each

@@ -8,10 +8,10 @@ ghost use Rattle.pool_maker.specs.PoolTexts.{unknown_terminals};
 ghost use Rattle.plan_num.specs.Terminals.{AreTerminals};
 ghost use Rattle.pool_maker.specs.Terminals.{terminal_of};
 
-use tables::{FileId, Refusal, RowWhy, StageFault};
 use plan_num::NoMemory;
 use ptn_network::Network;
 use std::alloc::Global;
+use tables::{FileId, Refusal, RowWhy, StageFault};
 
 /// Whether some ids can be terminals: 2 to 20 of them, all different.
 pub fn are_terminals(ids: &[i64]) -> bool

@@ -6,10 +6,10 @@ ghost use Rattle.pool_maker.specs.TerminalPaths.{is_covered, uncovered, uncovere
 ghost use Rattle.pool_maker.specs.Tellable.{AreTellable, IsShort};
 
 use crate::path::Path;
-use tables::{Table, columns, write_table};
 use plan_num::{NoMemory, Text};
 use ptn_network::Network;
 use std::alloc::Global;
+use tables::{Table, columns, write_table};
 
 /// The text of the lines of a pool, numbered from 1, and behind them a comment for each edge that
 /// no line has.

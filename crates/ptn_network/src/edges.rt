@@ -10,10 +10,10 @@ ghost use Rattle.ptn_network.specs.Networks.{by_id, edge_entry, edge_of};
 
 use crate::edge::Edge;
 use crate::edge_row::EdgeRow;
-use tables::{Counted, FileId, RowFold, RowLimit, RowWhy, StageFault, Table, columns, fold_file};
 use indexmap::{IndexMap, IndexSet};
 use plan_num::NoMemory;
 use std::alloc::Global;
+use tables::{Counted, FileId, RowFold, RowLimit, RowWhy, StageFault, Table, columns, fold_file};
 
 const LIMIT: RowLimit = RowLimit {
     what: Counted::Edges,

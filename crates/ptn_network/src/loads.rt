@@ -10,10 +10,10 @@ ghost use Rattle.ptn_network.specs.Loads.{load_input, load_row_of, load_rules, g
 use crate::edge_load::EdgeLoad;
 use crate::load_row::LoadRow;
 use crate::network::Network;
-use tables::{FileId, Refusal, RowFold, RowWhy, StageFault, Table, columns, fold_file};
 use plan_num::NoMemory;
 use std::alloc::Global;
 use std::marker::Model;
+use tables::{FileId, Refusal, RowFold, RowWhy, StageFault, Table, columns, fold_file};
 
 /// The loads of the edges of a network with their bounds of frequency, by the indexes of the edges.
 /// Contracts see it as the list of them.

@@ -9,10 +9,10 @@ use crate::edge::Edge;
 use crate::edges::read_edges;
 use crate::stop_edges::StopEdges;
 use crate::stops::read_stops;
-use tables::StageFault;
 use indexmap::{IndexMap, IndexSet};
 use std::alloc::Global;
 use std::marker::Model;
+use tables::StageFault;
 
 /// Stops and edges, each by id rising. An index of a stop or of an edge is its place in that order.
 pub struct Network {

@@ -4,10 +4,10 @@ ghost use Rattle.tables.specs.Inputs.{input_faults, UnlessFault};
 ghost use Rattle.ptn_network.specs.Inputs.{stop_input, stop_row};
 ghost use Rattle.ptn_network.specs.Networks.{stops_of};
 
-use tables::{Counted, FileId, RowFold, RowLimit, RowWhy, StageFault, Table, columns, fold_file};
 use indexmap::IndexSet;
 use plan_num::NoMemory;
 use std::alloc::Global;
+use tables::{Counted, FileId, RowFold, RowLimit, RowWhy, StageFault, Table, columns, fold_file};
 
 const LIMIT: RowLimit = RowLimit {
     what: Counted::Stops,

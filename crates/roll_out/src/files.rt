@@ -10,9 +10,9 @@ use event_tables::{
     trips_text,
 };
 use giv_files::{Made, MadeFile, MadeList, Stage, count_text, report_line};
-use tables::FileId;
 use plan_num::NoMemory;
 use std::alloc::Global;
+use tables::FileId;
 
 /// What is made of the events of a day, of the activities between them and of the trips: their
 /// files, and the line of the report.

@@ -15,10 +15,10 @@ use event_tables::{
     periodic_times,
 };
 use giv_files::{Bundle, Key};
-use tables::{FileId, StageFault};
 use pesp_model::tension;
 use std::alloc::Global;
 use std::marker::Model;
+use tables::{FileId, StageFault};
 
 /// A period, the events and activities of a periodic network, and a time in the period for each
 /// event. Contracts see it as these four.

@@ -13,8 +13,8 @@ ghost use Rattle.pesp_model.specs.PespTexts.{activities_of, events_of};
 ghost use Rattle.roll_out.specs.RolloutStage.{faults_at};
 
 use event_tables::PeriodicEvent;
-use tables::{ColumnKind, Counted, FileId, Refusal, RowWhy, StageFault, columns, read_input};
 use std::alloc::Global;
+use tables::{ColumnKind, Counted, FileId, Refusal, RowWhy, StageFault, columns, read_input};
 
 /// Refuses the row of the first of some periodic events by their ids, if there is one.
 pub(crate) fn no_event_at(

@@ -23,9 +23,9 @@ use crate::trip::{DayTrip, day_events, day_trips, event_count, trip_count, trip_
 use crate::ways::{add_ways, way_count, with_numbers};
 use event_tables::ExpandedActivity;
 use giv_files::{Bundle, Made};
-use tables::{Counted, RowWhy, StageFault};
 use plan_num::{Ledger, NoMemory, Steps};
 use std::alloc::Global;
+use tables::{Counted, RowWhy, StageFault};
 
 const MOST_TRIPS: usize = 2_000;
 

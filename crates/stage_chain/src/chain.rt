@@ -19,10 +19,10 @@ use crate::progress::Progress;
 use crate::stages::{Stages, place_of, staged};
 use config_keys::{Config, read_config};
 use giv_files::{Bundle, Stage};
-use tables::StageFault;
 use plan_files::Files;
 use plan_num::{Ledger, Steps};
 use std::alloc::Global;
+use tables::StageFault;
 
 /// Runs the stages that are built over the files of a dataset, up to the last one that its settings
 /// name or to where the chain ends early. What is kept of what a stage is given is not made again.

@@ -16,11 +16,11 @@ use crate::origin::{Origin, chosen, origin_of};
 use crate::standing::text_at;
 use config_keys::{Config, FILE_LIMIT};
 use giv_files::{Bundle, MadeFile, Stage};
-use tables::FileId;
 use plan_files::{Files, Got};
 use plan_num::Text;
 use stage_keep::{Given, LentText};
 use std::alloc::Global;
+use tables::FileId;
 
 /// A stage with its settings and its inputs over the files that stand in the folder, or why an
 /// input is not there.

@@ -10,10 +10,10 @@ use crate::chain_end::ChainEnd;
 use crate::gather::{gather, input};
 use config_keys::read_config;
 use giv_files::{Bundle, Stage};
-use tables::FileId;
 use plan_files::Files;
 use plan_num::Text;
 use std::alloc::Global;
+use tables::FileId;
 
 /// A stage with its settings and its inputs over the files that stand there, whoever made them, or why
 /// the settings are refused or an input is not there.

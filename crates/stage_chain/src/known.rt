@@ -6,10 +6,10 @@ use crate::holding::Holding;
 use crate::origin::chosen;
 use config_keys::Config;
 use giv_files::{MadeFile, Stage};
-use tables::FileId;
 use plan_num::NoMemory;
 use std::alloc::Global;
 use std::marker::Model;
+use tables::FileId;
 
 /// The files that are kept of the stages so far, and the files of those of which nothing is kept
 /// that fits. Contracts see it as these two lists.

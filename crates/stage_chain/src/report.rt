@@ -19,9 +19,9 @@ use crate::state::{StageState, StatesEnd, StatesOutcome};
 use command_line::RunEnd;
 use config_keys::ConfigFault;
 use giv_files::Stage;
-use tables::Refusal;
 use plan_num::{NoMemory, Text};
 use std::alloc::Global;
+use tables::Refusal;
 
 /// The outcome of a run, whose last line is put behind the lines of its stages.
 #[tactic(auto, using(std::proofs::lemmas::List::append_assoc))]

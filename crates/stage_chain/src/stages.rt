@@ -10,9 +10,9 @@ ghost use Rattle.stage_chain.specs.StageParts.{StageParts, staged};
 use crate::finding::Finding;
 use config_keys::Config;
 use giv_files::{Bundle, Made, MadeFile, Stage};
-use tables::StageFault;
 use plan_num::{Ledger, NoMemory, Steps};
 use std::alloc::Global;
+use tables::StageFault;
 
 /// The stages of a chain: its places in their order, which stage runs in each under the settings of
 /// a dataset, what each makes of what it is given, and the judge of files that stand in the place of

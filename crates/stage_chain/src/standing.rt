@@ -11,10 +11,10 @@ ghost use Rattle.stage_chain.specs.Ends.{has_failed as has_broken};
 
 use crate::outcome::ChainFault;
 use giv_files::{MadeFile, Stage};
-use tables::FileId;
 use plan_files::{FileFault, Files, Got};
 use plan_num::{NoMemory, Text};
 use std::alloc::Global;
+use tables::FileId;
 
 /// The text of a file, however long, where it is there.
 pub(crate) fn text_at<F: Files>(

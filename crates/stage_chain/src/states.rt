@@ -25,10 +25,10 @@ use crate::stages::{Stages, place_of};
 use crate::state::{StageState, StatesEnd, StatesOutcome};
 use config_keys::{Config, ConfigEnd, read_config};
 use giv_files::{MadeList, Stage};
-use tables::FileId;
 use plan_files::{FileFault, Files};
 use plan_num::Text;
 use std::alloc::Global;
+use tables::FileId;
 
 /// Tells of each stage whether its files are those that are kept of it, and whether what is kept is
 /// of what it would be given. So it tells what the next run takes from what is kept, and what it

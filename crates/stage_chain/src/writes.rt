@@ -8,10 +8,10 @@ ghost use Rattle.stage_chain.specs.Runs.{name_of, put_of, names_besides, writes_
 
 use crate::stages::Stages;
 use giv_files::{MadeFile, Stage};
-use tables::FileId;
 use plan_files::{Name, Write};
 use plan_num::NoMemory;
 use std::alloc::Global;
+use tables::FileId;
 
 /// A put of each file that was made, and a removal of each other one that the built stages make.
 #[tactic(auto, unfolding(crate::specs::Runs::writes_for))]

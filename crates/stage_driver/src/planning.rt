@@ -4,11 +4,11 @@ ghost use Rattle.planning_stages.proofs.Laws.{planning_laws};
 
 use config_keys::Config;
 use giv_files::{Bundle, Made, MadeFile, Stage};
-use tables::StageFault;
 use plan_num::{Ledger, NoMemory, Steps};
 use planning_stages::{in_place, make_stage, planning_places, verdict};
 use stage_chain::{Finding, Stages};
 use std::alloc::Global;
+use tables::StageFault;
 
 /// The planning stages in their nine places, from loads to the statistic.
 pub(crate) struct Planning;

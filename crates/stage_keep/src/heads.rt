@@ -4,9 +4,9 @@ ghost use Rattle.stage_keep.specs.Entries.{first_line, made_head};
 ghost use Rattle.stage_keep.specs.EntryReading.{heads, last_heads};
 
 use giv_files::Stage;
-use tables::FileId;
 use plan_num::{NoMemory, Text};
 use std::alloc::Global;
+use tables::FileId;
 
 /// The line with which an entry of a stage begins.
 pub(crate) fn first_line(alloc: Global, stage: Stage) -> Result<Text, NoMemory>

@@ -8,9 +8,9 @@ ghost use Rattle.stage_keep.specs.Places.{IsWithin, part_of};
 use crate::heads::last_heads;
 use crate::place::{Place, longest_of, places_at};
 use giv_files::{Made, MadeFile, MadeList, Stage};
-use tables::FileId;
 use plan_num::{NoMemory, Text};
 use std::alloc::Global;
+use tables::FileId;
 
 /// What was made, where the bytes are the last part of an entry of a stage: all that stands behind
 /// its inputs. The longest text is not copied.

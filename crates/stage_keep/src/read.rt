@@ -14,9 +14,9 @@ use crate::block::{behind, block_at};
 use crate::entry::Entry;
 use crate::heads::{first_line, heads};
 use giv_files::{Made, MadeFile, MadeList, Stage};
-use tables::FileId;
 use plan_num::{NoMemory, Text};
 use std::alloc::Global;
+use tables::FileId;
 
 /// The entry of a stage that the bytes are, whose settings and inputs stand there, and None exactly
 /// where they are none: where they are a front part of one, or one with more bytes behind it, too.

@@ -12,8 +12,8 @@ use crate::given::given_trips;
 use crate::judge::first_fault;
 use crate::schedule_fault::ScheduleFault;
 use giv_files::Bundle;
-use tables::StageFault;
 use std::alloc::Global;
+use tables::StageFault;
 
 /// The first rule that the text of a vehicle schedule breaks, or that the text of potentials beside
 /// it does, over the inputs of the stage; none exactly where the schedule is a plan and the

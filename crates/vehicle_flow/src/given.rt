@@ -5,8 +5,8 @@ ghost use Rattle.giv_files.specs.Settings.{Fits};
 ghost use Rattle.vehicle_flow.specs.VehicleStage.{takes_trips, trips_in, vehicles_faults};
 
 use giv_files::{Bundle, Key};
-use tables::StageFault;
 use std::alloc::Global;
+use tables::StageFault;
 use vehicle_model::Trips;
 
 /// The trips of a bundle of a stage that takes them, or the first fault of their texts.

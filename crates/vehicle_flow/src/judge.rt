@@ -7,9 +7,9 @@ ghost use Rattle.vehicle_model.specs.Trips.{links_of};
 
 use crate::schedule_fault::ScheduleFault;
 use flow_potentials::{check_potentials, read_potentials};
-use tables::ReadFault;
 use plan_num::NoMemory;
 use std::alloc::Global;
+use tables::ReadFault;
 use vehicle_model::{Plan, Trips, read_plan};
 
 /// The first rule that the text of a schedule breaks, or that potentials beside it do.

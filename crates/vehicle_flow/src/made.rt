@@ -13,9 +13,9 @@ use crate::report::vehicles_line;
 use assignment::{Solved, canonical_potentials, first_best_plan};
 use flow_potentials::{links_of_trips, write_potentials};
 use giv_files::{Made, MadeFile, MadeList};
-use tables::FileId;
 use plan_num::{NoMemory, Text};
 use std::alloc::Global;
+use tables::FileId;
 use vehicle_model::{Trips, write_plan};
 
 /// What is made of trips: the schedule of the chosen plan, its canonical potentials, and the line of

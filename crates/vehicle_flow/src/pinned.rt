@@ -17,9 +17,9 @@ use crate::given::given_trips;
 use crate::report::pinned_line;
 use flow_potentials::{Potentials, check_potentials, read_potentials, write_potentials};
 use giv_files::{Bundle, Made, MadeFile, MadeList};
-use tables::{FileId, ReadFault, Refusal, RowWhy, StageFault};
 use plan_num::{Ledger, NoMemory, Steps};
 use std::alloc::Global;
+use tables::{FileId, ReadFault, Refusal, RowWhy, StageFault};
 use vehicle_model::{Plan, PlanFault, Trips, read_plan, write_plan};
 
 /// Takes the vehicle schedule of a planner over the inputs of the stage: it is a plan of the trips,

@@ -9,9 +9,9 @@ ghost use Rattle.vehicle_flow.specs.VehicleStage.{vehicles_stage};
 use crate::given::given_trips;
 use crate::made::vehicles_made;
 use giv_files::{Bundle, Made};
-use tables::StageFault;
 use plan_num::{Ledger, Steps};
 use std::alloc::Global;
+use tables::StageFault;
 
 /// Makes the vehicle schedule of least cost over the inputs of the stage, among several the one
 /// whose list of successors comes first, and its canonical potentials, which prove that none costs

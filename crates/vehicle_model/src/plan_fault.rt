@@ -3,9 +3,9 @@ ghost use Rattle.std.specs.Prelude.{◌≡◌};
 ghost use Rattle.vehicle_model.specs.declared.plan_fault.PlanFault.TheVariants as plan_faults;
 ghost use Rattle.vehicle_model.specs.PlanFaults.{fault_of};
 
-use tables::{ReadFault, RowFault};
 use plan_num::NoMemory;
 use std::alloc::AllocFailed;
+use tables::{ReadFault, RowFault};
 
 /// Why a text is no plan over some trips.
 #[derive(Clone, Copy, Debug, PartialEq, Eq)]

@@ -14,8 +14,8 @@ use crate::schedule_cells::row_at;
 use crate::trips::Trips;
 use assignment::Plan;
 use event_tables::ScheduleRow;
-use tables::{Table, columns, read_table};
 use std::alloc::Global;
+use tables::{Table, columns, read_table};
 
 /// The plan of a text over some trips, or its first fault: that it is no table of a schedule, else
 /// that its rows are not those of the trips, else that a trip may not follow the one before it. So it

@@ -11,11 +11,11 @@ ghost use Rattle.vehicle_model.specs.Trips.{trips_of, trips_faults, link_minutes
 use crate::dead_times::DeadTimes;
 use crate::row_form::{is_empty_row, same_run};
 use event_tables::{ScheduleRow, Trip};
-use tables::StageFault;
 use plan_num::NoMemory;
 use ptn_network::Network;
 use std::alloc::Global;
 use std::marker::Model;
+use tables::StageFault;
 
 /// Trips over a network, the minutes of a turnover, and what a vehicle and a dead minute cost, in
 /// millionths. Contracts see it as these. A trip is its number from 0.

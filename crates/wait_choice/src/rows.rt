@@ -9,9 +9,9 @@ ghost use Rattle.wait_choice.specs.WaitTexts.{said_by, wait_row, waits_columns, 
 
 use crate::columns::waits_columns;
 use crate::row::WaitRow;
-use tables::{ReadFault, Table, read_table};
 use plan_num::NoMemory;
 use std::alloc::Global;
+use tables::{ReadFault, Table, read_table};
 
 /// The table that a text is, where it is one.
 pub(crate) fn wait_table(alloc: Global, text: &[u8]) -> Result<Option<Table<3>>, NoMemory>

@@ -6,9 +6,9 @@ ghost use Rattle.wait_choice.specs.WaitTexts.{cells_with, wait_cells, wait_row, 
 
 use crate::columns::waits_columns;
 use crate::row::WaitRow;
-use tables::{Table, write_table};
 use plan_num::{NoMemory, Text};
 use std::alloc::Global;
+use tables::{Table, write_table};
 
 /// The text of rows. It is read back to them.
 pub(crate) fn rows_text(alloc: Global, rows: &[WaitRow]) -> Result<Text, NoMemory>
