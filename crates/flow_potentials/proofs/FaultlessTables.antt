@@ -8,7 +8,7 @@ use Rattle.giv_files.specs.Reading.{faults, table_of}
 use Rattle.giv_files.specs.Tables.{TableRow}
 use Rattle.giv_files.proofs.Ranges.{table_in_columns}
 use Rattle.vehicle_model.specs.ReadSchedules.{or_others}
-use Rattle.assignment.specs.Potentials.{AreOver, ArePotentials}
+use Rattle.link_plans.specs.Potentials.{AreOver, ArePotentials}
 use Rattle.flow_potentials.specs.PotentialTables.{gaps_from, is_trip_row, potentials_of, table_faults}
 use Rattle.flow_potentials.proofs.Tables.{table_over, table_potentials}
 
