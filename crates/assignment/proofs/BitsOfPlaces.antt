@@ -3,8 +3,8 @@ use Rattle.std.proofs.Common.{◌≡◌, ℕ, ◌+◌, ◌%◌, ◌<◌, ◌≤�
 use Rattle.std.proofs.Common.{MatchBool, refl, ap, sym, ◌∙◌, subst, arith, eqb-true, eq-eqb}
 use Rattle.std.proofs.lemmas.Bool.{and_from, false≢true, le-ltb, ne_eqb}
 use Rattle.bit_rows.specs.Bits.{Bits, has, has_bit, word_of}
-use Rattle.assignment.proofs.Certified.{by_bound}
-use Rattle.assignment.proofs.Linking.{by_number}
+use Rattle.link_plans.proofs.Certified.{by_bound}
+use Rattle.link_plans.proofs.Linking.{by_number}
 use Rattle.assignment.specs.ClaimablePlaces.{IsInRow, IsPut, IsRowOf}
 
 -- no bit is set behind the columns

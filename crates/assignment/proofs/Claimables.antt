@@ -9,15 +9,15 @@ use Rattle.std.proofs.lemmas.List.Elements.{Contains-get_or}
 use Rattle.std.proofs.lemmas.Option.{slice_get_within}
 use Rattle.bit_rows.proofs.CommonColumns.{common_all, common_rise, common_sound}
 use Rattle.bit_rows.specs.Bits.{Bits, common, has}
-use Rattle.assignment.specs.Potentials.{at}
-use Rattle.assignment.proofs.Linking.{some_of}
-use Rattle.assignment.proofs.Linking.{by_number}
-use Rattle.assignment.specs.Plans.{next}
-use Rattle.assignment.specs.declared.claim.Claim.{Claim}
+use Rattle.link_plans.specs.Potentials.{at}
+use Rattle.link_plans.proofs.Linking.{some_of}
+use Rattle.link_plans.proofs.Linking.{by_number}
+use Rattle.link_plans.specs.Plans.{next}
+use Rattle.plan_search.specs.declared.claim.Claim.{Claim}
 use Rattle.assignment.specs.Choices.{AgreeBefore, ArePlaces, AreRight, IsUndecided}
 use Rattle.assignment.specs.ClaimablePlaces.{AreClaimable, ArePutBack, IsPut, IsTakenOut}
-use Rattle.assignment.specs.Claims.{ClaimsParts, claim_at}
-use Rattle.assignment.specs.Searches.{Search}
+use Rattle.plan_search.specs.Claims.{ClaimsParts, claim_at}
+use Rattle.plan_search.specs.Searches.{Search}
 use Rattle.assignment.proofs.Claimed.{with_claim}
 
 -- the common columns of two rows

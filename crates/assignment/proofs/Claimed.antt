@@ -4,13 +4,13 @@ use Rattle.std.proofs.Common.{length, slice_set, slice_get, Option, Some, None, 
 use Rattle.std.proofs.Common.{subst, arith, length-append}
 use Rattle.std.proofs.lemmas.List.{length-set, get_or-set_same, get_or-set_other}
 use Rattle.std.proofs.lemmas.Option.{none-some, same_Some}
-use Rattle.assignment.proofs.Linking.{by_number}
+use Rattle.link_plans.proofs.Linking.{by_number}
 use Rattle.bit_rows.specs.Bits.{Bits}
-use Rattle.assignment.specs.Potentials.{at}
-use Rattle.assignment.specs.declared.claim.Claim.{Claim}
+use Rattle.link_plans.specs.Potentials.{at}
+use Rattle.plan_search.specs.declared.claim.Claim.{Claim}
 use Rattle.assignment.specs.ClaimablePlaces.{AreClaimable}
-use Rattle.assignment.specs.Claims.{ClaimsParts, claim_at}
-use Rattle.assignment.specs.Searches.{Search, IsClaim, IsTightBy}
+use Rattle.plan_search.specs.Claims.{ClaimsParts, claim_at}
+use Rattle.plan_search.specs.Searches.{Search, IsClaim, IsTightBy}
 use Rattle.assignment.specs.Choices.{ArePlaces, IsUndecided, is_claimed, AreExpanded, AreRight, AreMore, AreOthers}
 
 -- a search goes on: what it keeps, against the claims at its start

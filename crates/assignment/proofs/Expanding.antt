@@ -5,16 +5,16 @@ use Rattle.std.proofs.Common.{arith}
 use Rattle.std.proofs.lemmas.Bool.{false≢true}
 use Rattle.std.proofs.lemmas.List.{get_or_past}
 use Rattle.std.proofs.lemmas.Option.{same_Some, slice_get_within, slice_get-get_or}
-use Rattle.assignment.specs.Plans.{next, is_next}
-use Rattle.assignment.proofs.Linking.{some_of}
-use Rattle.assignment.proofs.Linking.{by_number, not_next}
-use Rattle.assignment.specs.Potentials.{at}
-use Rattle.assignment.proofs.Certified.{by_bound}
-use Rattle.assignment.specs.Claims.{ClaimsParts}
-use Rattle.assignment.specs.Places.{place_of}
-use Rattle.assignment.specs.Searches.{Search, IsLeft}
+use Rattle.link_plans.specs.Plans.{next, is_next}
+use Rattle.link_plans.proofs.Linking.{some_of}
+use Rattle.link_plans.proofs.Linking.{by_number, not_next}
+use Rattle.link_plans.specs.Potentials.{at}
+use Rattle.link_plans.proofs.Certified.{by_bound}
+use Rattle.plan_search.specs.Claims.{ClaimsParts}
+use Rattle.link_plans.specs.Places.{place_of}
+use Rattle.plan_search.specs.Searches.{Search, IsLeft}
 use Rattle.assignment.specs.Choices.{is_claimed, AllClaimed, IsExpanded, LastExpanded, AreExpanded, AreRight, AreMore, AreOthers, IsSearch}
-use Rattle.assignment.proofs.Moves.{has_next, successor_past}
+use Rattle.link_plans.proofs.Moves.{has_next, successor_past}
 use Rattle.assignment.proofs.ClaimingAll.{still_claimed, gone_on}
 use Rattle.assignment.proofs.Claimed.{AreGoing, at_place}
 

@@ -5,19 +5,19 @@ use Rattle.std.proofs.Common.{subst, arith}
 use Rattle.std.proofs.lemmas.Bool.{false≢true}
 use Rattle.std.proofs.lemmas.Option.{none-some}
 use Rattle.bit_rows.specs.Bits.{Bits, has}
-use Rattle.assignment.proofs.Linking.{by_number}
-use Rattle.assignment.specs.Links.{Links}
-use Rattle.assignment.specs.Potentials.{PotentialParts, at}
-use Rattle.assignment.specs.declared.link_table.Link.{Link}
+use Rattle.link_plans.proofs.Linking.{by_number}
+use Rattle.link_plans.specs.Links.{Links}
+use Rattle.link_plans.specs.Potentials.{PotentialParts, at}
+use Rattle.link_plans.specs.declared.link_table.Link.{Link}
 use Rattle.assignment.specs.ClaimablePlaces.{AreTies, IsInRow, IsPut, IsRowOf}
-use Rattle.assignment.specs.LinkRows.{end_of, reached, IsRow}
-use Rattle.assignment.specs.Searches.{IsTightBy}
-use Rattle.assignment.specs.LinkRows.{worth}
-use Rattle.assignment.specs.Slacks.{Covers}
-use Rattle.assignment.proofs.LinkRows.{gap_first, gap_next, reached_last, reached_next, reached_within}
-use Rattle.assignment.proofs.LinkSlacks.{link_covered}
-use Rattle.assignment.proofs.Shifting.{pos_worth}
-use Rattle.assignment.specs.Places.{place_of}
+use Rattle.link_plans.specs.LinkRows.{end_of, reached, IsRow}
+use Rattle.plan_search.specs.Searches.{IsTightBy}
+use Rattle.link_plans.specs.LinkRows.{worth}
+use Rattle.link_plans.specs.Slacks.{Covers}
+use Rattle.link_plans.proofs.LinkRows.{gap_first, gap_next, reached_last, reached_next, reached_within}
+use Rattle.link_plans.proofs.LinkSlacks.{link_covered}
+use Rattle.plan_search.proofs.Shifting.{pos_worth}
+use Rattle.link_plans.specs.Places.{place_of}
 use Rattle.assignment.proofs.BitsOfPlaces.{row_step, row_up}
 
 module _ (links : Links) (potentials : PotentialParts) (i : ℕ) (row : List Link)

@@ -5,16 +5,16 @@ use Rattle.std.proofs.Common.{slice_get, Option, Some, None, refl, ap, sym, ◌�
 use Rattle.std.proofs.lemmas.Bool.{false≢true}
 use Rattle.std.proofs.lemmas.List.{get_or-take, length-take}
 use Rattle.std.proofs.lemmas.Option.{slice_get_within}
-use Rattle.assignment.specs.Plans.{next, is_next, IsPlan}
-use Rattle.assignment.proofs.Linking.{some_of}
-use Rattle.assignment.proofs.Linking.{followed, next_found}
-use Rattle.assignment.specs.Potentials.{IsTight}
-use Rattle.assignment.proofs.Certified.{by_bound}
-use Rattle.assignment.specs.Claims.{ClaimsParts, claim_at}
-use Rattle.assignment.specs.Places.{place_of}
-use Rattle.assignment.specs.Searches.{Search, IsTightAt}
+use Rattle.link_plans.specs.Plans.{next, is_next, IsPlan}
+use Rattle.link_plans.proofs.Linking.{some_of}
+use Rattle.link_plans.proofs.Linking.{followed, next_found}
+use Rattle.link_plans.specs.Potentials.{IsTight}
+use Rattle.link_plans.proofs.Certified.{by_bound}
+use Rattle.plan_search.specs.Claims.{ClaimsParts, claim_at}
+use Rattle.link_plans.specs.Places.{place_of}
+use Rattle.plan_search.specs.Searches.{Search, IsTightAt}
 use Rattle.assignment.specs.Choices.{IsUndecided, is_claimed, IsExpanded, AreExpanded, AreRight, AgreeBefore, AreWithin, IsSearch}
-use Rattle.assignment.proofs.Moves.{has_next}
+use Rattle.link_plans.proofs.Moves.{has_next}
 use Rattle.assignment.proofs.Shifted.{IsClosed, AreDecided, stays_outside}
 
 -- 1 for a place of a set

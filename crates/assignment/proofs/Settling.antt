@@ -4,18 +4,18 @@ use Rattle.std.proofs.Common.{slice_set, take, Option, Some, None, MatchOption, 
 use Rattle.std.proofs.Common.{refl, ap, sym, ◌∙◌, subst, arith}
 use Rattle.std.proofs.lemmas.List.{length-set, get_or-take, get_or_past}
 use Rattle.std.proofs.lemmas.Option.{none-some}
-use Rattle.assignment.specs.Plans.{next, is_next, IsPlan, ComesNoLater, IsFirstBest}
-use Rattle.assignment.specs.Links.{Links, AreLinks}
-use Rattle.assignment.proofs.Linking.{some_of}
-use Rattle.assignment.proofs.Linking.{by_number, never_next, not_next}
-use Rattle.assignment.specs.Potentials.{PotentialParts, AreValid, IsTight}
-use Rattle.assignment.proofs.Certified.{by_bound, gains_all, tight_best}
-use Rattle.assignment.specs.declared.claim.Claim.{Claim}
-use Rattle.assignment.specs.Claims.{ClaimsParts, claim_at}
-use Rattle.assignment.specs.Places.{place_of, successor_at}
-use Rattle.assignment.specs.Searches.{Search, IsLeft, IsClaim, IsTightBut, ComesFrom, IsFound, IsHandedOn}
+use Rattle.link_plans.specs.Plans.{next, is_next, IsPlan, ComesNoLater, IsFirstBest}
+use Rattle.link_plans.specs.Links.{Links, AreLinks}
+use Rattle.link_plans.proofs.Linking.{some_of}
+use Rattle.link_plans.proofs.Linking.{by_number, never_next, not_next}
+use Rattle.link_plans.specs.Potentials.{PotentialParts, AreValid, IsTight}
+use Rattle.link_plans.proofs.Certified.{by_bound, gains_all, tight_best}
+use Rattle.plan_search.specs.declared.claim.Claim.{Claim}
+use Rattle.plan_search.specs.Claims.{ClaimsParts, claim_at}
+use Rattle.link_plans.specs.Places.{place_of, successor_at}
+use Rattle.plan_search.specs.Searches.{Search, IsLeft, IsClaim, IsTightBut, ComesFrom, IsFound, IsHandedOn}
 use Rattle.assignment.specs.Choices.{is_claimed, AreRight, AgreeBefore, AreWithin, IsSearch, IsFirst, IsSought, IsLeast, IsSettled}
-use Rattle.assignment.proofs.Moves.{moved_is, moved_other}
+use Rattle.link_plans.proofs.Moves.{moved_is, moved_other}
 
 -- a place that comes no later
 no_later : (count : ℕ) (mine other : Option ℕ) → ((j : ℕ) → other ≡ Some j → j < count)

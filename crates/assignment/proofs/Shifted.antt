@@ -6,17 +6,17 @@ use Rattle.std.proofs.Common.{sum, Option, Some, None, unwrap_or, refl, ap, sym,
 use Rattle.std.proofs.lemmas.Bool.{lt-ltb, le-ltb}
 use Rattle.std.proofs.lemmas.Int.{ints}
 use Rattle.std.proofs.lemmas.List.{get_or_past}
-use Rattle.assignment.specs.Links.{Links}
-use Rattle.assignment.specs.Plans.{next, is_next, IsPlan}
-use Rattle.assignment.proofs.Linking.{by_number, not_next, never_next}
-use Rattle.assignment.proofs.Totals.{gains_from}
-use Rattle.assignment.specs.Potentials.{PotentialParts, at, AreOver, IsTight}
-use Rattle.assignment.proofs.Certified.{by_bound}
-use Rattle.assignment.proofs.TightGains.{AreCovering, AreTight, tight_gains, then_tight}
-use Rattle.assignment.specs.Searches.{IsTightAt}
-use Rattle.assignment.specs.Places.{place_of}
-use Rattle.assignment.proofs.Moves.{has_next}
-use Rattle.assignment.proofs.Values.{values, values_at, values_size, values_past}
+use Rattle.link_plans.specs.Links.{Links}
+use Rattle.link_plans.specs.Plans.{next, is_next, IsPlan}
+use Rattle.link_plans.proofs.Linking.{by_number, not_next, never_next}
+use Rattle.link_plans.proofs.Totals.{gains_from}
+use Rattle.link_plans.specs.Potentials.{PotentialParts, at, AreOver, IsTight}
+use Rattle.link_plans.proofs.Certified.{by_bound}
+use Rattle.link_plans.proofs.TightGains.{AreCovering, AreTight, tight_gains, then_tight}
+use Rattle.plan_search.specs.Searches.{IsTightAt}
+use Rattle.link_plans.specs.Places.{place_of}
+use Rattle.link_plans.proofs.Moves.{has_next}
+use Rattle.link_plans.proofs.Values.{values, values_at, values_size, values_past}
 use Rattle.assignment.specs.Choices.{IsUndecided, AgreeBefore, AreWithin}
 
 -- a set of places, as 1 for each of them: with the place of an undecided trip it has all undecided

@@ -6,20 +6,20 @@ use Rattle.std.proofs.Common.{refl, ap, sym, ◌∙◌, subst, arith, length-app
 use Rattle.std.proofs.lemmas.Bool.{cases_Bool, false≢true}
 use Rattle.std.proofs.lemmas.List.{length-replicate}
 use Rattle.std.proofs.lemmas.Option.{none-some}
-use Rattle.assignment.specs.Plans.{next}
-use Rattle.assignment.proofs.Linking.{by_number}
-use Rattle.assignment.specs.Potentials.{at}
-use Rattle.assignment.proofs.Certified.{by_bound}
-use Rattle.assignment.specs.declared.claim.Claim.{Claim}
-use Rattle.assignment.specs.Claims.{ClaimsParts, claim_at}
-use Rattle.assignment.specs.Places.{place_of}
-use Rattle.assignment.specs.Searches.{Search, IsTightBy, IsClaim}
+use Rattle.link_plans.specs.Plans.{next}
+use Rattle.link_plans.proofs.Linking.{by_number}
+use Rattle.link_plans.specs.Potentials.{at}
+use Rattle.link_plans.proofs.Certified.{by_bound}
+use Rattle.plan_search.specs.declared.claim.Claim.{Claim}
+use Rattle.plan_search.specs.Claims.{ClaimsParts, claim_at}
+use Rattle.link_plans.specs.Places.{place_of}
+use Rattle.plan_search.specs.Searches.{Search, IsTightBy, IsClaim}
 use Rattle.assignment.specs.ClaimablePlaces.{AreClaimable, AreTies, IsPut}
 use Rattle.assignment.specs.Choices.{ArePlaces, IsUndecided, is_claimed, AreExpanded, AreRight, AreMore, AreOthers, IsSearch, IsFirst, IsSought}
 use Rattle.assignment.proofs.Claimed.{IsSeeking, with_claim, claims_more, claims_right, at_place, old_or_new, some_is}
 use Rattle.bit_rows.specs.Bits.{Bits, has}
 use Rattle.assignment.proofs.Claimables.{claimable_less, places_as}
-use Rattle.assignment.proofs.ClaimLists.{none_at}
+use Rattle.plan_search.proofs.ClaimLists.{none_at}
 use Rattle.assignment.proofs.ClaimingAll.{still_claimed}
 use Rattle.assignment.proofs.Expanding.{still_expanded}
 use Rattle.assignment.proofs.Refused.{inside, refused, other_tight, other_undecided}

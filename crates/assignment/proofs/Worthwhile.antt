@@ -5,18 +5,18 @@ use Rattle.std.proofs.Common.{List, [], ◌∷◌, get_or, Option, Some, None, o
 use Rattle.std.proofs.Common.{option_and_then, refl, ap, sym, ◌∙◌, subst, arith}
 use Rattle.std.proofs.lemmas.Int.{ints}
 use Rattle.std.proofs.lemmas.Option.{none-some}
-use Rattle.assignment.specs.Links.{Links, AreLinks}
-use Rattle.assignment.specs.LinkRows.{worth, worthy}
-use Rattle.assignment.specs.Plans.{next, is_trip, IsPlan, IsFirstBest}
-use Rattle.assignment.specs.Drops.{DropParts, AreFound, RowKept, LinkKept, NextKept, TripKept, AreKept, ArePassed}
-use Rattle.assignment.specs.Potentials.{PotentialParts, at, AreValid, IsTight}
-use Rattle.assignment.specs.Residual.{Node, root, left, right, arc, walk_cost}
-use Rattle.assignment.specs.Rounds.{canonical}
-use Rattle.assignment.proofs.Certified.{gains_all, tight_best}
-use Rattle.assignment.proofs.LinkLists.{worthy_links}
-use Rattle.assignment.proofs.PassedRows.{passed_canonical}
-use Rattle.assignment.proofs.Rounds.{canonical_is, one_canonical, rounds_end}
-use Rattle.assignment.proofs.TightValid.{tight_valid}
+use Rattle.link_plans.specs.Links.{Links, AreLinks}
+use Rattle.link_plans.specs.LinkRows.{worth, worthy}
+use Rattle.link_plans.specs.Plans.{next, is_trip, IsPlan, IsFirstBest}
+use Rattle.canonical_potentials.specs.Drops.{DropParts, AreFound, RowKept, LinkKept, NextKept, TripKept, AreKept, ArePassed}
+use Rattle.link_plans.specs.Potentials.{PotentialParts, at, AreValid, IsTight}
+use Rattle.canonical_potentials.specs.Residual.{Node, root, left, right, arc, walk_cost}
+use Rattle.canonical_potentials.specs.Rounds.{canonical}
+use Rattle.link_plans.proofs.Certified.{gains_all, tight_best}
+use Rattle.link_plans.proofs.LinkLists.{worthy_links}
+use Rattle.canonical_potentials.proofs.PassedRows.{passed_canonical}
+use Rattle.canonical_potentials.proofs.Rounds.{canonical_is, one_canonical, rounds_end}
+use Rattle.link_plans.proofs.TightValid.{tight_valid}
 
 -- what is worth something gains this, and the other way round
 worth_up : (it : Option ℤ) (gain : ℤ) → option_map pos (worth it) ≡ Some gain → it ≡ Some gain

@@ -1,13 +1,13 @@
 -- Inner words of the choice among the plans of least cost: the places that undecided trips may take,
 -- and which of them a search has claimed.
 use Rattle.std.specs.Prelude.{ℕ, ◌≡◌, ◌+◌, ◌<◌, ◌≤◌, Bool, true, false, is_some, List, length, slice_get, Option, Some, None}
-use Rattle.assignment.specs.Plans.{next, is_next, IsPlan, AreSuccessors, ComesNoLater}
-use Rattle.assignment.specs.Potentials.{PotentialParts, at, AreOver, IsTight}
-use Rattle.assignment.specs.declared.claim.Claim.{Claim}
-use Rattle.assignment.specs.Claims.{ClaimsParts, claim_at}
-use Rattle.assignment.specs.Places.{place_of}
-use Rattle.assignment.specs.Searches.{Search, IsTightBy, IsClaim}
-use Rattle.assignment.specs.Links.{Links}
+use Rattle.link_plans.specs.Plans.{next, is_next, IsPlan, AreSuccessors, ComesNoLater}
+use Rattle.link_plans.specs.Potentials.{PotentialParts, at, AreOver, IsTight}
+use Rattle.plan_search.specs.declared.claim.Claim.{Claim}
+use Rattle.plan_search.specs.Claims.{ClaimsParts, claim_at}
+use Rattle.link_plans.specs.Places.{place_of}
+use Rattle.plan_search.specs.Searches.{Search, IsTightBy, IsClaim}
+use Rattle.link_plans.specs.Links.{Links}
 
 -- the places below a number for which something holds, in rising order
 pub record ArePlaces (P : ℕ → Type 0) (below : ℕ) (places : List ℕ) : Type 0 where

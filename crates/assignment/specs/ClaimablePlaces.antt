@@ -1,12 +1,12 @@
 -- Inner words of the choice: places as bits of rows, and those that a search may claim.
 use Rattle.std.specs.Prelude.{ℕ, ◌≡◌, ◌+◌, ◌<◌, Bool, true, false, List, slice_get, Option, Some, None, IfSome}
 use Rattle.bit_rows.specs.Bits.{Bits, has}
-use Rattle.assignment.specs.Potentials.{PotentialParts}
+use Rattle.link_plans.specs.Potentials.{PotentialParts}
 use Rattle.assignment.specs.Choices.{IsUndecided, is_claimed}
-use Rattle.assignment.specs.Claims.{ClaimsParts, claim_at}
-use Rattle.assignment.specs.Places.{place_of}
-use Rattle.assignment.specs.Searches.{IsTightBy}
-use Rattle.assignment.specs.Links.{Links}
+use Rattle.plan_search.specs.Claims.{ClaimsParts, claim_at}
+use Rattle.link_plans.specs.Places.{place_of}
+use Rattle.plan_search.specs.Searches.{IsTightBy}
+use Rattle.link_plans.specs.Links.{Links}
 
 -- one bit is as told, and all others are as before
 pub record IsPut (before after : Bits) (row place : ℕ) (is : Bool) : Type 0 where

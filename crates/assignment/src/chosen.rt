@@ -1,25 +1,20 @@
 // Among the plans that gain the most, the one whose list of successors comes first.
 ghost use Rattle.std.specs.Prelude.{◌≡◌, ◌+◌, true, [], replicate, slice_set, None, IfOk, OnOk};
-ghost use Rattle.assignment.specs.Potentials.{AreValid};
-ghost use Rattle.assignment.specs.Plans.{next, IsPlan, IsFirstBest};
-ghost use Rattle.assignment.specs.Links.{links_in};
+ghost use Rattle.link_plans.specs.Potentials.{AreValid};
+ghost use Rattle.link_plans.specs.Plans.{next, IsPlan, IsFirstBest};
+ghost use Rattle.link_plans.specs.Links.{links_in};
 ghost use Rattle.assignment.specs.Choices.{AreRight, IsSearch, IsSettled, is_claimed};
 ghost use Rattle.assignment.specs.ClaimablePlaces.{AreClaimable, AreTies};
-ghost use Rattle.assignment.specs.Places.{place_of};
-ghost use Rattle.assignment.specs.Searches.{IsHandedOn, Search};
+ghost use Rattle.link_plans.specs.Places.{place_of};
+ghost use Rattle.plan_search.specs.Searches.{IsHandedOn, Search};
 
-use crate::assignment::Assignment;
-use crate::claim::Claims;
 use crate::claimable::{all_places, put_back, take_out};
-use crate::handing::hand_on;
-use crate::link_table::LinkTable;
-use crate::numbers::Potentials;
-use crate::plan::Plan;
 use crate::seek::seek;
-use crate::solved::Solved;
 use crate::ties::ties_of;
 use bit_rows::BitRows;
+use link_plans::{Assignment, LinkTable, Plan, Potentials, Solved};
 use plan_num::NoMemory;
+use plan_search::{Claims, hand_on};
 use std::alloc::Global;
 
 /// Among the plans that gain the most, the one whose list of successors comes first: by the

@@ -3,11 +3,11 @@ ghost use Rattle.std.specs.Prelude.{ℕ, ◌≡◌, ◌+◌, ◌<◌, ◌≤◌,
 ghost use Rattle.bit_rows.specs.Bits.{has};
 ghost use Rattle.assignment.specs.Choices.{ArePlaces};
 ghost use Rattle.assignment.specs.ClaimablePlaces.{AreClaimable, ArePutBack, IsPut, IsTakenOut};
-ghost use Rattle.assignment.specs.Claims.{claim_at};
+ghost use Rattle.plan_search.specs.Claims.{claim_at};
 
-use crate::claim::Claims;
 use bit_rows::BitRows;
 use plan_num::NoMemory;
+use plan_search::Claims;
 use std::alloc::Global;
 
 /// So many places that can all be claimed, in one row.

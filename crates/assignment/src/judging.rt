@@ -1,15 +1,12 @@
 // The judge of potentials that come with a plan.
 ghost use Rattle.std.specs.Prelude.{◌≡◌, true, IfOk};
-ghost use Rattle.assignment.specs.Links.{links_in};
-ghost use Rattle.assignment.specs.Plans.{IsBest};
-ghost use Rattle.assignment.specs.Potentials.{AreValid};
+ghost use Rattle.link_plans.specs.Links.{links_in};
+ghost use Rattle.link_plans.specs.Plans.{IsBest};
+ghost use Rattle.link_plans.specs.Potentials.{AreValid};
 
-use crate::assignment::Assignment;
-use crate::link_table::LinkTable;
-use crate::numbers::Potentials;
-use crate::parting::are_met;
-use crate::plan::Plan;
+use link_plans::{Assignment, LinkTable, Plan, Potentials};
 use plan_num::NoMemory;
+use plan_search::are_met;
 use std::alloc::Global;
 
 /// Whether potentials prove that a plan gains the most, whoever made both: no link gains more than

@@ -1,17 +1,17 @@
 // The search for the first place that a trip has in a plan of least cost.
 ghost use Rattle.std.specs.Prelude.{◌≡◌, ◌+◌, ◌-◌, ◌<◌, ◌≤◌, true, MatchBool, [], length, replicate, None, IfOk, IfSome, OnOk};
-ghost use Rattle.assignment.specs.Plans.{next};
+ghost use Rattle.link_plans.specs.Plans.{next};
 ghost use Rattle.assignment.specs.Choices.{AllClaimed, AreExpanded, AreMore, AreOthers, AreRight, IsExpanded, IsFirst, IsSearch, IsSought, LastExpanded, is_claimed};
 ghost use Rattle.assignment.specs.ClaimablePlaces.{AreClaimable, AreTies};
-ghost use Rattle.assignment.specs.Claims.{claim_at};
-ghost use Rattle.assignment.specs.Places.{place_of};
-ghost use Rattle.assignment.specs.Searches.{IsLeft, Search};
+ghost use Rattle.plan_search.specs.Claims.{claim_at};
+ghost use Rattle.link_plans.specs.Places.{place_of};
+ghost use Rattle.plan_search.specs.Searches.{IsLeft, Search};
 
-use crate::assignment::Assignment;
-use crate::claim::Claims;
 use crate::claimable::{claim, claimable_of};
 use bit_rows::BitRows;
+use link_plans::Assignment;
 use plan_num::NoMemory;
+use plan_search::Claims;
 use std::alloc::Global;
 
 /// Claims the places before a trip's own one, and looks from each whether the trip can give up its

@@ -1,16 +1,15 @@
 // The whole solution over some links.
 ghost use Rattle.std.specs.Prelude.{◌≡◌, IfOk};
-ghost use Rattle.assignment.specs.Links.{links_in};
-ghost use Rattle.assignment.specs.Plans.{IsFirstBest};
-ghost use Rattle.assignment.specs.Potentials.{AreValid};
-ghost use Rattle.assignment.specs.Rounds.{canonical};
+ghost use Rattle.link_plans.specs.Links.{links_in};
+ghost use Rattle.link_plans.specs.Plans.{IsFirstBest};
+ghost use Rattle.link_plans.specs.Potentials.{AreValid};
+ghost use Rattle.canonical_potentials.specs.Rounds.{canonical};
 
-use crate::canonical::canonical_potentials;
-use crate::cheapest::best_plan;
 use crate::chosen::first_best_plan;
-use crate::link_table::LinkTable;
-use crate::solved::Solved;
+use canonical_potentials::canonical_potentials;
+use link_plans::{LinkTable, Solved};
 use plan_num::NoMemory;
+use plan_search::best_plan;
 use std::alloc::Global;
 
 /// Of the plans that gain the most the one whose list of successors comes first, and its canonical

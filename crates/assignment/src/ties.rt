@@ -1,17 +1,15 @@
 // The places at which trips are tight.
 ghost use Rattle.std.specs.Prelude.{ℕ, ◌≡◌, ◌+◌, ◌<◌, ◌≤◌, nat_eq, true, false, length, Some, None, IfOk, MatchBool};
 ghost use Rattle.bit_rows.specs.Bits.{has};
-ghost use Rattle.assignment.specs.Potentials.{AreOver, at};
-ghost use Rattle.assignment.specs.Links.{links_in};
+ghost use Rattle.link_plans.specs.Potentials.{AreOver, at};
+ghost use Rattle.link_plans.specs.Links.{links_in};
 ghost use Rattle.assignment.specs.ClaimablePlaces.{AreTies, IsInRow, IsPut, IsRowOf};
-ghost use Rattle.assignment.specs.Searches.{IsTightBy};
-ghost use Rattle.assignment.specs.Slacks.{Covers};
+ghost use Rattle.plan_search.specs.Searches.{IsTightBy};
+ghost use Rattle.link_plans.specs.Slacks.{Covers};
 
 use crate::claimable::set;
-use crate::link_table::LinkTable;
-use crate::numbers::Potentials;
-use crate::slack::{link_slack, of_trip};
 use bit_rows::BitRows;
+use link_plans::{LinkTable, Potentials, link_slack, of_trip};
 use plan_num::NoMemory;
 use std::alloc::Global;
 

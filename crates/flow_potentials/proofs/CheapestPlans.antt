@@ -2,9 +2,9 @@
 -- cost alone, less what it gains.
 use Rattle.std.proofs.Common.{◌≡◌, ℕ, ℤ, pos, ◌≤◌, List, Option, sym, arith}
 use Rattle.std.proofs.lemmas.Int.{ints}
-use Rattle.assignment.specs.Plans.{plan_gain, IsPlan}
-use Rattle.assignment.specs.Potentials.{PotentialParts, total, AreValid}
-use Rattle.assignment.proofs.Certified.{gain_most, gains_all, tight_all}
+use Rattle.link_plans.specs.Plans.{plan_gain, IsPlan}
+use Rattle.link_plans.specs.Potentials.{PotentialParts, total, AreValid}
+use Rattle.link_plans.proofs.Certified.{gain_most, gains_all, tight_all}
 use Rattle.vehicle_model.specs.Plans.{IsCheapest}
 use Rattle.vehicle_model.specs.Trips.{TripsParts, links_of}
 use Rattle.vehicle_model.proofs.Costs.{cost_by_gain}

@@ -14,17 +14,17 @@ use Rattle.std.proofs.lemmas.Option.{none-some, slice_get-map}
 use Rattle.tables.proofs.Inputs.{first_append}
 use Rattle.tables.proofs.Ranges.{front_none, back_none}
 use Rattle.vehicle_model.specs.Plans.{plan_cost, IsCheapest}
-use Rattle.assignment.specs.Plans.{plan_gain, IsPlan}
+use Rattle.link_plans.specs.Plans.{plan_gain, IsPlan}
 use Rattle.vehicle_model.specs.Trips.{TripsParts, links_of}
-use Rattle.assignment.specs.Links.{Links}
+use Rattle.link_plans.specs.Links.{Links}
 use Rattle.vehicle_model.proofs.Costs.{cost_by_gain}
 use Rattle.vehicle_model.proofs.Following.{links_within}
 use Rattle.flow_potentials.specs.declared.potential_fault.PotentialFault.{PotentialFault}
 use Rattle.flow_potentials.specs.declared.potential_fault.PotentialFault.TheVariants as fault
 use Rattle.flow_potentials.specs.PotentialFaults.{is_short, is_short_pair, trip_faults, pair_faults, sum_faults, potential_faults, TightAreCheapest}
-use Rattle.assignment.specs.Potentials.{PotentialParts, at, total, AreOver, AreValid}
+use Rattle.link_plans.specs.Potentials.{PotentialParts, at, total, AreOver, AreValid}
 use Rattle.flow_potentials.proofs.CheapestPlans.{certified_cheapest, tight_cheapest}
-use Rattle.assignment.proofs.Certified.{by_bound}
+use Rattle.link_plans.proofs.Certified.{by_bound}
 
 -- ---- a range, number by number
 

@@ -8,7 +8,7 @@ use Rattle.tables.specs.Reading.{faults, table_of}
 use Rattle.tables.specs.Tables.{TableRow}
 use Rattle.tables.proofs.Ranges.{table_in_columns}
 use Rattle.vehicle_model.specs.ReadSchedules.{or_others}
-use Rattle.assignment.specs.Potentials.{AreOver, ArePotentials}
+use Rattle.link_plans.specs.Potentials.{AreOver, ArePotentials}
 use Rattle.flow_potentials.specs.PotentialTables.{gaps_from, is_trip_row, potentials_of, table_faults}
 use Rattle.flow_potentials.proofs.Tables.{table_over, table_potentials}
 

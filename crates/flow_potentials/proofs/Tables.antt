@@ -8,7 +8,7 @@ use Rattle.std.proofs.lemmas.List.{take_more, take_all, map-append, drop_all, le
 use Rattle.std.proofs.lemmas.List.Elements.{All-map}
 use Rattle.tables.specs.declared.row_why.RowWhy.TheVariants as why
 use Rattle.tables.specs.Tables.{TableRow, no_row}
-use Rattle.assignment.specs.Potentials.{at, IsSmall, ArePotentials, AreOver}
+use Rattle.link_plans.specs.Potentials.{at, IsSmall, ArePotentials, AreOver}
 use Rattle.flow_potentials.specs.PotentialTables.{rows_from, is_trip_row, gaps_from, column_of, FitsColumns}
 
 -- ---- reading

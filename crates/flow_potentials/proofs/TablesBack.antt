@@ -17,7 +17,7 @@ use Rattle.tables.proofs.Headers.{plain_header}
 use Rattle.tables.proofs.Ranges.{table_in_columns}
 use Rattle.tables.proofs.WrittenBack.{written_back}
 use Rattle.vehicle_model.specs.ReadSchedules.{or_others}
-use Rattle.assignment.specs.Potentials.{PotentialParts, IsSmall, ArePotentials}
+use Rattle.link_plans.specs.Potentials.{PotentialParts, IsSmall, ArePotentials}
 use Rattle.flow_potentials.specs.PotentialTables.{rows_from, potential_rows, potential_header, potentials_text, gaps_from, table_faults, column_of, potentials_in, potentials_of, IsReadBack, FitsColumns, PotentialsGive}
 
 -- the columns can be written

@@ -1,11 +1,11 @@
 -- The definitions on small plans.
 use Rattle.std.proofs.Common.{◌≡◌, ℕ, ℤ, refl, pos, negsuc, ◌==◌, ◌&&◌, if◌then◌else◌, List, [], ◌∷◌, Option, Some, None}
 use Rattle.std.specs.List.{list_any}
-use Rattle.assignment.specs.Links.{Links}
+use Rattle.link_plans.specs.Links.{Links}
 use Rattle.flow_potentials.specs.declared.potential_fault.PotentialFault.TheVariants as fault
 use Rattle.flow_potentials.specs.PotentialFaults.{potential_faults}
-use Rattle.assignment.specs.Residual.{root, left, right, arc, walk_cost}
-use Rattle.assignment.specs.Rounds.{settled, canonical}
+use Rattle.canonical_potentials.specs.Residual.{root, left, right, arc, walk_cost}
+use Rattle.canonical_potentials.specs.Rounds.{settled, canonical}
 
 -- links of one gain between some pairs of trips
 abbrev links : ℕ → ℤ → List (ℕ × ℕ) → Links

@@ -2,9 +2,9 @@
 use Rattle.std.specs.Prelude.{ℕ, ℤ, pos, ◌≡◌, ◌↔◌, ◌+◌, int_le, not, if◌then◌else◌, Bool, false, List, [], ◌∷◌, ◌++◌, map, filter, Option, Some, None}
 use Rattle.std.specs.List.{flat_map, range_with_len}
 use Rattle.std.specs.Ordering.{int_eq}
-use Rattle.assignment.specs.Links.{Links}
-use Rattle.assignment.specs.Plans.{plan_gain, IsPlan}
-use Rattle.assignment.specs.Potentials.{PotentialParts, at, total, IsTight}
+use Rattle.link_plans.specs.Links.{Links}
+use Rattle.link_plans.specs.Plans.{plan_gain, IsPlan}
+use Rattle.link_plans.specs.Potentials.{PotentialParts, at, total, IsTight}
 use Rattle.vehicle_model.specs.Plans.{IsCheapest}
 use Rattle.vehicle_model.specs.Trips.{TripsParts, links_of}
 use Rattle.flow_potentials.specs.declared.potential_fault.PotentialFault.{PotentialFault}

@@ -9,7 +9,7 @@ use Rattle.tables.specs.Reading.{faults, table_of}
 use Rattle.tables.specs.Tables.{TableRow}
 use Rattle.tables.specs.Writing.{table_text, InColumns}
 use Rattle.vehicle_model.specs.ReadSchedules.{or_others}
-use Rattle.assignment.specs.Potentials.{PotentialParts}
+use Rattle.link_plans.specs.Potentials.{PotentialParts}
 
 -- the rows of potentials from a trip on, counted from 1: a trip, and its two numbers
 abbrev pub rows_from : ℕ → List ℕ → List ℕ → List TableRow

@@ -1,9 +1,9 @@
 // The canonical potentials of a plan.
 ghost use Rattle.std.specs.Prelude.{◌≡◌, IfOk};
-ghost use Rattle.assignment.specs.Canonical.{AreCanonical};
-ghost use Rattle.assignment.specs.Plans.{IsPlan};
-ghost use Rattle.assignment.specs.Potentials.{AreValid};
-ghost use Rattle.assignment.specs.Rounds.{canonical};
+ghost use Rattle.canonical_potentials.specs.Canonical.{AreCanonical};
+ghost use Rattle.link_plans.specs.Plans.{IsPlan};
+ghost use Rattle.link_plans.specs.Potentials.{AreValid};
+ghost use Rattle.canonical_potentials.specs.Rounds.{canonical};
 ghost use Rattle.vehicle_model.specs.Trips.{links_of};
 
 use crate::trip_links::links_of_trips;

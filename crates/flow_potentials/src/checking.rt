@@ -2,9 +2,9 @@
 ghost use Rattle.std.specs.Prelude.{◌≡◌, ◌↔◌, ◌<◌, ◌≤◌, ◌+◌, ◌*◌, ◌==◌, length, sum, filter, slice_get, None, All};
 ghost use Rattle.std.specs.List.{range_with_len};
 ghost use Rattle.flow_potentials.specs.PotentialFaults.{is_short_pair, potential_faults, TightAreCheapest};
-ghost use Rattle.assignment.specs.Potentials.{at, total, IsSmall, AreOver, AreValid};
+ghost use Rattle.link_plans.specs.Potentials.{at, total, IsSmall, AreOver, AreValid};
 ghost use Rattle.vehicle_model.specs.Plans.{plan_cost, IsCheapest};
-ghost use Rattle.assignment.specs.Plans.{IsPlan};
+ghost use Rattle.link_plans.specs.Plans.{IsPlan};
 ghost use Rattle.vehicle_model.specs.Trips.{links_of};
 
 use crate::potential_fault::PotentialFault;

@@ -1,6 +1,6 @@
 // Reading potentials.
 ghost use Rattle.std.specs.Prelude.{◌≡◌, ◌+◌, ◌<◌, length, slice_index_or, unsigned_abs, All, IfOk};
-ghost use Rattle.assignment.specs.Potentials.{AreOver};
+ghost use Rattle.link_plans.specs.Potentials.{AreOver};
 ghost use Rattle.flow_potentials.specs.PotentialTables.{is_trip_row, table_faults, potentials_of, potentials_in, gaps_from, PotentialsGive, FitsColumns};
 ghost use Rattle.tables.specs.declared.read_fault.ReadFault.TheVariants as read_faults;
 ghost use Rattle.tables.specs.declared.row_why.RowWhy.TheVariants as why;

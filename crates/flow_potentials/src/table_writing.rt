@@ -1,6 +1,6 @@
 // Writing potentials.
 ghost use Rattle.std.specs.Prelude.{◌≡◌, ◌+◌, ◌≤◌, ◌<◌, pos, [], ◌∷◌, length, IfOk};
-ghost use Rattle.assignment.specs.Potentials.{at, ArePotentials};
+ghost use Rattle.link_plans.specs.Potentials.{at, ArePotentials};
 ghost use Rattle.flow_potentials.specs.PotentialTables.{potential_rows, potentials_text, IsReadBack};
 
 use assignment::Potentials;

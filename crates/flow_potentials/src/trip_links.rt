@@ -1,7 +1,7 @@
 // The links between trips that are worth something.
 ghost use Rattle.std.specs.Prelude.{◌≡◌, ◌<◌, ◌≤◌, true, length, None, IfOk, IfSome, OnOk};
-ghost use Rattle.assignment.specs.Links.{links_in};
-ghost use Rattle.assignment.specs.LinkRows.{and_link, worth, worthy, IsRow};
+ghost use Rattle.link_plans.specs.Links.{links_in};
+ghost use Rattle.link_plans.specs.LinkRows.{and_link, worth, worthy, IsRow};
 ghost use Rattle.vehicle_model.specs.Trips.{links_of};
 
 use assignment::{Link, LinkTable};

@@ -1,7 +1,7 @@
 // Potentials of trips: which certify a schedule, their table, and the canonical ones.
 ghost use Rattle.std.specs.Prelude.{length};
-ghost use Rattle.assignment.specs.Potentials.{AreOver};
-ghost use Rattle.assignment.specs.Plans.{IsPlan};
+ghost use Rattle.link_plans.specs.Potentials.{AreOver};
+ghost use Rattle.link_plans.specs.Plans.{IsPlan};
 ghost use Rattle.vehicle_model.specs.Trips.{links_of};
 
 use crate::plans::{EIGHT, SCHEDULE, trips_of};

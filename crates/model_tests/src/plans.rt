@@ -1,6 +1,6 @@
 // Trips of texts, plans over them with their schedules, and plans of least cost.
 ghost use Rattle.std.specs.Prelude.{◌≤ℤ◌, pos};
-ghost use Rattle.assignment.specs.Plans.{IsPlan};
+ghost use Rattle.link_plans.specs.Plans.{IsPlan};
 ghost use Rattle.vehicle_model.specs.Trips.{links_of};
 
 use crate::refusing::bad_row;

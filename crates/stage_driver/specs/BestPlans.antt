@@ -10,7 +10,7 @@ use Rattle.config_keys.specs.Values.{effective}
 use Rattle.line_cost_model.specs.Concepts.{IsFeasible, cost_of}
 use Rattle.line_search.specs.GivenProblems.{problem_of}
 use Rattle.vehicle_model.specs.Plans.{plan_cost}
-use Rattle.assignment.specs.Plans.{IsPlan}
+use Rattle.link_plans.specs.Plans.{IsPlan}
 use Rattle.vehicle_model.specs.ReadSchedules.{plan_of}
 use Rattle.vehicle_model.specs.Trips.{links_of}
 use Rattle.vehicle_flow.specs.VehicleStage.{trips_in}

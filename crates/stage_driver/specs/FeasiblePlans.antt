@@ -8,7 +8,7 @@ use Rattle.line_cost_model.specs.Concepts.{IsFeasible}
 use Rattle.line_search.specs.GivenProblems.{problem_of}
 use Rattle.pesp_model.specs.Timetables.{IsTimetable}
 use Rattle.pesp_search.specs.TimetableStage.{problem_in}
-use Rattle.assignment.specs.Plans.{IsPlan}
+use Rattle.link_plans.specs.Plans.{IsPlan}
 use Rattle.vehicle_model.specs.ReadSchedules.{plan_of}
 use Rattle.vehicle_model.specs.Trips.{links_of}
 use Rattle.vehicle_flow.specs.VehicleStage.{trips_in}

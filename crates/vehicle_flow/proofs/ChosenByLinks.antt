@@ -1,12 +1,12 @@
 -- The chosen plan, from the first of the plans that gain the most over the links that are worth
 -- something.
 use Rattle.std.proofs.Common.{◌≡◌, ℕ, List, Option, subst}
-use Rattle.assignment.specs.declared.link_table.Link.{Link}
-use Rattle.assignment.specs.declared.solved.Solved.{Solved}
-use Rattle.assignment.specs.Links.{links_in}
-use Rattle.assignment.specs.LinkRows.{worthy}
-use Rattle.assignment.specs.Plans.{IsPlan, IsFirstBest}
-use Rattle.assignment.specs.Potentials.{AreValid}
+use Rattle.link_plans.specs.declared.link_table.Link.{Link}
+use Rattle.link_plans.specs.declared.solved.Solved.{Solved}
+use Rattle.link_plans.specs.Links.{links_in}
+use Rattle.link_plans.specs.LinkRows.{worthy}
+use Rattle.link_plans.specs.Plans.{IsPlan, IsFirstBest}
+use Rattle.link_plans.specs.Potentials.{AreValid}
 use Rattle.assignment.proofs.Worthwhile.{first_up, plan_down, valid_down}
 use Rattle.vehicle_model.specs.Plans.{IsCheapest, IsChosen}
 use Rattle.vehicle_model.specs.Trips.{TripsParts, links_of}

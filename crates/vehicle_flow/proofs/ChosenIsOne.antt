@@ -7,11 +7,11 @@ use Rattle.std.specs.List.{AllByRecursion, range_with_len}
 use Rattle.std.proofs.lemmas.Bool.{false≢true}
 use Rattle.std.proofs.lemmas.Option.{none-some}
 use Rattle.vehicle_model.specs.Plans.{is_apart, all_lists, all_plans, choices_of, chosen_plan, least_cost, plan_cost, IsChosen, IsCheapest}
-use Rattle.assignment.specs.Plans.{next, is_next, ComesNoLater, IsPlan}
+use Rattle.link_plans.specs.Plans.{next, is_next, ComesNoLater, IsPlan}
 use Rattle.vehicle_model.specs.Trips.{TripsParts, links_of}
-use Rattle.assignment.specs.Links.{Links}
+use Rattle.link_plans.specs.Links.{Links}
 use Rattle.vehicle_model.proofs.Following.{links_within}
-use Rattle.assignment.proofs.Linking.{by_number, next_found, never_next}
+use Rattle.link_plans.proofs.Linking.{by_number, next_found, never_next}
 use Rattle.vehicle_flow.proofs.FirstOfLists.{IsIn, AreChoices, AreRising, find_filtered, first_of, all_choices, reduced, filtered_all}
 
 -- ---- the choices of a trip

@@ -8,7 +8,7 @@ use Rattle.std.proofs.lemmas.Bool.{leb-true, leb-false}
 use Rattle.std.proofs.lemmas.List.Folds.{find-append}
 use Rattle.std.proofs.lemmas.Option.{none-some, same_Some}
 use Rattle.vehicle_model.specs.Plans.{all_lists}
-use Rattle.assignment.specs.Plans.{ComesNoLater, AreNoLater}
+use Rattle.link_plans.specs.Plans.{ComesNoLater, AreNoLater}
 use Rattle.vehicle_flow.proofs.FirstOfLists.{IsIn, AreChoices, AreRising, behind, find_mapped, later_found}
 
 -- ---- the first that is found

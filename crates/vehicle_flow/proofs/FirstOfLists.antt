@@ -5,7 +5,7 @@ use Rattle.std.specs.Option.{option_or}
 use Rattle.std.proofs.lemmas.List.Folds.{find-append}
 use Rattle.std.proofs.lemmas.Option.{none-some}
 use Rattle.vehicle_model.specs.Plans.{all_lists}
-use Rattle.assignment.specs.Plans.{ComesNoLater, AreNoLater}
+use Rattle.link_plans.specs.Plans.{ComesNoLater, AreNoLater}
 
 -- an item is one of some
 abbrev pub IsIn : List (Option ℕ) → Option ℕ → Type 0

@@ -7,13 +7,13 @@ use Rattle.tables.specs.declared.read_fault.RowFault.{RowFault}
 use Rattle.vehicle_model.specs.declared.plan_fault.PlanFault.{PlanFault}
 use Rattle.vehicle_model.specs.declared.plan_fault.PlanFault.TheVariants as plan_faults
 use Rattle.vehicle_model.specs.Plans.{IsCheapest}
-use Rattle.assignment.specs.Plans.{IsPlan}
+use Rattle.link_plans.specs.Plans.{IsPlan}
 use Rattle.vehicle_model.specs.ReadSchedules.{plan_faults as faults_of_plan, plan_of, or_others, PlanGives}
 use Rattle.vehicle_model.specs.Trips.{TripsParts, links_of}
 use Rattle.flow_potentials.specs.declared.potential_fault.PotentialFault.{PotentialFault}
 use Rattle.flow_potentials.specs.PotentialTables.{table_faults, potentials_of}
 use Rattle.flow_potentials.specs.PotentialFaults.{potential_faults}
-use Rattle.assignment.specs.Potentials.{PotentialParts, AreValid}
+use Rattle.link_plans.specs.Potentials.{PotentialParts, AreValid}
 use Rattle.flow_potentials.proofs.Checked.{told_valid}
 use Rattle.vehicle_flow.specs.declared.schedule_fault.ScheduleFault.{ScheduleFault}
 use Rattle.vehicle_flow.specs.declared.schedule_fault.ScheduleFault.TheVariants as rule

@@ -6,7 +6,7 @@ use Rattle.tables.specs.declared.read_fault.RowFault.{RowFault}
 use Rattle.giv_files.specs.Settings.{BundleParts}
 use Rattle.vehicle_model.specs.declared.plan_fault.PlanFault.{PlanFault}
 use Rattle.vehicle_model.specs.declared.plan_fault.PlanFault.TheVariants as plan_fault
-use Rattle.assignment.specs.Plans.{IsPlan}
+use Rattle.link_plans.specs.Plans.{IsPlan}
 use Rattle.vehicle_model.specs.ReadSchedules.{or_others, plan_faults, plan_of}
 use Rattle.vehicle_model.specs.Trips.{TripsParts, links_of}
 use Rattle.flow_potentials.specs.declared.potential_fault.PotentialFault.{PotentialFault}

@@ -16,7 +16,7 @@ use Rattle.vehicle_model.specs.ReadSchedules.{plan_faults, plan_of, PlanGives}
 use Rattle.vehicle_model.specs.Trips.{TripsParts, links_of}
 use Rattle.flow_potentials.specs.declared.potential_fault.PotentialFault.{PotentialFault}
 use Rattle.flow_potentials.specs.PotentialFaults.{potential_faults}
-use Rattle.assignment.specs.Potentials.{PotentialParts}
+use Rattle.link_plans.specs.Potentials.{PotentialParts}
 use Rattle.flow_potentials.specs.PotentialTables.{potentials_of, table_faults}
 use Rattle.vehicle_flow.specs.declared.schedule_fault.ScheduleFault.{ScheduleFault}
 use Rattle.vehicle_flow.specs.PinnedSchedules.{marking_potentials, pinned_vehicles_faults, pinned_vehicles_stage, plan_kept, plan_refusal, refused_as, unless_broken}

@@ -22,7 +22,7 @@ use Rattle.vehicle_model.specs.declared.plan_fault.PlanFault.{PlanFault}
 use Rattle.vehicle_model.specs.declared.plan_fault.PlanFault.TheVariants as plan_fault
 use Rattle.vehicle_model.specs.ReadSchedules.{plan_faults, plan_of}
 use Rattle.vehicle_model.specs.Trips.{TripsParts, trips_faults}
-use Rattle.assignment.specs.Potentials.{PotentialParts}
+use Rattle.link_plans.specs.Potentials.{PotentialParts}
 use Rattle.vehicle_flow.specs.PinnedSchedules.{marking_potentials, pinned_vehicles_faults, pinned_vehicles_stage, plan_kept, plan_refusal}
 use Rattle.vehicle_flow.specs.RightSchedules.{PinnedScheduleIsRight}
 use Rattle.vehicle_flow.specs.VehicleStage.{takes_trips, trips_in, vehicles_faults}

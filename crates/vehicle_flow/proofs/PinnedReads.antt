@@ -6,14 +6,14 @@ use Rattle.giv_files.specs.StageCalls.{input_text}
 use Rattle.tables.proofs.Ranges.{back_none, front_none}
 use Rattle.giv_files.proofs.StageCalls.{made_unless, none_unless}
 use Rattle.vehicle_model.specs.Plans.{IsCheapest}
-use Rattle.assignment.specs.Plans.{IsPlan}
+use Rattle.link_plans.specs.Plans.{IsPlan}
 use Rattle.vehicle_model.specs.ReadSchedules.{or_others, plan_faults, plan_of, IsReadBack}
 use Rattle.vehicle_model.specs.Schedules.{plan_text}
 use Rattle.vehicle_model.specs.Trips.{AreTrips, TripsParts, links_of}
 use Rattle.vehicle_model.proofs.FaultlessPlans.{faultless_is_plan}
 use Rattle.vehicle_model.proofs.PlanBack.{plan_text_back}
 use Rattle.flow_potentials.specs.PotentialFaults.{potential_faults}
-use Rattle.assignment.specs.Potentials.{ArePotentials, AreOver, PotentialParts, AreValid}
+use Rattle.link_plans.specs.Potentials.{ArePotentials, AreOver, PotentialParts, AreValid}
 use Rattle.flow_potentials.specs.PotentialTables.{potentials_of, potentials_text, table_faults, IsReadBack as IsPotentialBack}
 use Rattle.flow_potentials.proofs.Checked.{told_cheapest, told_valid}
 use Rattle.flow_potentials.proofs.FaultlessTables.{faultless_potentials}

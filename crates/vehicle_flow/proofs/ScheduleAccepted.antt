@@ -23,12 +23,12 @@ use Rattle.tables.specs.Writing.{ReadsBack}
 use Rattle.tables.proofs.Accepted.{KeepRules, accepted}
 use Rattle.tables.proofs.Headers.{plain_header}
 use Rattle.tables.proofs.WrittenBack.{written_back}
-use Rattle.assignment.specs.Plans.{next, IsPlan}
+use Rattle.link_plans.specs.Plans.{next, IsPlan}
 use Rattle.vehicle_model.specs.Schedules.{dead_between, empty_row, no_trip, plan_rows, plan_text, rows_behind, rows_from, tours, trip_of, trip_row}
 use Rattle.vehicle_model.specs.Trips.{TripsParts, AreTrips, links_of}
-use Rattle.assignment.proofs.Counting.{count, count_most, one_less}
+use Rattle.link_plans.proofs.Counting.{count, count_most, one_less}
 use Rattle.vehicle_model.proofs.Following.{gain_there, is_link}
-use Rattle.assignment.proofs.Linking.{some_of}
+use Rattle.link_plans.proofs.Linking.{some_of}
 use Rattle.vehicle_model.proofs.RowsFit.{plan_fits}
 use Rattle.vehicle_model.proofs.Tours.{AreBehind, AreTours, has, tours_are}
 use Rattle.vehicle_flow.specs.AcceptedSchedules.{IsAccepted, IsRolledOut}

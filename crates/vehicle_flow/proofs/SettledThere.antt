@@ -5,10 +5,10 @@ use Rattle.vehicle_model.specs.Plans.{all_lists, chosen_plan, is_apart, plan_cos
 use Rattle.vehicle_model.specs.Trips.{TripsParts, AreTrips, links_of}
 use Rattle.vehicle_model.proofs.TripLinks.{trips_links}
 use Rattle.flow_potentials.proofs.CheapestPlans.{certified_cheapest}
-use Rattle.assignment.proofs.Rounds.{canonical_is, canonical_small, canonical_valid}
+use Rattle.canonical_potentials.proofs.Rounds.{canonical_is, canonical_small, canonical_valid}
 use Rattle.vehicle_flow.specs.SettledPlans.{IsSettled}
 use Rattle.vehicle_flow.proofs.ChosenIsOne.{all_rising, apart_where, back_true, both_true, chosen_is, front_true, lists, plan_where, where_plan}
-use Rattle.assignment.proofs.ChosenThere.{HasValid, valid_there}
+use Rattle.link_plans.proofs.ChosenThere.{HasValid, valid_there}
 use Rattle.vehicle_flow.proofs.FirstFound.{found_holds, found_no_later, none_passes}
 use Rattle.vehicle_flow.proofs.FirstOfLists.{AreChoices, all_choices}
 use Rattle.vehicle_flow.proofs.SameGains.{valid_for}

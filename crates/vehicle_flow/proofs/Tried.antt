@@ -23,7 +23,7 @@ use Rattle.vehicle_model.specs.ReadSchedules.{form_faults, links_in, plan_faults
 use Rattle.event_tables.specs.Headers.{schedule_header}
 use Rattle.flow_potentials.specs.PotentialFaults.{potential_faults}
 use Rattle.flow_potentials.specs.PotentialTables.{gaps_from, potentials_text, potentials_of, potential_header, table_faults}
-use Rattle.assignment.specs.Rounds.{canonical, settled}
+use Rattle.canonical_potentials.specs.Rounds.{canonical, settled}
 use Rattle.vehicle_flow.specs.declared.schedule_fault.ScheduleFault.{ScheduleFault}
 use Rattle.vehicle_flow.specs.declared.schedule_fault.ScheduleFault.TheVariants as rule
 use Rattle.vehicle_flow.specs.ScheduleChecks.{schedule_fault}

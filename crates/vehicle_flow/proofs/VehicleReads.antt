@@ -4,15 +4,15 @@ use Rattle.giv_files.specs.declared.made.Made.{Made}
 use Rattle.giv_files.specs.Settings.{BundleParts}
 use Rattle.giv_files.proofs.StageCalls.{made_unless, none_unless}
 use Rattle.vehicle_model.specs.Plans.{chosen_plan, IsChosen}
-use Rattle.assignment.specs.Plans.{IsPlan}
+use Rattle.link_plans.specs.Plans.{IsPlan}
 use Rattle.vehicle_model.specs.ReadSchedules.{IsReadBack}
 use Rattle.vehicle_model.specs.Schedules.{plan_text}
 use Rattle.vehicle_model.specs.Trips.{TripsParts, links_of}
 use Rattle.vehicle_model.proofs.PlanBack.{plan_text_back}
-use Rattle.assignment.specs.Canonical.{AreCanonical}
+use Rattle.canonical_potentials.specs.Canonical.{AreCanonical}
 use Rattle.flow_potentials.specs.PotentialTables.{potentials_of, potentials_text, IsReadBack as IsPotentialBack}
-use Rattle.assignment.specs.Potentials.{PotentialParts}
-use Rattle.assignment.specs.Rounds.{canonical}
+use Rattle.link_plans.specs.Potentials.{PotentialParts}
+use Rattle.canonical_potentials.specs.Rounds.{canonical}
 use Rattle.flow_potentials.proofs.TablesBack.{text_back}
 use Rattle.vehicle_flow.specs.RightVehicles.{VehicleFilesAreRight}
 use Rattle.vehicle_flow.specs.ScheduleChecks.{Passes}

@@ -20,7 +20,7 @@ use Rattle.vehicle_model.specs.Plans.{starts, plan_cost}
 use Rattle.vehicle_model.specs.ReadSchedules.{plan_faults, plan_of}
 use Rattle.vehicle_model.specs.Schedules.{plan_text}
 use Rattle.vehicle_model.specs.Trips.{TripsParts}
-use Rattle.assignment.specs.Potentials.{PotentialParts}
+use Rattle.link_plans.specs.Potentials.{PotentialParts}
 use Rattle.flow_potentials.specs.PotentialTables.{potentials_of, potentials_text}
 use Rattle.vehicle_flow.specs.declared.schedule_fault.ScheduleFault.{ScheduleFault}
 use Rattle.vehicle_flow.specs.ScheduleChecks.{certificate_rules}

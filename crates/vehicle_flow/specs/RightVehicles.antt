@@ -7,7 +7,7 @@ use Rattle.giv_files.specs.Settings.{BundleParts}
 use Rattle.vehicle_model.specs.Plans.{IsChosen}
 use Rattle.vehicle_model.specs.ReadSchedules.{plan_of}
 use Rattle.vehicle_model.specs.Trips.{links_of}
-use Rattle.assignment.specs.Canonical.{AreCanonical}
+use Rattle.canonical_potentials.specs.Canonical.{AreCanonical}
 use Rattle.flow_potentials.specs.PotentialTables.{potentials_of}
 use Rattle.vehicle_flow.specs.AcceptedSchedules.{IsAccepted}
 use Rattle.vehicle_flow.specs.ScheduleChecks.{Passes, schedule_fault}

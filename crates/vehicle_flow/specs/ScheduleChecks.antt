@@ -4,14 +4,14 @@ use Rattle.std.specs.Prelude.{ℕ, ◌≡◌, List, [], ◌∷◌, length, map, 
 use Rattle.vehicle_model.specs.declared.plan_fault.PlanFault.{PlanFault}
 use Rattle.vehicle_model.specs.declared.plan_fault.PlanFault.TheVariants as plan
 use Rattle.vehicle_model.specs.Plans.{IsCheapest}
-use Rattle.assignment.specs.Plans.{IsPlan}
+use Rattle.link_plans.specs.Plans.{IsPlan}
 use Rattle.vehicle_model.specs.ReadSchedules.{plan_faults, plan_of, or_others}
 use Rattle.vehicle_model.specs.Trips.{TripsParts, links_of}
 use Rattle.flow_potentials.specs.declared.potential_fault.PotentialFault.{PotentialFault}
 use Rattle.flow_potentials.specs.declared.potential_fault.PotentialFault.TheVariants as potential
 use Rattle.flow_potentials.specs.PotentialTables.{table_faults, potentials_of}
 use Rattle.flow_potentials.specs.PotentialFaults.{potential_faults}
-use Rattle.assignment.specs.Potentials.{AreValid}
+use Rattle.link_plans.specs.Potentials.{AreValid}
 use Rattle.vehicle_flow.specs.declared.schedule_fault.ScheduleFault.{ScheduleFault}
 use Rattle.vehicle_flow.specs.declared.schedule_fault.ScheduleFault.TheVariants as rule
 

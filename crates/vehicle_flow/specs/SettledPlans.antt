@@ -2,9 +2,9 @@
 use Rattle.std.specs.Prelude.{ℕ, List, Option}
 use Rattle.vehicle_model.specs.Plans.{IsChosen}
 use Rattle.vehicle_model.specs.Trips.{TripsParts, AreTrips, links_of}
-use Rattle.assignment.specs.Canonical.{AreCanonical}
-use Rattle.assignment.specs.Potentials.{ArePotentials, AreValid}
-use Rattle.assignment.specs.Rounds.{canonical}
+use Rattle.canonical_potentials.specs.Canonical.{AreCanonical}
+use Rattle.link_plans.specs.Potentials.{ArePotentials, AreValid}
+use Rattle.canonical_potentials.specs.Rounds.{canonical}
 
 pub record IsSettled (trips : TripsParts) (plan : List (Option ℕ)) : Type 0 where
   pub are : AreTrips trips

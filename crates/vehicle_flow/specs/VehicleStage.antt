@@ -14,7 +14,7 @@ use Rattle.vehicle_model.specs.Trips.{TripsParts, trips_of, trips_faults, links_
 use Rattle.vehicle_model.specs.Plans.{starts, plan_cost, chosen_plan}
 use Rattle.vehicle_model.specs.Schedules.{plan_text}
 use Rattle.flow_potentials.specs.PotentialTables.{potentials_text}
-use Rattle.assignment.specs.Rounds.{canonical}
+use Rattle.canonical_potentials.specs.Rounds.{canonical}
 
 -- a stage takes the texts of stops, of edges and of trips before all others, and the settings of trips
 abbrev pub takes_trips : Stage → Bool

@@ -1,9 +1,9 @@
 // The search for a plan of least cost.
 ghost use Rattle.std.specs.Prelude.{◌≡◌, IfOk};
-ghost use Rattle.assignment.specs.Links.{links_in};
-ghost use Rattle.assignment.specs.LinkRows.{worthy};
-ghost use Rattle.assignment.specs.Plans.{IsPlan};
-ghost use Rattle.assignment.specs.Potentials.{AreValid};
+ghost use Rattle.link_plans.specs.Links.{links_in};
+ghost use Rattle.link_plans.specs.LinkRows.{worthy};
+ghost use Rattle.link_plans.specs.Plans.{IsPlan};
+ghost use Rattle.link_plans.specs.Potentials.{AreValid};
 ghost use Rattle.vehicle_model.specs.Plans.{IsCheapest};
 ghost use Rattle.vehicle_model.specs.Trips.{links_of};
 

@@ -2,7 +2,7 @@
 ghost use Rattle.std.specs.Prelude.{◌≡◌, Some, slice_get, IfOk, IfNone, option_copied};
 ghost use Rattle.vehicle_flow.specs.RightSchedules.{passed_over, PassesOver};
 ghost use Rattle.vehicle_flow.specs.ScheduleChecks.{certificate_rules, schedule_fault, IsMark, IsMarked, Passes};
-ghost use Rattle.assignment.specs.Plans.{IsPlan};
+ghost use Rattle.link_plans.specs.Plans.{IsPlan};
 ghost use Rattle.vehicle_model.specs.Trips.{links_of};
 
 use crate::schedule_fault::ScheduleFault;

@@ -1,11 +1,11 @@
 // What the stage makes of its trips.
 ghost use Rattle.std.specs.Prelude.{◌≡◌, IfOk};
 ghost use Rattle.flow_potentials.specs.PotentialTables.{potentials_text};
-ghost use Rattle.assignment.specs.Potentials.{AreValid};
-ghost use Rattle.assignment.specs.Rounds.{canonical};
+ghost use Rattle.link_plans.specs.Potentials.{AreValid};
+ghost use Rattle.canonical_potentials.specs.Rounds.{canonical};
 ghost use Rattle.vehicle_flow.specs.VehicleStage.{vehicles_made};
 ghost use Rattle.vehicle_model.specs.Plans.{chosen_plan};
-ghost use Rattle.assignment.specs.Plans.{IsPlan};
+ghost use Rattle.link_plans.specs.Plans.{IsPlan};
 ghost use Rattle.vehicle_model.specs.Trips.{links_of};
 
 use crate::cheapest::cheapest_of;

@@ -1,6 +1,6 @@
 // The stage of a vehicle schedule that a planner gives.
 ghost use Rattle.std.specs.Prelude.{◌≡◌, ◌++◌, length, map, IfOk, IfSome, OnOk};
-ghost use Rattle.assignment.specs.Potentials.{AreOver};
+ghost use Rattle.link_plans.specs.Potentials.{AreOver};
 ghost use Rattle.giv_files.specs.declared.stage.Stage.TheVariants as stages;
 ghost use Rattle.tables.specs.Inputs.{UnlessFault};
 ghost use Rattle.giv_files.specs.Settings.{Fits};
@@ -9,7 +9,7 @@ ghost use Rattle.vehicle_flow.specs.PinnedSchedules.{marking_potentials, pinned_
 ghost use Rattle.vehicle_flow.specs.PinnedSchedules.{plan_kept, plan_refusal, potential_files};
 ghost use Rattle.vehicle_flow.specs.PinnedSchedules.{refused_as, refused_row};
 ghost use Rattle.vehicle_flow.specs.RightSchedules.{PinnedScheduleIsRight};
-ghost use Rattle.assignment.specs.Plans.{IsPlan};
+ghost use Rattle.link_plans.specs.Plans.{IsPlan};
 ghost use Rattle.vehicle_model.specs.ReadSchedules.{plan_faults, plan_of};
 ghost use Rattle.vehicle_model.specs.Trips.{links_of};
 

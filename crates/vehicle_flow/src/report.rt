@@ -4,7 +4,7 @@ ghost use Rattle.plan_num.specs.Print.{fixed_text};
 ghost use Rattle.vehicle_flow.specs.PinnedSchedules.{mark_text, plan_kept};
 ghost use Rattle.vehicle_flow.specs.VehicleStage.{vehicles_line};
 ghost use Rattle.vehicle_model.specs.Plans.{plan_cost, starts};
-ghost use Rattle.assignment.specs.Plans.{IsPlan};
+ghost use Rattle.link_plans.specs.Plans.{IsPlan};
 ghost use Rattle.vehicle_model.specs.Trips.{links_of};
 
 use flow_potentials::Potentials;

@@ -15,7 +15,7 @@ use Rattle.tables.specs.Inputs.{Numbered}
 use Rattle.tables.specs.Tables.{TableRow, no_row, row_number}
 use Rattle.vehicle_model.specs.declared.plan_fault.PlanFault.{PlanFault}
 use Rattle.vehicle_model.specs.declared.plan_fault.PlanFault.TheVariants as fault
-use Rattle.assignment.specs.Plans.{next, IsPlan}
+use Rattle.link_plans.specs.Plans.{next, IsPlan}
 use Rattle.vehicle_model.specs.ReadSchedules.{nothing_read, one_more, trip_in, begins, row_fits, has_form, first_row, all_come, form_faults, link_of, link_to, links_in, is_late, follow_faults, or_others, row_faults, plan_by, PlanGives}
 use Rattle.vehicle_model.specs.Readers.{ReaderParts, has_come, after_link, after_trip, after_row, CanLink, Knows, IsBehind, unless_late, finished}
 use Rattle.vehicle_model.specs.Trips.{TripsParts, links_of}

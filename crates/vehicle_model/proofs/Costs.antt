@@ -5,13 +5,13 @@ use Rattle.std.proofs.Common.{option_map, unwrap_or, refl, ap, sym, ◌∙◌, s
 use Rattle.std.proofs.lemmas.Int.{ints}
 use Rattle.std.proofs.lemmas.List.{drop_all}
 use Rattle.vehicle_model.specs.Plans.{starts, plan_minutes, plan_cost}
-use Rattle.assignment.specs.Plans.{next, is_next, plan_links, plan_gain, IsPlan}
+use Rattle.link_plans.specs.Plans.{next, is_next, plan_links, plan_gain, IsPlan}
 use Rattle.vehicle_model.specs.Trips.{TripsParts, link_minutes, gain_of, links_of}
-use Rattle.assignment.proofs.Counting.{count, but_one, all_count, one_less}
+use Rattle.link_plans.proofs.Counting.{count, but_one, all_count, one_less}
 use Rattle.vehicle_model.proofs.Following.{links_within, gain_there}
-use Rattle.assignment.proofs.Linking.{some_of}
-use Rattle.assignment.proofs.Linking.{never_next}
-use Rattle.assignment.proofs.Totals.{links_from, gains_from, minutes_from, gains_more, minutes_more, alone_count, alone_minutes, linked_count, linked_minutes}
+use Rattle.link_plans.proofs.Linking.{some_of}
+use Rattle.link_plans.proofs.Linking.{never_next}
+use Rattle.link_plans.proofs.Totals.{links_from, gains_from, minutes_from, gains_more, minutes_more, alone_count, alone_minutes, linked_count, linked_minutes}
 
 -- ---- vehicles and links are as many as trips
 

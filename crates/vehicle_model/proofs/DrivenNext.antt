@@ -10,11 +10,11 @@ use Rattle.std.proofs.lemmas.List.Elements.{All-cons, All-tail, filter-append}
 use Rattle.std.proofs.lemmas.List.Sums.{fold-append}
 use Rattle.std.proofs.lemmas.Option.{none-some, same_Some, some_pair_parts}
 use Rattle.vehicle_model.specs.DrivenSchedules.{Drives, IsPlanOf}
-use Rattle.assignment.specs.Plans.{next}
+use Rattle.link_plans.specs.Plans.{next}
 use Rattle.vehicle_model.specs.ReadSchedules.{plan_by}
 use Rattle.vehicle_model.proofs.DrivenForms.{AreFresh, AreBusy, links_behind, driven_links}
 use Rattle.vehicle_model.proofs.DrivenPlans.{after, fresh_after, after_none, after_seen, after_at, has_first, has_more, apart_from, seen_apart, front_apart}
-use Rattle.assignment.proofs.Linking.{none_next}
+use Rattle.link_plans.proofs.Linking.{none_next}
 use Rattle.vehicle_model.proofs.Tours.{has}
 
 -- a plan with some links more

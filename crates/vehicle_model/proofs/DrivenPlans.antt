@@ -9,7 +9,7 @@ use Rattle.std.proofs.lemmas.List.Elements.{All-nil, All-cons, All-head, All-tai
 use Rattle.std.proofs.lemmas.Option.{none-some, same_Some}
 use Rattle.vehicle_model.specs.DrivenSchedules.{AreEachOnce}
 use Rattle.vehicle_model.proofs.DrivenForms.{AreFresh}
-use Rattle.assignment.proofs.Linking.{by_number}
+use Rattle.link_plans.proofs.Linking.{by_number}
 use Rattle.vehicle_model.proofs.Tours.{has, all_in_range}
 
 -- ---- each trip once

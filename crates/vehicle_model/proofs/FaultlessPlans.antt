@@ -12,7 +12,7 @@ use Rattle.tables.specs.Inputs.{Numbered}
 use Rattle.tables.specs.Reading.{faults, table_of}
 use Rattle.vehicle_model.specs.declared.plan_fault.PlanFault.{PlanFault}
 use Rattle.vehicle_model.specs.declared.plan_fault.PlanFault.TheVariants as fault
-use Rattle.assignment.specs.Plans.{IsPlan}
+use Rattle.link_plans.specs.Plans.{IsPlan}
 use Rattle.vehicle_model.specs.ReadSchedules.{all_come, first_row, links_in, nothing_read, or_others, plan_by, plan_faults, plan_of, PlanGives, row_faults, row_fits}
 use Rattle.vehicle_model.specs.Readers.{ReaderParts, IsBehind, has_come, unless_late}
 use Rattle.vehicle_model.specs.Trips.{TripsParts, links_of}

@@ -8,7 +8,7 @@ use Rattle.std.proofs.lemmas.Option.{none-some, same_Some, slice_get-get_or, sli
 use Rattle.event_tables.specs.declared.trip.Trip.{Trip}
 use Rattle.ptn_network.specs.declared.edge.Edge.{Edge}
 use Rattle.ptn_network.specs.Walks.{edge_time, IsLeastSum}
-use Rattle.assignment.proofs.Linking.{some_of}
+use Rattle.link_plans.proofs.Linking.{some_of}
 use Rattle.vehicle_model.specs.Schedules.{trip_of, no_trip, dead_between}
 use Rattle.vehicle_model.specs.Trips.{TripsParts, AreTrips, MayFollow, start_stop, end_stop, if_in_time, link_between, link_minutes, gain_of, links_of}
 

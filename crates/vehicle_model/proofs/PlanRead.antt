@@ -8,7 +8,7 @@ use Rattle.std.specs.Option.{option_to_list}
 use Rattle.std.proofs.lemmas.Bool.{ne_eqb}
 use Rattle.event_tables.specs.declared.schedule_row.ScheduleRow.{ScheduleRow}
 use Rattle.event_tables.specs.Schedules.{is_trip_row}
-use Rattle.assignment.specs.Plans.{next, IsPlan}
+use Rattle.link_plans.specs.Plans.{next, IsPlan}
 use Rattle.vehicle_model.specs.ReadSchedules.{Reading, nothing_read, one_more, trip_in, begins, last_vehicle, follows_trip, follows_empty, is_new, leaves, goes_to, is_ride, leads_to, last_seen, has_seen, has_form, all_come, link_of, link_to, links_in, is_late}
 use Rattle.vehicle_model.specs.Schedules.{trip_of, dead_between, empty_ride, trip_row, empty_row, rows_behind, rows_from, plan_rows, tours}
 use Rattle.vehicle_model.specs.Trips.{TripsParts, AreTrips, links_of}

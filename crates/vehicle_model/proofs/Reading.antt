@@ -13,12 +13,12 @@ use Rattle.std.proofs.lemmas.List.Quantifiers.{position-Some}
 use Rattle.std.proofs.lemmas.Option.{none-some, same_Some}
 use Rattle.event_tables.specs.declared.schedule_row.ScheduleRow.{ScheduleRow}
 use Rattle.event_tables.specs.Schedules.{is_empty_row}
-use Rattle.assignment.specs.Plans.{next, is_next, AreSuccessors}
+use Rattle.link_plans.specs.Plans.{next, is_next, AreSuccessors}
 use Rattle.vehicle_model.specs.ReadSchedules.{Reading, nothing_read, one_more, trip_in, begins, is_new, last_seen, has_seen, row_fits, has_form, same_run, link_of, link_to, plan_by, is_late}
 use Rattle.vehicle_model.specs.Readers.{ReaderParts, late_after, after_link, after_trip, after_row, late_of, CanLink, Knows}
 use Rattle.vehicle_model.specs.Schedules.{no_trip}
 use Rattle.vehicle_model.specs.Trips.{TripsParts, link_minutes}
-use Rattle.assignment.proofs.Linking.{by_number, none_next, none_linked, next_in, next_before, not_linked, linked, never_next}
+use Rattle.link_plans.proofs.Linking.{by_number, none_next, none_linked, next_in, next_before, not_linked, linked, never_next}
 
 -- ---- before all rows
 

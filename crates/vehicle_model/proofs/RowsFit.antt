@@ -10,12 +10,12 @@ use Rattle.event_tables.specs.Cells.{trip_cells, schedule_cells}
 use Rattle.tables.specs.Columns.{trips_columns, schedule_columns}
 use Rattle.tables.specs.Writing.{InColumns}
 use Rattle.vehicle_model.specs.Plans.{starts}
-use Rattle.assignment.specs.Plans.{next, is_next, IsPlan}
+use Rattle.link_plans.specs.Plans.{next, is_next, IsPlan}
 use Rattle.vehicle_model.specs.Schedules.{trip_of, no_trip, dead_between, tour, tours, trip_row, empty_row, rows_behind, rows_from, plan_rows}
 use Rattle.vehicle_model.specs.Trips.{TripsParts, AreTrips, links_of}
-use Rattle.assignment.proofs.Counting.{count_most}
+use Rattle.link_plans.proofs.Counting.{count_most}
 use Rattle.vehicle_model.proofs.Following.{is_link, gain_there}
-use Rattle.assignment.proofs.Linking.{some_of}
+use Rattle.link_plans.proofs.Linking.{some_of}
 use Rattle.vehicle_model.proofs.Tours.{AreBehind, AreTours, tours_are}
 
 -- a row in its columns

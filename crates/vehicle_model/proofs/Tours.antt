@@ -8,13 +8,13 @@ use Rattle.std.specs.List.{list_any, list_all, range_with_len}
 use Rattle.std.proofs.lemmas.Bool.{false≢true, ne_eqb, or_parts}
 use Rattle.std.proofs.lemmas.List.{length-set, length-replicate}
 use Rattle.std.proofs.lemmas.Option.{same_Some}
-use Rattle.assignment.specs.Plans.{next, is_next, IsPlan}
+use Rattle.link_plans.specs.Plans.{next, is_next, IsPlan}
 use Rattle.vehicle_model.specs.Schedules.{trip_of, tour, tours}
 use Rattle.vehicle_model.specs.Trips.{TripsParts, AreTrips, links_of}
-use Rattle.assignment.proofs.Counting.{count, one_less, count_most}
+use Rattle.link_plans.proofs.Counting.{count, one_less, count_most}
 use Rattle.vehicle_model.proofs.Following.{links_within, gain_there, starts_later}
-use Rattle.assignment.proofs.Linking.{some_of}
-use Rattle.assignment.proofs.Linking.{by_number, next_found, followed, none_next, next_is, next_in}
+use Rattle.link_plans.proofs.Linking.{some_of}
+use Rattle.link_plans.proofs.Linking.{by_number, next_found, followed, none_next, next_is, next_in}
 
 -- whether a trip is among some
 abbrev pub has : List ℕ → ℕ → Bool

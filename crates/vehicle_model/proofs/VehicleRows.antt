@@ -12,7 +12,7 @@ use Rattle.event_tables.specs.Cells.{schedule_row}
 use Rattle.tables.specs.RowsOfTables.{ReadsAs}
 use Rattle.tables.specs.Columns.{schedule_columns}
 use Rattle.vehicle_model.specs.Plans.{starts}
-use Rattle.assignment.specs.Plans.{next, is_next, IsPlan}
+use Rattle.link_plans.specs.Plans.{next, is_next, IsPlan}
 use Rattle.vehicle_model.specs.ReadSchedules.{IsReadBack}
 use Rattle.vehicle_model.specs.Schedules.{tour, trip_row, empty_row, rows_behind, vehicle_rows, rows_from, plan_rows}
 use Rattle.vehicle_model.specs.Trips.{TripsParts, AreTrips, links_of}

@@ -11,7 +11,7 @@ use Rattle.tables.specs.RowsOfTables.{records_by}
 use Rattle.ptn_network.specs.Walks.{edge_time, least_sum}
 use Rattle.vehicle_model.specs.declared.plan_fault.PlanFault.{PlanFault}
 use Rattle.vehicle_model.specs.declared.plan_fault.PlanFault.TheVariants as fault
-use Rattle.assignment.specs.Plans.{next}
+use Rattle.link_plans.specs.Plans.{next}
 use Rattle.vehicle_model.specs.Schedules.{at_time, rows_from}
 use Rattle.vehicle_model.specs.Trips.{TripsParts, start_stop, end_stop, link_minutes}
 

@@ -2,8 +2,8 @@
 -- vehicle runs next, or none.
 use Rattle.std.specs.Prelude.{ℕ, ◌≤◌, ◌+◌, ◌*◌, ◌&&◌, nat_eq, not, is_some, Bool, true, List, [], ◌∷◌, ◌++◌, length, map, sum, filter, find, min, Option, Some, None, unwrap_or}
 use Rattle.std.specs.List.{flat_map, range_with_len, reduce}
-use Rattle.assignment.specs.Links.{Links}
-use Rattle.assignment.specs.Plans.{is_next, plan_links, AreNoLater, IsPlan}
+use Rattle.link_plans.specs.Links.{Links}
+use Rattle.link_plans.specs.Plans.{is_next, plan_links, AreNoLater, IsPlan}
 use Rattle.vehicle_model.specs.Trips.{TripsParts, links_of, link_minutes}
 
 -- the first trips of the vehicles: those that follow none

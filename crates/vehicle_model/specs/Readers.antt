@@ -4,7 +4,7 @@ use Rattle.event_tables.specs.declared.schedule_row.ScheduleRow.{ScheduleRow}
 use Rattle.tables.specs.Inputs.{Numbered}
 use Rattle.vehicle_model.specs.declared.plan_fault.PlanFault.{PlanFault}
 use Rattle.vehicle_model.specs.declared.plan_fault.PlanFault.TheVariants as fault
-use Rattle.assignment.specs.Plans.{next, is_next, AreSuccessors}
+use Rattle.link_plans.specs.Plans.{next, is_next, AreSuccessors}
 use Rattle.vehicle_model.specs.ReadSchedules.{Reading, nothing_read, last_seen, has_seen, form_faults, links_in, plan_by, is_late, all_come}
 use Rattle.vehicle_model.specs.Trips.{TripsParts, link_minutes}
 

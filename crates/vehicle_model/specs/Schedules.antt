@@ -11,7 +11,7 @@ use Rattle.tables.specs.RowsOfTables.{file_text}
 use Rattle.tables.specs.Columns.{schedule_columns}
 use Rattle.vehicle_model.specs.Trips.{TripsParts, dead_minutes}
 use Rattle.vehicle_model.specs.Plans.{starts}
-use Rattle.assignment.specs.Plans.{next}
+use Rattle.link_plans.specs.Plans.{next}
 
 -- no trip
 abbrev pub no_end : TripEnd

@@ -1,6 +1,6 @@
 -- Trips over a network, and which trip may follow which.
 use Rattle.std.specs.Prelude.{ℕ, ℤ, pos, ◌≡◌, ◌+◌, ◌*◌, ◌≤◌, ◌-ℤ◌, nat_le, if◌then◌else◌, List, ◌++◌, length, slice_get, Option, Some, None, option_map, option_and_then}
-use Rattle.assignment.specs.Links.{Links}
+use Rattle.link_plans.specs.Links.{Links}
 use Rattle.event_tables.specs.declared.trip.Trip.{Trip}
 use Rattle.event_tables.specs.Trips.{trip_input, AreTrips as AreTripRows}
 use Rattle.tables.specs.declared.refusal.Refusal.{Refusal}

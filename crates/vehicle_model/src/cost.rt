@@ -1,7 +1,7 @@
 // What plans cost.
 ghost use Rattle.std.specs.Prelude.{◌≡◌, ◌≤◌, ◌≤ℤ◌, ◌*◌, ◌-ℤ◌, pos, true, length, is_some, Some};
 ghost use Rattle.vehicle_model.specs.Plans.{plan_cost};
-ghost use Rattle.assignment.specs.Plans.{plan_gain, IsPlan};
+ghost use Rattle.link_plans.specs.Plans.{plan_gain, IsPlan};
 ghost use Rattle.vehicle_model.specs.Trips.{link_minutes, links_of};
 
 use crate::trips::Trips;

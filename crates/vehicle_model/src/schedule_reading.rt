@@ -4,7 +4,7 @@ ghost use Rattle.event_tables.specs.Cells.{schedule_row, AreSmall};
 ghost use Rattle.tables.specs.RowsOfTables.{records_by, numbered_by};
 ghost use Rattle.tables.specs.Tables.{no_row};
 ghost use Rattle.vehicle_model.specs.DrivenSchedules.{ReadsWhatIsDriven};
-ghost use Rattle.assignment.specs.Plans.{IsPlan};
+ghost use Rattle.link_plans.specs.Plans.{IsPlan};
 ghost use Rattle.vehicle_model.specs.ReadSchedules.{plan_faults, plan_of, plan_by, links_in, nothing_read, row_faults, PlanGives};
 ghost use Rattle.vehicle_model.specs.Trips.{links_of};
 

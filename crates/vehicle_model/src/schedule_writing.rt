@@ -4,7 +4,7 @@ ghost use Rattle.event_tables.specs.Cells.{schedule_cells};
 ghost use Rattle.tables.specs.Columns.{schedule_columns};
 ghost use Rattle.tables.specs.Writing.{InColumns};
 ghost use Rattle.vehicle_model.specs.Plans.{starts};
-ghost use Rattle.assignment.specs.Plans.{IsPlan};
+ghost use Rattle.link_plans.specs.Plans.{IsPlan};
 ghost use Rattle.vehicle_model.specs.ReadSchedules.{IsReadBack};
 ghost use Rattle.vehicle_model.specs.Schedules.{tour, trip_row, empty_row, vehicle_rows, plan_rows, plan_text};
 ghost use Rattle.vehicle_model.specs.Trips.{link_minutes, links_of, AreTrips};

@@ -1,8 +1,8 @@
 use Rattle.std.proofs.Common.{◌+◌, [], replicate, None, length, refl, ap, sym, ◌∙◌, subst, arith}
-use Rattle.assignment.specs.Links.{links_in}
-use Rattle.assignment.specs.Claims.{claim_at}
+use Rattle.link_plans.specs.Links.{links_in}
+use Rattle.plan_search.specs.Claims.{claim_at}
 use Rattle.assignment.proofs.Claimables.{claimable_first}
-use Rattle.assignment.proofs.ClaimLists.{none_at}
+use Rattle.plan_search.proofs.ClaimLists.{none_at}
 use Rattle.assignment.proofs.Settling.{IsDeciding, deciding_none, deciding_more, search_is, chosen_all, chosen_told}
 use Rattle.assignment.proofs.chosen.first_best_plan.Goals as goal
 

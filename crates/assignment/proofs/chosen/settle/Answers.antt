@@ -1,9 +1,9 @@
 use Rattle.std.proofs.Common.{ap, subst, sym, ◌∙◌}
-use Rattle.assignment.specs.Plans.{next}
+use Rattle.link_plans.specs.Plans.{next}
 use Rattle.assignment.specs.ClaimablePlaces.{IsTakenOut}
-use Rattle.assignment.specs.Claims.{claim_at}
+use Rattle.plan_search.specs.Claims.{claim_at}
 use Rattle.assignment.proofs.Claimables.{claimable_next}
-use Rattle.assignment.proofs.ClaimLists.{none_at}
+use Rattle.plan_search.proofs.ClaimLists.{none_at}
 use Rattle.assignment.proofs.chosen.settle.Goals as goal
 
 pub returns-clause-places : goal.returns-clause-places

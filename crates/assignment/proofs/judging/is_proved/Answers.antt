@@ -1,7 +1,7 @@
 use Rattle.std.proofs.Common.{subst, arith}
-use Rattle.assignment.specs.Links.{links_in}
-use Rattle.assignment.specs.Parting.{AreMet}
-use Rattle.assignment.proofs.Judged.{met_best, met_valid}
+use Rattle.link_plans.specs.Links.{links_in}
+use Rattle.plan_search.specs.Parting.{AreMet}
+use Rattle.plan_search.proofs.Judged.{met_best, met_valid}
 use Rattle.assignment.proofs.judging.is_proved.Goals as goal
 
 pub returns-clause-valid : goal.returns-clause-valid

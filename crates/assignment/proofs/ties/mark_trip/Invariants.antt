@@ -1,9 +1,9 @@
 -- The places so far at which the trip is tight are marked.
 use Rattle.std.proofs.Common.{Some, length}
-use Rattle.assignment.specs.Links.{links_in}
+use Rattle.link_plans.specs.Links.{links_in}
 use Rattle.assignment.specs.ClaimablePlaces.{IsInRow, IsRowOf}
-use Rattle.assignment.specs.LinkRows.{reached}
-use Rattle.assignment.specs.Searches.{IsTightBy}
+use Rattle.link_plans.specs.LinkRows.{reached}
+use Rattle.plan_search.specs.Searches.{IsTightBy}
 use Rattle.assignment.proofs.ties.mark_trip.Given as goal
 
 abbrev pub invariant-loop-link : goal.invariant-loop-link

@@ -2,7 +2,7 @@ use Rattle.std.proofs.Common.{◌<◌, ◌≤◌, ◌==◌, ◌+◌, nat_lt, tru
 use Rattle.std.proofs.lemmas.Bool.{and_parts, ltb-true, lt-ltb, le-ltb}
 use Rattle.tables.specs.declared.row_why.RowWhy.TheVariants as why
 use Rattle.tables.specs.Tables.{no_row}
-use Rattle.assignment.specs.Potentials.{PotentialParts, AreOver}
+use Rattle.link_plans.specs.Potentials.{PotentialParts, AreOver}
 use Rattle.flow_potentials.specs.PotentialTables.{gaps_from, column_of, potentials_in, PotentialsGive}
 use Rattle.flow_potentials.proofs.Tables.{gap_found, no_gap, gap_end, column_more, column_all, table_potentials, table_over}
 use Rattle.flow_potentials.proofs.table_reading.read_rows.Goals as goal

@@ -1,7 +1,7 @@
 use Rattle.std.proofs.Common.{ap, sym, ◌∙◌, subst}
-use Rattle.assignment.specs.Plans.{IsPlan}
-use Rattle.assignment.specs.Potentials.{AreValid}
-use Rattle.assignment.specs.Rounds.{canonical}
+use Rattle.link_plans.specs.Plans.{IsPlan}
+use Rattle.link_plans.specs.Potentials.{AreValid}
+use Rattle.canonical_potentials.specs.Rounds.{canonical}
 use Rattle.assignment.proofs.Worthwhile.{canonical_same, plan_down, valid_down, valid_up}
 use Rattle.vehicle_model.specs.Trips.{links_of}
 use Rattle.vehicle_model.proofs.TripLinks.{trips_links}

@@ -1,6 +1,0 @@
--- So many zeros so far.
-use Rattle.std.proofs.Common.{◌≡◌, replicate}
-use Rattle.assignment.proofs.cells.zeros.Given as goal
-
-abbrev pub invariant-loop-place : goal.invariant-loop-place
-invariant-loop-place l = l.numbers.items ≡ replicate l._place 0

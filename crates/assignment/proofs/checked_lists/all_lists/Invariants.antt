@@ -1,9 +1,0 @@
--- The rest of the lists decides.
-use Rattle.std.proofs.Common.{◌≡◌, drop, map}
-use Rattle.std.specs.List.{list_all}
-use Rattle.assignment.specs.CheckedLists.{is_list}
-use Rattle.assignment.proofs.checked_lists.all_lists.Given as goal
-
-abbrev pub invariant-loop-row : goal.invariant-loop-row
-invariant-loop-row l = list_all (is_list l.count 0) (map (λ row. row.items) l.rows)
-    ≡ list_all (is_list l.count 0) (map (λ row. row.items) (drop l.row-index l.rows))

@@ -1,7 +1,0 @@
--- The rest of the list decides.
-use Rattle.std.proofs.Common.{◌≡◌, drop}
-use Rattle.assignment.specs.CheckedLists.{is_list}
-use Rattle.assignment.proofs.checked_lists.is_list.Given as goal
-
-abbrev pub invariant-loop-link : goal.invariant-loop-link
-invariant-loop-link l = is_list l.count 0 l.row ≡ is_list l.count l.from (drop l.link-index l.row)

@@ -1,6 +1,0 @@
--- So many places have no claim so far.
-use Rattle.std.proofs.Common.{◌≡◌, replicate, None}
-use Rattle.assignment.proofs.claim.Claims.new.Given as goal
-
-abbrev pub invariant-loop-place : goal.invariant-loop-place
-invariant-loop-place l = l.claims.items ≡ replicate l._place None

@@ -1,6 +1,0 @@
--- So many flags are not set so far.
-use Rattle.std.proofs.Common.{◌≡◌, replicate, false}
-use Rattle.assignment.proofs.claim.no_flags.Given as goal
-
-abbrev pub invariant-loop-place : goal.invariant-loop-place
-invariant-loop-place l = l.flags.items ≡ replicate l._place false

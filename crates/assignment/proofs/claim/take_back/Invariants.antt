@@ -1,8 +1,0 @@
--- The claims from the step on are left.
-use Rattle.std.proofs.Common.{length}
-use Rattle.assignment.proofs.Flags.{AreLeft}
-use Rattle.assignment.proofs.claim.take_back.Given as goal
-
-abbrev pub invariant-loop-place : goal.invariant-loop-place
-invariant-loop-place l = AreLeft (length l.fn.claims.items) l.order l.place-index
-    l.claims.items l.flags.items

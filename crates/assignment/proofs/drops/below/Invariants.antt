@@ -1,6 +1,0 @@
--- The differences of the numbers so far.
-use Rattle.std.proofs.Common.{◌≡◌, ◌-◌, map, take}
-use Rattle.assignment.proofs.drops.below.Given as goal
-
-abbrev pub invariant-loop-number : goal.invariant-loop-number
-invariant-loop-number l = l.made.items ≡ map (λ number. l.root - number) (take l.number-index l.numbers)

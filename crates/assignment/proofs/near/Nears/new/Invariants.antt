@@ -1,9 +1,0 @@
--- So many places so far.
-use Rattle.std.proofs.Common.{◌≡◌, None, replicate}
-use Rattle.assignment.proofs.near.Nears.new.Given as goal
-
-abbrev pub invariant-loop-place : goal.invariant-loop-place
-invariant-loop-place l = record {
-  nears : l.nears.items ≡ replicate l._place None;
-  slacks : l.slacks.items ≡ replicate l._place 18446744073709551615;
-}

@@ -1,9 +1,0 @@
--- The sum of the numbers so far.
-use Rattle.std.proofs.Common.{◌≡◌, ◌≤◌, ◌*◌, sum, take}
-use Rattle.assignment.proofs.numbers.total.Given as goal
-
-abbrev pub invariant-loop-number : goal.invariant-loop-number
-invariant-loop-number l = record {
-  value : l.sum ≡ sum (take l.number-index l.numbers);
-  small : l.sum ≤ l.number-index * 1000000000000000000;
-}

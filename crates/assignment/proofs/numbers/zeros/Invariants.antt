@@ -1,6 +1,0 @@
--- So many zeros so far.
-use Rattle.std.proofs.Common.{◌≡◌, replicate}
-use Rattle.assignment.proofs.numbers.zeros.Given as goal
-
-abbrev pub invariant-loop-trip : goal.invariant-loop-trip
-invariant-loop-trip l = l.numbers.items ≡ replicate l._trip 0

@@ -1,6 +1,0 @@
--- The links so far are covered.
-use Rattle.assignment.proofs.Parted.{AreCovered}
-use Rattle.assignment.proofs.parting.covers.Given as goal
-
-abbrev pub invariant-loop-link : goal.invariant-loop-link
-invariant-loop-link l = AreCovered l.links l.potentials l.i l.link-index

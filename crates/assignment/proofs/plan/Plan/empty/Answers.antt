@@ -1,8 +1,0 @@
-use Rattle.std.proofs.Common.{sym, subst}
-use Rattle.assignment.specs.Plans.{AreSuccessors}
-use Rattle.assignment.proofs.Linking.{none_linked}
-use Rattle.assignment.proofs.plan.Plan.empty.Goals as goal
-
-pub invariant_of-result : goal.invariant_of-result
-invariant_of-result c =
-    subst AreSuccessors (sym c.loop-trip.invariant) (none_linked c.loop-trip._trip)

@@ -1,6 +1,0 @@
--- The potentials of the first trips are lowered so far.
-use Rattle.assignment.proofs.Shifts.{AreLowered}
-use Rattle.assignment.proofs.shift.lower.Given as goal
-
-abbrev pub invariant-loop-i : goal.invariant-loop-i
-invariant-loop-i l = AreLowered l.trip l.assignment l.claims l.slack l.fn.potentials l.potentials l.i

@@ -1,6 +1,0 @@
--- The potential covers the links so far.
-use Rattle.assignment.proofs.Covering.{CoversLinks}
-use Rattle.assignment.proofs.slack.cover.Given as goal
-
-abbrev pub invariant-loop-link : goal.invariant-loop-link
-invariant-loop-link l = CoversLinks l.links l.potentials l.most l.link-index

@@ -1,8 +1,0 @@
--- The root waits, and the trips so far.
-use Rattle.std.proofs.Common.{◌≡◌, ◌∷◌, map}
-use Rattle.std.specs.List.{range_with_len}
-use Rattle.assignment.specs.Walks.{root_waits, trip_waits}
-use Rattle.assignment.proofs.walk.all_nodes.Given as goal
-
-abbrev pub invariant-loop-trip : goal.invariant-loop-trip
-invariant-loop-trip l = l.nodes.items ≡ root_waits ∷ map (trip_waits l.valid.u) (range_with_len 0 l.trip)

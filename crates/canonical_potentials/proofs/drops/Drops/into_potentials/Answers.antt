@@ -1,0 +1,55 @@
+use Rattle.std.proofs.Common.{◌-◌, map, ap, sym, ◌∙◌, subst}
+use Rattle.link_plans.specs.Links.{links_in}
+use Rattle.canonical_potentials.specs.Canonical.{AreCanonical}
+use Rattle.canonical_potentials.specs.Drops.{DropParts, IsSearched, ArePassed}
+use Rattle.link_plans.specs.Potentials.{ArePotentials, AreValid}
+use Rattle.canonical_potentials.proofs.PassedRows.{passed_valid, passed_canonical}
+use Rattle.canonical_potentials.proofs.Settled.{made_is, settled_small}
+use Rattle.canonical_potentials.proofs.drops.Drops.into_potentials.Goals as goal
+
+pub invariant_of-result : goal.invariant_of-result
+invariant_of-result c =
+    let links = links_in c.args.trips.now in
+    let drops : DropParts = record {
+      root = c.self.inside.root;
+      left = c.self.inside.left.items;
+      right = c.self.inside.right.items;
+    } in
+    let known = subst (IsSearched links c.args.plan.now) (sym c.self.view_is) c.requires.known in
+    let same = made_is drops _ _
+    (c.in_ok-below.ensures ∙ ap (map (λ number. c.self.inside.root - number)) c.deref.ensures.value)
+    (c.in_ok-above.ensures ∙ ap (map (λ number. number - c.self.inside.root)) c.deref-2.ensures.value) in
+    subst ArePotentials (sym same)
+    (settled_small links c.args.plan.now drops known c.len.ensures.links)
+
+pub returns-clause-least : goal.returns-clause-least
+returns-clause-least c =
+    let links = links_in c.args.trips.now in
+    let drops : DropParts = record {
+      root = c.self.inside.root;
+      left = c.self.inside.left.items;
+      right = c.self.inside.right.items;
+    } in
+    let known = subst (IsSearched links c.args.plan.now) (sym c.self.view_is) c.requires.known in
+    let kept = subst (ArePassed links c.args.plan.now) (sym c.self.view_is) c.requires.kept in
+    let same = made_is drops _ _
+    (c.in_ok-below.ensures ∙ ap (map (λ number. c.self.inside.root - number)) c.deref.ensures.value)
+    (c.in_ok-above.ensures ∙ ap (map (λ number. number - c.self.inside.root)) c.deref-2.ensures.value) in
+    subst (AreCanonical links c.args.plan.now) (sym same)
+    (passed_canonical links c.len.ensures.links c.args.plan.now drops known kept)
+
+pub returns-clause-valid : goal.returns-clause-valid
+returns-clause-valid c =
+    let links = links_in c.args.trips.now in
+    let drops : DropParts = record {
+      root = c.self.inside.root;
+      left = c.self.inside.left.items;
+      right = c.self.inside.right.items;
+    } in
+    let known = subst (IsSearched links c.args.plan.now) (sym c.self.view_is) c.requires.known in
+    let kept = subst (ArePassed links c.args.plan.now) (sym c.self.view_is) c.requires.kept in
+    let same = made_is drops _ _
+    (c.in_ok-below.ensures ∙ ap (map (λ number. c.self.inside.root - number)) c.deref.ensures.value)
+    (c.in_ok-above.ensures ∙ ap (map (λ number. number - c.self.inside.root)) c.deref-2.ensures.value) in
+    subst (AreValid links c.args.plan.now) (sym same)
+    (passed_valid links c.len.ensures.links c.args.plan.now drops known kept)

@@ -1,0 +1,7 @@
+-- Walks that were found stay found.
+use Rattle.link_plans.specs.Links.{links_in}
+use Rattle.canonical_potentials.specs.Drops.{IsSearched}
+use Rattle.canonical_potentials.proofs.drops.Drops.relax_links.Given as goal
+
+abbrev pub invariant-loop-link : goal.invariant-loop-link
+invariant-loop-link l = IsSearched (links_in l.trips) l.plan l.self

@@ -1,0 +1,12 @@
+use Rattle.std.proofs.Common.{◌<◌, arith}
+use Rattle.link_plans.specs.Links.{links_in}
+use Rattle.canonical_potentials.proofs.Steps.{to_root_step}
+use Rattle.canonical_potentials.proofs.drops.Drops.relax_to_root.Goals as goal
+
+pub returns-then-root-number-clause-step : goal.returns-then-root-number-clause-step
+returns-then-root-number-clause-step c =
+    let less : c.args.self.now.root < c.right-number.result =
+    omega (arith, c.if-root-number.true, c.root.ensures) in
+    to_root_step (links_in c.args.trips.now) c.args.plan.now c.args.self.now c.requires.known
+    c.args.j c.right-number.result c.set_root.new.self c.requires.within c.requires.alone
+    c.right-number.ensures less c.set_root.ensures

@@ -1,0 +1,7 @@
+-- Walks that were found stay found.
+use Rattle.link_plans.specs.Links.{links_in}
+use Rattle.canonical_potentials.specs.Drops.{IsSearched}
+use Rattle.canonical_potentials.proofs.drops.Drops.walk.Given as goal
+
+abbrev pub invariant-loop-turn : goal.invariant-loop-turn
+invariant-loop-turn l = IsSearched (links_in l.trips) l.plan l.self

@@ -1,0 +1,6 @@
+-- The differences of the numbers so far.
+use Rattle.std.proofs.Common.{◌≡◌, ◌-◌, map, take}
+use Rattle.canonical_potentials.proofs.drops.above.Given as goal
+
+abbrev pub invariant-loop-number : goal.invariant-loop-number
+invariant-loop-number l = l.made.items ≡ map (λ number. number - l.root) (take l.number-index l.numbers)

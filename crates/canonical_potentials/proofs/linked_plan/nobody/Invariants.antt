@@ -1,0 +1,6 @@
+-- So many times none so far.
+use Rattle.std.proofs.Common.{◌≡◌, replicate, None}
+use Rattle.canonical_potentials.proofs.linked_plan.nobody.Given as goal
+
+abbrev pub invariant-loop-trip : goal.invariant-loop-trip
+invariant-loop-trip l = l.made.items ≡ replicate l._trip None

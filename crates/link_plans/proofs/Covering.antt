@@ -1,0 +1,73 @@
+-- A potential that covers what the links of a trip gain.
+use Rattle.std.proofs.Common.{◌≡◌, ℕ, ℤ, ◌<◌, ◌≤◌, ◌+◌, ◌-◌, max, List, length, slice_get}
+use Rattle.std.proofs.Common.{slice_set, is_some, Option, Some, None, IfSome, refl, ap, sym, ◌∙◌}
+use Rattle.std.proofs.Common.{subst, arith, get_or-set_same}
+use Rattle.std.proofs.lemmas.Option.{same_Some, slice_get_within}
+use Rattle.link_plans.specs.Links.{Links, AreLinks}
+use Rattle.link_plans.proofs.Linking.{by_number}
+use Rattle.link_plans.proofs.Certified.{by_bound}
+use Rattle.link_plans.specs.Potentials.{PotentialParts, at}
+use Rattle.link_plans.specs.declared.link_table.Link.{Link}
+use Rattle.link_plans.specs.LinkRows.{link_to, IsRow}
+use Rattle.link_plans.specs.LinkRows.{worth}
+use Rattle.link_plans.specs.Slacks.{Covers}
+
+-- a number covers the first links of a list
+pub record CoversLinks (row : List Link) (potentials : PotentialParts) (most done : ℕ) : Type 0 where
+  pub small : most ≤ 1000000000000
+  pub covers : (k : ℕ) (link : Link) → k < done → slice_get row k ≡ Some link
+      → link.gain ≤ most + at potentials.v link.to
+
+pub covers_none : (row : List Link) (potentials : PotentialParts) → CoversLinks row potentials 0 0
+covers_none row potentials = grind arith
+
+module _ (links : Links) (potentials : PotentialParts) (i most done : ℕ) (row : List Link)
+    (is : IsRow links i links.count row) (are : CoversLinks row potentials most done) where
+  -- a link more
+  pub covers_more : (link : Link) (more : ℕ) → slice_get row done ≡ Some link
+      → more ≡ max most (link.gain - at potentials.v link.to) → CoversLinks row potentials more (done + 1)
+  covers_more link more here most_is = record {
+    small = omega (arith, are.small, (is.right done link here).small, most_is);
+    covers = λ k other before e. by_number k done
+        (λ same.
+        let gain_is : link.gain ≡ other.gain = ap (λ x. x.gain) (link_is other k same e) in
+        let to_is : at potentials.v link.to ≡ at potentials.v other.to =
+        ap (λ x. at potentials.v x.to) (link_is other k same e) in
+        omega (arith, most_is, gain_is, to_is))
+        (λ apart.
+        let low : other.gain ≤ most + at potentials.v other.to =
+        are.covers k other (omega (arith, before, apart)) e in
+        omega (arith, most_is, low));
+  }
+    where
+      link_is : (other : Link) (k : ℕ) → k ≡ done → slice_get row k ≡ Some other → link ≡ other
+      link_is other k same e = same_Some link other (sym here ∙ ap (slice_get row) (sym same) ∙ e)
+
+  -- the potential of the trip covers all its links, where none is to a trip that is not there
+  pub covers_all : ((j : ℕ) → links.count ≤ j → worth (links.gain i j) ≡ None) → length row ≤ done
+      → i < length potentials.u → Covers links (record { u = slice_set potentials.u i most; v = potentials.v }) i
+  covers_all none past inside j = subst (λ own. IfSome (worth (links.gain i j)) (λ gain. gain ≤ own + at potentials.v j))
+      (sym (get_or-set_same potentials.u i most 0 inside)) (by_bound j links.count
+      (λ within. split within (worth (links.gain i j)) refl)
+      (λ behind. subst (λ it. IfSome it (λ gain. gain ≤ most + at potentials.v j)) (sym (none j behind)) tt))
+    where
+      split : j < links.count → (it : Option ℕ) → worth (links.gain i j) ≡ it
+          → IfSome (worth (links.gain i j)) (λ gain. gain ≤ most + at potentials.v j)
+      split within None e = subst (λ it. IfSome it (λ gain. gain ≤ most + at potentials.v j)) (sym e) tt
+      split within (Some gain) e =
+          let found = is.all j gain within e in
+          let there : found.0 < length row = slice_get_within row found.0 (link_to j gain) found.1 in
+          let low : gain ≤ most + at potentials.v j =
+          are.covers found.0 (link_to j gain) (omega (arith, there, past)) found.1 in
+          subst (λ it. IfSome it (λ gain. gain ≤ most + at potentials.v j)) (sym e) low
+
+-- no link is to a trip that is not there
+pub none_past : (links : Links) → AreLinks links → (i j : ℕ) → links.count ≤ j
+    → worth (links.gain i j) ≡ None
+none_past links sound i j past = split (links.gain i j) refl
+  where
+    split : (at_j : Option ℤ) → links.gain i j ≡ at_j → worth at_j ≡ None
+    split None e = refl
+    split (Some gain) e =
+        let there = sound.within i j (ap is_some e) in
+        absurd (omega (arith, there.1, past))

@@ -1,0 +1,12 @@
+use Rattle.std.proofs.Common.{◌<◌, length, IfSome, ap, ◌∙◌, sym, subst}
+use Rattle.link_plans.specs.Plans.{next}
+use Rattle.link_plans.proofs.Moves.{next_inside}
+use Rattle.link_plans.proofs.assignment.Assignment.next.Goals as goal
+
+pub returns-clause-within : goal.returns-clause-within
+returns-clause-within c =
+    subst (λ at. IfSome at (λ other. other < length c.args.self.now))
+    (sym (c.at.ensures ∙ ap (λ list. next list c.args.trip) c.deref.ensures.value))
+    (subst (λ n. IfSome (next c.self.inside.next.items c.args.trip) (λ other. other < n))
+    (ap length c.self.view_is)
+    (next_inside c.self.inside.next.items c.self.inside.before.items c.self.invariant c.args.trip))

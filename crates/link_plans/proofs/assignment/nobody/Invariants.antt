@@ -1,0 +1,6 @@
+-- So many times none so far.
+use Rattle.std.proofs.Common.{◌≡◌, replicate, None}
+use Rattle.link_plans.proofs.assignment.nobody.Given as goal
+
+abbrev pub invariant-loop-trip : goal.invariant-loop-trip
+invariant-loop-trip l = l.made.items ≡ replicate l._trip None

@@ -1,0 +1,22 @@
+use Rattle.std.proofs.Common.{◌<◌, [], length, ap, sym, ◌∙◌, subst, arith, map}
+use Rattle.std.proofs.lemmas.List.{get_or-map, length-map}
+use Rattle.link_plans.specs.Links.{links_in}
+use Rattle.link_plans.specs.LinkRows.{IsRow}
+use Rattle.link_plans.proofs.link_table.LinkTable.row.Goals as goal
+
+pub returns : goal.returns
+returns c =
+    let lists = map (λ row. row.items) c.self.inside.rows.items in
+    let within : c.args.trip < length lists =
+    subst (λ rows. c.args.trip < length rows) (sym c.self.view_is) c.requires in
+    let inside : c.args.trip < length c.self.inside.rows.items = omega (
+      arith,
+      within,
+      length-map c.self.inside.rows.items (λ row. row.items),
+    ) in
+    subst (λ rows. IsRow (links_in rows) c.args.trip (length rows) c.deref.result.now)
+    c.self.view_is
+    (subst (IsRow (links_in lists) c.args.trip (length lists))
+    (get_or-map (λ row. row.items) c.self.inside.rows.items c.args.trip c.index.result.now [] inside
+    ∙ ap (λ row. row.items) (sym c.index.ensures) ∙ sym c.deref.ensures.value)
+    (c.self.invariant.rows_are.row c.args.trip within))

@@ -1,0 +1,6 @@
+-- So many trips have no successor so far.
+use Rattle.std.proofs.Common.{◌≡◌, replicate, None}
+use Rattle.link_plans.proofs.plan.Plan.empty.Given as goal
+
+abbrev pub invariant-loop-trip : goal.invariant-loop-trip
+invariant-loop-trip l = l.successors.items ≡ replicate l._trip None

@@ -1,0 +1,107 @@
+-- Flags that tell which places are claimed.
+use Rattle.std.proofs.Common.{◌≡◌, ℕ, zero, suc, ◌<◌, ◌≤◌, ◌+◌, true, false, is_some, Bool, List}
+use Rattle.std.proofs.Common.{[], ◌∷◌, ◌++◌, length, get_or, slice_get, slice_set, replicate}
+use Rattle.std.proofs.Common.{Option, Some, None, refl, ap, sym, ◌∙◌, arith, get_or-set_same}
+use Rattle.std.proofs.Common.{get_or-set_other}
+use Rattle.std.proofs.lemmas.List.{length-set, length-replicate}
+use Rattle.std.proofs.lemmas.Option.{none-some, same_Some, slice_get_within}
+use Rattle.link_plans.proofs.Linking.{by_number}
+use Rattle.plan_search.specs.declared.claim.Claim.{Claim}
+use Rattle.plan_search.specs.Claims.{ClaimsParts, claim_at, AreFlagged}
+use Rattle.plan_search.proofs.ClaimLists.{all_none, claimed_more, no_claims, none_at}
+
+all_unset : (flags : List Bool) → ((i : ℕ) → i < length flags → get_or flags i false ≡ false)
+    → flags ≡ replicate (length flags) false
+all_unset [] none = refl
+all_unset (flag ∷ flags) none = ap (λ first. first ∷ flags) (none 0 (omega arith))
+    ∙ ap (λ rest. false ∷ rest) (all_unset flags (λ i h. none (suc i) (omega (arith, h))))
+
+unset_at : (n i : ℕ) → get_or (replicate n false) i false ≡ false
+unset_at zero i = refl
+unset_at (suc n) zero = refl
+unset_at (suc n) (suc i) = unset_at n i
+
+abbrev no_claim : Option Claim
+no_claim = None
+
+-- no place is claimed
+pub none_flagged : (n : ℕ) → AreFlagged (record { at = replicate n None; order = [] }) (replicate n false)
+none_flagged n = grind (arith, no_claims, length-replicate, unset_at, is_some, none_at)
+
+-- what a flag tells
+pub flag_there : (claims : ClaimsParts) (flags : List Bool) (place : ℕ) → AreFlagged claims flags
+    → get_or flags place false ≡ is_some (claim_at claims place)
+flag_there claims flags place are = are.flag place
+
+-- one place more is claimed
+pub flagged_more : (claims : ClaimsParts) (flags : List Bool) → AreFlagged claims flags → (place : ℕ) (found : Claim)
+    → place < length claims.at → claim_at claims place ≡ None → found.step ≡ length claims.order
+    → (order : List ℕ) → order ≡ claims.order ++ place ∷ []
+    → AreFlagged (record { at = slice_set claims.at place (Some found); order = order }) (slice_set flags place true)
+flagged_more claims flags are place found inside open_place step order is = record {
+  claims_are = claimed_more claims are.claims_are place found inside open_place step order is;
+  each = length-set flags place true ∙ are.each ∙ sym (length-set claims.at place (Some found));
+  flag = λ other. by_number other place
+      (λ here. ap (λ k. get_or (slice_set flags place true) k false) here
+      ∙ get_or-set_same flags place true false (omega (arith, inside, are.each))
+      ∙ ap is_some (sym (ap (λ k. get_or (slice_set claims.at place (Some found)) k None) here
+      ∙ get_or-set_same claims.at place (Some found) None inside)))
+      (λ apart. get_or-set_other flags place other true false apart ∙ are.flag other
+      ∙ ap is_some (sym (get_or-set_other claims.at place other (Some found) None apart)));
+}
+
+-- the claims that stand in an order from a step on are left
+pub record AreLeft (size : ℕ) (order : List ℕ) (step : ℕ) (claims : List (Option Claim))
+    (flags : List Bool) : Type 0 where
+  pub each : length claims ≡ size
+  pub flags_each : length flags ≡ size
+  pub flag : (place : ℕ) → get_or flags place false ≡ is_some (get_or claims place None)
+  pub later : (place : ℕ) (found : Claim) → get_or claims place None ≡ Some found
+      → (step ≤ found.step) × (slice_get order found.step ≡ Some place)
+
+-- one of them is taken back
+pub left_more : (size : ℕ) (order : List ℕ) (step place : ℕ) (claims : List (Option Claim))
+    (flags : List Bool) → AreLeft size order step claims flags → slice_get order step ≡ Some place → place < size
+    → AreLeft size order (step + 1) (slice_set claims place None) (slice_set flags place false)
+left_more size order step place claims flags are at_step inside = record {
+  each = length-set claims place None ∙ are.each;
+  flags_each = length-set flags place false ∙ are.flags_each;
+  flag = λ other. by_number other place
+      (λ here. ap (λ k. get_or (slice_set flags place false) k false) here
+      ∙ get_or-set_same flags place false false (omega (arith, inside, are.flags_each))
+      ∙ ap is_some (sym (gone other here)))
+      (λ apart. get_or-set_other flags place other false false apart ∙ are.flag other
+      ∙ ap is_some (sym (get_or-set_other claims place other None None apart)));
+  later = λ other found e. by_number other place
+      (λ here. absurd (none-some found (sym (gone other here) ∙ e)))
+      (λ apart.
+      let old = are.later other found
+      (sym (get_or-set_other claims place other None None apart) ∙ e) in
+      by_number found.step step
+      (λ same. absurd (apart (same_Some other place
+      (sym old.1 ∙ ap (slice_get order) same ∙ at_step))))
+      (λ past. (omega (arith, old.0, past), old.1)));
+}
+  where
+    gone : (other : ℕ) → other ≡ place → get_or (slice_set claims place None) other None ≡ None
+    gone other here = ap (λ k. get_or (slice_set claims place None) k None) here
+        ∙ get_or-set_same claims place None None (omega (arith, inside, are.each))
+
+-- in the end none is
+pub left_none : (size : ℕ) (order : List ℕ) (step : ℕ) (claims : List (Option Claim))
+    (flags : List Bool) → AreLeft size order step claims flags → length order ≤ step
+    → (claims ≡ replicate size None) × (flags ≡ replicate size false)
+left_none size order step claims flags are past = (
+  all_none claims (λ place _. none place (get_or claims place None) refl)
+      ∙ ap (λ n. replicate n None) are.each,
+  all_unset flags (λ place _. are.flag place
+      ∙ ap is_some (none place (get_or claims place None) refl))
+      ∙ ap (λ n. replicate n false) are.flags_each,
+)
+  where
+    none : (place : ℕ) (claim : Option Claim) → get_or claims place None ≡ claim
+        → get_or claims place None ≡ None
+    none place None e = e
+    none place (Some found) e =
+        let old = are.later place found e in
+        absurd (omega (arith, past, old.0, slice_get_within order found.step place old.1))

@@ -1,0 +1,16 @@
+pub mod Bidding
+pub mod ClaimLists
+pub mod Claiming
+pub mod Flags
+pub mod Grown
+pub mod HandingOn
+pub mod Judged
+pub mod LinkLooks
+pub mod MovedOne
+pub mod NearPlaces
+pub mod NearSlacks
+pub mod Parted
+pub mod Shifting
+pub mod Shifts
+pub mod TakenIn
+pub mod Told

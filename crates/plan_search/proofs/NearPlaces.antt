@@ -1,0 +1,120 @@
+-- The nearest place among those that were looked at.
+use Rattle.std.proofs.Common.{◌≡◌, inl, inr, ℕ, ◌<◌, ◌≤◌, ◌+◌, List, length, get_or, replicate}
+use Rattle.std.proofs.Common.{Option, Some, None, MatchOption, IfSome, refl, ap, sym, ◌∙◌, subst}
+use Rattle.std.proofs.Common.{arith}
+use Rattle.std.proofs.lemmas.Bool.{false≢true}
+use Rattle.std.proofs.lemmas.Option.{none-some}
+use Rattle.link_plans.proofs.Linking.{by_number}
+use Rattle.plan_search.specs.declared.claim.Claim.{Claim}
+use Rattle.plan_search.specs.declared.near.Near.{Near}
+use Rattle.plan_search.specs.Claims.{ClaimsParts, claim_at}
+use Rattle.plan_search.specs.Growing.{open_near, shifted, IsNearestPlace, IsNearerOf, IsBetter}
+use Rattle.plan_search.proofs.ClaimLists.{all_none}
+use Rattle.plan_search.proofs.Told.{IsTold}
+
+-- nothing is near any place
+pub forgotten_all : (old now : List (Option Near)) (done : ℕ) → IsTold None (λ i. None) old now done
+    → length old ≤ done → now ≡ replicate (length old) None
+forgotten_all old now done are past = grind (arith, all_none)
+
+-- without a slack nothing is nearer than it was
+pub unmoved : (claim : Option Claim) (slack : ℕ) (near : Option Near) → slack ≡ 0
+    → near ≡ shifted claim slack near
+unmoved (Some found) slack near none = refl
+unmoved None slack None none = refl
+unmoved None slack (Some near) none = grind arith
+
+-- the nearest place among the first ones
+pub record IsBestBefore (claims : ClaimsParts) (nears : List (Option Near)) (place : ℕ) (at : ℕ) (near : Near) : Type 0 where
+  pub within : at < place
+  pub is : open_near (claim_at claims at) (get_or nears at None) ≡ Some near
+  pub least : (other : ℕ) → other < place
+      → IfSome (open_near (claim_at claims other) (get_or nears other None)) (λ it. near.slack ≤ it.slack)
+
+abbrev pub IsBest : ClaimsParts → List (Option Near) → ℕ → Option (ℕ × Near) → Type 0
+IsBest claims nears place best = MatchOption best
+    ((other : ℕ) → other < place → open_near (claim_at claims other) (get_or nears other None) ≡ None)
+    (λ found. IsBestBefore claims nears place found.0 found.1)
+
+module _ (claims : ClaimsParts) (nears : List (Option Near)) (place : ℕ) where
+  abbrev near_at : ℕ → Option Near
+  near_at other = open_near (claim_at claims other) (get_or nears other None)
+
+  -- a place more at which nothing is near
+  best_none : (best : Option (ℕ × Near)) → IsBest claims nears place best → near_at place ≡ None
+      → IsBest claims nears (place + 1) best
+  best_none None are none = grind arith
+  best_none (Some found) are none = grind arith
+
+  -- the first place at which something is near
+  best_first : (near : Near) → IsBest claims nears place None → near_at place ≡ Some near
+      → IsBest claims nears (place + 1) (Some (place, near))
+  best_first near are is = grind arith
+
+  -- a nearer one, or not
+  best_of : (best found : ℕ × Near) (near : Near) → IsBestBefore claims nears place best.0 best.1
+      → near_at place ≡ Some near → IsNearerOf best (place, near) found
+      → IsBestBefore claims nears (place + 1) found.0 found.1
+  best_of best found near are is nearer = record {
+    within = elim nearer.one as (λ _. found.0 < place + 1) [
+      | inl same ↦ omega (arith, are.within, ap (λ x. x.0) same)
+      | inr other ↦ omega (arith, ap (λ x. x.0) other)
+    ];
+    is = elim nearer.one as (λ _. near_at found.0 ≡ Some found.1) [
+      | inl same ↦ subst (λ x. near_at x.0 ≡ Some x.1) (sym same) are.is
+      | inr other ↦ subst (λ x. near_at x.0 ≡ Some x.1) (sym other) is
+    ];
+    least = λ other before. by_number other place
+        (λ same. subst (λ it. IfSome it (λ x. found.1.slack ≤ x.slack)) (sym is ∙ ap near_at (sym same)) nearer.after)
+        (λ apart. lower (near_at other) (are.least other (omega (arith, before, apart))));
+  }
+    where
+      lower : (it : Option Near) → IfSome it (λ x. best.1.slack ≤ x.slack)
+          → IfSome it (λ x. found.1.slack ≤ x.slack)
+      lower None h = tt
+      lower (Some x) h = omega (arith, h, nearer.before)
+
+  -- one place more
+  pub best_more : (best : Option (ℕ × Near)) (near : Option Near) (found : Option (ℕ × Near))
+      → IsBest claims nears place best → near ≡ near_at place → IsBetter best place near found
+      → IsBest claims nears (place + 1) found
+  best_more best None found are is better =
+      subst (IsBest claims nears (place + 1)) (sym better) (best_none best are (sym is))
+  best_more None (Some near) found are is better =
+      subst (IsBest claims nears (place + 1)) (sym better) (best_first near are (sym is))
+  best_more (Some best) (Some near) None are is better = absurd (false≢true better.1)
+  best_more (Some best) (Some near) (Some found) are is better =
+      best_of best found near are (sym is) better.0
+
+open_is : (claim : Option Claim) (near : Option Near) (found : Near) → open_near claim near ≡ Some found
+    → (claim ≡ None) × (near ≡ Some found)
+open_is None near found e = (refl, e)
+open_is (Some claim) near found e = absurd (none-some found e)
+
+-- a place at which the slack is 0 is the nearest
+pub exact_is_nearest : (claims : ClaimsParts) (nears : List (Option Near)) (place : ℕ) (near : Near)
+    → place < length nears → near.slack ≡ 0
+    → open_near (claim_at claims place) (get_or nears place None) ≡ Some near
+    → IsNearestPlace claims nears place near
+exact_is_nearest claims nears place near within exact is =
+    let there = open_is (claim_at claims place) (get_or nears place None) near is in
+    record {
+      within = within;
+      open_place = there.0;
+      is = there.1;
+      least = λ other inside free. any (get_or nears other None);
+    }
+  where
+    any : (it : Option Near) → IfSome it (λ x. near.slack ≤ x.slack)
+    any None = tt
+    any (Some x) = omega (arith, exact)
+
+-- the nearest of all places
+pub best_all : (claims : ClaimsParts) (nears : List (Option Near)) (done : ℕ) (best : Option (ℕ × Near))
+    → IsBest claims nears done best → done ≡ length nears
+    → MatchOption best
+    ((place : ℕ) → place < length nears → claim_at claims place ≡ None → get_or nears place None ≡ None)
+    (λ found. IsNearestPlace claims nears found.0 found.1)
+best_all claims nears done None are all = λ place within free.
+    ap (λ claim. open_near claim (get_or nears place None)) (sym free) ∙ are place (omega (arith, within, all))
+best_all claims nears done (Some found) are all = grind arith

@@ -1,0 +1,11 @@
+-- The trips that have places are taken in, and a trip bids next.
+use Rattle.std.proofs.Common.{◌<◌, length}
+use Rattle.link_plans.specs.Links.{links_in}
+use Rattle.plan_search.specs.Growing.{IsTaken}
+use Rattle.plan_search.proofs.cheapest.bid_on.Given as goal
+
+abbrev pub invariant-loop-turn : goal.invariant-loop-turn
+invariant-loop-turn l = record {
+  taken : IsTaken (links_in l.trips) l.potentials l.assignment;
+  within : l.bidder < length l.trips;
+}

@@ -1,0 +1,23 @@
+//! The search for a plan of links that gains the most: a round of bids, then each trip that is left
+//! taken in along a least walk, with potentials that are valid for the plan.
+#![tactic(auto)]
+
+mod bid;
+mod cells;
+mod cheapest;
+mod claim;
+mod components;
+mod exchange;
+mod growing;
+mod handing;
+mod hints;
+mod near;
+mod nearest;
+mod parting;
+mod shift;
+mod taking;
+
+pub use cheapest::best_plan;
+pub use claim::{Claim, Claims};
+pub use handing::hand_on;
+pub use parting::are_met;
