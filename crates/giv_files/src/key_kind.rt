@@ -2,9 +2,9 @@
 ghost use Rattle.std.specs.Prelude.{◌≡◌};
 ghost use Rattle.giv_files.specs.KeyKinds.{least, greatest, wait_of, spelled_as};
 
-use tables::is_same;
 use crate::key_words::KeyWords;
 use plan_num::{parse_fixed, parse_whole};
+use tables::is_same;
 
 /// What the value of a key may be.
 #[derive(Clone, Copy, Debug, PartialEq, Eq)]

@@ -6,8 +6,8 @@ ghost use Rattle.giv_files.specs.StageNames.{stage_name};
 ghost use Rattle.tables.specs.Reading.{place_of};
 ghost use Rattle.giv_files.specs.Stages.{places};
 
-use tables::{is_same, place_among};
 use crate::stage::Stage;
+use tables::{is_same, place_among};
 
 const LOAD_SOURCES: &[&str] = &["od", "file"];
 

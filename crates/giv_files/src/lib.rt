@@ -26,7 +26,8 @@ pub use report::{count_text, report_line};
 pub use setting::Setting;
 pub use settings::Settings;
 pub use stage::Stage;
-pub use tables::{ColumnKind, Counted, FileId, ReadFault, Record, Refusal, RowFault, RowFold, RowLimit};
-pub use tables::{RowTests, RowWhy, StageFault, Table, TextRow, TextRows, WordTable};
-pub use tables::{fold_file, fold_rows, push_line, read_cells, read_file, read_input, read_records};
-pub use tables::{read_table, rows_of, too_many, write_table};
+pub use tables::{
+    ColumnKind, Counted, FileId, ReadFault, Record, Refusal, RowFault, RowFold, RowLimit, RowTests,
+    RowWhy, StageFault, Table, TextRow, TextRows, WordTable, fold_file, fold_rows, push_line,
+    read_cells, read_file, read_input, read_records, read_table, rows_of, too_many, write_table,
+};

@@ -1,10 +1,10 @@
 // What a stage makes.
 ghost use Rattle.std.specs.Prelude.{◌≡◌, ◌<◌, ◌∷◌, ◌++◌, [], length, slice_get, Some, OnOk, OnErr};
 
-use tables::FileId;
 use plan_num::{NoMemory, Text};
 use std::alloc::Global;
 use std::marker::Model;
+use tables::FileId;
 
 /// A file that was made, with its text.
 #[derive(Debug, Drop)]

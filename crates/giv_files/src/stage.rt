@@ -4,8 +4,8 @@ ghost use Rattle.giv_files.specs.StageNames.{stage_name};
 ghost use Rattle.giv_files.specs.Keys.{has_key};
 ghost use Rattle.giv_files.specs.Stages.{all_stages, places, stage_tag, stage_inputs, stage_makes};
 
-use tables::FileId;
 use crate::key::Key;
+use tables::FileId;
 
 /// A stage of the chain, in the order in which the stages run.
 #[derive(Clone, Copy, Debug, PartialEq, Eq)]

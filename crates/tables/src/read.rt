@@ -6,9 +6,8 @@ use crate::column::ColumnKind;
 use crate::read_fault::{ReadFault, RowFault};
 use crate::row_why::RowWhy;
 use crate::table::Table;
-use text_fields::TextRow;
-use text_fields::TextRows;
 use std::alloc::Global;
+use text_fields::{TextRow, TextRows};
 
 /// All rows of a text. The one fault is a byte order mark, which is refused as row 1.
 pub fn rows_of<'a>(alloc: Global, text: &'a [u8]) -> Result<TextRows<'a>, RowFault>

@@ -11,9 +11,9 @@ use crate::column::ColumnKind;
 use crate::plain_cell::plain_cell;
 use crate::read_fault::{ReadFault, RowFault};
 use crate::row_why::RowWhy;
-use text_fields::TextRow;
 use csv::ByteRecord;
 use plan_num::NoMemory;
+use text_fields::TextRow;
 
 /// Appends the cells that the fields of a row make, of which there are as many as columns.
 pub(crate) fn push_cells(

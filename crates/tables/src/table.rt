@@ -7,10 +7,10 @@ use crate::column::ColumnKind;
 use crate::read_fault::{ReadFault, RowFault};
 use crate::row_cells::push_cells;
 use crate::row_why::RowWhy;
-use text_fields::TextRow;
 use plan_num::NoMemory;
 use std::alloc::Global;
 use std::marker::Model;
+use text_fields::TextRow;
 
 /// Rows of whole cells, each with a row number. Contracts see it as the list of its rows.
 #[derive(Debug)]
