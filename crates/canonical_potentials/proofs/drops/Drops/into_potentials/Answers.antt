@@ -7,8 +7,8 @@ use Rattle.canonical_potentials.proofs.PassedRows.{passed_valid, passed_canonica
 use Rattle.canonical_potentials.proofs.Settled.{made_is, settled_small}
 use Rattle.canonical_potentials.proofs.drops.Drops.into_potentials.Goals as goal
 
-pub invariant_of-result : goal.invariant_of-result
-invariant_of-result c =
+pub of_numbers-requires : goal.of_numbers-requires
+of_numbers-requires c =
     let links = links_in c.args.trips.now in
     let drops : DropParts = record {
       root = c.self.inside.root;
@@ -17,8 +17,8 @@ invariant_of-result c =
     } in
     let known = subst (IsSearched links c.args.plan.now) (sym c.self.view_is) c.requires.known in
     let same = made_is drops _ _
-    (c.in_ok-below.ensures ∙ ap (map (λ number. c.self.inside.root - number)) c.deref.ensures.value)
-    (c.in_ok-above.ensures ∙ ap (map (λ number. number - c.self.inside.root)) c.deref-2.ensures.value) in
+    (c.in_ok-u.ensures ∙ ap (map (λ number. c.self.inside.root - number)) c.deref.ensures.value)
+    (c.in_ok-v.ensures ∙ ap (map (λ number. number - c.self.inside.root)) c.deref-2.ensures.value) in
     subst ArePotentials (sym same)
     (settled_small links c.args.plan.now drops known c.len.ensures.links)
 
@@ -33,9 +33,9 @@ returns-clause-least c =
     let known = subst (IsSearched links c.args.plan.now) (sym c.self.view_is) c.requires.known in
     let kept = subst (ArePassed links c.args.plan.now) (sym c.self.view_is) c.requires.kept in
     let same = made_is drops _ _
-    (c.in_ok-below.ensures ∙ ap (map (λ number. c.self.inside.root - number)) c.deref.ensures.value)
-    (c.in_ok-above.ensures ∙ ap (map (λ number. number - c.self.inside.root)) c.deref-2.ensures.value) in
-    subst (AreCanonical links c.args.plan.now) (sym same)
+    (c.in_ok-u.ensures ∙ ap (map (λ number. c.self.inside.root - number)) c.deref.ensures.value)
+    (c.in_ok-v.ensures ∙ ap (map (λ number. number - c.self.inside.root)) c.deref-2.ensures.value) in
+    subst (AreCanonical links c.args.plan.now) (sym (c.of_numbers.ensures ∙ same))
     (passed_canonical links c.len.ensures.links c.args.plan.now drops known kept)
 
 pub returns-clause-valid : goal.returns-clause-valid
@@ -49,7 +49,7 @@ returns-clause-valid c =
     let known = subst (IsSearched links c.args.plan.now) (sym c.self.view_is) c.requires.known in
     let kept = subst (ArePassed links c.args.plan.now) (sym c.self.view_is) c.requires.kept in
     let same = made_is drops _ _
-    (c.in_ok-below.ensures ∙ ap (map (λ number. c.self.inside.root - number)) c.deref.ensures.value)
-    (c.in_ok-above.ensures ∙ ap (map (λ number. number - c.self.inside.root)) c.deref-2.ensures.value) in
-    subst (AreValid links c.args.plan.now) (sym same)
+    (c.in_ok-u.ensures ∙ ap (map (λ number. c.self.inside.root - number)) c.deref.ensures.value)
+    (c.in_ok-v.ensures ∙ ap (map (λ number. number - c.self.inside.root)) c.deref-2.ensures.value) in
+    subst (AreValid links c.args.plan.now) (sym (c.of_numbers.ensures ∙ same))
     (passed_valid links c.len.ensures.links c.args.plan.now drops known kept)
