@@ -18,7 +18,7 @@ use Rattle.giv_files.specs.Settings.{BundleParts, Fits, SettingsFit}
 use Rattle.giv_files.specs.StageCalls.{input_text}
 use Rattle.giv_files.proofs.Named.{AllName, input_names, names_both, names_or_else, refused_names}
 use Rattle.giv_files.proofs.SettingFacts.{amount_within}
-use Rattle.pesp_model.specs.Timetables.{first_broken}
+use Rattle.pesp.specs.Timetables.{first_broken}
 use Rattle.pesp_search.specs.Judged.{times_in}
 use Rattle.pesp_search.specs.PinnedTimetables.{pinned_input, pinned_timetable_faults, pinned_timetable_stage}
 use Rattle.pesp_search.specs.PinnedTimetables.{tension_faults, times_kept}

@@ -7,9 +7,9 @@ ghost use Rattle.giv_files.specs.declared.file_id.FileId.TheVariants as file;
 ghost use Rattle.pesp_search.specs.PinnedTimetables.{times_kept};
 ghost use Rattle.pesp_search.specs.TimetableStage.{time_rows, times_made, times_text};
 
-use crate::search::FoundTimes;
 use event_tables::{PeriodicTime, periodic_times_text};
 use giv_files::{FileId, Made, MadeFile, MadeList, Stage, count_text, report_line};
+use pesp::FoundTimes;
 use plan_num::{NoMemory, Text};
 use std::alloc::Global;
 

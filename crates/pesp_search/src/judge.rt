@@ -13,7 +13,7 @@ ghost use Rattle.pesp_search.specs.Judged.{is_time_of};
 
 use crate::fault::TimetableFault;
 use giv_files::{ReadFault, Table, columns, read_table};
-use pesp_model::Pesp;
+use pesp::Pesp;
 use plan_num::NoMemory;
 use std::alloc::Global;
 
