@@ -33,7 +33,7 @@ use Rattle.event_tables.specs.Trips.{trip_input}
 use Rattle.event_tables.proofs.SoundFiles.{expanded_activities_sound, expanded_events_sound, periodic_activities_sound, periodic_events_sound}
 use Rattle.event_tables.proofs.SoundTimes.{disposed_times_sound}
 use Rattle.event_tables.proofs.SoundTrips.{schedule_rows_sound}
-use Rattle.pesp_model.proofs.LeastTensions.{rest}
+use Rattle.pesp.proofs.LeastTensions.{rest}
 use Rattle.delay_management.specs.Lateness.{arrives, is_missed, lateness}
 use Rattle.delay_management.specs.LeastTimes.{later, latest}
 use Rattle.delay_management.specs.Problems.{delayed, is_of}

@@ -13,7 +13,7 @@ use Rattle.event_tables.specs.declared.schedule_row.ScheduleRow.{ScheduleRow}
 use Rattle.event_tables.specs.RunRules.{same_kind}
 use Rattle.event_tables.specs.Schedules.{is_empty_row}
 use Rattle.pesp_model.specs.PespTexts.{event_index}
-use Rattle.pesp_model.specs.Timetables.{tension}
+use Rattle.pesp.specs.Timetables.{tension}
 use Rattle.delay_management.specs.Lateness.{delay_at, missed_at}
 use Rattle.delay_management.specs.LeastTimes.{latest}
 use Rattle.delay_management.specs.Problems.{activities_of}

@@ -12,9 +12,9 @@ use Rattle.event_tables.specs.declared.periodic_activity.PeriodicActivity.{Perio
 use Rattle.event_tables.specs.declared.periodic_event.PeriodicEvent.{PeriodicEvent}
 use Rattle.event_tables.specs.Cells.{periodic_activity_cells}
 use Rattle.event_tables.specs.PeriodicFiles.{periodic_event_input, periodic_activity_input, periodic_event_ids, ArePeriodicActivities}
-use Rattle.pesp_model.specs.declared.activity.PespActivity.{PespActivity}
+use Rattle.pesp.specs.declared.activity.PespActivity.{PespActivity}
 use Rattle.pesp_model.specs.PespTexts.{activity_of, events_of, activities_of, problem_of, problem_faults}
-use Rattle.pesp_model.specs.Timetables.{IsActivity, IsProblem}
+use Rattle.pesp.specs.Timetables.{IsActivity, IsProblem}
 
 -- the file of activities between some events
 abbrev activities_between : List PeriodicEvent → Input PeriodicActivity

@@ -8,9 +8,9 @@ use Rattle.tables.specs.Inputs.{input_faults, row_faults}
 use Rattle.tables.specs.Reading.{faults, table_of, cells_from, cell_of, errors, values, row_whys}
 use Rattle.text_fields.specs.Rows.{rows, cleaned}
 use Rattle.plan_num.specs.Number.{spelling_of, value_of, value_at, fixed_of, whole_of}
-use Rattle.pesp_model.specs.declared.activity.PespActivity.{PespActivity}
+use Rattle.pesp.specs.declared.activity.PespActivity.{PespActivity}
 use Rattle.pesp_model.specs.PespTexts.{events_of, activities_of, problem_of, problem_faults}
-use Rattle.pesp_model.specs.Timetables.{Problem, IsKept, IsTension, tension, time_of, first_broken}
+use Rattle.pesp.specs.Timetables.{Problem, IsKept, IsTension, tension, time_of, first_broken}
 
 -- the tension goes past the end of the period
 around : tension 20 (pos 2) 4 0 ≡ pos 16

@@ -1,2 +1,1 @@
 pub mod PespTexts
-pub mod Timetables

@@ -5,8 +5,8 @@ use Rattle.tables.specs.Inputs.{input_faults, records_of}
 use Rattle.event_tables.specs.declared.periodic_activity.PeriodicActivity.{PeriodicActivity}
 use Rattle.event_tables.specs.declared.periodic_event.PeriodicEvent.{PeriodicEvent}
 use Rattle.event_tables.specs.PeriodicFiles.{periodic_event_input, periodic_activity_input, periodic_event_ids}
-use Rattle.pesp_model.specs.declared.activity.PespActivity.{PespActivity}
-use Rattle.pesp_model.specs.Timetables.{Problem}
+use Rattle.pesp.specs.declared.activity.PespActivity.{PespActivity}
+use Rattle.pesp.specs.Timetables.{Problem}
 
 -- the index of the event of an id; ids are places, which count from 1
 abbrev pub event_index : ℕ → ℕ

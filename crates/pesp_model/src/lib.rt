@@ -1,10 +1,8 @@
-//! Periodic event scheduling: problems, timetables and tensions.
+//! Periodic event scheduling problems of the texts of a dataset. What they mean, and what is proved
+//! of them, stands in `pesp`.
 #![tactic(auto)]
 
-mod activity;
-mod pesp;
-mod tensions;
+mod read_texts;
 
-pub use activity::PespActivity;
-pub use pesp::Pesp;
-pub use tensions::tension;
+pub use pesp::{PespActivity, tension};
+pub use read_texts::{Pesp, problem_of_texts};

@@ -14,8 +14,8 @@ use Rattle.tables.specs.Tables.{TableRow}
 use Rattle.event_tables.specs.declared.periodic_time.PeriodicTime.{PeriodicTime}
 use Rattle.event_tables.specs.Cells.{periodic_time}
 use Rattle.tables.specs.RowsOfTables.{ReadsAs, records_by}
-use Rattle.pesp_model.specs.Timetables.{IsProblem, IsTimetable, Problem, first_broken}
-use Rattle.pesp_model.proofs.FirstBroken.{first_is, none_is}
+use Rattle.pesp.specs.Timetables.{IsProblem, IsTimetable, Problem, first_broken}
+use Rattle.pesp.proofs.FirstBroken.{first_is, none_is}
 use Rattle.pesp_search.specs.declared.fault.TimetableFault.{TimetableFault}
 use Rattle.pesp_search.specs.declared.fault.TimetableFault.TheVariants as fault
 use Rattle.pesp_search.specs.Judged.{Passes, are_in_order, broken_rows, first_broken_rule, is_table, is_time_of}

@@ -19,7 +19,7 @@ use Rattle.giv_files.specs.StageCalls.{input_text}
 use Rattle.tables.proofs.Named.{AllName, input_names, names_both, names_or_else}
 use Rattle.giv_files.proofs.StageCalls.{refused_names}
 use Rattle.giv_files.proofs.SettingFacts.{amount_within}
-use Rattle.pesp_model.specs.Timetables.{first_broken}
+use Rattle.pesp.specs.Timetables.{first_broken}
 use Rattle.pesp_search.specs.Judged.{times_in}
 use Rattle.pesp_search.specs.PinnedTimetables.{pinned_input, pinned_timetable_faults, pinned_timetable_stage}
 use Rattle.pesp_search.specs.PinnedTimetables.{tension_faults, times_kept}

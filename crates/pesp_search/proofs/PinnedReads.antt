@@ -19,8 +19,8 @@ use Rattle.event_tables.specs.Cells.{periodic_time_cells}
 use Rattle.event_tables.specs.PeriodicFiles.{periodic_time_input, ArePeriodicTimes}
 use Rattle.event_tables.proofs.SoundTimes.{periodic_times_sound}
 use Rattle.pesp_model.specs.PespTexts.{events_of, problem_of}
-use Rattle.pesp_model.specs.Timetables.{first_broken, IsTimetable}
-use Rattle.pesp_model.proofs.FirstBroken.{first_is}
+use Rattle.pesp.specs.Timetables.{first_broken, IsTimetable}
+use Rattle.pesp.proofs.FirstBroken.{first_is}
 use Rattle.pesp_search.specs.Judged.{rows_in, times_in}
 use Rattle.pesp_search.specs.PinnedTimetables.{pinned_input, pinned_timetable_faults, pinned_timetable_stage, times_kept}
 use Rattle.pesp_search.specs.RightTimetables.{TimetableFilesAreRight}

@@ -19,7 +19,7 @@ use Rattle.tables.proofs.Ranges.{front_none}
 use Rattle.event_tables.specs.declared.periodic_event.PeriodicEvent.{PeriodicEvent}
 use Rattle.event_tables.specs.PeriodicFiles.{periodic_event_ids, periodic_event_input, periodic_time_input}
 use Rattle.pesp_model.specs.PespTexts.{events_of, problem_faults}
-use Rattle.pesp_model.specs.Timetables.{Problem, first_broken}
+use Rattle.pesp.specs.Timetables.{Problem, first_broken}
 use Rattle.pesp_search.specs.Judged.{times_in}
 use Rattle.pesp_search.specs.PinnedTimetables.{pinned_input, pinned_timetable_faults, pinned_timetable_stage}
 use Rattle.pesp_search.specs.PinnedTimetables.{tension_faults, times_kept}

@@ -14,13 +14,13 @@ use Rattle.giv_files.specs.Settings.{BundleParts}
 use Rattle.giv_files.specs.StageCalls.{StageGives, TakesSteps}
 use Rattle.tables.specs.Writing.{InColumns}
 use Rattle.event_tables.specs.Cells.{periodic_time_cells}
-use Rattle.pesp_model.specs.Timetables.{IsProblem, IsTimetable, Problem}
-use Rattle.pesp_search.specs.declared.search.FoundTimes.{FoundTimes}
-use Rattle.pesp_search.specs.Listings.{Tells, TimesFound, entries_listed, listing, result_within, whole_result}
-use Rattle.pesp_search.specs.Searches.{SearchGives}
+use Rattle.pesp.specs.Timetables.{IsProblem, IsTimetable, Problem}
+use Rattle.pesp.specs.declared.search.FoundTimes.{FoundTimes}
+use Rattle.pesp.specs.Listings.{Tells, entries_listed, listing}
+use Rattle.pesp_search.specs.SearchResults.{SearchGives, TimesFound, result_within, whole_result}
 use Rattle.pesp_search.specs.TimetableStage.{after_faults, budget_in, problem_in, search_made, time_rows}
 use Rattle.pesp_search.specs.TimetableStage.{timetable_faults, timetable_stage, timetable_work, times_made, work_after}
-use Rattle.pesp_search.proofs.ListingRight.{listing_right}
+use Rattle.pesp.proofs.ListingRight.{listing_right}
 use Rattle.pesp_search.proofs.TimesAccepted.{times_fit}
 
 refused_first : (faults : List Refusal) (outcome : Result Made Refusal) (why : StageFault)

@@ -11,13 +11,13 @@ use Rattle.tables.specs.declared.refusal.StageFault.TheVariants as fault
 use Rattle.giv_files.specs.declared.stage.Stage.TheVariants as stage
 use Rattle.giv_files.specs.Settings.{BundleParts, Fits}
 use Rattle.giv_files.specs.StageCalls.{StageGives}
-use Rattle.pesp_model.specs.Timetables.{IsTimetable, Problem}
-use Rattle.pesp_search.specs.Listings.{Listing, ListingIsRight, Tells, listing, result_within}
-use Rattle.pesp_search.specs.Listings.{whole_result}
+use Rattle.pesp.specs.Timetables.{IsTimetable, Problem}
+use Rattle.pesp.specs.Listings.{Listing, ListingIsRight, Tells, listing}
+use Rattle.pesp_search.specs.SearchResults.{result_within, whole_result}
 use Rattle.pesp_search.specs.RightTimetables.{IsNeverSpent, SaysNone}
 use Rattle.pesp_search.specs.TimetableStage.{after_faults, budget_in, problem_in, search_made, timetable_faults}
 use Rattle.pesp_search.specs.TimetableStage.{timetable_stage}
-use Rattle.pesp_search.proofs.ListingRight.{listing_right}
+use Rattle.pesp.proofs.ListingRight.{listing_right}
 use Rattle.pesp_search.proofs.TimetableMakes.{inputs_fine}
 use Rattle.pesp_search.proofs.TimetableReads.{is_problem}
 

@@ -14,7 +14,8 @@ use Rattle.giv_files.specs.StageCalls.{input_text}
 use Rattle.tables.proofs.Named.{AllName, input_names, names_both, names_only}
 use Rattle.event_tables.specs.PeriodicFiles.{periodic_activity_input, periodic_event_ids, periodic_event_input}
 use Rattle.pesp_model.specs.PespTexts.{events_of, problem_faults}
-use Rattle.pesp_search.specs.Listings.{Listing, TimesFound, listing, result_within}
+use Rattle.pesp.specs.Listings.{Listing, listing}
+use Rattle.pesp_search.specs.SearchResults.{TimesFound, result_within}
 use Rattle.pesp_search.specs.TimetableStage.{after_faults, budget_in, problem_in, search_made, timetable_faults}
 use Rattle.pesp_search.specs.TimetableStage.{timetable_stage}
 

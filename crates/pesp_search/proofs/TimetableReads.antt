@@ -20,14 +20,15 @@ use Rattle.event_tables.specs.PeriodicFiles.{periodic_activity_input, periodic_e
 use Rattle.event_tables.specs.PeriodicFiles.{periodic_time_input}
 use Rattle.event_tables.proofs.SoundFiles.{periodic_activities_sound, periodic_events_sound}
 use Rattle.pesp_model.specs.PespTexts.{activities_of, activity_of, events_of, problem_faults, problem_of}
-use Rattle.pesp_model.specs.Timetables.{IsProblem, IsTimetable}
+use Rattle.pesp.specs.Timetables.{IsProblem, IsTimetable}
 use Rattle.pesp_model.proofs.Texts.{problem_sound}
-use Rattle.pesp_search.specs.Listings.{Tells, listing, result_within, whole_result}
+use Rattle.pesp.specs.Listings.{Tells, listing}
+use Rattle.pesp_search.specs.SearchResults.{result_within, whole_result}
 use Rattle.pesp_search.specs.RightTimetables.{TimetableFilesAreRight, TimetableIsRight, event_ids}
 use Rattle.pesp_search.specs.TimetableStage.{after_faults, budget_in, period_in, problem_in, search_made}
 use Rattle.pesp_search.specs.TimetableStage.{timetable_faults, timetable_stage, times_made, times_text}
 use Rattle.pesp_search.proofs.JudgedTimes.{none_broken_by}
-use Rattle.pesp_search.proofs.ListingRight.{listing_right}
+use Rattle.pesp.proofs.ListingRight.{listing_right}
 use Rattle.pesp_search.proofs.TimesAccepted.{times_accepted, times_fit, times_read}
 
 -- where the period is in its range, whatever the stage

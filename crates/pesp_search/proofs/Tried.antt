@@ -13,14 +13,15 @@ use Rattle.text_fields.specs.Rows.{rows, cleaned}
 use Rattle.giv_files.specs.Settings.{BundleParts}
 use Rattle.tables.specs.Writing.{cell_text, cell_texts, joined, table_text}
 use Rattle.plan_num.specs.Number.{spelling_of, value_of, value_at, fixed_of, whole_of}
-use Rattle.pesp_model.specs.declared.activity.PespActivity.{PespActivity}
+use Rattle.pesp.specs.declared.activity.PespActivity.{PespActivity}
 use Rattle.pesp_model.specs.PespTexts.{events_of, activities_of, problem_of, problem_faults}
-use Rattle.pesp_model.specs.Timetables.{Problem, first_broken}
+use Rattle.pesp.specs.Timetables.{Problem, first_broken}
 use Rattle.pesp_search.specs.declared.fault.TimetableFault.{TimetableFault}
 use Rattle.pesp_search.specs.declared.fault.TimetableFault.TheVariants as fault
 use Rattle.pesp_search.specs.Judged.{first_broken_rule}
-use Rattle.pesp_search.specs.Listings.{Listing, first_sets, in_turn, listing_from, listing, most_entries, result_within}
-use Rattle.pesp_search.specs.TimeSets.{round, rounds, reduced}
+use Rattle.pesp.specs.Listings.{Listing, first_sets, in_turn, listing_from, listing, most_entries}
+use Rattle.pesp_search.specs.SearchResults.{result_within}
+use Rattle.pesp.specs.TimeSets.{round, rounds, reduced}
 use Rattle.pesp_search.specs.TimetableStage.{timetable_stage, timetable_work}
 
 abbrev goes : ℕ → ℕ → ℕ → ℕ → PespActivity

@@ -7,7 +7,7 @@ use Rattle.tables.specs.Reading.{faults, table_of}
 use Rattle.event_tables.specs.declared.periodic_time.PeriodicTime.{PeriodicTime}
 use Rattle.event_tables.specs.Cells.{periodic_time}
 use Rattle.tables.specs.RowsOfTables.{ReadsAs, records_by}
-use Rattle.pesp_model.specs.Timetables.{Problem, first_broken, IsTimetable}
+use Rattle.pesp.specs.Timetables.{Problem, first_broken, IsTimetable}
 use Rattle.pesp_search.specs.declared.fault.TimetableFault.{TimetableFault}
 use Rattle.pesp_search.specs.declared.fault.TimetableFault.TheVariants as fault
 use Rattle.pesp_search.specs.TimetableStage.{time_rows}

@@ -1,11 +1,5 @@
-pub mod Cycles
-pub mod Flags
 pub mod Judged
-pub mod Listings
-pub mod Marks
-pub mod Revising
 pub mod RightTimetables
-pub mod Searches
-pub mod TimeSets
+pub mod SearchResults
 pub mod TimetableStage
 pub mod PinnedTimetables

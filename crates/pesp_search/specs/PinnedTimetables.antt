@@ -13,7 +13,7 @@ use Rattle.giv_files.specs.StageCalls.{input_text, unless_fault}
 use Rattle.event_tables.specs.PeriodicFiles.{periodic_event_ids, periodic_time_input}
 use Rattle.event_tables.specs.declared.periodic_time.PeriodicTime.{PeriodicTime}
 use Rattle.pesp_model.specs.PespTexts.{events_of}
-use Rattle.pesp_model.specs.Timetables.{first_broken}
+use Rattle.pesp.specs.Timetables.{first_broken}
 use Rattle.pesp_search.specs.Judged.{times_in}
 use Rattle.pesp_search.specs.TimetableStage.{period_in, problem_in, timetable_faults, times_text}
 

@@ -14,9 +14,9 @@ use Rattle.event_tables.specs.Cells.{periodic_time}
 use Rattle.event_tables.specs.PeriodicFiles.{periodic_event_ids, periodic_time_input}
 use Rattle.tables.specs.RowsOfTables.{ReadsAs}
 use Rattle.pesp_model.specs.PespTexts.{events_of}
-use Rattle.pesp_model.specs.Timetables.{IsTimetable}
+use Rattle.pesp.specs.Timetables.{IsTimetable}
 use Rattle.pesp_search.specs.Judged.{first_broken_rule}
-use Rattle.pesp_search.specs.Listings.{listing, most_entries}
+use Rattle.pesp.specs.Listings.{listing, most_entries}
 use Rattle.pesp_search.specs.TimetableStage.{budget_in, period_in, problem_in, time_rows}
 use Rattle.pesp_search.specs.TimetableStage.{timetable_faults}
 

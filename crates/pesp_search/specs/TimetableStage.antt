@@ -14,8 +14,9 @@ use Rattle.event_tables.specs.Cells.{periodic_time_cells}
 use Rattle.event_tables.specs.Headers.{periodic_time_header}
 use Rattle.tables.specs.RowsOfTables.{file_text}
 use Rattle.pesp_model.specs.PespTexts.{problem_of, problem_faults}
-use Rattle.pesp_model.specs.Timetables.{Problem}
-use Rattle.pesp_search.specs.Listings.{TimesFound, listing, result_within, entries_listed}
+use Rattle.pesp.specs.Timetables.{Problem}
+use Rattle.pesp.specs.Listings.{listing, entries_listed}
+use Rattle.pesp_search.specs.SearchResults.{TimesFound, result_within}
 
 -- the period of a bundle, and how many entries may be listed
 abbrev pub period_in : BundleParts → ℕ

@@ -1,28 +1,14 @@
-//! Periodic timetables: the search of one by constraint propagation, and the test of one from any
-//! hand.
+//! The stage that searches a periodic timetable, the one that takes a planner's, and the test of a
+//! timetable from any hand. The search itself stands in `pesp`.
 #![tactic(auto)]
 
 mod check;
-mod children;
-mod close;
-mod cycles;
 mod fault;
 mod files;
-mod flags;
-mod graph;
 mod judge;
-mod links;
-mod marks;
 mod pinned;
-mod prune;
-mod reduce;
-mod revise;
-mod search;
+mod searched;
 mod stage;
-mod standing;
-mod time_sets;
-mod windows;
-mod words;
 
 pub use check::check_timetable;
 pub use fault::TimetableFault;

@@ -6,18 +6,19 @@ ghost use Rattle.tables.specs.Inputs.{UnlessFault};
 ghost use Rattle.giv_files.specs.Keys.{has_key};
 ghost use Rattle.giv_files.specs.Settings.{Fits};
 ghost use Rattle.giv_files.specs.StageCalls.{StageGives, TakesSteps};
-ghost use Rattle.pesp_search.specs.Listings.{ListingIsRight, ListingIsWhole};
+ghost use Rattle.pesp.specs.Listings.{ListingIsRight, ListingIsWhole};
 ghost use Rattle.pesp_search.specs.RightTimetables.{IsNeverSpent, SaysNone, TimetableIsRight};
 ghost use Rattle.pesp_search.specs.TimetableStage.{budget_in, period_in, problem_in, timetable_faults};
 ghost use Rattle.pesp_search.specs.TimetableStage.{timetable_stage, timetable_work};
 
 use crate::files::times_made;
-use crate::search::search_times;
+use crate::searched::search_times;
 use giv_files::{Bundle, Key, Made};
-use pesp_model::Pesp;
+use tables::StageFault;
+use pesp::Pesp;
+use pesp_model::problem_of_texts;
 use plan_num::{Ledger, Steps};
 use std::alloc::Global;
-use tables::StageFault;
 
 /// Searches a periodic timetable over the inputs of the stage, with at most as many entries as the
 /// budget allows (Serafini and Ukovich 1989 state the problem).
@@ -52,8 +53,7 @@ fn searched_timetable<L: Ledger>(
 {
     steps.tick();
     let pesp = read_pesp(alloc, bundle)?;
-    let period = period_of(bundle);
-    let found = search_times(alloc, &pesp, period, budget_of(bundle), steps)?;
+    let found = search_times(alloc, &pesp, budget_of(bundle), steps)?;
     Ok(times_made(alloc, &found)?)
 }
 
@@ -66,7 +66,7 @@ pub(crate) fn read_pesp(alloc: Global, bundle: &Bundle) -> Result<Pesp, StageFau
         (λ pesp. pesp ≡ problem_in bundle.now) result }
     ensures period { IfOk result (λ pesp. pesp.period ≡ period_in bundle.now) }
 {
-    Pesp::from_texts(alloc, period_of(bundle), bundle.input(0), bundle.input(1))
+    problem_of_texts(alloc, period_of(bundle), bundle.input(0), bundle.input(1))
 }
 
 /// The period of a bundle of a stage that has one, in minutes.

@@ -21,9 +21,10 @@ use Rattle.line_search.specs.Listings.{Entry, best_after, listing}
 use Rattle.line_search.proofs.ConceptNames.{inputs_fine as concept_fine}
 use Rattle.line_search.proofs.Lengths.{listing_bound}
 use Rattle.line_search.proofs.NoConcepts.{none_told as no_concept}
-use Rattle.pesp_search.specs.Listings.{Listing, listing as times_listed, result_within as times_within, whole_result as whole_times}
+use Rattle.pesp.specs.Listings.{Listing, listing as times_listed}
+use Rattle.pesp_search.specs.SearchResults.{result_within as times_within, whole_result as whole_times}
 use Rattle.pesp_search.specs.TimetableStage.{after_faults as after_times, budget_in, problem_in, search_made as times_made, timetable_faults, timetable_stage}
-use Rattle.pesp_search.proofs.ListingRight.{listing_right}
+use Rattle.pesp.proofs.ListingRight.{listing_right}
 use Rattle.pesp_search.proofs.TimetableEnds.{none_told as no_timetable}
 use Rattle.pesp_search.proofs.TimetableMakes.{inputs_fine as times_fine}
 use Rattle.pesp_search.proofs.TimetableReads.{is_problem}

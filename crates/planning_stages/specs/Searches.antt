@@ -8,8 +8,8 @@ use Rattle.line_search.specs.ConceptStage.{budget_of}
 use Rattle.line_search.specs.GivenProblems.{problem_faults, problem_of}
 use Rattle.line_search.specs.Listings.{best_after, listing}
 use Rattle.line_search.specs.RightConcepts.{HasNone, IsEnough}
-use Rattle.pesp_model.specs.Timetables.{IsTimetable}
-use Rattle.pesp_search.specs.Listings.{listing as times_listed, most_entries}
+use Rattle.pesp.specs.Timetables.{IsTimetable}
+use Rattle.pesp.specs.Listings.{listing as times_listed, most_entries}
 use Rattle.pesp_search.specs.RightTimetables.{HasNone as HasNoTimetable}
 use Rattle.pesp_search.specs.TimetableStage.{budget_in, problem_in, timetable_faults}
 

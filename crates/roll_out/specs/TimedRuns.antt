@@ -6,7 +6,7 @@ use Rattle.event_tables.specs.declared.periodic_activity.PeriodicActivity.{Perio
 use Rattle.event_tables.specs.declared.periodic_event.PeriodicEvent.{PeriodicEvent}
 use Rattle.event_tables.specs.declared.periodic_time.PeriodicTime.{PeriodicTime}
 use Rattle.event_tables.specs.RunRules.{leads}
-use Rattle.pesp_model.specs.Timetables.{tension}
+use Rattle.pesp.specs.Timetables.{tension}
 use Rattle.roll_out.specs.declared.timed_event.TimedEvent.{TimedEvent}
 
 -- a timetable: its period, and the times of events in their order

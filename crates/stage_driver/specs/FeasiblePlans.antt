@@ -6,7 +6,7 @@ use Rattle.giv_files.specs.declared.stage.Stage.{Stage}
 use Rattle.giv_files.specs.declared.stage.Stage.TheVariants as stage
 use Rattle.line_cost_model.specs.Concepts.{IsFeasible}
 use Rattle.line_search.specs.GivenProblems.{problem_of}
-use Rattle.pesp_model.specs.Timetables.{IsTimetable}
+use Rattle.pesp.specs.Timetables.{IsTimetable}
 use Rattle.pesp_search.specs.TimetableStage.{problem_in}
 use Rattle.link_plans.specs.Plans.{IsPlan}
 use Rattle.vehicle_model.specs.ReadSchedules.{plan_of}

@@ -1,4 +1,4 @@
-use Rattle.pesp_search.proofs.ListingRight.{listing_whole}
+use Rattle.pesp.proofs.ListingRight.{listing_whole}
 use Rattle.pesp_search.proofs.TimetableEnds.{none_told, right_listing, spent_never}
 use Rattle.pesp_search.proofs.TimetableReads.{right_given}
 use Rattle.pesp_search.specs.TimetableStage.{problem_in}

@@ -1,6 +1,6 @@
 use Rattle.std.proofs.Common.{sym, subst}
 use Rattle.std.proofs.lemmas.Result.{err_from_is_err_and}
-use Rattle.pesp_model.specs.Timetables.{IsProblem}
+use Rattle.pesp.specs.Timetables.{IsProblem}
 use Rattle.pesp_search.proofs.StageResults.{found_made, search_ended, stage_refused, steps_ended}
 use Rattle.pesp_search.proofs.StageResults.{steps_found, steps_made, steps_refused, times_known}
 use Rattle.pesp_search.proofs.TimetableReads.{is_problem}

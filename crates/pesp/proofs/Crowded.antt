@@ -1,0 +1,105 @@
+-- An activity takes out nothing where more times are left than lie outside of each window.
+use Rattle.std.proofs.Common.{◌≡◌, ◌∙◌, inl, inr, ℕ, ◌+◌, ◌-◌, ◌<◌, ◌≤◌, ◌==◌, nat_le, nat_lt, Bool}
+use Rattle.std.proofs.Common.{true, false, not, ◌&&◌, ◌||◌, filter, length, refl, ap, sym, arith}
+use Rattle.std.specs.List.{range_with_len}
+use Rattle.std.proofs.lemmas.Bool.{and_parts, cases_Bool, false≢true, le-leb, leb-true, ltb-true}
+use Rattle.pesp.specs.declared.activity.PespActivity.{PespActivity}
+use Rattle.pesp.specs.Timetables.{IsActivity}
+use Rattle.pesp.specs.Marks.{AreMarks, Prunes, Tracked, is_left, times_from}
+use Rattle.pesp.specs.Revising.{IsRevised, Left, ahead, behind, is_free, keeps_second}
+use Rattle.pesp.specs.Revising.{keeps_first, width_of}
+use Rattle.pesp.proofs.Partners.{first_reached, second_reached}
+use Rattle.pesp.proofs.WindowSums.{crowded}
+
+-- where all times that are left stay, nothing changes
+prunes_none : (before : Tracked) (keeps : Left)
+    → ((event time : ℕ) → is_left before.sets event time ≡ true → keeps event time ≡ true)
+    → Prunes before before keeps false
+prunes_none before keeps all = record {
+  period = refl;
+  events = refl;
+  saved = refl;
+  left = λ i event time. stay event time i;
+  same = λ _. refl;
+  fewer = λ is. absurd (false≢true is);
+  no_more = omega arith;
+}
+  where
+    stay : (event time : ℕ)
+        → is_left before.sets event time ≡ (is_left before.sets event time && keeps event time)
+    stay event time = elim (cases_Bool (is_left before.sets event time)) [
+      | inl is ↦ is ∙ sym (ap (λ b. b && keeps event time) is ∙ all event time is)
+      | inr is ↦ is ∙ sym (ap (λ b. b && keeps event time) is)
+    ]
+
+module _ (activity : PespActivity) (before : Tracked)
+    (is : IsActivity before.sets.rows activity) (are : AreMarks before.sets) where
+  abbrev period : ℕ
+  period = before.sets.columns
+
+  abbrev width : ℕ
+  width = width_of period activity
+
+  -- more times are left to an event than lie outside of a window
+  abbrev IsCrowded : ℕ → Type 0
+  IsCrowded event = nat_le (period - width) (length (times_from before.sets event 0)) ≡ true
+
+  narrow : width < period
+  narrow = omega (arith, are.some)
+
+  low : (event time : ℕ) → is_left before.sets event time ≡ true → time < period
+  low event time left = ltb-true time period (and_parts (nat_lt time period) _ left).0
+
+  many : (event : ℕ) → IsCrowded event
+      → period ≤ length (filter (is_left before.sets event) (range_with_len 0 period)) + width
+  many event so = grind arith
+
+  own : (event : ℕ) (test : Bool) → test ≡ true → (other : ℕ) → (not (event == other)
+      || test) ≡ true
+  own event test so other = grind arith
+
+  pub crowded_seconds : IsCrowded activity.to
+      → Prunes before before (keeps_first period (is_left before.sets) activity) false
+  crowded_seconds so =
+      prunes_none before (keeps_first period (is_left before.sets) activity)
+      (λ event time left. own event _
+      (second_reached period are.some before.sets.rows activity is (is_left before.sets) time
+      (low event time left)
+      ∙ crowded period (is_left before.sets activity.to) width are.some narrow (many activity.to
+      so) (ahead period activity) time)
+      activity.from)
+
+  pub crowded_firsts : IsCrowded activity.from
+      → Prunes before before (keeps_second period (is_left before.sets) activity) false
+  crowded_firsts so =
+      prunes_none before (keeps_second period (is_left before.sets) activity)
+      (λ event time left. own event _
+      (first_reached period are.some before.sets.rows activity is (is_left before.sets) time
+      (low event time left)
+      ∙ crowded period (is_left before.sets activity.from) width are.some narrow (many
+      activity.from so) (behind period activity) time)
+      activity.to)
+
+  -- and any two times keep an activity that is free
+  crowded_free : is_free period activity ≡ true → (event : ℕ)
+      → 1 ≤ length (times_from before.sets event 0) → IsCrowded event
+  crowded_free free event some = le-leb _ _ (let wide = leb-true period (width + 1) free in
+      omega (arith, wide, some))
+
+  pub free_revised : is_free period activity ≡ true
+      → 1 ≤ length (times_from before.sets activity.from 0)
+      → 1 ≤ length (times_from before.sets activity.to 0)
+      → IsRevised period (is_left before.sets) activity
+  free_revised free some_from some_to = record {
+    seconds = λ time left.
+        second_reached period are.some before.sets.rows activity is (is_left before.sets) time
+        (low activity.from time left)
+        ∙ crowded period (is_left before.sets activity.to) width are.some narrow
+        (many activity.to (crowded_free free activity.to some_to)) (ahead period activity) time;
+    firsts = λ time left.
+        first_reached period are.some before.sets.rows activity is (is_left before.sets) time
+        (low activity.to time left)
+        ∙ crowded period (is_left before.sets activity.from) width are.some narrow
+        (many activity.from (crowded_free free activity.from some_from)) (behind period activity)
+        time;
+  }

@@ -1,0 +1,62 @@
+-- The test of an activity tells whether it is kept.
+use Rattle.std.proofs.Common.{◌≡◌, ℕ, ℤ, ◌+◌, ◌<◌, ◌≤◌, ◌≤ℤ◌, pos, negsuc, Bool, true, false, T, int_le, List, length, Decides, All, refl, sym, subst, arith}
+use Rattle.std.proofs.lemmas.Float.{T_from_true}
+use Rattle.std.proofs.lemmas.Int.{ints}
+use Rattle.std.proofs.lemmas.List.Elements.{All-get_or}
+use Rattle.std.specs.Int.Signed.{le_z_yes}
+use Rattle.pesp.specs.declared.activity.PespActivity.{PespActivity}
+use Rattle.pesp.specs.Timetables.{IsActivity, IsKept, Leads, keeps_in, tension, time_of}
+use Rattle.pesp.proofs.LeastTensions.{rest, rest_least, tension_is}
+
+is_true : (b : Bool) → T b → b ≡ true
+is_true true t = refl
+is_true false t = absurd t
+
+-- minutes within bounds that lead from one time to another
+abbrev Within : ℕ → ℤ → ℤ → ℕ → ℕ → Type 0
+Within period lower upper from to =
+    (minutes : ℕ) × Leads period from to minutes × (lower ≤ℤ pos minutes) × (pos minutes ≤ℤ upper)
+
+low_of : (l other : ℕ) → pos l ≤ℤ pos other → l ≤ other
+low_of l other h = omega (arith, ints)
+
+high_of : (n other u : ℕ) → n ≤ other → other ≤ u → pos n ≤ℤ pos u
+high_of n other u h k = omega (arith, ints)
+
+-- between plain bounds
+passes : (period l u from to : ℕ) → from < period → to < period
+    → Decides (int_le (tension period (pos l) from to) (pos u))
+    (Within period (pos l) (pos u) from to)
+passes period l u from to from_in to_in =
+    let is = tension_is period l from to (omega arith) in
+    let least = rest_least period l from to from_in to_in in
+    subst (λ z. Decides (int_le z (pos u)) (Within period (pos l) (pos u) from to)) (sym is) (
+      (λ yes. (l + rest period l from to, least.leads, least.enough, le_z_yes (T_from_true _ yes))),
+      (λ kept.
+          let near = least.least kept.0 kept.1 kept.2 in
+          let high = high_of (l + rest period l from to) kept.0 u near (low_of kept.0 u kept.3) in
+          is_true _ (high.le)),
+    )
+
+passes_z : (period : ℕ) (lower upper : ℤ) (from to : ℕ) → from < period → to < period
+    → pos 0 ≤ℤ lower → lower ≤ℤ upper
+    → Decides (int_le (tension period lower from to) upper) (Within period lower upper from to)
+passes_z period (pos l) (pos u) from to from_in to_in low order =
+    passes period l u from to from_in to_in
+passes_z period (pos l) (negsuc u) from to from_in to_in low order = absurd (omega (arith, ints))
+passes_z period (negsuc l) upper from to from_in to_in low order = absurd (omega (arith, ints))
+
+module _ (period : ℕ) (times : List ℕ) (within : All (λ time. time < period) times) where
+  time_in : (event : ℕ) → event < length times → time_of times event < period
+  time_in event some = All-get_or (λ time. time < period) times event 0 some within
+
+  pub test_tells : (activity : PespActivity) → IsActivity (length times) activity
+      → Decides (keeps_in period times activity) (IsKept period times activity)
+  test_tells activity is =
+      let told = passes_z period activity.lower activity.upper (time_of times activity.from)
+      (time_of times activity.to) (time_in activity.from is.from) (time_in activity.to is.to)
+      is.low is.in_order in (
+        (λ yes. let kept = told.0 yes in
+            record { minutes = kept.0; leads = kept.1; enough = kept.2; short = kept.3 }),
+        (λ kept. told.1 (kept.minutes, kept.leads, kept.enough, kept.short)),
+      )

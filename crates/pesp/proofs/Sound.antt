@@ -1,0 +1,16 @@
+-- Activities that go from event to event by bounds in order, one after the other.
+use Rattle.std.proofs.Common.{inl, inr, ℕ, ◌+◌, ◌<◌, List, get_or, subst, sym, arith}
+use Rattle.std.proofs.lemmas.Bool.{cases_eq}
+use Rattle.pesp.specs.declared.activity.PespActivity.{PespActivity}
+use Rattle.pesp.specs.Timetables.{IsActivity}
+use Rattle.pesp.proofs.FirstBroken.{no_activity}
+
+-- one more of them
+pub sound_more : (events count : ℕ) (activities : List PespActivity)
+    → ((k : ℕ) → k < count → IsActivity events (get_or activities k no_activity))
+    → IsActivity events (get_or activities count no_activity)
+    → (k : ℕ) → k < count + 1 → IsActivity events (get_or activities k no_activity)
+sound_more events count activities earlier this k low = elim (cases_eq k count) [
+  | inl same ↦ subst (λ k. IsActivity events (get_or activities k no_activity)) (sym same) this
+  | inr other ↦ earlier k (omega (arith, low, other))
+]

@@ -1,0 +1,30 @@
+use Rattle.std.proofs.Common.{refl, sym, ◌∙◌, arith}
+use Rattle.std.proofs.lemmas.Bool.{false≢true}
+use Rattle.std.proofs.lemmas.List.Elements.{All-from_get_or}
+use Rattle.pesp.specs.Timetables.{IsActivity}
+use Rattle.pesp.proofs.FirstBroken.{no_activity}
+use Rattle.pesp.proofs.Sound.{sound_more}
+use Rattle.pesp.proofs.problem.are_sound.Goals as goal
+
+pub loop-activity-init : goal.loop-activity-init
+loop-activity-init c = λ k low. absurd (omega (arith, low))
+
+pub loop-activity-preserved : goal.loop-activity-preserved
+loop-activity-preserved c =
+    sound_more c.args.events c.loop-activity.activity-index c.args.activities.now
+    c.loop-activity.invariant (c.is_sound.ensures.0 c.if-not-is_sound.false)
+
+pub returns : goal.returns
+returns c = (
+  (λ yes. All-from_get_or (IsActivity c.args.events) c.args.activities.now no_activity
+      (λ k some. c.loop-activity.invariant k (omega (arith, some, c.loop-activity-test.false)))),
+  (λ all. refl),
+)
+
+pub returns-then-not-is_sound : goal.returns-then-not-is_sound
+returns-then-not-is_sound c = (
+  (λ yes. absurd (false≢true yes)),
+  (λ all. sym c.if-not-is_sound.true
+      ∙ c.is_sound.ensures.1 (all c.loop-activity.activity-index no_activity
+      c.loop-activity-test.true)),
+)

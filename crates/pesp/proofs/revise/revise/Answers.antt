@@ -1,0 +1,27 @@
+use Rattle.std.proofs.Common.{◌∙◌, inl, inr, sym}
+use Rattle.std.proofs.lemmas.Bool.{or_cases, or_parts}
+use Rattle.pesp.proofs.EmptySets.{empty_marks}
+use Rattle.pesp.proofs.Revised.{both_revised}
+use Rattle.pesp.proofs.revise.revise.Goals as goal
+
+pub returns-clause-revises : goal.returns-clause-revises
+returns-clause-revises c =
+    both_revised c.args.activity c.args.at c.args.sets.now c.revise_first.new.sets
+    c.revise_second.new.sets
+    c.args.changed.now c.revise_first.new.changed c.revise_second.new.changed
+    c.in_ok-first.ensures.revises c.in_ok-second.ensures.revises
+
+pub returns-clause-empty : goal.returns-clause-empty
+returns-clause-empty c is = elim (or_cases _ _ (sym c.any_of.ensures ∙ is)) [
+  | inl first ↦
+      let touched = c.in_ok-second.ensures.revises.0 in
+      empty_marks c.revise_second.new.sets.sets c.revise_first.new.sets.sets touched.period
+      touched.events
+      touched.within (c.in_ok-first.ensures.empty first)
+  | inr second ↦ c.in_ok-second.ensures.empty second
+]
+
+pub returns-clause-full : goal.returns-clause-full
+returns-clause-full c none full =
+    let parts = or_parts c.in_ok-first.first _ (sym c.any_of.ensures ∙ none) in
+    c.in_ok-second.ensures.full parts.1 (c.in_ok-first.ensures.full parts.0 full)

@@ -1,0 +1,9 @@
+pub mod Timetables
+pub mod Cycles
+pub mod Flags
+pub mod Listings
+pub mod Marks
+pub mod Revising
+pub mod Searches
+pub mod TimeSets
+pub mod SearchEnds

@@ -1,9 +1,0 @@
-use Rattle.std.proofs.Common.{not}
-use Rattle.pesp_model.specs.Timetables.{keeps_in}
-use Rattle.pesp_model.proofs.FirstBroken.{place_start}
-use Rattle.pesp_model.proofs.pesp.first_broken.Goals as goal
-
-pub loop-index-init : goal.loop-index-init
-loop-index-init c =
-    place_start (λ activity. not (keeps_in c.args.period c.args.times.now activity))
-    c.args.activities.now

@@ -1,0 +1,36 @@
+-- What a search gives the stage, by how it ends.
+use Rattle.std.proofs.Common.{◌≡◌, ◌∙◌, ℕ, ◌≤◌, Ok, Err, ap}
+use Rattle.std.proofs.Common.{cond}
+use Rattle.std.proofs.lemmas.Bool.{le-ltb, lt-ltb}
+use Rattle.tables.specs.declared.refusal.Refusal.TheVariants as refusal
+use Rattle.pesp.specs.declared.search.FoundTimes.{FoundTimes}
+use Rattle.pesp.specs.declared.search.SearchEnd.TheVariants as ends
+use Rattle.pesp.specs.Listings.{Listing}
+use Rattle.pesp.specs.SearchEnds.{EndsAs}
+use Rattle.pesp_search.specs.SearchResults.{result_within, whole_result}
+
+module _ (budget : ℕ) (listed : Listing) where
+  result_whole : listed.entries ≤ budget
+      → result_within budget listed ≡ whole_result listed.entries listed.found
+  unfolding result_within
+  result_whole within =
+      ap (λ b. cond b (Err (refusal.Spent budget)) (whole_result listed.entries listed.found))
+      (le-ltb budget listed.entries within)
+
+  pub times_given : (found : FoundTimes) → EndsAs budget listed (ends.Found found)
+      → result_within budget listed
+      ≡ Ok (record { times = found.times.items; entries = found.entries })
+  times_given found told =
+      result_whole told.0 ∙ ap (whole_result listed.entries) told.1
+      ∙ ap (λ entries. Ok (record { times = found.times.items; entries = entries })) told.2
+
+  pub none_given : EndsAs budget listed ends.NoSolution
+      → result_within budget listed ≡ Err refusal.NoSolution
+  none_given told = result_whole told.0 ∙ ap (whole_result listed.entries) told.1
+
+  pub spent_given : EndsAs budget listed ends.Spent
+      → result_within budget listed ≡ Err (refusal.Spent budget)
+  unfolding result_within
+  spent_given over =
+      ap (λ b. cond b (Err (refusal.Spent budget)) (whole_result listed.entries listed.found))
+      (lt-ltb budget listed.entries over)

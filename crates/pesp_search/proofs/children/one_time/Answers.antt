@@ -1,5 +1,0 @@
-use Rattle.pesp_search.proofs.WordTurns.{one_marked}
-use Rattle.pesp_search.proofs.children.one_time.Goals as goal
-
-pub returns-clause-each : goal.returns-clause-each
-returns-clause-each c other = one_marked c.args.time other c.requires

@@ -1,6 +1,0 @@
--- The events are in classes of the same problem.
-use Rattle.pesp_search.specs.Cycles.{AreClasses}
-use Rattle.pesp_search.proofs.cycles.Classes.join_at.Given as goal
-
-abbrev pub invariant-loop-index : goal.invariant-loop-index
-invariant-loop-index l = AreClasses l.fn.self.pesp.now l.self

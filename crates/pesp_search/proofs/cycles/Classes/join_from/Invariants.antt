@@ -1,6 +1,0 @@
--- The events are in classes of the same problem.
-use Rattle.pesp_search.specs.Cycles.{AreClasses}
-use Rattle.pesp_search.proofs.cycles.Classes.join_from.Given as goal
-
-abbrev pub invariant-loop-turn : goal.invariant-loop-turn
-invariant-loop-turn l = AreClasses l.fn.self.pesp.now l.self

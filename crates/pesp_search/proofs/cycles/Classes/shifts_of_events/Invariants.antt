@@ -1,6 +1,0 @@
--- The minutes of the events so far bring them back to themselves.
-use Rattle.pesp_search.proofs.Classed.{AreShiftsTo}
-use Rattle.pesp_search.proofs.cycles.Classes.shifts_of_events.Given as goal
-
-abbrev pub invariant-loop-place : goal.invariant-loop-place
-invariant-loop-place l = AreShiftsTo l.self.pesp.now l.shifts.items l.place-index

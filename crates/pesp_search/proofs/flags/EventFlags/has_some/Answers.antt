@@ -1,9 +1,0 @@
-use Rattle.std.proofs.Common.{◌∙◌}
-use Rattle.pesp_search.proofs.FlagBits.{some_by_last}
-use Rattle.pesp_search.proofs.flags.EventFlags.has_some.Goals as goal
-
-pub returns : goal.returns
-returns c =
-    c.is_some.ensures
-    ∙ some_by_last c.args.self.now c.events.result c.last.result c.events.ensures.value
-    c.last.ensures

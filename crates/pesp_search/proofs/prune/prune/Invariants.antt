@@ -1,9 +1,0 @@
--- The times of the words so far are taken out that have no bit.
-use Rattle.std.proofs.Common.{◌*◌}
-use Rattle.pesp_search.specs.Marks.{Prunes}
-use Rattle.pesp_search.proofs.Pruned.{stays_below}
-use Rattle.pesp_search.proofs.prune.prune.Given as goal
-
-abbrev pub invariant-loop-index : goal.invariant-loop-index
-invariant-loop-index l =
-    Prunes l.fn.sets l.sets (stays_below l.event l.keep (64 * l.index)) l.changes
