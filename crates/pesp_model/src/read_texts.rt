@@ -7,11 +7,11 @@ ghost use Rattle.pesp.specs.Timetables.{IsTimetable};
 ghost use Rattle.pesp_model.specs.PespTexts.{activity_of, problem_of, problem_faults};
 
 use event_tables::{PeriodicActivity, periodic_activities, periodic_events};
-use tables::StageFault;
 use pesp::PespActivity;
 use plan_num::NoMemory;
 use std::alloc::Global;
 use std::marker::Model;
+use tables::StageFault;
 
 /// A period, events, and activities between them, as texts tell them. Contracts see it as these
 /// three; an event is its index.

@@ -9,10 +9,10 @@ ghost use Rattle.pesp_search.specs.TimetableStage.{time_rows, times_made, times_
 
 use event_tables::{PeriodicTime, periodic_times_text};
 use giv_files::{Made, MadeFile, MadeList, Stage, count_text, report_line};
-use tables::FileId;
 use pesp::FoundTimes;
 use plan_num::{NoMemory, Text};
 use std::alloc::Global;
+use tables::FileId;
 
 /// What is made of times that were found: their file, and the line of the report.
 pub(crate) fn times_made(alloc: Global, found: &FoundTimes) -> Result<Made, NoMemory>

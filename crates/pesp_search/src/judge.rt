@@ -12,10 +12,10 @@ ghost use Rattle.pesp_search.specs.Judged.{are_in_order, broken_rows, first_brok
 ghost use Rattle.pesp_search.specs.Judged.{is_time_of};
 
 use crate::fault::TimetableFault;
-use tables::{ReadFault, Table, columns, read_table};
 use pesp::Pesp;
 use plan_num::NoMemory;
 use std::alloc::Global;
+use tables::{ReadFault, Table, columns, read_table};
 
 /// The first rule that the text of a timetable breaks for a problem of a period.
 pub(crate) fn first_fault(

@@ -3,10 +3,10 @@ ghost use Rattle.giv_files.specs.StageCalls.{TakesSteps};
 ghost use Rattle.pesp.specs.Listings.{entries_listed, listing};
 ghost use Rattle.pesp_search.specs.SearchResults.{SearchGives, result_within};
 
-use tables::{Refusal, StageFault};
 use pesp::{FoundTimes, Pesp, SearchEnd};
 use plan_num::{Ledger, Steps};
 use std::alloc::Global;
+use tables::{Refusal, StageFault};
 
 /// Searches a timetable of a problem, with so many entries at most. Each entry takes a step.
 pub(crate) fn search_times<L: Ledger>(

@@ -14,11 +14,11 @@ ghost use Rattle.pesp_search.specs.TimetableStage.{timetable_stage, timetable_wo
 use crate::files::times_made;
 use crate::searched::search_times;
 use giv_files::{Bundle, Key, Made};
-use tables::StageFault;
 use pesp::Pesp;
 use pesp_model::problem_of_texts;
 use plan_num::{Ledger, Steps};
 use std::alloc::Global;
+use tables::StageFault;
 
 /// Searches a periodic timetable over the inputs of the stage, with at most as many entries as the
 /// budget allows (Serafini and Ukovich 1989 state the problem).
