@@ -11,7 +11,7 @@ use crate::answer::Answer;
 use crate::fault::end_of_fault;
 use command_line::QueryEnd;
 use giv_files::{FileId, Stage};
-use journeys::{JourneyNet, print_journey};
+use journeys::{FromTexts, JourneyNet, print_journey};
 use plan_files::Files;
 use plan_num::Text;
 use stage_chain::{ChainEnd, standing_text};
