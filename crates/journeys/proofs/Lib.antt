@@ -1,14 +1,4 @@
-mod Answers
 mod DayTexts
-mod FilteredRanges
-mod FirstEnds
-mod FirstRules
-mod FollowedRides
-mod FoundAnswers
 mod NetOfRows
-mod Passing
 mod PlannedTimes
-mod Rising
 mod Tried
-mod WayBack
-mod WaysAlong

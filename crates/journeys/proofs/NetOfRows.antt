@@ -1,28 +1,25 @@
--- The net of the rows of a day, with its links.
+-- The net of the rows of a day.
 use Rattle.std.proofs.Common.{◌≡◌, ◌∙◌, ℕ, ◌+◌, ◌<◌, ◌≤◌, true, not, List, [], length, filter}
-use Rattle.std.proofs.Common.{get_or, slice_get, zip, All, Some, refl, ap, sym, subst, arith}
-use Rattle.std.specs.List.{enumerate_from}
-use Rattle.std.specs.List.Sorted.{IsNonDecreasingBy, IsPermutation}
+use Rattle.std.proofs.Common.{get_or, map, zip, All, refl, ap, sym, subst, arith}
+use Rattle.std.specs.List.{range_with_len}
 use Rattle.std.proofs.lemmas.Bool.{leb-true}
 use Rattle.std.proofs.lemmas.List.{get_or-map, length-map}
 use Rattle.std.proofs.lemmas.List.Elements.{All-filter, All-map, filter_passes}
 use Rattle.std.proofs.lemmas.List.Filters.{length-filter_both}
-use Rattle.std.proofs.lemmas.List.FromFn.{get_or-enumerate_from, length-enumerate_from}
-use Rattle.std.proofs.lemmas.List.Sorted.{All-permutation, Contains-permutation}
-use Rattle.std.proofs.lemmas.Option.{get_or_from_slice_get, slice_get-get_or, slice_get_within}
+use Rattle.std.proofs.lemmas.List.FromFn.{get_or-range_with_len, length-range_with_len}
 use Rattle.std.proofs.lemmas.Slice.Zip.{get_or-zip, length-zip}
-use Rattle.event_tables.specs.declared.event_kind.EventKind.TheVariants as kind
+use Rattle.connections.specs.declared.event_kind.EventKind.TheVariants as kind
 use Rattle.event_tables.specs.declared.expanded_activity.ExpandedActivity.{ExpandedActivity}
 use Rattle.event_tables.specs.declared.expanded_event.ExpandedEvent.{ExpandedEvent}
 use Rattle.event_tables.specs.Cells.{expanded_event}
 use Rattle.event_tables.specs.ExpandedFiles.{AreExpandedActivities, AreExpandedEvents, IsExpandedActivity}
 use Rattle.event_tables.specs.ForwardRanks.{forward_rank}
 use Rattle.event_tables.proofs.RanksRise.{at_places, rank_rises}
-use Rattle.journeys.specs.declared.connection.Connection.{Connection}
-use Rattle.journeys.specs.declared.links.Link.{Link}
-use Rattle.journeys.specs.declared.timed_event.TimedEvent.{TimedEvent}
-use Rattle.journeys.specs.JourneyNets.{IsConnection, IsNet, JourneyParts, connection_of, index_of, is_usable, net_over, time_at, timed}
-use Rattle.journeys.specs.Links.{IsInTurn, IsLinked, link_of, links_of}
+use Rattle.connections.specs.declared.connection.Connection.{Connection}
+use Rattle.connections.specs.declared.timed_event.TimedEvent.{TimedEvent}
+use Rattle.connections.specs.Nets.{IsConnection, JourneyParts, time_at}
+use Rattle.journeys.specs.JourneyNets.{connection_of, index_of, is_usable, net_over, timed}
+use Rattle.connections.specs.RankedNets.{IsRanked, rank_at}
 
 module _ (events : List ExpandedEvent) (activities : List ExpandedActivity) (times : List ℕ)
     (are : AreExpandedEvents events) (rows : AreExpandedActivities events activities)
@@ -83,24 +80,8 @@ module _ (events : List ExpandedEvent) (activities : List ExpandedActivity) (tim
       (omega (arith, is.from.0, is.from.1)) (omega (arith, is.to.0, is.to.1))
       (at_places events row.from row.to are.numbered is.from is.to is.forward))
 
-  pub rows_net : IsNet net
-  rows_net = record {
-    few = (let long = count in let most = are.few in omega (arith, long, most));
-    soon = All-map (λ (event : TimedEvent). event.time ≤ 1000000000000000000) timed
-        (zip events times)
-        (λ k d inside.
-        let long = length-zip events times in
-        let low : k < length events = omega (arith, inside, long, each) in
-        let here : k < length times = omega (arith, low, each) in
-        subst (λ (at : ExpandedEvent × ℕ). at.1 ≤ 1000000000000000000)
-        (sym (get_or-zip events times k d low here)) (soon k d.1 here));
-    connections = sound;
-    rank = forward_rank events;
-    forward = forward;
-  }
-
-  -- the connections are no more than the activities, and begin at events
-  pub few_connections : length net.connections ≤ 500000
+  -- the connections are no more than the activities
+  few_connections : length net.connections ≤ 500000
   few_connections =
       let long = length-map usable connection_of in
       let both = length-filter_both (is_usable times) (λ row. not (is_usable times row))
@@ -109,68 +90,42 @@ module _ (events : List ExpandedEvent) (activities : List ExpandedActivity) (tim
       let most = rows.few in
       omega (arith, long, both, most)
 
-  pub tails : All (λ connection. connection.from < length events) net.connections
-  tails = of_usable (λ connection. connection.from < length events)
-      (λ row is can. omega (arith, is.from.0, is.from.1))
+  -- with the ranks of all events they are a net
+  module _ (ranks : List ℕ)
+      (told : ranks ≡ map (forward_rank events) (range_with_len 0 (length events))) where
+    rank_is : (event : ℕ) → event < length events → rank_at ranks event ≡ forward_rank events event
+    rank_is event inside =
+        let place : 0 + event ≡ event = omega arith in
+        ap (λ all. get_or all event 0) told
+        ∙ get_or-map (forward_rank events) (range_with_len 0 (length events)) event 0 0
+        (let long = length-range_with_len 0 (length events) in omega (arith, inside, long))
+        ∙ ap (forward_rank events)
+        (get_or-range_with_len 0 (length events) event 0 inside ∙ place)
 
-  -- ---- their links
+    rises : (connection : Connection) → IsConnection net connection
+        → forward_rank events connection.from < forward_rank events connection.to
+        → rank_at ranks connection.from < rank_at ranks connection.to
+    rises connection is less =
+        let from = rank_is connection.from (omega (arith, is.from, count)) in
+        let to = rank_is connection.to (omega (arith, is.to, count)) in
+        omega (arith, less, from, to)
 
-  module _ (links : List Link)
-      (all : IsPermutation (links_of events 0 net.connections) links)
-      (in_order : IsNonDecreasingBy (λ link. link.rank) links) where
-    -- what holds of the link of each connection holds of the links
-    of_links : (P : Link → Type 0)
-        → ((k : ℕ) (d : Connection) → k < length net.connections
-        → P (link_of events (k, get_or net.connections k d))) → All P links
-    of_links P each_one =
-        All-permutation P (links_of events 0 net.connections) links all
-        (All-map P (link_of events) (enumerate_from 0 net.connections)
-        (λ k d inside.
-        let low : k < length net.connections
-        = omega (arith, inside, length-enumerate_from 0 net.connections) in
-        let place : 0 + k ≡ k = omega arith in
-        subst (λ at. P (link_of events at))
-        (sym (get_or-enumerate_from 0 net.connections k d low
-        ∙ ap (λ n. (n, get_or net.connections k d.1)) place)) (each_one k d.1 low)))
-
-    ranked : All (λ link. (link.rank ≡ forward_rank events link.from)
-        × (forward_rank events link.from < forward_rank events link.to)) links
-    ranked = of_links (λ link. (link.rank ≡ forward_rank events link.from)
-        × (forward_rank events link.from < forward_rank events link.to))
-        (λ k d inside. (refl, forward k d inside))
-
-    turn : IsInTurn links
-    turn i j d low high same = grind (arith, ranked)
-
-    pub rows_linked : IsLinked net links
-    rows_linked = record {
-      is_net = rows_net;
-      are_links = record {
-        few = few_connections;
-        of = of_links (λ link. slice_get net.connections link.index
-            ≡ Some (record { from = link.from; to = link.to }))
-            (λ k d inside. slice_get-get_or net.connections k d inside);
-        each = λ place connection is.
-            let low = slice_get_within net.connections place connection is in
-            let link = link_of events (place, connection) in
-            let at : 0 + place ≡ place = omega arith in (
-              link.rank,
-              Contains-permutation (links_of events 0 net.connections) links link all (
-                place,
-                (let long = length-map (enumerate_from 0 net.connections) (link_of events) in
-                    let size = length-enumerate_from 0 net.connections in
-                    omega (arith, low, long, size)),
-                get_or-map (link_of events) (enumerate_from 0 net.connections) place
-                    (place, connection)
-                    link (let size = length-enumerate_from 0 net.connections in
-                    omega (arith, low, size))
-                    ∙ ap (link_of events)
-                    (get_or-enumerate_from 0 net.connections place (place, connection) low
-                    ∙ ap (λ n. (n, get_or net.connections place connection)) at
-                    ∙ ap (λ (x : Connection). (place, x))
-                    (get_or_from_slice_get net.connections place connection connection is)),
-              ),
-            );
-        in_turn = turn;
-      };
+    pub rows_ranked : IsRanked net ranks
+    rows_ranked = record {
+      few = (let long = count in let most = are.few in omega (arith, long, most));
+      few_connections = few_connections;
+      soon = All-map (λ (event : TimedEvent). event.time ≤ 1000000000000000000) timed
+          (zip events times)
+          (λ k d inside.
+          let long = length-zip events times in
+          let low : k < length events = omega (arith, inside, long, each) in
+          let here : k < length times = omega (arith, low, each) in
+          subst (λ (at : ExpandedEvent × ℕ). at.1 ≤ 1000000000000000000)
+          (sym (get_or-zip events times k d low here)) (soon k d.1 here));
+      connections = sound;
+      each = ap length told
+          ∙ length-map (range_with_len 0 (length events)) (forward_rank events)
+          ∙ length-range_with_len 0 (length events) ∙ sym count;
+      forward = λ k d inside.
+          rises (get_or net.connections k d) (sound k d inside) (forward k d inside);
     }

@@ -1,31 +1,19 @@
--- A day as passengers use it: its events at their planned or disposed times, and the activities
--- that can be used between them.
-use Rattle.std.specs.Prelude.{ℕ, pos, ◌+◌, ◌-◌, ◌<◌, ◌≤◌, nat_le, Bool, List, [], ◌++◌, length, map, filter, get_or, zip, All, Option, Some, None}
+-- The day of texts: its events at their planned or disposed times, and the activities that can be
+-- used between them.
+use Rattle.std.specs.Prelude.{ℕ, ◌+◌, ◌-◌, nat_le, Bool, List, [], ◌++◌, map, filter, get_or, zip, Option, Some, None}
 use Rattle.tables.specs.declared.refusal.Refusal.{Refusal}
 use Rattle.tables.specs.Inputs.{input_faults, records_of}
+use Rattle.event_tables.specs.declared.event_kind.EventKind.{EventKind}
 use Rattle.event_tables.specs.declared.event_kind.EventKind.TheVariants as kind
 use Rattle.event_tables.specs.declared.expanded_activity.ExpandedActivity.{ExpandedActivity}
 use Rattle.event_tables.specs.declared.expanded_event.ExpandedEvent.{ExpandedEvent}
 use Rattle.event_tables.specs.DisposedTimes.{disposed_time_input}
 use Rattle.event_tables.specs.ExpandedFiles.{expanded_activity_input, expanded_event_ids, expanded_event_input}
-use Rattle.journeys.specs.declared.connection.Connection.{Connection}
-use Rattle.journeys.specs.declared.event.JourneyEvent.{JourneyEvent}
-use Rattle.journeys.specs.declared.timed_event.TimedEvent.{TimedEvent}
-
--- the events of a day, and the activities that can be used, by id rising; events are told by their
--- indexes
-pub record JourneyParts : Type 0 where
-  pub events : List TimedEvent
-  pub connections : List Connection
-
--- the event at an index, and its time
-abbrev pub event_at : JourneyParts → ℕ → TimedEvent
-event_at net event = get_or net.events event (record { kind = kind.Departure; stop = 0; time = 0 })
-
-abbrev pub time_at : JourneyParts → ℕ → ℕ
-time_at net event = (event_at net event).time
-
--- ---- the day of texts
+use Rattle.connections.specs.declared.connection.Connection.{Connection}
+use Rattle.connections.specs.declared.event_kind.EventKind as net_kinds
+use Rattle.connections.specs.declared.event_kind.EventKind.TheVariants as net_kind
+use Rattle.connections.specs.declared.timed_event.TimedEvent.{TimedEvent}
+use Rattle.connections.specs.Nets.{JourneyParts}
 
 -- the index of the event of an id; ids are places, which count from 1
 abbrev pub index_of : ℕ → ℕ
@@ -41,9 +29,14 @@ is_usable times activity =
 abbrev pub connection_of : ExpandedActivity → Connection
 connection_of activity = record { from = index_of activity.from; to = index_of activity.to }
 
+-- the kind of an event of a net
+abbrev pub kind_of : EventKind → net_kinds.EventKind
+kind_of kind.Departure = net_kind.Departure
+kind_of kind.Arrival = net_kind.Arrival
+
 -- an event at a time
 abbrev pub timed : ExpandedEvent × ℕ → TimedEvent
-timed at = record { kind = at.0.kind; stop = at.0.stop; time = at.1 }
+timed at = record { kind = kind_of at.0.kind; stop = at.0.stop; time = at.1 }
 
 -- the day of events at some times, and of activities
 abbrev pub net_over : List ExpandedEvent → List ℕ → List ExpandedActivity → JourneyParts
@@ -87,24 +80,3 @@ journey_faults events_text activities_text times_text =
     input_faults expanded_event_input events_text
     ++ input_faults (expanded_activity_input (events_of events_text)) activities_text
     ++ time_faults_over (events_of events_text) times_text
-
--- ---- what holds of a day
-
--- a connection joins two events, and does not go back in time
-pub record IsConnection (net : JourneyParts) (connection : Connection) : Type 0 where
-  pub from : connection.from < length net.events
-  pub to : connection.to < length net.events
-  pub in_time : time_at net connection.from ≤ time_at net connection.to
-
--- a day of texts without a fault: no connection goes back in time, and by some order of the events
--- each goes forward
-pub record IsNet (net : JourneyParts) : Type 0 where
-  pub few : length net.events ≤ 100000
-  pub soon : All (λ event. event.time ≤ 1000000000000000000) net.events
-  pub connections : All (IsConnection net) net.connections
-  pub rank : ℕ → ℕ
-  pub forward : All (λ connection. rank connection.from < rank connection.to) net.connections
-
--- an event as it is told
-abbrev pub event_told : ℕ → TimedEvent → JourneyEvent
-event_told event at = record { id = pos (event + 1); stop = pos at.stop; time = pos at.time }

@@ -1,9 +1,2 @@
-pub mod Earliest
-pub mod Ends
 pub mod JourneyNets
 pub mod JourneyTexts
-pub mod Journeys
-pub mod Judged
-pub mod Laws
-pub mod Links
-pub mod Ways

@@ -1,27 +1,14 @@
-//! Journeys over a day: one that arrives first, the events that prove that none arrives earlier,
-//! and the test of both from any hand.
+//! Journeys over a day of files: the events and connections that texts hold, and journeys as text.
+//! The journeys themselves are found in `connections`.
 #![tactic(auto)]
 
-mod check;
-mod connection;
-mod earliest;
-mod event;
-mod event_list;
-mod event_tests;
-mod found;
-mod links;
-mod net;
+mod day;
+mod from_texts;
 mod print;
-mod query;
 mod read;
-mod rule;
-mod timed_event;
-mod way;
-mod ways;
 
-pub use event::JourneyEvent;
-pub use event_list::EventList;
-pub use found::Found;
-pub use net::JourneyNet;
+pub use connections::{
+    Connection, EventKind, EventList, Found, JourneyEvent, JourneyNet, JourneyRule, TimedEvent,
+};
+pub use from_texts::FromTexts;
 pub use print::print_journey;
-pub use rule::JourneyRule;

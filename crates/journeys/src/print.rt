@@ -3,9 +3,7 @@ ghost use Rattle.std.specs.Prelude.{◌≡◌, ◌++◌, ◌+◌, codes, decimal
 ghost use Rattle.std.specs.List.{flat_map};
 ghost use Rattle.journeys.specs.JourneyTexts.{event_line, journey_lines, journey_text};
 
-use crate::event_list::EventList;
-use crate::found::Found;
-use crate::net::JourneyNet;
+use connections::{EventList, Found, JourneyNet};
 use itoa::Buffer;
 use plan_num::{NoMemory, Text};
 use std::alloc::Global;

@@ -3,10 +3,9 @@ ghost use Rattle.std.specs.Prelude.{◌≡◌, ◌≤◌, length, map, filter, o
 ghost use Rattle.tables.specs.Inputs.{UnlessFault};
 ghost use Rattle.event_tables.specs.ExpandedFiles.{AreExpandedEvents};
 ghost use Rattle.event_tables.specs.Places.{IsOneOf};
-ghost use Rattle.journeys.specs.JourneyNets.{connection_of, is_usable, time_faults_over, timed, times_over};
+ghost use Rattle.journeys.specs.JourneyNets.{connection_of, is_usable, kind_of, time_faults_over, timed, times_over};
 
-use crate::connection::Connection;
-use crate::timed_event::TimedEvent;
+use connections::{Connection, EventKind, TimedEvent};
 use event_tables::{ExpandedActivity, ExpandedEvent, disposed_times};
 use plan_num::NoMemory;
 use std::alloc::Global;
@@ -58,7 +57,7 @@ pub(crate) fn timed_events(
     let mut timed_events = Vec::with_capacity(alloc, events.len())?;
     for (index, event) in events.iter().enumerate() {
         timed_events.push(TimedEvent {
-            kind: event.kind,
+            kind: kind_of(event.kind),
             stop: event.stop,
             time: times[index],
         })?;
@@ -81,10 +80,32 @@ pub(crate) fn usable_connections(
     let mut connections = Vec::new(alloc);
     for activity in activities {
         if is_usable(times, activity) {
-            connections.push(Connection::of_activity(activity))?;
+            connections.push(connection_of(activity))?;
         }
     }
     Ok(connections)
+}
+
+// The connection of an activity.
+fn connection_of(activity: &ExpandedActivity) -> Connection
+    requires from { 1 ≤ activity.now.from }
+    requires to { 1 ≤ activity.now.to }
+    ensures { result ≡ connection_of activity.now }
+{
+    Connection {
+        from: activity.from - 1,
+        to: activity.to - 1,
+    }
+}
+
+// The kind of an event of a net.
+fn kind_of(kind: event_tables::EventKind) -> EventKind
+    ensures { result ≡ kind_of kind }
+{
+    match kind {
+        event_tables::EventKind::Departure => EventKind::Departure,
+        event_tables::EventKind::Arrival => EventKind::Arrival,
+    }
 }
 
 // Whether an activity can be used: its head is not before its tail and its least minutes.

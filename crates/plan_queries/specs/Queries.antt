@@ -31,9 +31,9 @@ use Rattle.wait_choice.specs.ChoiceStage.{waits_in, waits_refusals, waits_work}
 use Rattle.wait_choice.specs.Judged.{KeepsBest, Passes, first_broken_rule}
 use Rattle.wait_choice.specs.RightChoices.{IsRight}
 use Rattle.wait_choice.specs.WaitTexts.{waits_text}
-use Rattle.journeys.specs.declared.found.Found.{Found}
-use Rattle.journeys.specs.Earliest.{IsAnswer}
-use Rattle.journeys.specs.Judged.{NoneEarlier}
+use Rattle.connections.specs.declared.found.Found.{Found}
+use Rattle.connections.specs.Earliest.{IsAnswer}
+use Rattle.connections.specs.Judged.{NoneEarlier}
 use Rattle.journeys.specs.JourneyNets.{journey_faults, net_of}
 use Rattle.journeys.specs.JourneyTexts.{journey_text}
 use Rattle.pool_maker.specs.PoolTexts.{pool_text, terminal_faults}

@@ -1,0 +1,12 @@
+pub mod Answers
+pub mod FilteredRanges
+pub mod FirstEnds
+pub mod FirstRules
+pub mod FollowedRides
+pub mod FoundAnswers
+pub mod Passing
+pub mod RankedParts
+pub mod Rising
+pub mod TriedNets
+pub mod WayBack
+pub mod WaysAlong

@@ -1,0 +1,10 @@
+pub mod Earliest
+pub mod Ends
+pub mod Journeys
+pub mod Judged
+pub mod Kinds
+pub mod Laws
+pub mod Links
+pub mod Nets
+pub mod RankedNets
+pub mod Ways

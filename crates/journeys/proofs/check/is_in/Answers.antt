@@ -1,8 +1,0 @@
-use Rattle.std.proofs.Common.{◌∙◌}
-use Rattle.journeys.proofs.Rising.{halved}
-use Rattle.journeys.proofs.check.is_in.Goals as goal
-
-pub returns : goal.returns
-returns c =
-    c.is_ok.ensures.value
-    ∙ halved c.args.events.now c.args.event c.binary_search.result c.binary_search.ensures.position c.requires

@@ -1,8 +1,0 @@
-use Rattle.std.proofs.Common.{◌∙◌, ap, nat_le}
-use Rattle.journeys.proofs.FollowedRides.{ride_by_links}
-use Rattle.journeys.proofs.check.is_ride.Goals as goal
-
-pub returns : goal.returns
-returns c =
-    ap (λ left. nat_le left 1) c.events_left.ensures
-    ∙ ride_by_links c.args.net.now.connections c.links.result.now c.links.ensures c.args.journey.now

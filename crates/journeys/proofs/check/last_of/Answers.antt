@@ -1,6 +1,0 @@
-use Rattle.std.proofs.Common.{◌∙◌, sym}
-use Rattle.journeys.proofs.Rising.{last_at}
-use Rattle.journeys.proofs.check.last_of.Goals as goal
-
-pub returns : goal.returns
-returns c = c.copied.ensures ∙ c.last.ensures.value ∙ sym (last_at c.args.events.now)

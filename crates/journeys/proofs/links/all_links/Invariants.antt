@@ -1,9 +1,0 @@
--- The links so far and those of the connections that are left are all of them.
-use Rattle.std.proofs.Common.{◌≡◌, ◌++◌, drop}
-use Rattle.journeys.specs.Links.{links_of}
-use Rattle.journeys.proofs.links.all_links.Given as goal
-
-abbrev pub invariant-loop-index : goal.invariant-loop-index
-invariant-loop-index l =
-    l.links.items ++ links_of l.events l.index (drop l.index l.connections)
-    ≡ links_of l.events 0 l.connections
