@@ -12,9 +12,9 @@ use connections::JourneyNet;
 use event_tables::{
     ExpandedActivity, ExpandedEvent, expanded_activities, expanded_events, forward_rank,
 };
-use tables::StageFault;
 use plan_num::NoMemory;
 use std::alloc::Global;
+use tables::StageFault;
 
 /// The events and activities of a day by their texts, at the times of a disposition where these
 /// are given; or the first fault of the texts.

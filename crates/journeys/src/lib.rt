@@ -3,12 +3,12 @@
 #![tactic(auto)]
 
 mod day;
-mod from_texts;
+mod net;
 mod print;
 mod read;
 
 pub use connections::{
-    Connection, EventKind, EventList, Found, JourneyEvent, JourneyNet, JourneyRule, TimedEvent,
+    Connection, EventKind, EventList, Found, JourneyEvent, JourneyRule, TimedEvent,
 };
-pub use from_texts::FromTexts;
+pub use net::JourneyNet;
 pub use print::print_journey;

@@ -3,7 +3,8 @@ ghost use Rattle.std.specs.Prelude.{◌≡◌, ◌++◌, ◌+◌, codes, decimal
 ghost use Rattle.std.specs.List.{flat_map};
 ghost use Rattle.journeys.specs.JourneyTexts.{event_line, journey_lines, journey_text};
 
-use connections::{EventList, Found, JourneyNet};
+use crate::net::JourneyNet;
+use connections::{EventList, Found};
 use itoa::Buffer;
 use plan_num::{NoMemory, Text};
 use std::alloc::Global;

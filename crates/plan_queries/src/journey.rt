@@ -11,12 +11,12 @@ use crate::answer::Answer;
 use crate::fault::end_of_fault;
 use command_line::QueryEnd;
 use giv_files::Stage;
-use tables::FileId;
-use journeys::{FromTexts, JourneyNet, print_journey};
+use journeys::{JourneyNet, print_journey};
 use plan_files::Files;
 use plan_num::Text;
 use stage_chain::{ChainEnd, standing_text};
 use std::alloc::Global;
+use tables::FileId;
 
 /// The journey from a stop to another one that starts at a time or later and arrives first, and what
 /// can be reached before it.

@@ -1,6 +1,6 @@
 // Days over which journeys are looked for.
 use giv_files::StageFault;
-use journeys::{FromTexts, JourneyNet};
+use journeys::JourneyNet;
 use std::alloc::Global;
 
 /// The texts of a day: events, activities, and disposed times where there are any.

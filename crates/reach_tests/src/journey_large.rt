@@ -1,6 +1,6 @@
 // A day of as many events and activities as there may be, and days with one more.
 use giv_files::{Counted, Refusal, StageFault};
-use journeys::{FromTexts, JourneyNet, print_journey};
+use journeys::{JourneyNet, print_journey};
 use plan_num::NoMemory;
 use std::alloc::{AllocError, Global};
 use std::test::Fail;
