@@ -7,9 +7,9 @@ ghost use Rattle.event_tables.specs.Cells.{disposed_time, number_in};
 ghost use Rattle.giv_files.specs.RowsOfTables.{records_by};
 ghost use Rattle.delay_management.specs.Judged.{are_all, reason_at, reason_row};
 
-use crate::reason::Reason;
 use giv_files::Table;
 use plan_num::NoMemory;
+use propagation::Reason;
 use std::alloc::Global;
 
 /// Whether rows of times are one for each of so many events, in their order.

@@ -8,7 +8,7 @@ ghost use Rattle.wait_choice.specs.Judged.{KeepsBest, Passes, first_broken_rule}
 
 use crate::judge::first_broken_rule;
 use crate::rule::WaitRule;
-use delay_management::Propagation;
+use delay_management::{FromBundle, Propagation};
 use giv_files::{Bundle, StageFault};
 use std::alloc::Global;
 

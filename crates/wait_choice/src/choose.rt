@@ -11,7 +11,7 @@ ghost use Rattle.wait_choice.specs.RightListings.{IsListed};
 
 use crate::search::search_waits;
 use crate::waits::Waits;
-use delay_management::Propagation;
+use delay_management::{FromBundle, Propagation};
 use giv_files::{Bundle, Refusal, StageFault};
 use plan_num::{Ledger, Steps};
 use std::alloc::Global;
