@@ -11,8 +11,8 @@ use Rattle.event_tables.specs.declared.expanded_activity.ExpandedActivity.{Expan
 use Rattle.event_tables.specs.declared.expanded_event.ExpandedEvent.{ExpandedEvent}
 use Rattle.event_tables.specs.Places.{AreNumbered, IsOneOf}
 use Rattle.event_tables.proofs.RanksRise.{id_at}
-use Rattle.delay_management.specs.declared.step.Activity.{Activity}
-use Rattle.delay_management.specs.Problems.{delay_of, delayed, earliest_of, is_of}
+use Rattle.propagation.specs.declared.step.Activity.{Activity}
+use Rattle.delay_management.specs.InputProblems.{delay_of, delayed, earliest_of, is_of}
 use Rattle.bit_rows.proofs.Places.{told_anew}
 
 abbrev pub by_place : ℕ → List DelayRow → List ℕ

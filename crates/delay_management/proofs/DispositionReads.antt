@@ -2,6 +2,7 @@
 use Rattle.std.proofs.Common.{filter, ◌≡◌, ◌∙◌, ℕ, ◌<◌, ◌≤◌, List, [], ◌++◌, length, map, All}
 use Rattle.std.proofs.Common.{Result, Ok, Err, IfOk, None, refl, sym, subst, arith}
 use Rattle.std.specs.List.{range_with_len}
+use Rattle.std.proofs.lemmas.List.{length-map}
 use Rattle.std.proofs.lemmas.List.Elements.{All-append, All-contains}
 use Rattle.giv_files.specs.declared.made.Made.{Made}
 use Rattle.tables.specs.declared.refusal.StageFault.{StageFault}
@@ -12,24 +13,26 @@ use Rattle.giv_files.specs.StageCalls.{StageGives}
 use Rattle.giv_files.proofs.StageCalls.{made_unless, none_unless}
 use Rattle.event_tables.specs.DisposedTimes.{disposed_time_input}
 use Rattle.event_tables.specs.ExpandedFiles.{expanded_event_ids}
-use Rattle.delay_management.specs.declared.reason.Reason.{Reason}
-use Rattle.delay_management.specs.declared.step.Activity.{Activity}
-use Rattle.delay_management.specs.DispositionStage.{disposed_of, disposition_faults, disposition_stage, events_in, kept_in, named_activity, problem_in, reasons_text, times_text}
+use Rattle.propagation.specs.declared.reason.Reason.{Reason}
+use Rattle.propagation.specs.declared.step.Activity.{Activity}
+use Rattle.delay_management.specs.InputProblems.{day_event}
+use Rattle.delay_management.specs.DispositionStage.{disposed_of, disposition_faults, disposition_stage, events_in, kept_in, problem_in, reasons_text, times_text}
+use Rattle.propagation.specs.Reasons.{named_activity, canonical_reason, canonical_reasons}
 use Rattle.delay_management.specs.Judged.{Passes, first_broken_rule}
-use Rattle.delay_management.specs.LeastTimes.{IsLeast, least_times}
-use Rattle.delay_management.specs.Problems.{AreChanges, DelayProblem, GoesForward, IsForward, minutes, steps_with}
-use Rattle.delay_management.specs.Reasons.{canonical_reason, canonical_reasons}
+use Rattle.propagation.specs.LeastTimes.{IsLeast, least_times}
+use Rattle.propagation.specs.Problems.{AreChanges, DelayProblem, GoesForward, IsForward, minutes, steps_with}
 use Rattle.delay_management.specs.RightDispositions.{DispositionIsRight}
-use Rattle.delay_management.specs.Waiting.{is_kept, kept_changes, times_alone, wait_of}
-use Rattle.delay_management.proofs.Canonical.{reasons_below}
+use Rattle.propagation.specs.Waiting.{is_kept, kept_changes, times_alone}
+use Rattle.delay_management.specs.WaitSettings.{wait_of}
+use Rattle.propagation.proofs.Canonical.{reasons_below}
 use Rattle.delay_management.proofs.InputsSound.{activity_ids, are_inputs, earliest_soon, events_few, problem_forward, steps_short, turnover_few}
 use Rattle.delay_management.proofs.JudgedTexts.{none_told, told_by}
-use Rattle.delay_management.proofs.PassIsLeast.{back_all, front_all}
-use Rattle.delay_management.proofs.ReasonsProve.{forward_with, reasons_prove_least}
-use Rattle.delay_management.proofs.Rounds.{disposition_is_one, kept_are_changes, least_is_one, least_times_are_least, steps_fewer}
-use Rattle.delay_management.proofs.SmallTimes.{least_small}
+use Rattle.propagation.proofs.PassIsLeast.{back_all, front_all}
+use Rattle.propagation.proofs.ReasonsProve.{forward_with, reasons_prove_least}
+use Rattle.propagation.proofs.Rounds.{disposition_is_one, kept_are_changes, least_is_one, least_times_are_least, steps_fewer}
+use Rattle.propagation.proofs.SmallTimes.{least_small}
 use Rattle.delay_management.proofs.TextsBack.{reasons_again, times_accepted, times_again}
-use Rattle.delay_management.proofs.WrittenReasons.{written_reasons_are_right}
+use Rattle.propagation.proofs.WrittenReasons.{written_reasons_are_right}
 use Rattle.delay_management.proofs.WrittenRows.{reasons_fit, times_fit}
 
 -- changes that are kept are changes
@@ -49,7 +52,7 @@ named_ids problem kept times each small =
 
 event_count : (bundle : BundleParts) → length (problem_in bundle).events ≡ length (events_in bundle)
 unfolding problem_in
-event_count bundle = refl
+event_count bundle = length-map (events_in bundle) day_event
 
 module _ (bundle : BundleParts) (none : disposition_faults bundle ≡ []) where
   abbrev problem : DelayProblem

@@ -3,17 +3,17 @@ use Rattle.std.proofs.Common.{arith, ◌≡◌, ◌∙◌, ℕ, ◌==◌, ◌&&�
 use Rattle.std.proofs.Common.{nat_lt, List, [], ◌∷◌, ◌++◌, map, filter, refl, ap, sym}
 use Rattle.std.specs.List.{list_any}
 use Rattle.std.proofs.lemmas.List.Folds.{list_any-append}
-use Rattle.delay_management.specs.declared.reason.Reason.{Reason}
-use Rattle.delay_management.specs.declared.reason.Reason.TheVariants as reason
-use Rattle.delay_management.specs.declared.step.Activity.{Activity}
-use Rattle.delay_management.specs.declared.step.Step.{Step}
-use Rattle.delay_management.specs.EarlyEvents.{is_early_by, is_just, is_right_by}
+use Rattle.propagation.specs.declared.reason.Reason.{Reason}
+use Rattle.propagation.specs.declared.reason.Reason.TheVariants as reason
+use Rattle.propagation.specs.declared.step.Activity.{Activity}
+use Rattle.propagation.specs.declared.step.Step.{Step}
+use Rattle.propagation.specs.EarlyEvents.{is_early_by, is_just, is_right_by}
 use Rattle.delay_management.specs.Judged.{is_early}
-use Rattle.delay_management.specs.LeastTimes.{asked, time_at}
-use Rattle.delay_management.specs.Marks.{is_source, is_turn, names}
-use Rattle.delay_management.specs.Problems.{DelayProblem, earliest_at, steps_with}
-use Rattle.delay_management.specs.Reasons.{is_right, is_tight, reason_for}
-use Rattle.delay_management.proofs.MarksTell.{or_assoc, or_none}
+use Rattle.propagation.specs.LeastTimes.{asked, time_at}
+use Rattle.propagation.specs.Marks.{is_source, is_turn, names}
+use Rattle.propagation.specs.Problems.{DelayProblem, earliest_at, steps_with}
+use Rattle.propagation.specs.Reasons.{is_right, is_tight, reason_for}
+use Rattle.propagation.proofs.MarksTell.{or_assoc, or_none}
 
 any_alike : {X : Type 0} (p q : X → Bool) → ((x : X) → p x ≡ q x) → (xs : List X) → list_any p xs ≡ list_any q xs
 any_alike p q same [] = refl

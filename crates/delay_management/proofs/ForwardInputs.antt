@@ -1,35 +1,46 @@
 -- Inputs without a fault go forward.
-use Rattle.std.proofs.Common.{◌≡◌, ◌∙◌, ℕ, ◌+◌, ◌<◌, ◌≤◌, Bool, true, false, not, List, ◌++◌}
-use Rattle.std.proofs.Common.{length, filter, get_or, All, refl, sym, subst, arith}
-use Rattle.std.specs.List.Sorted.{IsNonDecreasingBy, IsPermutation}
-use Rattle.std.proofs.lemmas.List.{length-append, length-map}
+use Rattle.std.proofs.Common.{◌≡◌, ◌∙◌, ℕ, ◌+◌, ◌<◌, ◌≤◌, Bool, true, false, not, List}
+use Rattle.std.proofs.Common.{length, filter, get_or, All, refl, ap, sym, subst, arith}
+use Rattle.std.specs.List.{range_with_len}
+use Rattle.std.proofs.lemmas.List.{length-map}
 use Rattle.std.proofs.lemmas.List.Elements.{All-append, All-filter, All-map, All-weaker, filter_passes}
 use Rattle.std.proofs.lemmas.List.Filters.{length-filter_both}
-use Rattle.std.proofs.lemmas.List.FromFn.{length-enumerate_from}
-use Rattle.std.proofs.lemmas.List.Sorted.{length_permutation}
+use Rattle.std.proofs.lemmas.Simd.{map-map}
 use Rattle.event_tables.specs.declared.delay_row.DelayRow.{DelayRow}
 use Rattle.event_tables.specs.declared.expanded_activity.ExpandedActivity.{ExpandedActivity}
 use Rattle.event_tables.specs.declared.expanded_event.ExpandedEvent.{ExpandedEvent}
 use Rattle.event_tables.specs.declared.schedule_row.ScheduleRow.{ScheduleRow}
 use Rattle.event_tables.specs.Delays.{AreDelays}
 use Rattle.event_tables.specs.ExpandedFiles.{AreExpandedActivities, AreExpandedEvents, IsExpandedActivity}
-use Rattle.event_tables.specs.ForwardOrder.{goes_forward}
+use Rattle.event_tables.specs.ForwardOrder.{goes_forward, stands_before as rows_before}
 use Rattle.event_tables.specs.Places.{AreNumbered, IsOneOf}
 use Rattle.event_tables.specs.Schedules.{AreScheduleRows, IsScheduleRow, is_empty_row}
-use Rattle.event_tables.proofs.RanksRise.{at_places, id_at}
-use Rattle.delay_management.specs.declared.links.Link.{Link}
-use Rattle.delay_management.specs.declared.step.Activity.{Activity}
-use Rattle.delay_management.specs.declared.step.Step.{Step}
-use Rattle.delay_management.specs.Links.{IsLinked, change_links, links_of, ride_links, turn_links}
-use Rattle.delay_management.specs.Problems.{DelayProblem, GoesForward, IsForward, activities_of, delayed, earliest_of, index_of, is_of, problem_over, turn_of}
-use Rattle.delay_management.proofs.PassIsLeast.{steps_all}
-use Rattle.delay_management.proofs.SoonInputs.{ids_rise, none_early, steps_gain}
+use Rattle.event_tables.proofs.RanksRise.{at, at_places, id_at}
+use Rattle.propagation.specs.declared.day_event.DayEvent.{DayEvent}
+use Rattle.propagation.specs.declared.step.Activity.{Activity}
+use Rattle.propagation.specs.declared.step.Step.{Step}
+use Rattle.propagation.specs.DayEvents.{stands_before}
+use Rattle.propagation.specs.Links.{IsDay, parts_of}
+use Rattle.propagation.specs.Problems.{DelayProblem, GoesForward, IsForward}
+use Rattle.delay_management.specs.InputProblems.{activities_of, day_event, day_events, delayed, earliest_of, index_of, is_of, problem_over, turn_of}
+use Rattle.propagation.proofs.PassIsLeast.{steps_all}
+use Rattle.delay_management.proofs.SoonInputs.{day_at, ids_rise, none_early, steps_gain}
 
 forward_step : (events : List ExpandedEvent) (from to : ℕ) (step : Step)
     → AreNumbered (λ event. event.id) events → step.from ≡ index_of from → step.to ≡ index_of to
     → IsOneOf (length events) from → IsOneOf (length events) to → goes_forward events from to ≡ true
-    → GoesForward events step
-forward_step events from to step are first second one other goes = grind (arith, at_places)
+    → GoesForward (day_events events) step
+forward_step events from to step are first second one other goes =
+    let count = length-map events day_event in
+    let low : step.from < length events = omega (arith, first, one.0, one.1) in
+    let high : step.to < length events = omega (arith, second, other.0, other.1) in
+    record {
+      from = omega (arith, low, count);
+      to = omega (arith, high, count);
+      before = (λ i. stands_before (day_at events step.from low i) (day_at events step.to high i))
+          ∙ (λ i. rows_before (at events (first i)) (at events (second i)))
+          ∙ at_places events from to are one other goes;
+    }
 
 -- each change or none is one of both
 both_kinds : (row : ExpandedActivity) → is_of false row ≡ not (is_of true row)
@@ -42,18 +53,24 @@ module _ (turnover : ℕ) (events : List ExpandedEvent) (activities : List Expan
   abbrev problem : DelayProblem
   problem = problem_over turnover events activities schedule event_rows activity_rows
 
+  abbrev days : List DayEvent
+  days = day_events events
+
+  count : length days ≡ length events
+  count = length-map events day_event
+
   some_forward : (changes : Bool)
-      → All (λ activity. GoesForward events activity.step) (activities_of changes activity_rows activities)
+      → All (λ activity. GoesForward days activity.step) (activities_of changes activity_rows activities)
   some_forward changes =
-      All-map (λ activity. GoesForward events activity.step) (delayed activity_rows) (filter (is_of changes) activities)
-      (All-weaker (IsExpandedActivity events) (λ row. GoesForward events (delayed activity_rows row).step)
+      All-map (λ activity. GoesForward days activity.step) (delayed activity_rows) (filter (is_of changes) activities)
+      (All-weaker (IsExpandedActivity events) (λ row. GoesForward days (delayed activity_rows row).step)
       (λ row is. forward_step events row.from row.to (delayed activity_rows row).step are.numbered refl refl is.from is.to is.forward)
       (filter (is_of changes) activities)
       (All-filter (is_of changes) (IsExpandedActivity events) activities activities_are.each))
 
-  turns_forward : All (GoesForward events) problem.turns
+  turns_forward : All (GoesForward days) problem.turns
   turns_forward =
-      All-map (GoesForward events) (turn_of turnover) (filter is_empty_row schedule)
+      All-map (GoesForward days) (turn_of turnover) (filter is_empty_row schedule)
       (λ k d inside.
       let row = get_or (filter is_empty_row schedule) k d in
       let is : IsScheduleRow events row = All-filter is_empty_row (IsScheduleRow events) schedule rows_are.each k d inside in
@@ -62,8 +79,8 @@ module _ (turnover : ℕ) (events : List ExpandedEvent) (activities : List Expan
 
   pub inputs_go_forward : IsForward problem
   inputs_go_forward = record {
-    each = length-map events (earliest_of event_rows);
-    steps = steps_all problem (GoesForward events) problem.changes (some_forward false) (some_forward true) turns_forward;
+    each = length-map events (earliest_of event_rows) ∙ sym count;
+    steps = steps_all problem (GoesForward days) problem.changes (some_forward false) (some_forward true) turns_forward;
   }
 
   pub few_of : (changes : Bool) → length (activities_of changes activity_rows activities) ≤ 500000
@@ -82,58 +99,33 @@ module _ (turnover : ℕ) (events : List ExpandedEvent) (activities : List Expan
       All-map (λ activity. activity.id ≤ 500000) (delayed activity_rows) (filter (is_of changes) activities)
       (All-filter (is_of changes) (λ row. row.id ≤ 500000) activities ids_below)
 
-  few_links : length (links_of problem) ≤ 502000
-  few_links =
-      grind (
-        arith,
-        length-filter_both,
-        both_kinds,
-        length-append,
-        length-map,
-        length-enumerate_from,
-      )
-
-  -- the first event of each step is there
-  pub rides_start : (changes : Bool) → All (λ at. at.step.from < length events) (activities_of changes activity_rows activities)
-  rides_start changes k d inside = (some_forward changes k d inside).from
-
-  pub turns_start : All (λ turn. turn.from < length events) problem.turns
-  turns_start k d inside = (turns_forward k d inside).from
+  few_steps : length problem.rides + (length problem.turns + length problem.changes) ≤ 502000
+  few_steps = grind (arith, length-filter_both, both_kinds, length-map)
 
   module _ (delays_are : AreDelays (length activities) activity_rows) (turns_few : turnover ≤ 10000) where
-    pub rows_linked : (links : List Link) → All (λ time. time ≤ 8589934590) problem.earliest
-        → IsPermutation (links_of problem) links → IsNonDecreasingBy (λ link. link.rank) links
-        → IsLinked problem links
-    rows_linked links soon all in_order = record {
-      numbered = are.numbered;
-      few = are.few;
+    pub rows_are_day : All (λ time. time ≤ 8589934590) problem.earliest → IsDay problem
+    rows_are_day soon = record {
+      numbered = map-map (λ (day : DayEvent). day.id) day_event events ∙ are.numbered
+          ∙ ap (range_with_len 1) (sym count);
+      few = omega (arith, are.few, count);
       forward = inputs_go_forward;
       ids = All-append (λ activity. activity.id ≤ 500000) problem.rides problem.changes (some_ids false) (some_ids true);
       rise = ids_rise true activity_rows activities activities_are.numbered;
-      late = none_early event_rows events;
+      late = λ event inside. none_early event_rows events event (omega (arith, inside, count));
       soon = soon;
       gains = steps_gain turnover events activities schedule event_rows activity_rows are activities_are rows_are
           delays_are turns_few inputs_go_forward.steps (some_forward false) (some_forward true);
-      few_links = omega (arith, length_permutation (links_of problem) links all, few_links);
-      all = all;
-      in_order = in_order;
+      few_changes = few_of true;
+      few_steps = few_steps;
     }
 
     -- the same of what was made of the rows
-    pub linked_as : (earliest : List ℕ) (rides changes : List Activity) (turns : List Step)
-        (seen : List ExpandedEvent) (seen_rides : List Activity) (seen_turns : List Step)
-        (seen_changes : List Activity) (links : List Link)
-        → earliest ≡ problem.earliest → rides ≡ problem.rides → changes ≡ problem.changes
-        → turns ≡ problem.turns → seen ≡ events → seen_rides ≡ rides → seen_turns ≡ turns
-        → seen_changes ≡ changes → All (λ time. time ≤ 8589934590) earliest
-        → IsPermutation (ride_links seen seen_rides ++ (turn_links seen seen_turns ++ change_links seen 0 seen_changes)) links
-        → IsNonDecreasingBy (λ link. link.rank) links
-        → IsLinked (record { events = events; earliest = earliest; rides = rides; changes = changes; turns = turns }) links
-    linked_as earliest rides changes turns seen seen_rides seen_turns seen_changes links e r h t se sr st sh soon all in_order =
-        let same : problem ≡ record { events = events; earliest = earliest; rides = rides; changes = changes; turns = turns }
-        = λ i. record { events = events; earliest = sym e i; rides = sym r i; changes = sym h i; turns = sym t i } in
-        let listed : ride_links seen seen_rides ++ (turn_links seen seen_turns ++ change_links seen 0 seen_changes) ≡ links_of problem
-        = λ i. ride_links (se i) ((sr ∙ r) i) ++ (turn_links (se i) ((st ∙ t) i) ++ change_links (se i) 0 ((sh ∙ h) i)) in
-        subst (λ p. IsLinked p links) same
-        (rows_linked links (subst (All (λ time. time ≤ 8589934590)) e soon)
-        (subst (λ some. IsPermutation some links) listed all) in_order)
+    pub day_as : (days : List DayEvent) (earliest : List ℕ) (rides changes : List Activity)
+        (turns : List Step) → days ≡ problem.events → earliest ≡ problem.earliest
+        → rides ≡ problem.rides → changes ≡ problem.changes → turns ≡ problem.turns
+        → All (λ time. time ≤ 8589934590) earliest
+        → IsDay (parts_of days earliest rides changes turns)
+    day_as days earliest rides changes turns d e r h t soon =
+        let same : problem ≡ parts_of days earliest rides changes turns
+        = λ i. parts_of (sym d i) (sym e i) (sym r i) (sym h i) (sym t i) in
+        subst IsDay same (rows_are_day (subst (All (λ time. time ≤ 8589934590)) e soon))

@@ -2,6 +2,7 @@
 use Rattle.std.proofs.Common.{◌≡◌, ◌≤◌, Bool, true, false, List, [], ◌++◌, length, map, filter}
 use Rattle.std.proofs.Common.{get_or, All, refl, sym, subst, arith}
 use Rattle.std.proofs.lemmas.Int.{ints}
+use Rattle.std.proofs.lemmas.List.{length-map}
 use Rattle.std.proofs.lemmas.List.Elements.{All-append, All-filter, All-map}
 use Rattle.tables.specs.declared.file_id.FileId.TheVariants as file
 use Rattle.tables.specs.declared.row_why.RowWhy.TheVariants as why
@@ -21,10 +22,11 @@ use Rattle.event_tables.specs.Schedules.{AreScheduleRows, is_empty_row}
 use Rattle.event_tables.proofs.SoundFiles.{expanded_activities_sound, expanded_events_sound}
 use Rattle.event_tables.proofs.SoundTrips.{delays_sound, schedule_rows_sound}
 use Rattle.delay_management.specs.DispositionStage.{activities_in, activity_delay_faults, activity_delays_in, activity_faults, delay_faults, disposition_faults, event_delay_faults, event_delays_in, event_faults, events_in, made_faults, problem_in, schedule_faults, schedule_in, turnover_in}
-use Rattle.delay_management.specs.Problems.{IsForward, activities_of, delayed, earliest_of, is_of, minutes, steps_with, turn_of}
+use Rattle.propagation.specs.Problems.{IsForward, minutes, steps_with}
+use Rattle.delay_management.specs.InputProblems.{activities_of, day_event, delayed, earliest_of, is_of, turn_of}
 use Rattle.delay_management.proofs.SoonInputs.{delay_below}
 use Rattle.delay_management.proofs.ForwardInputs.{inputs_go_forward, some_ids}
-use Rattle.delay_management.proofs.PassIsLeast.{steps_all}
+use Rattle.propagation.proofs.PassIsLeast.{steps_all}
 
 -- what is read of inputs without a fault
 pub record AreInputs (bundle : BundleParts) : Type 0 where
@@ -78,7 +80,9 @@ module _ (bundle : BundleParts) (are : AreInputs bundle) where
 
   pub events_few : length (problem_in bundle).events ≤ 100000
   unfolding problem_in
-  events_few = are.events.few
+  events_few =
+      let count = length-map (events_in bundle) day_event in
+      let few = are.events.few in omega (arith, few, count)
 
   pub activity_ids : All (λ activity. activity.id ≤ 500000) ((problem_in bundle).rides ++ (problem_in bundle).changes)
   unfolding problem_in

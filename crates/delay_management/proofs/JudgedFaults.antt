@@ -12,17 +12,16 @@ use Rattle.event_tables.specs.Cells.{disposed_time}
 use Rattle.tables.specs.RowsOfTables.{records_by}
 use Rattle.delay_management.specs.declared.fault.ReasonFault.{ReasonFault}
 use Rattle.delay_management.specs.declared.fault.ReasonFault.TheVariants as fault
-use Rattle.delay_management.specs.declared.reason.Reason.{Reason}
-use Rattle.delay_management.specs.DispositionStage.{ReasonRow}
-use Rattle.delay_management.specs.declared.step.Activity.{Activity}
-use Rattle.delay_management.specs.declared.step.Step.{Step}
-use Rattle.delay_management.specs.DispositionStage.{disposition_faults, kept_in, problem_in}
-use Rattle.delay_management.specs.EarlyEvents.{is_early_by, is_right_by}
+use Rattle.propagation.specs.declared.reason.Reason.{Reason}
+use Rattle.delay_management.specs.DispositionStage.{ReasonRow, disposition_faults, kept_in, problem_in}
+use Rattle.propagation.specs.declared.step.Activity.{Activity}
+use Rattle.propagation.specs.declared.step.Step.{Step}
+use Rattle.propagation.specs.EarlyEvents.{is_early_by, is_right_by}
 use Rattle.delay_management.specs.Judged.{Passes, are_all, broken_reasons, broken_rows, broken_times, broken_where, events_where, first_broken_rule, is_early, is_table, is_wrong, reason_faults}
-use Rattle.delay_management.specs.Problems.{DelayProblem, steps_with}
+use Rattle.propagation.specs.Problems.{DelayProblem, steps_with}
 use Rattle.delay_management.proofs.DispositionReads.{breaking_none, passing}
 use Rattle.delay_management.proofs.EventTests.{early_is, right_is}
-use Rattle.delay_management.proofs.MarksTell.{filter_alike}
+use Rattle.propagation.proofs.MarksTell.{filter_alike}
 
 first_mapped : {X Y : Type 0} (f : X → Y) (xs : List X) (rest : List Y) (x : X) → Some x ≡ slice_get xs 0
     → Some (f x) ≡ slice_get (map f xs ++ rest) 0

@@ -15,15 +15,14 @@ use Rattle.event_tables.specs.Cells.{disposed_time}
 use Rattle.tables.specs.RowsOfTables.{ReadsAs}
 use Rattle.delay_management.specs.declared.fault.ReasonFault.{ReasonFault}
 use Rattle.delay_management.specs.declared.fault.ReasonFault.TheVariants as fault
-use Rattle.delay_management.specs.declared.reason.Reason.{Reason}
-use Rattle.delay_management.specs.DispositionStage.{ReasonRow}
-use Rattle.delay_management.specs.declared.step.Activity.{Activity}
-use Rattle.delay_management.specs.declared.step.Step.{Step}
-use Rattle.delay_management.specs.DispositionStage.{reason_rows, time_rows}
+use Rattle.propagation.specs.declared.reason.Reason.{Reason}
+use Rattle.delay_management.specs.DispositionStage.{ReasonRow, reason_rows, time_rows}
+use Rattle.propagation.specs.declared.step.Activity.{Activity}
+use Rattle.propagation.specs.declared.step.Step.{Step}
 use Rattle.delay_management.specs.Judged.{are_all, broken_reasons, broken_rows, broken_rules, broken_times, broken_where, events_where, first_broken_rule, is_early, is_table, is_wrong, reason_faults, reason_row, reasons_read, times_read}
-use Rattle.delay_management.specs.LeastTimes.{IsFeasible}
-use Rattle.delay_management.specs.Problems.{DelayProblem, steps_with}
-use Rattle.delay_management.specs.Reasons.{AreRight}
+use Rattle.propagation.specs.LeastTimes.{IsFeasible}
+use Rattle.propagation.specs.Problems.{DelayProblem, steps_with}
+use Rattle.propagation.specs.Reasons.{AreRight}
 use Rattle.delay_management.proofs.WrittenRows.{reasons_from, times_from}
 
 -- ---- lists that tell nothing

@@ -12,7 +12,7 @@ use Rattle.event_tables.specs.declared.expanded_event.ExpandedEvent.{ExpandedEve
 use Rattle.event_tables.specs.declared.schedule_row.ScheduleRow.{ScheduleRow}
 use Rattle.tables.specs.RowsOfTables.{ReadsFile}
 use Rattle.delay_management.specs.DispositionStage.{activities_in, activity_delay_faults, activity_delays_in, activity_faults, delay_faults, disposition_faults, event_delay_faults, event_delays_in, event_faults, events_in, made_faults, problem_in, schedule_faults, schedule_in, turnover_in}
-use Rattle.delay_management.specs.Problems.{problem_over}
+use Rattle.delay_management.specs.InputProblems.{problem_over}
 
 -- what is read of a text as a kind of file, told by others that are equal to them
 pub reads_as : {X : Type 0} (kind other : Input X) (text told : List ℕ)

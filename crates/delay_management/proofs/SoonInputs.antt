@@ -22,12 +22,21 @@ use Rattle.event_tables.specs.ForwardOrder.{both_pass, event_with}
 use Rattle.event_tables.specs.Places.{AreNumbered}
 use Rattle.event_tables.specs.Schedules.{AreScheduleRows, IsScheduleRow, has_room, is_empty_row}
 use Rattle.event_tables.proofs.Numbering.{find_numbered}
-use Rattle.event_tables.proofs.RanksRise.{id_at, planned_rises}
-use Rattle.delay_management.specs.declared.step.Activity.{Activity}
-use Rattle.delay_management.specs.declared.step.Step.{Step}
-use Rattle.delay_management.specs.Links.{GainsLittle}
-use Rattle.delay_management.specs.Problems.{DelayProblem, GoesForward, activities_of, delay_of, delayed, earliest_of, event_at, index_of, is_of, minutes, planned_at, problem_over, steps_with, turn_of}
-use Rattle.delay_management.proofs.PassIsLeast.{steps_all}
+use Rattle.event_tables.proofs.RanksRise.{id_at}
+use Rattle.propagation.proofs.RanksRise.{planned_rises}
+use Rattle.propagation.specs.declared.day_event.DayEvent.{DayEvent}
+use Rattle.propagation.specs.declared.step.Activity.{Activity}
+use Rattle.propagation.specs.declared.step.Step.{Step}
+use Rattle.propagation.specs.DayEvents.{no_event}
+use Rattle.propagation.specs.Links.{GainsLittle}
+use Rattle.propagation.specs.Problems.{DelayProblem, GoesForward, event_at, minutes, planned_at, steps_with}
+use Rattle.delay_management.specs.InputProblems.{activities_of, day_event, day_events, delay_of, delayed, earliest_of, index_of, is_of, problem_over, turn_of}
+use Rattle.propagation.proofs.PassIsLeast.{steps_all}
+
+-- an event of a day is that of the row at its place
+pub day_at : (events : List ExpandedEvent) (event : ℕ) → event < length events
+    → event_at (day_events events) event ≡ day_event (get_or events event (expanded_event []))
+day_at events event inside = get_or-map day_event events event (expanded_event []) no_event inside
 
 pub delay_below : (rows : List DelayRow) → All (λ row. InColumns delays_columns (delay_cells row)) rows → (id : ℕ)
     → delay_of rows id ≤ 1000000
@@ -43,8 +52,11 @@ delay_below (row ∷ rows) fit id =
 
 -- an event is planned no later than at its earliest
 pub none_early : (rows : List DelayRow) (events : List ExpandedEvent) (event : ℕ) → event < length events
-    → planned_at events event ≤ get_or (map (earliest_of rows) events) event 0
-none_early rows events event inside = grind (arith, get_or-map)
+    → planned_at (day_events events) event ≤ get_or (map (earliest_of rows) events) event 0
+none_early rows events event inside =
+    let planned = ap (λ (at : DayEvent). at.time) (day_at events event inside) in
+    let early = get_or-map (earliest_of rows) events event (expanded_event []) 0 inside in
+    omega (arith, planned, early)
 
 -- changes stand by their ids
 pub ids_rise : (changes : Bool) (rows : List DelayRow) (activities : List ExpandedActivity)
@@ -69,10 +81,10 @@ ids_rise changes rows activities are k within =
         omega (arith, id_at (λ row. row.id) activities i d are (omega (arith, less, inside)), id_at (λ row. row.id) activities j d are inside, less)
 
 -- an activity that goes forward gains no more than what it takes
-gains_by : (events : List ExpandedEvent) (step : Step) → GoesForward events step
-    → minutes step ≤ 1100000 → GainsLittle events step
-gains_by events step goes few =
-    let up = planned_rises events step.from step.to goes.before in omega (arith, up, few)
+gains_by : (days : List DayEvent) (step : Step) → GoesForward days step
+    → minutes step ≤ 1100000 → GainsLittle days step
+gains_by days step goes few =
+    let up = planned_rises days step.from step.to goes.before in omega (arith, up, few)
 
 -- a turn has the minutes of its empty ride between its events as planned
 room_for : (minutes : ℕ) (start end : ExpandedEvent) → has_room minutes start end ≡ true
@@ -91,14 +103,17 @@ module _ (turnover : ℕ) (events : List ExpandedEvent) (activities : List Expan
   abbrev problem : DelayProblem
   problem = problem_over turnover events activities schedule event_rows activity_rows
 
+  abbrev days : List DayEvent
+  days = day_events events
+
   short_activity : (row : ExpandedActivity) → row.lower ≤ 100000
       → minutes (delayed activity_rows row).step ≤ 1100000
   short_activity row low =
       let late = delay_below activity_rows delays_are.fit row.id in omega (arith, low, late)
 
   some_gain : (changes : Bool)
-      → All (λ activity. GoesForward events activity.step) (activities_of changes activity_rows activities)
-      → All (λ activity. GainsLittle events activity.step) (activities_of changes activity_rows activities)
+      → All (λ activity. GoesForward days activity.step) (activities_of changes activity_rows activities)
+      → All (λ activity. GainsLittle days activity.step) (activities_of changes activity_rows activities)
   some_gain changes forward =
       let short : All (λ (activity : Activity). minutes activity.step ≤ 1100000) (activities_of changes activity_rows activities) =
       All-map (λ (activity : Activity). minutes activity.step ≤ 1100000) (delayed activity_rows) (filter (is_of changes) activities)
@@ -107,17 +122,17 @@ module _ (turnover : ℕ) (events : List ExpandedEvent) (activities : List Expan
       let row = get_or activities k d in
       let fit = activities_are.fit k d inside in
       short_activity row (omega (arith, ints, fit.1.1.1.1.1.0.1)))) in
-      λ k d inside. gains_by events (get_or (activities_of changes activity_rows activities) k d).step (forward k d inside) (short k d inside)
+      λ k d inside. gains_by days (get_or (activities_of changes activity_rows activities) k d).step (forward k d inside) (short k d inside)
 
-  turns_gain : All (GainsLittle events) problem.turns
+  turns_gain : All (GainsLittle days) problem.turns
   turns_gain =
-      All-map (GainsLittle events) (turn_of turnover) (filter is_empty_row schedule)
+      All-map (GainsLittle days) (turn_of turnover) (filter is_empty_row schedule)
       (λ k d inside.
       let row = get_or (filter is_empty_row schedule) k d in
       let is : IsScheduleRow events row = All-filter is_empty_row (IsScheduleRow events) schedule rows_are.each k d inside in
       let ride = row.run.end.time - row.run.start.time in
-      let start = event_at events (index_of row.run.start.event) in
-      let end = event_at events (index_of row.run.end.event) in
+      let start = get_or events (index_of row.run.start.event) (expanded_event []) in
+      let end = get_or events (index_of row.run.end.event) (expanded_event []) in
       let found : both_pass (has_room ride) (event_with events row.run.start.event) (event_with events row.run.end.event) ≡ has_room ride start end =
       ap (λ first. both_pass (has_room ride) first (event_with events row.run.end.event))
       (find_numbered (λ event. event.id) row.run.start.event events (expanded_event []) are.numbered is.start)
@@ -125,11 +140,15 @@ module _ (turnover : ℕ) (events : List ExpandedEvent) (activities : List Expan
       (find_numbered (λ event. event.id) row.run.end.event events (expanded_event []) are.numbered is.end) in
       let has = not-false _ (is.room (filter_passes is_empty_row schedule k d inside)) in
       let room = room_for ride start end (sym found ∙ has) in
-      omega (arith, room, few))
+      let from = ap (λ (at : DayEvent). at.time)
+      (day_at events (index_of row.run.start.event) (omega (arith, is.start.0, is.start.1))) in
+      let to = ap (λ (at : DayEvent). at.time)
+      (day_at events (index_of row.run.end.event) (omega (arith, is.end.0, is.end.1))) in
+      omega (arith, room, few, from, to))
 
-  pub steps_gain : All (GoesForward events) (steps_with problem problem.changes)
-      → All (λ activity. GoesForward events activity.step) problem.rides
-      → All (λ activity. GoesForward events activity.step) problem.changes
-      → All (GainsLittle events) (steps_with problem problem.changes)
+  pub steps_gain : All (GoesForward days) (steps_with problem problem.changes)
+      → All (λ activity. GoesForward days activity.step) problem.rides
+      → All (λ activity. GoesForward days activity.step) problem.changes
+      → All (GainsLittle days) (steps_with problem problem.changes)
   steps_gain all rides changes =
-      steps_all problem (GainsLittle events) problem.changes (some_gain false rides) (some_gain true changes) turns_gain
+      steps_all problem (GainsLittle days) problem.changes (some_gain false rides) (some_gain true changes) turns_gain

@@ -6,13 +6,14 @@ use Rattle.tables.specs.Inputs.{Refuses}
 use Rattle.giv_files.specs.Settings.{BundleParts}
 use Rattle.giv_files.specs.StageCalls.{StageGives}
 use Rattle.giv_files.proofs.StageCalls as calls
-use Rattle.delay_management.specs.declared.reason.Reason.{Reason}
-use Rattle.delay_management.specs.declared.step.Activity.{Activity}
+use Rattle.propagation.specs.declared.reason.Reason.{Reason}
+use Rattle.propagation.specs.declared.step.Activity.{Activity}
 use Rattle.delay_management.specs.DispositionStage.{disposed_of, disposition_faults, disposition_made, disposition_stage, kept_in, problem_in}
-use Rattle.delay_management.specs.LeastTimes.{least_times}
-use Rattle.delay_management.specs.Problems.{DelayProblem}
-use Rattle.delay_management.specs.Reasons.{canonical_reasons}
-use Rattle.delay_management.specs.Waiting.{chosen_changes, kept_changes, wait_of}
+use Rattle.propagation.specs.LeastTimes.{least_times}
+use Rattle.propagation.specs.Problems.{DelayProblem}
+use Rattle.propagation.specs.Reasons.{canonical_reasons}
+use Rattle.propagation.specs.Waiting.{chosen_changes, kept_changes}
+use Rattle.delay_management.specs.WaitSettings.{wait_of}
 
 pub stage_refused : (bundle : BundleParts) (fault : StageFault) → Refuses (disposition_faults bundle) fault
     → StageGives (disposition_stage bundle) (Err fault)

@@ -26,10 +26,9 @@ use Rattle.event_tables.specs.Places.{is_none_of}
 use Rattle.tables.specs.RowsOfTables.{ReadsAs, records_by, rows_by}
 use Rattle.tables.proofs.WrittenColumns.{columns_written}
 use Rattle.event_tables.proofs.Numbering.{none_of_places, some_missing}
-use Rattle.delay_management.specs.declared.reason.Reason.{Reason}
-use Rattle.delay_management.specs.declared.reason.Reason.TheVariants as reason
-use Rattle.delay_management.specs.DispositionStage.{ReasonRow}
-use Rattle.delay_management.specs.DispositionStage.{reason_cells, reason_rows, reasons_header, reasons_text, time_rows, times_text}
+use Rattle.propagation.specs.declared.reason.Reason.{Reason}
+use Rattle.propagation.specs.declared.reason.Reason.TheVariants as reason
+use Rattle.delay_management.specs.DispositionStage.{ReasonRow, reason_cells, reason_rows, reasons_header, reasons_text, time_rows, times_text}
 use Rattle.delay_management.specs.Judged.{reason_row}
 use Rattle.delay_management.proofs.WrittenRows.{ReasonFits, TimeFits, reason_table_fits, times_from}
 

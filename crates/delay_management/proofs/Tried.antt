@@ -20,10 +20,10 @@ use Rattle.delay_management.specs.declared.fault.ReasonFault.{ReasonFault}
 use Rattle.delay_management.specs.declared.fault.ReasonFault.TheVariants as fault
 use Rattle.delay_management.specs.DispositionStage.{reasons_header, events_in, activities_in, schedule_in, event_delays_in, activity_delays_in, problem_in, kept_in, disposed_of, disposition_stage, disposition_faults}
 use Rattle.delay_management.specs.Judged.{first_broken_rule}
-use Rattle.delay_management.specs.LeastTimes.{pushed_often, least_times}
-use Rattle.delay_management.specs.Problems.{delay_of}
-use Rattle.delay_management.specs.Reasons.{canonical_reasons}
-use Rattle.delay_management.specs.Waiting.{chosen_changes, kept_changes}
+use Rattle.propagation.specs.LeastTimes.{pushed_often, least_times}
+use Rattle.delay_management.specs.InputProblems.{delay_of}
+use Rattle.propagation.specs.Reasons.{canonical_reasons}
+use Rattle.propagation.specs.Waiting.{chosen_changes, kept_changes}
 
 -- what computes on the texts of a small dataset
 unfoldable on_texts : ⊤

@@ -11,10 +11,10 @@ use Rattle.tables.specs.Writing.{InColumns}
 use Rattle.event_tables.specs.declared.disposed_time.DisposedTime.{DisposedTime}
 use Rattle.event_tables.specs.Cells.{disposed_time_cells}
 use Rattle.tables.specs.RowsOfTables.{rows_by}
-use Rattle.delay_management.specs.declared.reason.Reason.{Reason}
-use Rattle.delay_management.specs.declared.reason.Reason.TheVariants as reason
-use Rattle.delay_management.specs.DispositionStage.{ReasonRow}
-use Rattle.delay_management.specs.DispositionStage.{named_activity, reason_cells, reason_place, reason_rows, time_rows}
+use Rattle.propagation.specs.declared.reason.Reason.{Reason}
+use Rattle.propagation.specs.declared.reason.Reason.TheVariants as reason
+use Rattle.delay_management.specs.DispositionStage.{ReasonRow, reason_cells, reason_place, reason_rows, time_rows}
+use Rattle.propagation.specs.Reasons.{named_activity}
 
 -- ---- one row more, of rows that are numbered from 1
 

@@ -22,14 +22,16 @@ use Rattle.event_tables.specs.ExpandedFiles.{expanded_event_input, expanded_acti
 use Rattle.event_tables.specs.Headers.{disposed_time_header}
 use Rattle.tables.specs.RowsOfTables.{file_text}
 use Rattle.event_tables.specs.Schedules.{schedule_input}
-use Rattle.delay_management.specs.declared.reason.Reason.{Reason}
-use Rattle.delay_management.specs.declared.reason.Reason.TheVariants as reason
-use Rattle.delay_management.specs.declared.step.Activity.{Activity}
-use Rattle.delay_management.specs.Lateness.{delay_at, missed_at}
-use Rattle.delay_management.specs.LeastTimes.{least_times}
-use Rattle.delay_management.specs.Problems.{DelayProblem, problem_over}
-use Rattle.delay_management.specs.Reasons.{canonical_reasons}
-use Rattle.delay_management.specs.Waiting.{wait_of, kept_changes}
+use Rattle.propagation.specs.declared.reason.Reason.{Reason}
+use Rattle.propagation.specs.declared.reason.Reason.TheVariants as reason
+use Rattle.propagation.specs.declared.step.Activity.{Activity}
+use Rattle.propagation.specs.Lateness.{delay_at, missed_at}
+use Rattle.propagation.specs.LeastTimes.{least_times}
+use Rattle.propagation.specs.Problems.{DelayProblem}
+use Rattle.delay_management.specs.InputProblems.{problem_over}
+use Rattle.propagation.specs.Reasons.{canonical_reasons, named_activity}
+use Rattle.propagation.specs.Waiting.{kept_changes}
+use Rattle.delay_management.specs.WaitSettings.{wait_of}
 
 -- what the input texts hold: events, activities, a vehicle schedule, the delays of events and of
 -- activities
@@ -114,10 +116,6 @@ abbrev pub reason_place : Reason → ℕ
 reason_place reason.Source = 0
 reason_place (reason.Activity id) = 1
 reason_place reason.Turn = 2
-
-abbrev pub named_activity : Reason → ℕ
-named_activity (reason.Activity id) = id
-named_activity _ = 0
 
 abbrev pub reason_cells : ReasonRow → List ℤ
 reason_cells row =

@@ -10,16 +10,16 @@ use Rattle.event_tables.specs.Cells.{disposed_time, number_in}
 use Rattle.tables.specs.RowsOfTables.{ReadsAs, records_by}
 use Rattle.delay_management.specs.declared.fault.ReasonFault.{ReasonFault}
 use Rattle.delay_management.specs.declared.fault.ReasonFault.TheVariants as fault
-use Rattle.delay_management.specs.declared.reason.Reason.{Reason}
-use Rattle.delay_management.specs.declared.reason.Reason.TheVariants as reason
-use Rattle.delay_management.specs.DispositionStage.{ReasonRow}
-use Rattle.delay_management.specs.declared.step.Activity.{Activity}
-use Rattle.delay_management.specs.declared.step.Step.{Step}
-use Rattle.delay_management.specs.DispositionStage.{kept_in, problem_in, reason_rows, time_rows}
-use Rattle.delay_management.specs.LeastTimes.{asked, time_at}
-use Rattle.delay_management.specs.Problems.{DelayProblem, earliest_at, steps_with}
-use Rattle.delay_management.specs.Reasons.{AreRight, is_right, reason_for}
-use Rattle.delay_management.specs.Waiting.{IsDisposition, wait_of}
+use Rattle.propagation.specs.declared.reason.Reason.{Reason}
+use Rattle.propagation.specs.declared.reason.Reason.TheVariants as reason
+use Rattle.delay_management.specs.DispositionStage.{ReasonRow, kept_in, problem_in, reason_rows, time_rows}
+use Rattle.propagation.specs.declared.step.Activity.{Activity}
+use Rattle.propagation.specs.declared.step.Step.{Step}
+use Rattle.propagation.specs.LeastTimes.{asked, time_at}
+use Rattle.propagation.specs.Problems.{DelayProblem, earliest_at, steps_with}
+use Rattle.propagation.specs.Reasons.{AreRight, is_right, reason_for}
+use Rattle.propagation.specs.Waiting.{IsDisposition}
+use Rattle.delay_management.specs.WaitSettings.{wait_of}
 
 -- the reason of a word, by its place; the id counts for an activity alone
 abbrev pub reason_at : ℕ → ℕ → Reason

@@ -10,11 +10,12 @@ use Rattle.event_tables.specs.Cells.{disposed_time}
 use Rattle.event_tables.specs.DisposedTimes.{disposed_time_input}
 use Rattle.event_tables.specs.ExpandedFiles.{expanded_event_ids}
 use Rattle.tables.specs.RowsOfTables.{ReadsAs}
-use Rattle.delay_management.specs.declared.reason.Reason.{Reason}
+use Rattle.propagation.specs.declared.reason.Reason.{Reason}
 use Rattle.delay_management.specs.DispositionStage.{disposition_faults, events_in, kept_in, problem_in, reason_rows, time_rows}
 use Rattle.delay_management.specs.Judged.{first_broken_rule, reason_row}
-use Rattle.delay_management.specs.Reasons.{AreRight, canonical_reasons}
-use Rattle.delay_management.specs.Waiting.{IsDisposition, wait_of}
+use Rattle.propagation.specs.Reasons.{AreRight, canonical_reasons}
+use Rattle.propagation.specs.Waiting.{IsDisposition}
+use Rattle.delay_management.specs.WaitSettings.{wait_of}
 
 -- The files that are made are right: the inputs have no fault, and there are two files. Read again,
 -- the first one has the disposition, so one time for each event in order, and no feasible times are

@@ -7,13 +7,13 @@ ghost use Rattle.delay_management.specs.DispositionStage.{disposition_faults, ke
 ghost use Rattle.delay_management.specs.Judged.{Passes, first_broken_rule};
 
 use crate::fault::ReasonFault;
+use crate::from_bundle::FromBundle;
 use crate::judge::first_fault;
-use crate::propagation::Propagation;
 use crate::stage::wait_of;
-use crate::waiting::waiting_changes;
 use giv_files::Bundle;
-use std::alloc::Global;
 use tables::StageFault;
+use propagation::{Propagation, waiting_changes};
+use std::alloc::Global;
 
 /// The first rule that the texts of times and of their reasons break, over the inputs of the
 /// stage; none exactly where they pass, and then no feasible times are earlier at any event.

@@ -2,11 +2,11 @@
 ghost use Rattle.std.specs.Prelude.{◌≡◌, ◌+◌, ◌-◌, ◌≤◌, true, false, length, map, All, IfOk};
 ghost use Rattle.std.specs.List.{range_with_len};
 ghost use Rattle.event_tables.specs.Places.{AreNumbered, IsOneOf};
-ghost use Rattle.delay_management.specs.Problems.{activities_of, delay_of, delayed, earliest_of, is_change_kind};
+ghost use Rattle.delay_management.specs.InputProblems.{activities_of, delay_of, delayed, earliest_of, is_change_kind};
 
-use crate::step::{Activity, Step};
 use event_tables::{ActivityKind, DelayRow, ExpandedActivity, ExpandedEvent};
 use plan_num::NoMemory;
+use propagation::{Activity, Step};
 use std::alloc::Global;
 
 /// The earliest times of events that are numbered, by the rows of their delays.

@@ -1,15 +1,14 @@
 // The files of a disposition, and its line in the report.
 ghost use Rattle.std.specs.Prelude.{◌≡◌, ◌+◌, ◌++◌, ◌≤◌, codes, decimal, length, All, IfOk};
 ghost use Rattle.std.specs.Fmt.{signed_decimal};
-ghost use Rattle.delay_management.specs.DispositionStage.{disposition_made, named_activity, reason_cells, reason_place, reasons_text, time_rows, times_text};
+ghost use Rattle.delay_management.specs.DispositionStage.{disposition_made, reason_cells, reason_place, reasons_text, time_rows, times_text};
+ghost use Rattle.propagation.specs.Reasons.{named_activity};
 
-use crate::lateness::{delay_at, missed_at};
-use crate::propagation::Propagation;
-use crate::reason::Reason;
 use event_tables::{DisposedTime, disposed_times_text};
 use giv_files::{Made, MadeFile, MadeList, Stage, count_text, report_line};
 use itoa::Buffer;
 use plan_num::{NoMemory, Text};
+use propagation::{Propagation, Reason, delay_at, missed_at};
 use std::alloc::Global;
 use tables::{FileId, Table, columns, write_table};
 
@@ -118,30 +117,28 @@ fn reason_cells(event: u32, reason: Reason) -> [i64; 3]
 {
     [
         i64::from(event),
-        i64::from(reason.place()),
-        i64::from(reason.named_activity()),
+        i64::from(reason_place(reason)),
+        i64::from(named_activity(reason)),
     ]
 }
 
-impl Reason {
-    // The place of its word in the table of words, from 0.
-    fn place(self) -> u8
-        ensures { result ≡ reason_place self }
-    {
-        match self {
-            Reason::Source => 0,
-            Reason::Activity { .. } => 1,
-            Reason::Turn => 2,
-        }
+// The place of the word of a reason, from 0.
+fn reason_place(reason: Reason) -> u8
+    ensures { result ≡ reason_place reason }
+{
+    match reason {
+        Reason::Source => 0,
+        Reason::Activity { .. } => 1,
+        Reason::Turn => 2,
     }
+}
 
-    // The id of its activity, or 0 where it is none.
-    fn named_activity(self) -> u32
-        ensures { result ≡ named_activity self }
-    {
-        match self {
-            Reason::Activity { id } => id,
-            _ => 0,
-        }
+// The id of the activity of a reason, or 0 where it is none.
+fn named_activity(reason: Reason) -> u32
+    ensures { result ≡ named_activity reason }
+{
+    match reason {
+        Reason::Activity { id } => id,
+        _ => 0,
     }
 }

@@ -5,21 +5,17 @@ ghost use Rattle.tables.specs.Reading.{table_of};
 ghost use Rattle.tables.specs.Writing.{InColumns};
 ghost use Rattle.event_tables.specs.Cells.{disposed_time};
 ghost use Rattle.tables.specs.RowsOfTables.{records_by};
-ghost use Rattle.delay_management.specs.declared.step.Activity.{Activity};
+ghost use Rattle.propagation.specs.declared.step.Activity.{Activity};
 ghost use Rattle.delay_management.specs.Judged.{broken_reasons, broken_rows, broken_times, first_broken_rule, is_table, reason_faults, reason_row};
-ghost use Rattle.delay_management.specs.Problems.{Joins};
-ghost use Rattle.delay_management.specs.Waiting.{chosen_changes};
+ghost use Rattle.propagation.specs.Problems.{Joins};
+ghost use Rattle.propagation.specs.Waiting.{chosen_changes};
 
-use crate::early::first_early;
 use crate::fault::ReasonFault;
-use crate::propagation::Propagation;
 use crate::rows::{are_all_reasons, are_all_times, reasons_of, times_of};
-use crate::step::Activity;
-use crate::waiting::kept_activities;
-use crate::wrong::first_wrong;
-use plan_num::NoMemory;
-use std::alloc::Global;
 use tables::{ReadFault, Table, columns, read_table};
+use plan_num::NoMemory;
+use propagation::{Activity, Propagation, first_early, first_wrong, kept_activities};
+use std::alloc::Global;
 
 /// The first rule that the texts of times and of reasons break, where some changes are kept.
 pub(crate) fn first_fault(

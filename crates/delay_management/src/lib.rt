@@ -1,45 +1,24 @@
-//! Dispositions: how delays go on through a day, which changes wait, and why each event is as late
-//! as it is.
+//! Dispositions of files: the problem that the inputs of the stage hold, what is written of its
+//! least times and of why each event is as late as it is, and the test of both from any hand.
 #![tactic(auto)]
 
+mod bundle_problem;
 mod check;
-mod decided;
+mod day_lateness;
 mod delays;
-mod early;
-mod ends;
 mod fault;
 mod files;
+mod from_bundle;
 mod inputs;
 mod judge;
-mod lateness;
-mod links;
-mod marks;
-mod moved;
-mod on_trial;
-mod outgoing;
-mod pass;
-mod propagation;
-mod reason;
-mod reasons;
 mod rows;
-mod settle;
 mod stage;
-mod step;
-mod taken;
-mod tested;
-mod times;
-mod trial;
 mod turns;
-mod waiting;
-mod wrong;
 
 pub use check::check_reasons;
-pub use decided::Decided;
+pub use day_lateness::delay_at;
+pub use delay_trials::{Decided, Trial};
 pub use fault::ReasonFault;
-pub use lateness::{delay_at, missed_at};
-pub use propagation::Propagation;
-pub use reason::Reason;
+pub use from_bundle::FromBundle;
+pub use propagation::{Activity, DayEvent, Propagation, Reason, Step, Times, missed_at};
 pub use stage::make_disposition;
-pub use step::{Activity, Step};
-pub use times::Times;
-pub use trial::Trial;

@@ -5,16 +5,15 @@ ghost use Rattle.giv_files.specs.Settings.{Fits};
 ghost use Rattle.giv_files.specs.StageCalls.{StageGives, TakesSteps};
 ghost use Rattle.delay_management.specs.DispositionStage.{disposition_stage};
 ghost use Rattle.delay_management.specs.RightDispositions.{DispositionIsRight};
-ghost use Rattle.delay_management.specs.Waiting.{wait_of};
+ghost use Rattle.delay_management.specs.WaitSettings.{wait_of};
 
 use crate::files::disposition_made;
-use crate::propagation::Propagation;
-use crate::reasons::canonical_reasons;
-use crate::waiting::waiting_changes;
+use crate::from_bundle::FromBundle;
 use giv_files::{Bundle, Key, Made};
-use plan_num::{Ledger, Steps};
-use std::alloc::Global;
 use tables::StageFault;
+use plan_num::{Ledger, Steps};
+use propagation::{Propagation, canonical_reasons, waiting_changes};
+use std::alloc::Global;
 
 /// Makes the disposition of the inputs of the stage, which is the least feasible vector of times
 /// (Schöbel 2006 states the problem), and a reason for the time of each event.

@@ -2,11 +2,11 @@
 ghost use Rattle.std.specs.Prelude.{◌≡◌, ◌≤◌, filter, map, All, IfOk};
 ghost use Rattle.event_tables.specs.Kinds.{is_empty};
 ghost use Rattle.event_tables.specs.Schedules.{is_empty_row};
-ghost use Rattle.delay_management.specs.Problems.{turn_of};
+ghost use Rattle.delay_management.specs.InputProblems.{turn_of};
 
-use crate::step::Step;
 use event_tables::{ScheduleKind, ScheduleRow};
 use plan_num::NoMemory;
+use propagation::Step;
 use std::alloc::Global;
 
 /// The turns of the empty rides of a vehicle schedule, with a turnover time.

@@ -14,8 +14,9 @@ use Rattle.event_tables.specs.declared.periodic_activity.PeriodicActivity.{Perio
 use Rattle.event_tables.specs.declared.periodic_event.PeriodicEvent.{PeriodicEvent}
 use Rattle.event_tables.specs.declared.periodic_time.PeriodicTime.{PeriodicTime}
 use Rattle.event_tables.specs.declared.schedule_row.ScheduleRow.{ScheduleRow}
-use Rattle.delay_management.specs.Lateness.{delay_at, missed_at}
-use Rattle.delay_management.specs.Problems.{activities_of}
+use Rattle.propagation.specs.Lateness.{missed_at}
+use Rattle.delay_management.specs.DayLateness.{delay_at}
+use Rattle.delay_management.specs.InputProblems.{activities_of}
 use Rattle.evaluators.specs.declared.costed_line.CostedLine.{CostedLine}
 use Rattle.evaluators.specs.declared.rows.CostRow.{CostRow}
 use Rattle.evaluators.specs.declared.rows.LineRow.{LineRow}

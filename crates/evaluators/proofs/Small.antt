@@ -34,9 +34,10 @@ use Rattle.event_tables.proofs.SoundFiles.{expanded_activities_sound, expanded_e
 use Rattle.event_tables.proofs.SoundTimes.{disposed_times_sound}
 use Rattle.event_tables.proofs.SoundTrips.{schedule_rows_sound}
 use Rattle.pesp.proofs.LeastTensions.{rest}
-use Rattle.delay_management.specs.Lateness.{arrives, is_missed, lateness}
-use Rattle.delay_management.specs.LeastTimes.{later, latest}
-use Rattle.delay_management.specs.Problems.{delayed, is_of}
+use Rattle.propagation.specs.Lateness.{is_missed}
+use Rattle.delay_management.specs.DayLateness.{arrives, lateness}
+use Rattle.propagation.specs.LeastTimes.{later, latest}
+use Rattle.delay_management.specs.InputProblems.{delayed, is_of}
 use Rattle.evaluators.specs.declared.day_values.DayValues.{DayValues}
 use Rattle.evaluators.specs.Bounds.{IsSmall}
 use Rattle.evaluators.specs.FirstRows.{firsts}

@@ -13,7 +13,7 @@ use Rattle.text_fields.specs.Rows.{rows, cleaned}
 use Rattle.giv_files.specs.Settings.{BundleParts}
 use Rattle.plan_num.specs.Number.{spelling_of, value_of, value_at, fixed_of, whole_of}
 use Rattle.plan_num.specs.Print.{digits_at}
-use Rattle.delay_management.specs.Problems.{delay_of}
+use Rattle.delay_management.specs.InputProblems.{delay_of}
 use Rattle.evaluators.specs.FirstRows.{firsts}
 use Rattle.evaluators.specs.Statistic.{day_values, line_values, periodic_values}
 use Rattle.evaluators.specs.StatisticStage.{statistic_faults, statistic_in, statistic_stage, statistic_text}

@@ -14,9 +14,10 @@ use Rattle.event_tables.specs.RunRules.{same_kind}
 use Rattle.event_tables.specs.Schedules.{is_empty_row}
 use Rattle.pesp_model.specs.PespTexts.{event_index}
 use Rattle.pesp.specs.Timetables.{tension}
-use Rattle.delay_management.specs.Lateness.{delay_at, missed_at}
-use Rattle.delay_management.specs.LeastTimes.{latest}
-use Rattle.delay_management.specs.Problems.{activities_of}
+use Rattle.propagation.specs.Lateness.{missed_at}
+use Rattle.delay_management.specs.DayLateness.{delay_at}
+use Rattle.propagation.specs.LeastTimes.{latest}
+use Rattle.delay_management.specs.InputProblems.{activities_of}
 use Rattle.evaluators.specs.declared.day_values.DayValues.{DayValues}
 use Rattle.evaluators.specs.declared.line_values.LineValues.{LineValues}
 use Rattle.evaluators.specs.declared.measure.Measure.{Measure}

@@ -5,8 +5,8 @@ ghost use Rattle.event_tables.specs.DisposedTimes.{AreDisposedTimes};
 ghost use Rattle.event_tables.specs.ExpandedFiles.{AreExpandedActivities, AreExpandedEvents};
 ghost use Rattle.event_tables.specs.Places.{IsOneOf};
 ghost use Rattle.event_tables.specs.Schedules.{AreScheduleRows};
-ghost use Rattle.delay_management.specs.Lateness.{is_missed, missed_at};
-ghost use Rattle.delay_management.specs.Problems.{activities_of, delayed, is_change_kind, is_of};
+ghost use Rattle.propagation.specs.Lateness.{is_missed, missed_at};
+ghost use Rattle.delay_management.specs.InputProblems.{activities_of, delayed, is_change_kind, is_of};
 ghost use Rattle.evaluators.specs.Statistic.{day_values, greatest_delay, minutes_late, times_of};
 ghost use Rattle.evaluators.specs.StatisticStage.{day_faults, day_in, faults_over, values_over};
 

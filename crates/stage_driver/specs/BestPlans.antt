@@ -15,7 +15,8 @@ use Rattle.vehicle_model.specs.ReadSchedules.{plan_of}
 use Rattle.vehicle_model.specs.Trips.{links_of}
 use Rattle.vehicle_flow.specs.VehicleStage.{trips_in}
 use Rattle.delay_management.specs.DispositionStage.{problem_in}
-use Rattle.delay_management.specs.Waiting.{IsDisposition, wait_of}
+use Rattle.propagation.specs.Waiting.{IsDisposition}
+use Rattle.delay_management.specs.WaitSettings.{wait_of}
 use Rattle.planning_stages.specs.Places.{is_pinned}
 use Rattle.stage_driver.specs.FeasiblePlans.{ConceptIsFeasible, ScheduleIsFeasible}
 use Rattle.stage_driver.specs.PlansThere.{DispositionThere, Stands, is_there}

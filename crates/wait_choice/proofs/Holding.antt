@@ -4,7 +4,7 @@ use Rattle.std.proofs.Common.{Option, Some, None, IfSome, refl, ap, subst, sym, 
 use Rattle.std.specs.Prelude.{count_by}
 use Rattle.std.proofs.lemmas.Bool.{both_ways}
 use Rattle.std.proofs.lemmas.Int.{ints}
-use Rattle.delay_management.specs.Problems.{DelayProblem, IsForward}
+use Rattle.propagation.specs.Problems.{DelayProblem, IsForward}
 use Rattle.wait_choice.specs.declared.decision.Decision.{Decision}
 use Rattle.wait_choice.specs.declared.decision.Decision.TheVariants as decision
 use Rattle.wait_choice.specs.declared.waits.Waits.{Waits}

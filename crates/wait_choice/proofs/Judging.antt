@@ -3,7 +3,7 @@ use Rattle.std.proofs.Common.{◌≡◌, ◌∙◌, ℕ, ℤ, ◌+◌, ◌<◌, 
 use Rattle.std.proofs.Common.{false, List, [], ◌∷◌, ◌++◌, length, map, drop, get_or, slice_get}
 use Rattle.std.proofs.Common.{Some, None, refl, ap, sym, subst, arith}
 use Rattle.std.proofs.lemmas.List.{drop_all, drop_more}
-use Rattle.delay_management.specs.Problems.{DelayProblem}
+use Rattle.propagation.specs.Problems.{DelayProblem}
 use Rattle.wait_choice.specs.declared.node.WaitNode.{WaitNode}
 use Rattle.wait_choice.specs.declared.rule.WaitRule.TheVariants as rule
 use Rattle.wait_choice.specs.Certified.{any_low, are_tree, are_trees, has_low_leaf, leaves_of}

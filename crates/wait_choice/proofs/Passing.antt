@@ -20,10 +20,10 @@ use Rattle.tables.proofs.Ranges.{back_none, front_none, table_in_columns}
 use Rattle.event_tables.specs.Cells.{number_in}
 use Rattle.event_tables.proofs.CellFacts.{in_column}
 use Rattle.tables.specs.RowsOfTables.{ReadsAs, records_by}
-use Rattle.delay_management.specs.declared.step.Activity.{Activity}
-use Rattle.delay_management.specs.Problems.{DelayProblem, IsForward}
-use Rattle.delay_management.specs.Waiting.{chosen_changes}
-use Rattle.delay_management.proofs.Rounds.{least_is_one, least_times_are_least}
+use Rattle.propagation.specs.declared.step.Activity.{Activity}
+use Rattle.propagation.specs.Problems.{DelayProblem, IsForward}
+use Rattle.propagation.specs.Waiting.{chosen_changes}
+use Rattle.propagation.proofs.Rounds.{least_is_one, least_times_are_least}
 use Rattle.wait_choice.specs.declared.node.WaitNode.{WaitNode}
 use Rattle.wait_choice.specs.declared.node.WaitNode.TheVariants as node
 use Rattle.wait_choice.specs.declared.row.WaitRow.{WaitRow}

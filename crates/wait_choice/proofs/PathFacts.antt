@@ -14,12 +14,12 @@ use Rattle.std.proofs.lemmas.List.FromFn.{get_or-map-range_with_len, length-map-
 use Rattle.std.proofs.lemmas.List.Folds.{list_any-append}
 use Rattle.std.proofs.lemmas.List.Sums.{sum_by-cons}
 use Rattle.std.proofs.Math.Bool.{or-false}
-use Rattle.delay_management.specs.declared.decided.Decided.{Decided}
-use Rattle.delay_management.specs.declared.step.Activity.{Activity}
-use Rattle.delay_management.specs.Lateness.{delay_at, is_broken}
-use Rattle.delay_management.specs.Problems.{DelayProblem}
-use Rattle.delay_management.specs.Trials.{TrialParts, is_decided}
-use Rattle.delay_management.specs.Trials.{first_broken as trial_broken, is_kept as kept_in, times_of as trial_times}
+use Rattle.delay_trials.specs.declared.decided.Decided.{Decided}
+use Rattle.propagation.specs.declared.step.Activity.{Activity}
+use Rattle.propagation.specs.Lateness.{delay_at, is_broken}
+use Rattle.propagation.specs.Problems.{DelayProblem}
+use Rattle.delay_trials.specs.Trials.{TrialParts, is_decided}
+use Rattle.delay_trials.specs.Trials.{first_broken as trial_broken, is_kept as kept_in, times_of as trial_times}
 use Rattle.wait_choice.specs.declared.decision.Decision.{Decision}
 use Rattle.wait_choice.specs.declared.decision.Decision.TheVariants as decision
 use Rattle.wait_choice.specs.Choices.{dropped_count, times_of}

@@ -9,7 +9,7 @@ use Rattle.tables.specs.Inputs.{Refuses, UnlessFault, or_else}
 use Rattle.giv_files.specs.Settings.{BundleParts}
 use Rattle.giv_files.specs.StageCalls.{TakesSteps}
 use Rattle.delay_management.specs.DispositionStage.{disposition_faults, problem_in}
-use Rattle.delay_management.specs.Problems.{DelayProblem}
+use Rattle.propagation.specs.Problems.{DelayProblem}
 use Rattle.wait_choice.specs.declared.waits.Waits.{Waits}
 use Rattle.wait_choice.specs.Budgets.{entries_listed, spent_by, waits_within}
 use Rattle.wait_choice.specs.ChoiceStage.{FindsSome, IsEnough, IsUnspent, IsWhole, listing_in, outcome_of, waits_in, waits_refusals, waits_work, work_after}

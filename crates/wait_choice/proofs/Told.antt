@@ -7,7 +7,7 @@ use Rattle.std.proofs.lemmas.List.Elements.{All-append, All-cons, All-nil}
 use Rattle.std.proofs.lemmas.List.Kept.{AllPairs-from_increasing}
 use Rattle.std.proofs.lemmas.Option.{unwrap_or-slice_get}
 use Rattle.std.proofs.lemmas.Simd.{map-map}
-use Rattle.delay_management.proofs.TrialFacts.{first_found, none_found}
+use Rattle.delay_trials.proofs.TrialFacts.{first_found, none_found}
 use Rattle.wait_choice.specs.declared.row.WaitRow.{WaitRow}
 use Rattle.wait_choice.specs.Judged.{are_choices, is_choice, is_node}
 use Rattle.wait_choice.proofs.PathFacts.{position_alike}
@@ -15,7 +15,7 @@ use Rattle.std.specs.List.{list_all}
 use Rattle.std.specs.List.Sorted.{IsStrictlyIncreasing}
 use Rattle.std.proofs.lemmas.Bool.{eq-eqb, ne_eqb, le-leb, cases_lt}
 use Rattle.std.proofs.lemmas.List.{drop_all, drop_more, get_or-map, length-drop, length-map, take_all, take_more}
-use Rattle.delay_management.specs.declared.step.Activity.{Activity}
+use Rattle.propagation.specs.declared.step.Activity.{Activity}
 
 -- what one more item of a list is turned into stands behind those of the first ones
 pub one_pushed : {X Y : Type 0} (f : X → Y) (xs : List X) (i : ℕ) (d : X) (old new : List Y) (y : Y) → i < length xs

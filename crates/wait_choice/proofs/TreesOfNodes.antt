@@ -4,7 +4,7 @@ use Rattle.std.proofs.Common.{subst, append_assoc, append-nil, arith}
 use Rattle.std.specs.Prelude.{int_lt}
 use Rattle.std.proofs.lemmas.Bool.{and_parts, both_ways, or_parts}
 use Rattle.std.proofs.lemmas.Int.{ints}
-use Rattle.delay_management.specs.Problems.{DelayProblem}
+use Rattle.propagation.specs.Problems.{DelayProblem}
 use Rattle.wait_choice.specs.declared.decision.Decision.{Decision}
 use Rattle.wait_choice.specs.declared.decision.Decision.TheVariants as decision
 use Rattle.wait_choice.specs.declared.node.WaitNode.{WaitNode}

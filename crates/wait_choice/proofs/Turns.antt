@@ -5,8 +5,8 @@ use Rattle.std.proofs.Common.{Option, Some, None, ap, sym, subst, refl, arith, a
 use Rattle.std.specs.Prelude.{count_by, min, option_map, MatchBool, OnErr, OnOk}
 use Rattle.wait_choice.specs.Budgets.{waits_within, with_tree}
 use Rattle.std.proofs.lemmas.List.{length-append, length-drop, map-append, take_all}
-use Rattle.delay_management.specs.Problems.{DelayProblem}
-use Rattle.delay_management.specs.Trials.{TrialParts}
+use Rattle.propagation.specs.Problems.{DelayProblem}
+use Rattle.delay_trials.specs.Trials.{TrialParts}
 use Rattle.wait_choice.specs.declared.best.Best.{Best}
 use Rattle.wait_choice.specs.declared.decision.Decision.{Decision}
 use Rattle.wait_choice.specs.declared.decision.Decision.TheVariants as decision

@@ -1,7 +1,7 @@
 -- What a tree of waiting decisions certifies: that no waiting decision costs less than a cost.
 use Rattle.std.specs.Prelude.{ℕ, ℤ, ◌≡◌, ◌≤ℤ◌, int_lt, ◌&&◌, Bool, true, false, List, [], ◌∷◌, ◌++◌}
 use Rattle.std.specs.List.{list_any}
-use Rattle.delay_management.specs.Problems.{DelayProblem}
+use Rattle.propagation.specs.Problems.{DelayProblem}
 use Rattle.wait_choice.specs.declared.decision.Decision.{Decision}
 use Rattle.wait_choice.specs.declared.decision.Decision.TheVariants as decision
 use Rattle.wait_choice.specs.declared.node.WaitNode.{WaitNode}

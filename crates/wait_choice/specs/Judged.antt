@@ -4,8 +4,8 @@ use Rattle.std.specs.List.{list_all}
 use Rattle.std.specs.Ordering.{int_eq}
 use Rattle.tables.specs.Reading.{faults, table_of}
 use Rattle.tables.specs.RowsOfTables.{ReadsAs, records_by}
-use Rattle.delay_management.specs.declared.step.Activity.{Activity}
-use Rattle.delay_management.specs.Problems.{DelayProblem}
+use Rattle.propagation.specs.declared.step.Activity.{Activity}
+use Rattle.propagation.specs.Problems.{DelayProblem}
 use Rattle.wait_choice.specs.declared.node.WaitNode.{WaitNode}
 use Rattle.wait_choice.specs.declared.node.WaitNode.TheVariants as node
 use Rattle.wait_choice.specs.declared.row.WaitRow.{WaitRow}

@@ -1,8 +1,8 @@
 -- Inner words: the regions of a search along a path of decisions, the last decision first.
 use Rattle.std.specs.Prelude.{ℕ, ◌≡◌, ◌<◌, if◌then◌else◌, Bool, true, false, List, [], ◌∷◌, ◌++◌, length, map, replicate, not, nat_eq, MatchBool, ⊤}
 use Rattle.std.specs.List.{list_any, range_with_len}
-use Rattle.delay_management.specs.declared.decided.Decided.{Decided}
-use Rattle.delay_management.specs.Trials.{TrialParts, is_decided}
+use Rattle.delay_trials.specs.declared.decided.Decided.{Decided}
+use Rattle.delay_trials.specs.Trials.{TrialParts, is_decided}
 use Rattle.wait_choice.specs.declared.decision.Decision.{Decision}
 use Rattle.wait_choice.specs.declared.decision.Decision.TheVariants as decision
 use Rattle.wait_choice.specs.Regions.{decided}

@@ -1,7 +1,7 @@
 -- Inner words: a search between two entries of its listing.
 use Rattle.std.specs.Prelude.{ℕ, ◌≡◌, Bool, true, List, [], ◌∷◌, ◌++◌, take, drop, Option, None, option_map, IfSome, MatchBool}
-use Rattle.delay_management.specs.Problems.{DelayProblem}
-use Rattle.delay_management.specs.Trials.{TrialParts}
+use Rattle.propagation.specs.Problems.{DelayProblem}
+use Rattle.delay_trials.specs.Trials.{TrialParts}
 use Rattle.wait_choice.specs.declared.best.Best.{Best}
 use Rattle.wait_choice.specs.declared.decision.Decision.{Decision}
 use Rattle.wait_choice.specs.declared.node.WaitNode.{WaitNode}

@@ -1,6 +1,6 @@
 -- Inner words: the walk over the nodes of a tree from any hand.
 use Rattle.std.specs.Prelude.{ℕ, ℤ, ◌≡◌, ◌||◌, if◌then◌else◌, Bool, false, List, [], ◌∷◌, Option, Some, None, MatchBool}
-use Rattle.delay_management.specs.Trials.{TrialParts}
+use Rattle.delay_trials.specs.Trials.{TrialParts}
 use Rattle.wait_choice.specs.declared.decision.Decision.{Decision}
 use Rattle.wait_choice.specs.declared.node.WaitNode.{WaitNode}
 use Rattle.wait_choice.specs.declared.rule.WaitRule.{WaitRule}

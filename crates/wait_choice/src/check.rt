@@ -8,10 +8,10 @@ ghost use Rattle.wait_choice.specs.Judged.{KeepsBest, Passes, first_broken_rule}
 
 use crate::judge::first_broken_rule;
 use crate::rule::WaitRule;
-use delay_management::Propagation;
+use delay_management::{FromBundle, Propagation};
 use giv_files::Bundle;
-use std::alloc::Global;
 use tables::StageFault;
+use std::alloc::Global;
 
 /// The first rule that the text of a waiting decision breaks at a penalty in minutes, over the inputs
 /// of the stage of dispositions; none exactly where it passes, and then, where it has a tree, no

@@ -1,7 +1,7 @@
 // The ids of changes.
 ghost use Rattle.std.specs.Prelude.{◌≡◌, ◌==◌, ◌<◌, ◌≤◌, get_or, length, map, position, unwrap_or, IfOk};
 ghost use Rattle.std.specs.List.Sorted.{IsStrictlyIncreasing};
-ghost use Rattle.delay_management.specs.declared.step.Activity.{Activity};
+ghost use Rattle.propagation.specs.declared.step.Activity.{Activity};
 
 use delay_management::Propagation;
 use plan_num::NoMemory;

@@ -2,7 +2,7 @@
 ghost use Rattle.std.specs.Prelude.{◌≡◌, ◌*◌, ◌+ℤ◌, ◌<◌, List, pos, map, slice_get, IfOk};
 ghost use Rattle.std.specs.Ordering.{int_eq};
 ghost use Rattle.std.specs.List.Sorted.{IsStrictlyIncreasing};
-ghost use Rattle.delay_management.specs.declared.step.Activity.{Activity};
+ghost use Rattle.propagation.specs.declared.step.Activity.{Activity};
 ghost use Rattle.wait_choice.specs.Choices.{cost_of, dropped_count};
 ghost use Rattle.wait_choice.specs.Judged.{broken_nodes, broken_rows, first_broken_rule, keeps, node_said};
 

@@ -1,6 +1,6 @@
 // The way of a search from region to region.
 ghost use Rattle.std.specs.Prelude.{[], ◌≡◌, ◌*◌, ◌≤◌, ◌≤ℤ◌, ◌+ℤ◌, ◌∷◌, pos, true, false, drop, length, slice_get, IfOk, IfSome, OnOk};
-ghost use Rattle.delay_management.specs.Problems.{IsForward};
+ghost use Rattle.propagation.specs.Problems.{IsForward};
 ghost use Rattle.wait_choice.specs.Paths.{GoesOn, all_but, region_in};
 ghost use Rattle.wait_choice.specs.Regions.{CostsAtLeastIn, bound_of, first_broken, greatest_set, is_free_at};
 
@@ -26,7 +26,7 @@ impl Drop for Path<'_> {
 }
 
 impl<'a> Model for Path<'a> {
-    ghost use Rattle.delay_management.specs.Trials.{TrialParts};
+    ghost use Rattle.delay_trials.specs.Trials.{TrialParts};
     ghost use Rattle.wait_choice.specs.Paths.{IsPath};
 
     ghost Value = { TrialParts };

@@ -5,7 +5,7 @@ ghost use Rattle.tables.specs.Inputs.{UnlessFault};
 ghost use Rattle.giv_files.specs.Settings.{Fits};
 ghost use Rattle.tables.specs.RowsOfTables.{ReadsAs};
 ghost use Rattle.delay_management.specs.DispositionStage.{disposition_faults, problem_in};
-ghost use Rattle.delay_management.specs.declared.step.Activity.{Activity};
+ghost use Rattle.propagation.specs.declared.step.Activity.{Activity};
 ghost use Rattle.wait_choice.specs.declared.row.WaitRow.TheVariants as rows;
 ghost use Rattle.wait_choice.specs.Judged.{first_broken_rule};
 ghost use Rattle.wait_choice.specs.PrintedRows.{RowFits};
@@ -19,11 +19,11 @@ use crate::row::WaitRow;
 use crate::text::rows_text;
 use crate::tree::WaitTree;
 use crate::waits::Waits;
-use delay_management::Propagation;
+use delay_management::{FromBundle, Propagation};
 use giv_files::Bundle;
+use tables::StageFault;
 use plan_num::{NoMemory, Text};
 use std::alloc::Global;
-use tables::StageFault;
 
 /// The text of a waiting decision over the inputs of the stage of dispositions.
 pub fn print_waits(alloc: Global, bundle: &Bundle, waits: &Waits) -> Result<Text, StageFault>

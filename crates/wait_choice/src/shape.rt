@@ -1,7 +1,7 @@
 // The form of the rows of a waiting decision.
 ghost use Rattle.std.specs.Prelude.{◌≡◌};
 ghost use Rattle.std.specs.List.{list_all};
-ghost use Rattle.delay_management.specs.declared.step.Activity.{Activity};
+ghost use Rattle.propagation.specs.declared.step.Activity.{Activity};
 ghost use Rattle.wait_choice.specs.Judged.{are_choices, cost_in, is_choice, is_cost, is_node, is_shaped};
 
 use crate::ids::id_at;

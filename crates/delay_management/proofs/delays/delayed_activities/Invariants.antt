@@ -1,6 +1,6 @@
 -- The activities so far and those that are left are all of them, changes and others.
 use Rattle.std.proofs.Common.{◌≡◌, ◌++◌, true, false, drop}
-use Rattle.delay_management.specs.Problems.{activities_of}
+use Rattle.delay_management.specs.InputProblems.{activities_of}
 use Rattle.delay_management.proofs.delays.delayed_activities.Given as goal
 
 abbrev pub invariant-loop-index : goal.invariant-loop-index

@@ -6,10 +6,9 @@ use Rattle.tables.specs.Writing.{InColumns, table_text}
 use Rattle.tables.proofs.Headers.{plain_header}
 use Rattle.tables.specs.RowsOfTables.{rows_by}
 use Rattle.tables.proofs.WrittenColumns.{columns_written}
-use Rattle.delay_management.specs.declared.reason.Reason.{Reason}
-use Rattle.delay_management.specs.declared.reason.Reason.TheVariants as reasons
-use Rattle.delay_management.specs.DispositionStage.{ReasonRow}
-use Rattle.delay_management.specs.DispositionStage.{reason_cells, reason_rows, reasons_header}
+use Rattle.propagation.specs.declared.reason.Reason.{Reason}
+use Rattle.propagation.specs.declared.reason.Reason.TheVariants as reasons
+use Rattle.delay_management.specs.DispositionStage.{ReasonRow, reason_cells, reason_rows, reasons_header}
 use Rattle.delay_management.proofs.WrittenRows.{reason_table_fits, reasons_fit, row_more, rows_whole}
 use Rattle.delay_management.proofs.files.reasons_text.Goals as goal
 

@@ -3,9 +3,9 @@ use Rattle.std.proofs.lemmas.Int.{to_z-of_z}
 use Rattle.std.proofs.lemmas.Result.{err_from_is_err_and}
 use mir.Syntax.{w64}
 use Rattle.delay_management.specs.DispositionStage.{disposition_made}
-use Rattle.delay_management.specs.LeastTimes.{least_times}
-use Rattle.delay_management.specs.Reasons.{canonical_reasons}
-use Rattle.delay_management.specs.Waiting.{chosen_changes}
+use Rattle.propagation.specs.LeastTimes.{least_times}
+use Rattle.propagation.specs.Reasons.{canonical_reasons}
+use Rattle.propagation.specs.Waiting.{chosen_changes}
 use Rattle.delay_management.proofs.StageResults.{stage_made, stage_refused}
 use Rattle.delay_management.proofs.stage.disposed.Goals as goal
 

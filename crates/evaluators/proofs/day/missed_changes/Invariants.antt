@@ -1,7 +1,7 @@
 -- The count so far and the missed changes that are left are all of them.
 use Rattle.std.proofs.Common.{◌≡◌, ◌≤◌, ◌+◌, [], true, drop}
-use Rattle.delay_management.specs.Lateness.{missed_at}
-use Rattle.delay_management.specs.Problems.{activities_of}
+use Rattle.propagation.specs.Lateness.{missed_at}
+use Rattle.delay_management.specs.InputProblems.{activities_of}
 use Rattle.evaluators.proofs.day.missed_changes.Given as goal
 
 abbrev pub invariant-loop-activity : goal.invariant-loop-activity

@@ -1,8 +1,9 @@
 use Rattle.std.proofs.Common.{◌≤◌, true, [], All, ap, subst, sym, ◌∙◌}
 use Rattle.std.proofs.lemmas.Int.{to_z-of_z}
 use mir.Syntax.{w128}
-use Rattle.delay_management.specs.Lateness.{delay_at, missed_at}
-use Rattle.delay_management.specs.Problems.{activities_of}
+use Rattle.propagation.specs.Lateness.{missed_at}
+use Rattle.delay_management.specs.DayLateness.{delay_at}
+use Rattle.delay_management.specs.InputProblems.{activities_of}
 use Rattle.evaluators.specs.Statistic.{greatest_delay}
 use Rattle.evaluators.proofs.Bounded.{rows_few, times_below}
 use Rattle.evaluators.proofs.Parts.{day_are}

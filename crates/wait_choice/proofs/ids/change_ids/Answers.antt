@@ -1,5 +1,5 @@
 use Rattle.std.proofs.Common.{arith}
-use Rattle.delay_management.specs.declared.step.Activity.{Activity}
+use Rattle.propagation.specs.declared.step.Activity.{Activity}
 use Rattle.wait_choice.proofs.Told.{one_pushed}
 use Rattle.wait_choice.proofs.ids.change_ids.Goals as goal
 

@@ -1,7 +1,7 @@
 use Rattle.std.proofs.Common.{◌∙◌, ◌++◌, ◌<◌, Bool, false, get_or, length, ap, sym, arith}
 use Rattle.std.specs.Prelude.{zip}
 use Rattle.std.proofs.lemmas.Slice.Zip.{get_or-zip, length-zip}
-use Rattle.delay_management.specs.declared.step.Activity.{Activity}
+use Rattle.propagation.specs.declared.step.Activity.{Activity}
 use Rattle.wait_choice.specs.PrintedRows.{RowFits}
 use Rattle.wait_choice.specs.WaitTexts.{choice_row}
 use Rattle.wait_choice.proofs.Told.{all_taken, behind_pushed, fits_pushed, got}

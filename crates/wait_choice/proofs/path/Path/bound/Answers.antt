@@ -1,7 +1,7 @@
 use Rattle.std.proofs.Common.{◌≡◌, ◌∙◌, ◌*◌, ◌+ℤ◌, ◌≤ℤ◌, pos, length, to_z, of_z, ap, sym, subst}
 use Rattle.std.proofs.lemmas.Int.{to_z-of_z}
 use mir.Syntax.{w128}
-use Rattle.delay_management.specs.Problems.{IsForward}
+use Rattle.propagation.specs.Problems.{IsForward}
 use Rattle.wait_choice.specs.Choices.{total}
 use Rattle.wait_choice.specs.Paths.{dropped_in, region_in}
 use Rattle.wait_choice.specs.Regions.{bound_of}

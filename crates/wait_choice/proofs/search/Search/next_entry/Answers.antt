@@ -1,7 +1,7 @@
 use Rattle.std.proofs.Common.{◌≡◌, ◌∙◌, None, Some, length, sym, subst}
 use Rattle.std.proofs.lemmas.Int.{to_z-of_z}
 use mir.Syntax.{w128}
-use Rattle.delay_management.specs.Problems.{IsForward}
+use Rattle.propagation.specs.Problems.{IsForward}
 use Rattle.wait_choice.specs.Paths.{region_in}
 use Rattle.wait_choice.specs.Regions.{bound_of, first_broken}
 use Rattle.wait_choice.specs.RightListings.{EntryHolds}

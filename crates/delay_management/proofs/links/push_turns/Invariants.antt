@@ -1,9 +1,0 @@
--- The links so far and those of the turns that are left are all of them.
-use Rattle.std.proofs.Common.{◌≡◌, ◌++◌, drop}
-use Rattle.delay_management.specs.Links.{turn_links}
-use Rattle.delay_management.proofs.links.push_turns.Given as goal
-
-abbrev pub invariant-loop-turn : goal.invariant-loop-turn
-invariant-loop-turn l =
-    l.links.items ++ turn_links l.events (drop l.turn-index l.turns)
-    ≡ l.fn.links.items ++ turn_links l.events l.turns

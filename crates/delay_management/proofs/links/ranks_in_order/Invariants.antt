@@ -1,9 +1,0 @@
--- The ranks so far are those of the first events.
-use Rattle.std.proofs.Common.{◌≡◌, map}
-use Rattle.std.specs.List.{range_with_len}
-use Rattle.event_tables.specs.ForwardRanks.{forward_rank}
-use Rattle.delay_management.proofs.links.ranks_in_order.Given as goal
-
-abbrev pub invariant-loop-event : goal.invariant-loop-event
-invariant-loop-event l =
-    l.ranks.items ≡ map (forward_rank l.events) (range_with_len 0 l.event)

@@ -1,9 +1,0 @@
-use Rattle.std.proofs.Common.{subst}
-use Rattle.delay_management.specs.OnTrial.{IsLastMoved}
-use Rattle.delay_management.proofs.Undoing.{dropped_one}
-use Rattle.delay_management.proofs.on_trial.TimesOnTrial.forget_last.Goals as goal
-
-pub loop-last-preserved : goal.loop-last-preserved
-loop-last-preserved c =
-    dropped_one c.args.left c.args.self.now c.loop-last.self c.last_moved.new.self _ c.loop-last.invariant
-    (subst (IsLastMoved c.args.left c.loop-last.self c.last_moved.new.self) c.in-Some.is c.last_moved.ensures)

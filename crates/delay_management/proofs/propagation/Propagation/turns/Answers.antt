@@ -1,9 +1,0 @@
-use Rattle.std.proofs.Common.{All, length, subst}
-use Rattle.delay_management.specs.Problems.{Joins}
-use Rattle.delay_management.proofs.ForwardSteps.{turns_join}
-use Rattle.delay_management.proofs.propagation.Propagation.turns.Goals as goal
-
-pub returns-clause-ends : goal.returns-clause-ends
-returns-clause-ends c =
-    subst (λ p. All (Joins (length p.events)) p.turns) c.self.view_is
-    (turns_join _ _ c.self.invariant)

@@ -1,0 +1,14 @@
+pub mod Apart
+pub mod EndsOfChanges
+pub mod FirstOpen
+pub mod FirstPlaces
+pub mod OnTrialFacts
+pub mod RunningDelay
+pub mod Settling
+pub mod Taking
+pub mod Testing
+pub mod TrialDelay
+pub mod TrialFacts
+pub mod Turning
+pub mod Undoing
+pub mod Waits

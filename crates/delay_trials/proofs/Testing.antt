@@ -1,0 +1,49 @@
+-- Which open changes times break, one after the other.
+use Rattle.std.proofs.Common.{◌≡◌, ◌≢◌, ◌∙◌, ℕ, ◌+◌, ◌<◌, ◌&&◌, Bool, false, List, length}
+use Rattle.std.proofs.Common.{get_or, slice_set, ap, sym, subst, arith}
+use Rattle.std.proofs.lemmas.List.{get_or_default, length-set}
+use Rattle.delay_trials.specs.declared.ends.ChangeEnd.{ChangeEnd}
+use Rattle.propagation.specs.declared.step.Activity.{Activity}
+use Rattle.propagation.specs.Lateness.{is_broken}
+use Rattle.delay_trials.specs.Stillness.{TestsSome}
+use Rattle.bit_rows.proofs.Cases.{by_less, by_same}
+use Rattle.delay_trials.proofs.Apart.{set_here, set_there}
+
+module _ (changes : List Activity) (times : List ℕ) (open_yet : List Bool) where
+  abbrev test : ℕ → Activity → Bool
+  test k d = get_or open_yet k false && is_broken times (get_or changes k d)
+
+  abbrev Tested : List Bool → ℕ → Activity → Type 0
+  Tested broken k d = get_or broken k false ≡ test k d
+
+  module _ (old new : List Bool) (at : ℕ) (is : (d : Activity) → new ≡ slice_set old at (test at d)) where
+    pub same_size : (d : Activity) → length new ≡ length old
+    same_size d = ap length (is d) ∙ length-set old at (test at d)
+
+    pub one_tested : at < length old → (k : ℕ) (d : Activity) → (k ≢ at → Tested old k d) → Tested new k d
+    one_tested inside k d others =
+        by_same k at
+        (λ same. subst (λ n. Tested new n d) (sym same) (set_here old new at (test at d) false (is d) inside))
+        (λ apart. set_there old new at (test at d) false (is d) k apart ∙ others apart)
+
+    pub more_tested : at < length old → ((k : ℕ) (d : Activity) → k < at → Tested old k d)
+        → (k : ℕ) (d : Activity) → k < at + 1 → Tested new k d
+    more_tested inside so_far k d less = grind (arith, one_tested, by_less)
+
+  -- the change of one end is tested
+  pub one_done : (ends : List ChangeEnd) (old new : List Bool) (at : ℕ) (e : ChangeEnd)
+      → ((d : Activity) → new ≡ slice_set old (get_or ends at e).change (test (get_or ends at e).change d))
+      → at < length ends → (get_or ends at e).change < length old
+      → TestsSome changes times open_yet ends at (at + 1) old new
+  one_done ends old new at e is inside room = record {
+    size = same_size old new (get_or ends at e).change is (record { id = 0; step = record { from = 0; to = 0; lower = 0; extra = 0 } });
+    keeps = λ k d tested. one_tested old new (get_or ends at e).change is room k d (λ apart. tested);
+    done = λ j f d low high there.
+        subst (λ n. Tested new n d) (sym (named j f (omega (arith, low, high))))
+        (set_here old new (get_or ends at e).change (test (get_or ends at e).change d) false (is d) room);
+  }
+    where
+      named : (j : ℕ) (f : ChangeEnd) → j ≡ at → (get_or ends j f).change ≡ (get_or ends at e).change
+      named j f same =
+          ap (λ n. (get_or ends n f).change) same
+          ∙ ap (λ (e : ChangeEnd). e.change) (get_or_default ends at f e inside)

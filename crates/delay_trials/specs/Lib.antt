@@ -1,0 +1,4 @@
+pub mod ChangeEnds
+pub mod OnTrial
+pub mod Stillness
+pub mod Trials

@@ -1,0 +1,12 @@
+-- The sum so far goes on as the first one does, and is no greater than so many events can make it.
+use Rattle.std.proofs.Common.{◌≡◌, ◌*◌, ◌+ℤ◌, ◌≤ℤ◌, neg_ℤ, pos, drop, filter, zip}
+use Rattle.std.specs.List.{fold}
+use Rattle.propagation.specs.Lateness.{arrives, delay_at, lateness}
+use Rattle.propagation.proofs.lateness.delay_at.Given as goal
+
+abbrev pub invariant-loop-index : goal.invariant-loop-index
+invariant-loop-index l = record {
+  told : fold (λ sum timed. sum +ℤ lateness timed) l.sum (filter arrives (zip (drop l.index l.events) (drop l.index l.times))) ≡ delay_at l.events l.times;
+  high : l.sum ≤ℤ pos (l.index * 1000000000000000000);
+  low : neg_ℤ (pos (l.index * 1000000000000000000)) ≤ℤ l.sum;
+}

@@ -1,0 +1,9 @@
+-- The first of the events that are left is the first of all.
+use Rattle.std.proofs.Common.{◌≡◌, ◌-◌, false, filter, get_or, length}
+use Rattle.std.specs.List.{range_with_len}
+use Rattle.propagation.proofs.marks.first_marked.Given as goal
+
+abbrev pub invariant-loop-event : goal.invariant-loop-event
+invariant-loop-event l =
+    filter (λ event. get_or l.marks event false) (range_with_len 0 (length l.marks))
+    ≡ filter (λ event. get_or l.marks event false) (range_with_len l.event (length l.marks - l.event))

@@ -1,0 +1,7 @@
+-- So far there is no id.
+use Rattle.std.proofs.Common.{◌≡◌, None, map}
+use Rattle.std.specs.List.{range_with_len}
+use Rattle.propagation.proofs.reasons.no_ids.Given as goal
+
+abbrev pub invariant-loop-event : goal.invariant-loop-event
+invariant-loop-event l = l.ids.items ≡ map (λ _. None) (range_with_len 0 l._event)

@@ -1,0 +1,12 @@
+pub mod CheckedDays
+pub mod DayEvents
+pub mod EarlyEvents
+pub mod Lateness
+pub mod LeastTimes
+pub mod Links
+pub mod Marks
+pub mod Outgoing
+pub mod Problems
+pub mod Reasons
+pub mod TightIds
+pub mod Waiting
