@@ -28,6 +28,7 @@ pub use settings::Settings;
 pub use stage::Stage;
 pub use tables::{
     ColumnKind, Counted, FileId, ReadFault, Record, Refusal, RowFault, RowFold, RowLimit, RowTests,
-    RowWhy, StageFault, Table, TextRow, TextRows, WordTable, fold_file, fold_rows, push_line,
-    read_cells, read_file, read_input, read_records, read_table, rows_of, too_many, write_table,
+    RowWhy, StageFault, Table, TextRow, TextRows, WordTable, cells, columns, fold_file, fold_rows,
+    push_line, read_cells, read_file, read_input, read_records, read_table, rows_of, too_many,
+    write_table,
 };
