@@ -16,10 +16,10 @@ use crate::inputs::{
 use crate::turns::turns_of;
 use event_tables::{DelayRow, ExpandedActivity, ExpandedEvent, ScheduleRow};
 use giv_files::Bundle;
-use tables::StageFault;
 use plan_num::NoMemory;
 use propagation::{DayEvent, Propagation};
 use std::alloc::Global;
+use tables::StageFault;
 
 /// The problem of the inputs of the stage of dispositions, or their first fault.
 pub(crate) fn problem_of_bundle(alloc: Global, bundle: &Bundle) -> Result<Propagation, StageFault>

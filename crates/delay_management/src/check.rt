@@ -11,9 +11,9 @@ use crate::from_bundle::FromBundle;
 use crate::judge::first_fault;
 use crate::stage::wait_of;
 use giv_files::Bundle;
-use tables::StageFault;
 use propagation::{Propagation, waiting_changes};
 use std::alloc::Global;
+use tables::StageFault;
 
 /// The first rule that the texts of times and of their reasons break, over the inputs of the
 /// stage; none exactly where they pass, and then no feasible times are earlier at any event.

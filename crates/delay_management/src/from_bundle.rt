@@ -7,9 +7,9 @@ ghost use Rattle.delay_management.specs.DispositionStage.{disposition_faults, pr
 
 use crate::bundle_problem::problem_of_bundle;
 use giv_files::Bundle;
-use tables::StageFault;
 use propagation::Propagation;
 use std::alloc::Global;
+use tables::StageFault;
 
 /// What can be made of the inputs of the stage of dispositions. It is a trait, since a problem
 /// knows of no files.

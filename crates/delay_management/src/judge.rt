@@ -12,10 +12,10 @@ ghost use Rattle.propagation.specs.Waiting.{chosen_changes};
 
 use crate::fault::ReasonFault;
 use crate::rows::{are_all_reasons, are_all_times, reasons_of, times_of};
-use tables::{ReadFault, Table, columns, read_table};
 use plan_num::NoMemory;
 use propagation::{Activity, Propagation, first_early, first_wrong, kept_activities};
 use std::alloc::Global;
+use tables::{ReadFault, Table, columns, read_table};
 
 /// The first rule that the texts of times and of reasons break, where some changes are kept.
 pub(crate) fn first_fault(

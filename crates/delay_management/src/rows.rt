@@ -7,10 +7,10 @@ ghost use Rattle.event_tables.specs.Cells.{disposed_time, number_in};
 ghost use Rattle.tables.specs.RowsOfTables.{records_by};
 ghost use Rattle.delay_management.specs.Judged.{are_all, reason_at, reason_row};
 
-use tables::Table;
 use plan_num::NoMemory;
 use propagation::Reason;
 use std::alloc::Global;
+use tables::Table;
 
 /// Whether rows of times are one for each of so many events, in their order.
 pub(crate) fn are_all_times(table: &Table<2>, events: usize) -> bool

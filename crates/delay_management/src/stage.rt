@@ -10,10 +10,10 @@ ghost use Rattle.delay_management.specs.WaitSettings.{wait_of};
 use crate::files::disposition_made;
 use crate::from_bundle::FromBundle;
 use giv_files::{Bundle, Key, Made};
-use tables::StageFault;
 use plan_num::{Ledger, Steps};
 use propagation::{Propagation, canonical_reasons, waiting_changes};
 use std::alloc::Global;
+use tables::StageFault;
 
 /// Makes the disposition of the inputs of the stage, which is the least feasible vector of times
 /// (Schöbel 2006 states the problem), and a reason for the time of each event.

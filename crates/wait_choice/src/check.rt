@@ -10,8 +10,8 @@ use crate::judge::first_broken_rule;
 use crate::rule::WaitRule;
 use delay_management::{FromBundle, Propagation};
 use giv_files::Bundle;
-use tables::StageFault;
 use std::alloc::Global;
+use tables::StageFault;
 
 /// The first rule that the text of a waiting decision breaks at a penalty in minutes, over the inputs
 /// of the stage of dispositions; none exactly where it passes, and then, where it has a tree, no

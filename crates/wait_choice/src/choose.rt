@@ -13,9 +13,9 @@ use crate::search::search_waits;
 use crate::waits::Waits;
 use delay_management::{FromBundle, Propagation};
 use giv_files::Bundle;
-use tables::{Refusal, StageFault};
 use plan_num::{Ledger, Steps};
 use std::alloc::Global;
+use tables::{Refusal, StageFault};
 
 /// Chooses which changes of a day are kept, so that the delay of all arrivals and a penalty in
 /// minutes for each change that is dropped are least together, by a search with so many entries at

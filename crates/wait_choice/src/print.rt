@@ -21,9 +21,9 @@ use crate::tree::WaitTree;
 use crate::waits::Waits;
 use delay_management::{FromBundle, Propagation};
 use giv_files::Bundle;
-use tables::StageFault;
 use plan_num::{NoMemory, Text};
 use std::alloc::Global;
+use tables::StageFault;
 
 /// The text of a waiting decision over the inputs of the stage of dispositions.
 pub fn print_waits(alloc: Global, bundle: &Bundle, waits: &Waits) -> Result<Text, StageFault>
