@@ -22,7 +22,7 @@ use std::alloc::Global;
 use tables::StageFault;
 
 /// The problem of the inputs of the stage of dispositions, or their first fault.
-pub(crate) fn problem_of_bundle(alloc: Global, bundle: &Bundle) -> Result<Propagation, StageFault>
+pub fn problem_of_bundle(alloc: Global, bundle: &Bundle) -> Result<Propagation, StageFault>
     requires stage { bundle.now.stage ≡ stages.Disposition }
     requires fits { Fits bundle.now }
     ensures read { UnlessFault (disposition_faults bundle.now)

@@ -6,12 +6,12 @@ ghost use Rattle.giv_files.specs.Settings.{Fits};
 ghost use Rattle.delay_management.specs.DispositionStage.{disposition_faults, kept_in, problem_in};
 ghost use Rattle.delay_management.specs.Judged.{Passes, first_broken_rule};
 
+use crate::bundle_problem::problem_of_bundle;
 use crate::fault::ReasonFault;
-use crate::from_bundle::FromBundle;
 use crate::judge::first_fault;
 use crate::stage::wait_of;
 use giv_files::Bundle;
-use propagation::{Propagation, waiting_changes};
+use propagation::waiting_changes;
 use std::alloc::Global;
 use tables::StageFault;
 
@@ -34,7 +34,7 @@ pub fn check_reasons(
     ensures only { IfOk result
         (λ answer. Passes bundle.now times.now reasons.now → answer ≡ None) }
 {
-    let problem = Propagation::from_bundle(alloc, bundle)?;
+    let problem = problem_of_bundle(alloc, bundle)?;
     let kept = waiting_changes(alloc, &problem, wait_of(bundle))?;
     Ok(first_fault(alloc, &problem, &kept, times, reasons)?)
 }

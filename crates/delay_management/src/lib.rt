@@ -4,21 +4,22 @@
 
 mod bundle_problem;
 mod check;
+mod day;
 mod day_lateness;
 mod delays;
 mod fault;
 mod files;
-mod from_bundle;
 mod inputs;
 mod judge;
 mod rows;
 mod stage;
 mod turns;
 
+pub use bundle_problem::problem_of_bundle;
 pub use check::check_reasons;
+pub use day::Propagation;
 pub use day_lateness::delay_at;
 pub use delay_trials::{Decided, Trial};
 pub use fault::ReasonFault;
-pub use from_bundle::FromBundle;
-pub use propagation::{Activity, DayEvent, Propagation, Reason, Step, Times, missed_at};
+pub use propagation::{Activity, DayEvent, Reason, Step, Times, missed_at};
 pub use stage::make_disposition;

@@ -7,11 +7,11 @@ ghost use Rattle.delay_management.specs.DispositionStage.{disposition_stage};
 ghost use Rattle.delay_management.specs.RightDispositions.{DispositionIsRight};
 ghost use Rattle.delay_management.specs.WaitSettings.{wait_of};
 
+use crate::bundle_problem::problem_of_bundle;
 use crate::files::disposition_made;
-use crate::from_bundle::FromBundle;
 use giv_files::{Bundle, Key, Made};
 use plan_num::{Ledger, Steps};
-use propagation::{Propagation, canonical_reasons, waiting_changes};
+use propagation::{canonical_reasons, waiting_changes};
 use std::alloc::Global;
 use tables::StageFault;
 
@@ -38,7 +38,7 @@ fn disposed(alloc: Global, bundle: &Bundle) -> Result<Made, StageFault>
     requires fits { Fits bundle.now }
     ensures { StageGives (disposition_stage bundle.now) result }
 {
-    let problem = Propagation::from_bundle(alloc, bundle)?;
+    let problem = problem_of_bundle(alloc, bundle)?;
     let kept = waiting_changes(alloc, &problem, wait_of(bundle))?;
     let times = problem.least_times(alloc, &kept)?;
     let reasons = canonical_reasons(alloc, &problem, &kept, &times)?;

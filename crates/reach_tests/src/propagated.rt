@@ -1,5 +1,5 @@
 // How delays go on through a day, for a set of changes that are kept.
-use delay_management::{FromBundle, Propagation};
+use delay_management::Propagation;
 use giv_files::{Bundle, Key, Settings, Stage};
 use plan_num::NoMemory;
 use std::alloc::Global;

@@ -8,7 +8,7 @@ ghost use Rattle.wait_choice.specs.Judged.{KeepsBest, Passes, first_broken_rule}
 
 use crate::judge::first_broken_rule;
 use crate::rule::WaitRule;
-use delay_management::{FromBundle, Propagation};
+use delay_management::problem_of_bundle;
 use giv_files::Bundle;
 use std::alloc::Global;
 use tables::StageFault;
@@ -33,7 +33,7 @@ pub fn check_waits(
     ensures best { IfOk result
         (λ answer. IfNone answer (KeepsBest (problem_in bundle.now) penalty text.now)) }
 {
-    let problem = Propagation::from_bundle(alloc, bundle)?;
+    let problem = problem_of_bundle(alloc, bundle)?;
     let _count = problem.change_count();
     Ok(first_broken_rule(alloc, &problem, penalty, text)?)
 }

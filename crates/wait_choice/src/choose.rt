@@ -11,7 +11,7 @@ ghost use Rattle.wait_choice.specs.RightListings.{IsListed};
 
 use crate::search::search_waits;
 use crate::waits::Waits;
-use delay_management::{FromBundle, Propagation};
+use delay_management::problem_of_bundle;
 use giv_files::Bundle;
 use plan_num::{Ledger, Steps};
 use std::alloc::Global;
@@ -41,7 +41,7 @@ pub fn choose_waits<L: Ledger>(
     ensures steps { TakesSteps (waits_work bundle.now penalty budget) steps.old steps.new result }
 {
     steps.tick();
-    let problem = Propagation::from_bundle(alloc, bundle)?;
+    let problem = problem_of_bundle(alloc, bundle)?;
     let found = search_waits(alloc, &problem, penalty, budget, steps)?;
     found_or_spent(found, budget)
 }

@@ -3,8 +3,8 @@ ghost use Rattle.std.specs.Prelude.{◌≡◌, ◌==◌, ◌<◌, ◌≤◌, get
 ghost use Rattle.std.specs.List.Sorted.{IsStrictlyIncreasing};
 ghost use Rattle.propagation.specs.declared.step.Activity.{Activity};
 
-use delay_management::Propagation;
 use plan_num::NoMemory;
+use propagation::Propagation;
 use std::alloc::Global;
 
 /// The id of the change at an index.

@@ -13,8 +13,8 @@ use crate::rows::{rows_of, wait_table};
 use crate::rule::WaitRule;
 use crate::shape::{cost_in, is_shaped};
 use crate::walk::Walk;
-use delay_management::Propagation;
 use plan_num::NoMemory;
+use propagation::Propagation;
 use std::alloc::Global;
 
 /// The first rule that a text breaks at a penalty in minutes.

@@ -4,8 +4,9 @@ ghost use Rattle.propagation.specs.Problems.{IsForward};
 ghost use Rattle.wait_choice.specs.Paths.{GoesOn, all_but, region_in};
 ghost use Rattle.wait_choice.specs.Regions.{CostsAtLeastIn, bound_of, first_broken, greatest_set, is_free_at};
 
-use delay_management::{Decided, Propagation, Trial};
+use delay_management::{Decided, Trial};
 use plan_num::NoMemory;
+use propagation::Propagation;
 use std::alloc::Global;
 use std::marker::Model;
 

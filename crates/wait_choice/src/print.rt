@@ -19,9 +19,10 @@ use crate::row::WaitRow;
 use crate::text::rows_text;
 use crate::tree::WaitTree;
 use crate::waits::Waits;
-use delay_management::{FromBundle, Propagation};
+use delay_management::problem_of_bundle;
 use giv_files::Bundle;
 use plan_num::{NoMemory, Text};
+use propagation::Propagation;
 use std::alloc::Global;
 use tables::StageFault;
 
@@ -39,7 +40,7 @@ pub fn print_waits(alloc: Global, bundle: &Bundle, waits: &Waits) -> Result<Text
         (λ text. (penalty : ℕ) → IsRight (problem_in bundle.now) penalty waits.now
         → first_broken_rule (problem_in bundle.now) penalty text ≡ None) result }
 {
-    let problem = Propagation::from_bundle(alloc, bundle)?;
+    let problem = problem_of_bundle(alloc, bundle)?;
     Ok(printed(alloc, &problem, waits)?)
 }
 

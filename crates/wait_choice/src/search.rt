@@ -16,8 +16,8 @@ use crate::node::WaitNode;
 use crate::path::Path;
 use crate::tree::WaitTree;
 use crate::waits::Waits;
-use delay_management::Propagation;
 use plan_num::{Ledger, NoMemory, Steps};
+use propagation::Propagation;
 use std::alloc::Global;
 use std::marker::Model;
 

@@ -6,7 +6,7 @@ ghost use Rattle.wait_choice.specs.Judged.{are_choices, cost_in, is_choice, is_c
 
 use crate::ids::id_at;
 use crate::row::WaitRow;
-use delay_management::Propagation;
+use propagation::Propagation;
 
 /// Whether rows are a cost, a decision for each change in their order, and nodes.
 pub(crate) fn is_shaped(problem: &Propagation, rows: &[WaitRow]) -> bool

@@ -8,8 +8,8 @@ ghost use Rattle.wait_choice.specs.Walks.{TakesNode, rule_behind};
 use crate::node::WaitNode;
 use crate::path::Path;
 use crate::rule::WaitRule;
-use delay_management::Propagation;
 use plan_num::NoMemory;
+use propagation::Propagation;
 use std::alloc::Global;
 use std::marker::Model;
 
