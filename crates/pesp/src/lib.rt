@@ -1,5 +1,5 @@
-//! Periodic event scheduling: problems, tensions of activities, timetables, and the search of one by
-//! the times that are left to events where each has a partner on every activity.
+//! Periodic event scheduling: problems, tensions of activities, timetables, and the search of one
+//! by the times that are left to events where each has a partner on every activity.
 #![tactic(auto)]
 
 mod activity;

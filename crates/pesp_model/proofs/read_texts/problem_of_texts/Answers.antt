@@ -37,7 +37,8 @@ returns-clause-read c =
     let rows = c.in_ok-rows.ensures.read in
     let events = c.deref.result.now in (
       sym (activity_faults c.args.events.now c.args.activities.now events read.0 are) ∙ rows.0,
-      c.new.ensures ∙ problem_is c.args.events.now c.args.activities.now events read.0 are c.args.period
+      c.new.ensures
+          ∙ problem_is c.args.events.now c.args.activities.now events read.0 are c.args.period
           c.len.result c.deref-2.result.now c.in_ok-activities.activities.items
           (c.len.ensures ∙ sym c.deref.ensures.len) (c.deref-2.ensures.value ∙ rows.1)
           c.in_ok-activities.ensures,
