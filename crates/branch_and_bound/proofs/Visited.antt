@@ -1,4 +1,4 @@
--- What the entries of a region come to: a tree that shows each cost up to that of the best solution.
+-- What the entries of a region come to: a tree that shows each cost up to that of the best one.
 use Rattle.std.proofs.Common.{◌≡◌, ℕ, ℤ, pos, zero, suc, ◌≤◌, ◌+◌, ◌+ℤ◌, ◌≤ℤ◌, List, [], ◌∷◌, ◌++◌}
 use Rattle.std.proofs.Common.{Option, Some, None, IfSome, ap, sym, ◌∙◌, refl, arith, subst}
 use Rattle.std.proofs.Common.{⊎_elim}
@@ -8,7 +8,8 @@ use Rattle.std.proofs.lemmas.Int.{ints}
 use Rattle.std.proofs.lemmas.List.{map-append}
 use Rattle.std.proofs.lemmas.List.Elements.{filter_map-append}
 use Rattle.std.proofs.lemmas.Option.{none-some}
-use Rattle.branch_and_bound.specs.Branchings.{BranchingParts, Entry, AtMost, CostsAtLeastIn, IsBranching, best_after, nodes_in}
+use Rattle.branch_and_bound.specs.Branchings.{BranchingParts, Entry, AtMost, CostsAtLeastIn}
+use Rattle.branch_and_bound.specs.Branchings.{IsBranching, best_after, nodes_in}
 use Rattle.branch_and_bound.specs.Listings.{entries_by, entries_within, listing}
 use Rattle.branch_and_bound.specs.Right.{AreParts, Certifies, IsRight, TreeShows}
 use Rattle.branch_and_bound.specs.Trees.{NodeTree, leaf, fork, preorder}
@@ -69,7 +70,8 @@ module _ {R N S : Type 0} (problem : BranchingParts R N S) (LiesIn : R → S →
       by (problem.parts region (problem.look region best).0) refl
     where
       by : (parts : Option (R × R)) → problem.parts region (problem.look region best).0 ≡ parts
-          → Visited problem LiesIn Shows region best (entries_by below best (problem.look region best) parts)
+          → Visited problem LiesIn Shows region best
+          (entries_by below best (problem.look region best) parts)
       by None is =
           let one = laws.leaves region fits best is in
           record {
@@ -77,7 +79,8 @@ module _ {R N S : Type 0} (problem : BranchingParts R N S) (LiesIn : R → S →
             whole = refl;
             shows = one.shows;
             falls = one.falls;
-            lies = λ was. one_lies (LiesIn problem.root) best (problem.look region best).0 (problem.look region best).1 one.lies was;
+            lies = λ was. one_lies (LiesIn problem.root) best (problem.look region best).0
+                (problem.look region best).1 one.lies was;
           }
       by (Some two) is =
           let parts = laws.splits region fits (problem.look region best).0 two.0 two.1 is in
@@ -88,8 +91,10 @@ module _ {R N S : Type 0} (problem : BranchingParts R N S) (LiesIn : R → S →
           let upper_less = parts.upper_less in
           let one = rec two.0 best parts.lower_fits (omega (arith, lower_less, enough)) in
           let other = rec two.1 middle parts.upper_fits (omega (arith, upper_less, enough)) in
-          let end : best_after best ((problem.look region best) ∷ lower ++ upper) ≡ best_after middle upper =
-          best_past best (problem.look region best).0 (problem.look region best).1 (lower ++ upper) (laws.passes region fits best two.0 two.1 is)
+          let end : best_after best (problem.look region best ∷ lower ++ upper)
+          ≡ best_after middle upper =
+          best_past best (problem.look region best).0 (problem.look region best).1 (lower ++ upper)
+          (laws.passes region fits best two.0 two.1 is)
           ∙ best_behind best lower upper in
           record {
             tree = fork (problem.look region best).0 one.tree other.tree;
@@ -158,7 +163,8 @@ module _ {R N S : Type 0} (problem : BranchingParts R N S) (LiesIn : R → S →
       all = visited (problem.levels problem.root + 1) problem.root None laws.starts (omega arith)
 
       certified : (best : Option S) → best_after None (listing problem) ≡ best → (cost : ℤ)
-          → AtMost problem.cost cost best → Certifies problem Shows cost (nodes_in (listing problem))
+          → AtMost problem.cost cost best
+          → Certifies problem Shows cost (nodes_in (listing problem))
       certified best is cost most = record {
         tree = all.tree;
         whole = all.whole;

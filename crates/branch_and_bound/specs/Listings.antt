@@ -33,13 +33,15 @@ unfoldable pub visits : {R N S : Type 0} → BranchingParts R N S → List R →
     → List (Entry N S)
 visits problem [] best = []
 visits problem (region ∷ waiting) best =
-    visit problem region best ++ visits problem waiting (best_after best (visit problem region best))
+    visit problem region best
+    ++ visits problem waiting (best_after best (visit problem region best))
 
 -- what a search within a budget of entries finds: the best solution, the nodes of the listing where
 -- the budget is enough, and how many entries were listed
 abbrev pub found_within : {R N S : Type 0} → BranchingParts R N S → ℕ → Found N S
 found_within problem budget = record {
   best = best_after None (take budget (listing problem));
-  tree = if nat_le (length (listing problem)) budget then Some (nodes_in (listing problem)) else None;
+  tree = if nat_le (length (listing problem)) budget then Some (nodes_in (listing problem))
+      else None;
   entries = min budget (length (listing problem));
 }

@@ -23,7 +23,7 @@ pub trait Branching<R, N, S> {
     fn root(&self, alloc: Global) -> Result<R, NoMemory>
         ensures { IfOk result (λ root. root ≡ (problem self.now).root) };
 
-    /// What is said of a region beside the best solution so far, and a solution that is found there.
+    /// What is said of a region beside the best solution so far, and a solution that is found.
     fn look(&self, alloc: Global, region: &R, best: &Option<S>) -> Result<(N, Option<S>), NoMemory>
         requires { Fits self.now region.now }
         ensures { IfOk result

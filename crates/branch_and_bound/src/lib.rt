@@ -1,6 +1,6 @@
-//! Branch and bound over regions of any kind: the search of a solution of least cost within a budget
-//! of entries, and the tree of nodes that proves it best. After Land and Doig, An automatic method
-//! of solving discrete programming problems (1960).
+//! Branch and bound over regions of any kind: the search of a solution of least cost within a
+//! budget of entries, and the tree of nodes that proves it best. After Land and Doig, An automatic
+//! method of solving discrete programming problems (1960).
 #![tactic(auto)]
 
 mod branching;

@@ -1,6 +1,7 @@
 use Rattle.std.proofs.Common.{◌≡◌, subst, arith}
 use Rattle.branch_and_bound.specs.Searches.{IsSearched}
-use Rattle.branch_and_bound.proofs.Turns.{at_end, begins, ended, found_right, next_taken, region_fits}
+use Rattle.branch_and_bound.proofs.Turns.{at_end, begins, ended, found_right, next_taken}
+use Rattle.branch_and_bound.proofs.Turns.{region_fits}
 use Rattle.branch_and_bound.proofs.finding.find_best.Goals as goal
 
 pub loop-entry-init : goal.loop-entry-init
@@ -47,8 +48,8 @@ returns-clause-found g c =
     omega (arith, c.loop-entry-test.false, c.loop-entry.auto.entry-end) in
     at_end (g.B.Branching.problem it) (g.B.Branching.LiesIn it) (g.B.Branching.Shows it)
     (g.B.Branching.Fits it) (g.met.B.Branching.laws it) c.loop-entry.search c.end.result
-    c.args.budget (subst (IsSearched (g.B.Branching.problem it) (g.B.Branching.Fits it) c.loop-entry.search)
-    spent c.loop-entry.invariant) c.end.ensures.whole c.end.ensures.spent
+    c.args.budget
+    (subst (IsSearched (g.B.Branching.problem it) (g.B.Branching.Fits it) c.loop-entry.search) spent c.loop-entry.invariant) c.end.ensures.whole c.end.ensures.spent
 
 pub returns-clause-right : goal.returns-clause-right
 returns-clause-right g c =
