@@ -1,0 +1,285 @@
+-- A search entry by entry, and what it found at its end.
+use Rattle.std.proofs.Common.{◌≡◌, ℕ, zero, suc, ◌+◌, ◌≤◌, ◌<◌, ◌∙◌, List, [], ◌∷◌, ◌++◌, length}
+use Rattle.std.proofs.Common.{take, arith, ap, sym, subst, refl, Option, Some, None, IfSome, cond}
+use Rattle.std.proofs.Common.{nat_le, Bool, true, false, ℤ}
+use Rattle.std.proofs.lemmas.Bool.{le-leb, leb-true, lt-leb}
+use Rattle.std.proofs.lemmas.List.{append_assoc, append-nil, length-append, map-append, take_all}
+use Rattle.std.proofs.Math.Nat.{min-eq_left, min-eq_right}
+use Rattle.std.proofs.Math.Seq.{take-append_seam}
+use Rattle.std.specs.List.{AllByRecursion}
+use Rattle.branch_and_bound.specs.Branchings.{BranchingParts, Entry, IsBranching, best_after}
+use Rattle.branch_and_bound.specs.Branchings.{nodes_in}
+use Rattle.branch_and_bound.specs.Listings.{entries_by, entries_within, found_within, listing}
+use Rattle.branch_and_bound.specs.Listings.{visit, visits}
+use Rattle.branch_and_bound.specs.declared.found.Found.{Found}
+use Rattle.branch_and_bound.specs.Right.{IsRight}
+use Rattle.branch_and_bound.specs.Searches.{IsSearched, Pops, SearchParts, TakesEntry, behind}
+use Rattle.branch_and_bound.proofs.Visited.{best_behind, best_past, listing_right}
+
+module _ {R N S : Type 0} (problem : BranchingParts R N S) (LiesIn : R → S → Type 0)
+    (Shows : R → N → ℤ → Type 0) (Fits : R → Type 0)
+    (laws : IsBranching problem LiesIn Shows Fits) where
+  abbrev seen : R → Option S → Entry N S
+  seen region best = problem.look region best
+
+  abbrev split_at : R → Option S → Option (R × R)
+  split_at region best = problem.parts region (problem.look region best).0
+
+  -- a search, and what it found where no region waits
+  abbrev state : List R → List N → Option S → SearchParts R N S
+  state waiting nodes best = record { waiting = waiting; nodes = nodes; best = best }
+
+  abbrev whole : ℕ → SearchParts R N S → Found N S
+  whole count search = record { best = search.best; tree = Some search.nodes; entries = count }
+
+  -- ---- how deep a region is split
+
+  same_step : (below above : R → Option S → List (Entry N S)) (region : R) (best : Option S)
+      → Fits region → ((part : R) (best : Option S) → Fits part
+      → problem.levels part < problem.levels region → below part best ≡ above part best)
+      → entries_by below best (seen region best) (split_at region best)
+      ≡ entries_by above best (seen region best) (split_at region best)
+  same_step below above region best fits same =
+      by (split_at region best) refl
+    where
+      by : (parts : Option (R × R)) → split_at region best ≡ parts
+          → entries_by below best (seen region best) parts
+          ≡ entries_by above best (seen region best) parts
+      by None is = refl
+      by (Some two) is =
+          let parts = laws.splits region fits (seen region best).0 two.0 two.1 is in
+          let lower : below two.0 best ≡ above two.0 best =
+          same two.0 best parts.lower_fits parts.lower_less in
+          λ i. seen region best ∷ lower i
+          ++ same two.1 (best_after best (lower i)) parts.upper_fits parts.upper_less i
+
+  stable : (some more : ℕ) (region : R) (best : Option S) → Fits region
+      → problem.levels region + 1 ≤ some → problem.levels region + 1 ≤ more
+      → entries_within problem some region best ≡ entries_within problem more region best
+  unfolding entries_within
+  stable zero more region best fits enough also = absurd (omega (arith, enough))
+  stable (suc some) zero region best fits enough also = absurd (omega (arith, also))
+  stable (suc some) (suc more) region best fits enough also =
+      same_step (entries_within problem some) (entries_within problem more) region best fits
+      (λ part best fit less. stable some more part best fit (omega (arith, less, enough))
+      (omega (arith, less, also)))
+
+  unrolled : (region : R) (best : Option S) → Fits region → visit problem region best
+      ≡ entries_by (visit problem) best (seen region best) (split_at region best)
+  unfolding entries_within
+  unrolled region best fits = at (problem.levels region) refl
+    where
+      at : (levels : ℕ) → problem.levels region ≡ levels
+          → entries_within problem (levels + 1) region best
+          ≡ entries_by (visit problem) best (seen region best) (split_at region best)
+      at levels is =
+          ap (λ n. entries_within problem n region best)
+          (let one : levels + 1 ≡ suc levels = omega arith in one)
+          ∙ same_step (entries_within problem levels) (visit problem) region best fits
+          (λ part best fit less. stable levels (problem.levels part + 1) part best fit
+          (omega (arith, less, is)) (omega arith))
+
+  -- ---- one entry more
+
+  visit_turn : (region : R) (waiting : List R) (best : Option S) → Fits region
+      → visits problem (region ∷ waiting) best
+      ≡ seen region best
+      ∷ visits problem (behind (split_at region best) waiting)
+      (best_after best (seen region best ∷ []))
+  unfolding visits
+  visit_turn region waiting best fits =
+      ap (λ entries. entries ++ visits problem waiting (best_after best entries))
+      (unrolled region best fits)
+      ∙ by (split_at region best) refl
+    where
+      by : (parts : Option (R × R)) → split_at region best ≡ parts
+          → entries_by (visit problem) best (seen region best) parts
+          ++ visits problem waiting
+          (best_after best (entries_by (visit problem) best (seen region best) parts))
+          ≡ seen region best
+          ∷ visits problem (behind parts waiting) (best_after best (seen region best ∷ []))
+      by None is = refl
+      by (Some two) is =
+          let none = laws.passes region fits best two.0 two.1 is in
+          let lower = visit problem two.0 best in
+          let upper = visit problem two.1 (best_after best lower) in
+          let past : best_after best (seen region best ∷ []) ≡ best =
+          best_past best (seen region best).0 (seen region best).1 [] none in
+          let end : best_after best (seen region best ∷ lower ++ upper)
+          ≡ best_after (best_after best lower) upper =
+          best_past best (seen region best).0 (seen region best).1 (lower ++ upper) none
+          ∙ best_behind best lower upper in
+          ap (λ rest. seen region best ∷ rest)
+          (ap (λ b. (lower ++ upper) ++ visits problem waiting b) end
+          ∙ append_assoc lower upper
+          (visits problem waiting (best_after (best_after best lower) upper))
+          ∙ ap (λ b. visits problem (two.0 ∷ two.1 ∷ waiting) b) (sym past))
+
+  fit_behind : (region : R) (node : N) (waiting : List R) → Fits region
+      → AllByRecursion Fits waiting
+      → AllByRecursion Fits (behind (problem.parts region node) waiting)
+  fit_behind region node waiting fits all = by (problem.parts region node) refl
+    where
+      by : (parts : Option (R × R)) → problem.parts region node ≡ parts
+          → AllByRecursion Fits (behind parts waiting)
+      by None is = all
+      by (Some two) is =
+          let parts = laws.splits region fits node two.0 two.1 is in
+          (parts.lower_fits, (parts.upper_fits, all))
+
+  pub entry_taken : (region : R) (waiting : List R) (nodes : List N) (best : Option S)
+      (after : SearchParts R N S) (count : ℕ)
+      → IsSearched problem Fits (state (region ∷ waiting) nodes best) count
+      → TakesEntry problem region (state waiting nodes best) after
+      → IsSearched problem Fits after (count + 1)
+  entry_taken region waiting nodes best after count so taken =
+      let here = seen region best in
+      record {
+        done = so.done ++ here ∷ [];
+        whole = (λ i. (so.done ++ here ∷ []) ++ visits problem (taken.waiting i) (taken.best i))
+            ∙ append_assoc so.done (here ∷ []) _
+            ∙ ap (λ rest. so.done ++ rest) (sym (visit_turn region waiting best so.fit.0))
+            ∙ so.whole;
+        nodes_are = taken.nodes ∙ ap (λ nodes. nodes ++ here.0 ∷ []) so.nodes_are
+            ∙ sym (map-append (λ entry. entry.0) so.done (here ∷ []));
+        best_is = taken.best ∙ ap (λ best. best_after best (here ∷ [])) so.best_is
+            ∙ sym (best_behind None so.done (here ∷ []));
+        count_is = length-append so.done (here ∷ []) ∙ ap (λ n. n + 1) so.count_is;
+        fit = subst (AllByRecursion Fits) (sym taken.waiting)
+            (fit_behind region here.0 waiting so.fit.0 so.fit.1);
+      }
+
+  -- before the first entry
+  pub search_begun : IsSearched problem Fits
+      (state (problem.root ∷ []) [] None) 0
+  unfolding visits listing
+  search_begun = record {
+    done = [];
+    whole = append-nil (listing problem);
+    nodes_are = refl;
+    best_is = refl;
+    count_is = refl;
+    fit = (laws.starts, tt);
+  }
+
+  -- no region waits: the listing is done
+  pub search_done : (nodes : List N) (best : Option S) (count budget : ℕ)
+      → IsSearched problem Fits (state [] nodes best) count
+      → count ≤ budget
+      → record { best = best; tree = Some nodes; entries = count } ≡ found_within problem budget
+  unfolding visits
+  search_done nodes best count budget so few =
+      let all : so.done ≡ listing problem = sym (append-nil so.done) ∙ so.whole in
+      let size : length (listing problem) ≡ count = ap length (sym all) ∙ so.count_is in
+      let short : length (listing problem) ≤ budget = omega (arith, size, few) in
+      let within = le-leb (length (listing problem)) budget (omega (arith, size, few)) in
+      let front = take_all budget (listing problem) (omega (arith, size, few)) in
+      λ i. record {
+        best = (so.best_is ∙ ap (best_after None) (all ∙ sym front)) i;
+        tree = (ap Some (so.nodes_are ∙ ap nodes_in all)
+            ∙ ap (λ b. cond b (Some (nodes_in (listing problem))) None) (sym within)) i;
+        entries = (sym size ∙ sym (min-eq_right short)) i;
+      }
+
+  -- a region waits: the listing is longer
+  pub search_spent : (region : R) (waiting : List R) (nodes : List N) (best : Option S) (budget : ℕ)
+      → IsSearched problem Fits (state (region ∷ waiting) nodes best) budget
+      → record { best = best; tree = None; entries = budget } ≡ found_within problem budget
+  search_spent region waiting nodes best budget so =
+      let turn = visit_turn region waiting best so.fit.0 in
+      let size : length so.done + length (visits problem (region ∷ waiting) best)
+      ≡ length (listing problem) =
+      sym (length-append so.done (visits problem (region ∷ waiting) best)) ∙ ap length so.whole in
+      let one = ap length turn in
+      let count = so.count_is in
+      let over : budget < length (listing problem) = omega (arith, size, one, count) in
+      let long : budget ≤ length (listing problem) = omega (arith, over) in
+      let first : take budget (listing problem) ≡ so.done =
+      (λ i. take (sym so.count_is i) (sym so.whole i))
+      ∙ take-append_seam so.done (visits problem (region ∷ waiting) best) in
+      λ i. record {
+        best = (so.best_is ∙ ap (best_after None) (sym first)) i;
+        tree = ap (λ b. cond b (Some (nodes_in (listing problem))) None)
+            (sym (lt-leb (length (listing problem)) budget over)) i;
+        entries = sym (min-eq_left long) i;
+      }
+
+  -- ---- the same as a search tells it
+
+  pub begins : (search : SearchParts R N S) (root : R) → root ≡ problem.root
+      → search ≡ record { waiting = root ∷ []; nodes = []; best = None }
+      → IsSearched problem Fits search 0
+  begins search root root_is is =
+      subst (λ (search : SearchParts R N S). IsSearched problem Fits search 0) (sym is)
+      (subst (λ root. IsSearched problem Fits (state (root ∷ []) [] None) 0)
+      (sym root_is) search_begun)
+
+  pub region_fits : (before after : SearchParts R N S) (region : R) (count : ℕ)
+      → IsSearched problem Fits before count → Pops before after (Some region) → Fits region
+  region_fits before after region count so pops =
+      (subst (λ (search : SearchParts R N S). IsSearched problem Fits search count) pops so).fit.0
+
+  pub next_taken : (before middle after : SearchParts R N S) (region : R) (count : ℕ)
+      → IsSearched problem Fits before count → Pops before middle (Some region)
+      → TakesEntry problem region middle after → IsSearched problem Fits after (count + 1)
+  next_taken before middle after region count so pops taken =
+      entry_taken region middle.waiting middle.nodes middle.best after count
+      (subst (λ (search : SearchParts R N S). IsSearched problem Fits search count) pops so) taken
+
+  found_none : (waiting : List R) (nodes : List N) (best : Option S) (count budget : ℕ)
+      → IsSearched problem Fits (state waiting nodes best) count
+      → waiting ≡ [] → count ≤ budget
+      → record { best = best; tree = Some nodes; entries = count } ≡ found_within problem budget
+  found_none waiting nodes best count budget so none few =
+      search_done nodes best count budget
+      (subst (λ waiting. IsSearched problem Fits (state waiting nodes best) count) none so) few
+
+  pub ended : (before after : SearchParts R N S) (found : Found N S) (count budget : ℕ)
+      → IsSearched problem Fits before count → Pops before after None → count ≤ budget
+      → found ≡ record { best = after.best; tree = Some after.nodes; entries = count }
+      → found ≡ found_within problem budget
+  ended before after found count budget so pops few is =
+      is
+      ∙ ap (whole count) pops.1
+      ∙ found_none before.waiting before.nodes before.best count budget so pops.0 few
+
+  cons_some : (region : R) (waiting : List R) → region ∷ waiting ≡ [] → ⊥
+  cons_some region waiting is = cc
+
+  pub at_end : (search : SearchParts R N S) (found : Found N S) (budget : ℕ)
+      → IsSearched problem Fits search budget
+      → (search.waiting ≡ []
+      → found ≡ record { best = search.best; tree = Some search.nodes; entries = budget })
+      → ((search.waiting ≡ [] → ⊥)
+      → found ≡ record { best = search.best; tree = None; entries = budget })
+      → found ≡ found_within problem budget
+  at_end search found budget so done spent =
+      by search.waiting so done spent
+    where
+      by : (waiting : List R)
+          → IsSearched problem Fits (state waiting search.nodes search.best) budget
+          → (waiting ≡ [] → found ≡ whole budget search)
+          → ((waiting ≡ [] → ⊥)
+          → found ≡ record { best = search.best; tree = None; entries = budget })
+          → found ≡ found_within problem budget
+      by [] so done spent =
+          done refl ∙ search_done search.nodes search.best budget budget so (omega arith)
+      by (region ∷ waiting) so done spent =
+          spent (cons_some region waiting)
+          ∙ search_spent region waiting search.nodes search.best budget so
+
+  pub found_right : (found : Found N S) (budget : ℕ) → found ≡ found_within problem budget
+      → IfSome found.tree (IsRight problem LiesIn Shows found.best)
+  found_right found budget is =
+      subst (λ (found : Found N S). IfSome found.tree (IsRight problem LiesIn Shows found.best))
+      (sym is) (by (nat_le (length (listing problem)) budget) refl)
+    where
+      by : (within : Bool) → nat_le (length (listing problem)) budget ≡ within
+          → IfSome (cond within (Some (nodes_in (listing problem))) None)
+          (IsRight problem LiesIn Shows (best_after None (take budget (listing problem))))
+      by true is =
+          subst (λ entries. IsRight problem LiesIn Shows (best_after None entries)
+          (nodes_in (listing problem)))
+          (sym (take_all budget (listing problem) (leb-true (length (listing problem)) budget is)))
+          (listing_right problem LiesIn Shows Fits laws)
+      by false is = tt
