@@ -21,7 +21,7 @@ pub struct Bound {
 
 /// A bound whose room, and that for what is left of the costs of lines, is kept for the next
 /// region.
-#[derive(Debug, Drop)]
+#[derive(Drop)]
 pub struct KeptBound {
     pub value: i128,
     pub multipliers: Multipliers,
