@@ -26,11 +26,6 @@ pub(crate) fn cut(text: &str, sign: char) -> (&str, &str) {
     text.split_once(sign).unwrap_or((text, ""))
 }
 
-/// The number that a part spells.
-pub(crate) fn number(text: &str) -> Result<i64, Fail> {
-    Ok(text.parse::<i64>()?)
-}
-
 /// What was told in a case is what is wanted.
 pub(crate) fn same(rt: &impl Abort, told: &str, wanted: &str, case: &str) {
     assert_eq!(rt; told, wanted, "{case:?}");

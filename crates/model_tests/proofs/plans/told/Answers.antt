@@ -1,4 +1,0 @@
-use Rattle.model_tests.proofs.plans.told.Goals as goal
-
-pub plan_cost-requires : goal.plan_cost-requires
-plan_cost-requires c = c.requires

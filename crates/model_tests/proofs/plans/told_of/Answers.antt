@@ -1,4 +1,0 @@
-use Rattle.model_tests.proofs.plans.told_of.Goals as goal
-
-pub told-requires : goal.told-requires
-told-requires c = c.in_ok-plan.ensures.plan
