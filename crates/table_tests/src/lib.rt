@@ -10,10 +10,10 @@ mod config_page;
 #[cfg(test)]
 mod entries;
 #[cfg(test)]
+mod read_tables;
+#[cfg(test)]
 mod script;
 #[cfg(test)]
 mod settings;
-#[cfg(test)]
-mod tables;
 #[cfg(test)]
 mod written;
