@@ -13,7 +13,8 @@ use Rattle.tables.proofs.Accepted.{accepted, whole_accepted, all_keep, each_know
 use Rattle.tables.proofs.Found.{any_mapped}
 use Rattle.ptn_network.specs.declared.edge.Edge.{Edge}
 use Rattle.line_pool.specs.CostStage.{cost_row}
-use Rattle.line_walks.specs.PoolCosts.{CostRow, cost_input, pool_cost_input}
+use Rattle.line_walks.specs.declared.cost_row.CostRow.{CostRow}
+use Rattle.line_walks.specs.PoolCosts.{cost_input, pool_cost_input}
 use Rattle.line_walks.specs.Pools.{LineParts}
 
 -- a row of a line that is there keeps the rules where no row before has its line
