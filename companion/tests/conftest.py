@@ -32,6 +32,7 @@ except NoProgram:
     names = (
         "course",
         "manners",
+        "passengers",
         "plans",
         "stops",
         "studies",
