@@ -6,15 +6,12 @@ use Rattle.bit_rows.specs.Bits.{Bits, has, has_bit, word_of}
 use Rattle.link_plans.proofs.Certified.{by_bound}
 use Rattle.link_plans.proofs.Linking.{by_number}
 use Rattle.assignment.specs.ClaimablePlaces.{IsInRow, IsPut, IsRowOf}
+use Rattle.plan_num.proofs.Tests.{and_false}
 
 -- no bit is set behind the columns
 past_none : (bits : Bits) (r c : ℕ) → bits.columns ≤ c → has bits r c ≡ false
 past_none bits r c past =
     ap (λ b. b && has_bit (word_of bits r c) (c % 64)) (le-ltb c bits.columns past)
-
-and_none : (b : Bool) → (b && false) ≡ false
-and_none true = refl
-and_none false = refl
 
 pub put_is : (before after : Bits) (row place : ℕ) (is : Bool) → row < before.rows
     → place < before.columns → after.rows ≡ before.rows → after.columns ≡ before.columns
@@ -35,7 +32,7 @@ put_is before after row place is inside within rows columns bits = record {
     not_both : (r c : ℕ) → (r ≡ row → c ≡ place → ⊥) → (nat_eq r row && nat_eq c place) ≡ false
     not_both r c apart = by_number r row
         (λ same. ap (λ b. nat_eq r row && b) (ne_eqb c place (apart same))
-        ∙ and_none (nat_eq r row))
+        ∙ and_false (nat_eq r row))
         (λ other. ap (λ b. b && nat_eq c place) (ne_eqb r row other))
 
 -- ---- rows

@@ -12,6 +12,7 @@ use Rattle.assignment.specs.ClaimablePlaces.{AreClaimable}
 use Rattle.plan_search.specs.Claims.{ClaimsParts, claim_at}
 use Rattle.plan_search.specs.Searches.{Search, IsClaim, IsTightBy}
 use Rattle.assignment.specs.Choices.{ArePlaces, IsUndecided, is_claimed, AreExpanded, AreRight, AreMore, AreOthers}
+use Rattle.plan_num.proofs.Lists.{front_item, last_item}
 
 -- a search goes on: what it keeps, against the claims at its start
 pub record AreGoing (search : Search) (plan : List (Option ℕ)) (start claims : ClaimsParts) : Type 0
@@ -51,18 +52,6 @@ with_claim claims place found = record {
   order = claims.order ++ place ∷ [];
 }
 
--- the last item of a list, and those before it
-last_at : {X : Type 0} (xs : List X) (x : X) → slice_get (xs ++ x ∷ []) (length xs) ≡ Some x
-last_at [] x = refl
-last_at (y ∷ xs) x = last_at xs x
-
--- an item before the last
-front_at : {X : Type 0} (xs : List X) (x y : X) (k : ℕ) → slice_get xs k ≡ Some y
-    → slice_get (xs ++ x ∷ []) k ≡ Some y
-front_at [] x y k e = absurd (none-some y e)
-front_at (z ∷ xs) x y zero e = e
-front_at (z ∷ xs) x y (suc k) e = front_at xs x y k e
-
 -- an item of a list with one more is of the list, or the last
 front_or_last : {X : Type 0} {P : Type 0} (xs : List X) (x y : X) (k : ℕ) → slice_get (xs ++ x ∷ [])
     k ≡ Some y
@@ -94,7 +83,7 @@ module _ (search : Search) (plan : List (Option ℕ)) (claims : ClaimsParts) (pl
 
   -- all claims are kept
   pub claims_more : AreMore claims new
-  claims_more = grind (arith, at_other, none-some, front_at)
+  claims_more = grind (arith, at_other, none-some, front_item)
 
   -- a claim is an old one, or the new one
   pub old_or_new : {P : Type 0} (other : ℕ) (one : Claim) → claim_at new other ≡ Some one
@@ -121,10 +110,10 @@ module _ (search : Search) (plan : List (Option ℕ)) (claims : ClaimsParts) (pl
         (λ old. right.undecided other one old)
         (λ same is_found. subst (IsUndecided plan search.low) (sym same) undecided);
     placed = λ other one e. old_or_new other one e
-        (λ old. front_at claims.order place other one.step (right.placed other one old))
+        (λ old. front_item claims.order place other one.step (right.placed other one old))
         (λ same is_found.
         ap (slice_get (claims.order ++ place ∷ [])) (ap (λ claim. claim.step) (sym is_found) ∙ step)
-        ∙ last_at claims.order place ∙ ap Some (sym same));
+        ∙ last_item claims.order place ∙ ap Some (sym same));
     listed = λ k other e. front_or_last claims.order place other k e
         (λ old. still_claimed other (right.listed k other old))
         (λ same. some_is (claim_at new other) found (ap (claim_at new) (sym same) ∙ at_place));

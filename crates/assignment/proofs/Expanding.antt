@@ -13,7 +13,8 @@ use Rattle.link_plans.proofs.Certified.{by_bound}
 use Rattle.plan_search.specs.Claims.{ClaimsParts}
 use Rattle.link_plans.specs.Places.{place_of}
 use Rattle.plan_search.specs.Searches.{Search, IsLeft}
-use Rattle.assignment.specs.Choices.{is_claimed, AllClaimed, IsExpanded, LastExpanded, AreExpanded, AreRight, AreMore, AreOthers, IsSearch}
+use Rattle.assignment.specs.Choices.{is_claimed, AllClaimed, IsExpanded, LastExpanded, AreExpanded}
+use Rattle.assignment.specs.Choices.{AreRight, AreMore, AreOthers, IsSearch}
 use Rattle.link_plans.proofs.Moves.{has_next, successor_past}
 use Rattle.assignment.proofs.ClaimingAll.{still_claimed, gone_on}
 use Rattle.assignment.proofs.Claimed.{AreGoing, at_place}

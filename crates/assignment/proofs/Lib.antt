@@ -2,10 +2,10 @@ pub mod BitsOfPlaces
 pub mod Claimables
 pub mod Claimed
 pub mod ClaimingAll
+pub mod ClosedPlaces
 pub mod Expanding
 pub mod LinkTies
 pub mod Refused
 pub mod Settling
-pub mod Shifted
 pub mod Sought
 pub mod Worthwhile

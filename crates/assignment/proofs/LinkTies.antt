@@ -16,7 +16,7 @@ use Rattle.link_plans.specs.LinkRows.{worth}
 use Rattle.link_plans.specs.Slacks.{Covers}
 use Rattle.link_plans.proofs.LinkRows.{gap_first, gap_next, reached_last, reached_next, reached_within}
 use Rattle.link_plans.proofs.LinkSlacks.{link_covered}
-use Rattle.plan_search.proofs.Shifting.{pos_worth}
+use Rattle.plan_search.proofs.ShiftedTrees.{pos_worth}
 use Rattle.link_plans.specs.Places.{place_of}
 use Rattle.assignment.proofs.BitsOfPlaces.{row_step, row_up}
 

@@ -13,9 +13,10 @@ use Rattle.link_plans.proofs.Certified.{by_bound}
 use Rattle.plan_search.specs.Claims.{ClaimsParts, claim_at}
 use Rattle.link_plans.specs.Places.{place_of}
 use Rattle.plan_search.specs.Searches.{Search, IsTightAt}
-use Rattle.assignment.specs.Choices.{IsUndecided, is_claimed, IsExpanded, AreExpanded, AreRight, AgreeBefore, AreWithin, IsSearch}
+use Rattle.assignment.specs.Choices.{IsUndecided, is_claimed, IsExpanded, AreExpanded, AreRight}
+use Rattle.assignment.specs.Choices.{AgreeBefore, AreWithin, IsSearch}
 use Rattle.link_plans.proofs.Moves.{has_next}
-use Rattle.assignment.proofs.Shifted.{IsClosed, AreDecided, stays_outside}
+use Rattle.assignment.proofs.ClosedPlaces.{IsClosed, AreDecided, stays_outside}
 
 -- 1 for a place of a set
 abbrev one : Bool → ℕ

@@ -14,7 +14,8 @@ use Rattle.plan_search.specs.declared.claim.Claim.{Claim}
 use Rattle.plan_search.specs.Claims.{ClaimsParts, claim_at}
 use Rattle.link_plans.specs.Places.{place_of, successor_at}
 use Rattle.plan_search.specs.Searches.{Search, IsLeft, IsClaim, IsTightBut, ComesFrom, IsFound, IsHandedOn}
-use Rattle.assignment.specs.Choices.{is_claimed, AreRight, AgreeBefore, AreWithin, IsSearch, IsFirst, IsSought, IsLeast, IsSettled}
+use Rattle.assignment.specs.Choices.{is_claimed, AreRight, AgreeBefore, AreWithin, IsSearch}
+use Rattle.assignment.specs.Choices.{IsFirst, IsSought, IsLeast, IsSettled}
 use Rattle.link_plans.proofs.Moves.{moved_is, moved_other}
 
 -- a place that comes no later

@@ -15,7 +15,8 @@ use Rattle.plan_search.specs.Claims.{ClaimsParts, claim_at}
 use Rattle.link_plans.specs.Places.{place_of}
 use Rattle.plan_search.specs.Searches.{Search, IsTightBy, IsClaim}
 use Rattle.assignment.specs.ClaimablePlaces.{AreClaimable, AreTies, IsPut}
-use Rattle.assignment.specs.Choices.{ArePlaces, IsUndecided, is_claimed, AreExpanded, AreRight, AreMore, AreOthers, IsSearch, IsFirst, IsSought}
+use Rattle.assignment.specs.Choices.{ArePlaces, IsUndecided, is_claimed, AreExpanded, AreRight}
+use Rattle.assignment.specs.Choices.{AreMore, AreOthers, IsSearch, IsFirst, IsSought}
 use Rattle.assignment.proofs.Claimed.{IsSeeking, with_claim, claims_more, claims_right, at_place, old_or_new, some_is}
 use Rattle.bit_rows.specs.Bits.{Bits, has}
 use Rattle.assignment.proofs.Claimables.{claimable_less, places_as}

@@ -8,7 +8,8 @@ use Rattle.std.proofs.lemmas.Option.{none-some}
 use Rattle.link_plans.specs.Links.{Links, AreLinks}
 use Rattle.link_plans.specs.LinkRows.{worth, worthy}
 use Rattle.link_plans.specs.Plans.{next, is_trip, IsPlan, IsFirstBest}
-use Rattle.canonical_potentials.specs.Drops.{DropParts, AreFound, RowKept, LinkKept, NextKept, TripKept, AreKept, ArePassed}
+use Rattle.canonical_potentials.specs.Drops.{DropParts, AreFound, RowKept, LinkKept, NextKept}
+use Rattle.canonical_potentials.specs.Drops.{TripKept, AreKept, ArePassed}
 use Rattle.link_plans.specs.Potentials.{PotentialParts, at, AreValid, IsTight}
 use Rattle.canonical_potentials.specs.Residual.{Node, root, left, right, arc, walk_cost}
 use Rattle.canonical_potentials.specs.Rounds.{canonical}
@@ -211,6 +212,7 @@ canonical_same links sound plan potentials is valid =
     one_canonical links plan (canonical (worthy links) plan) (canonical links plan)
     (passed_canonical links sound plan _
     (record {
+      sound = sound;
       plan_is = is;
       certified = (potentials, valid);
       over = all.known.over;

@@ -1,6 +1,7 @@
 -- Inner words of the choice among the plans of least cost: the places that undecided trips may take,
 -- and which of them a search has claimed.
-use Rattle.std.specs.Prelude.{ℕ, ◌≡◌, ◌+◌, ◌<◌, ◌≤◌, Bool, true, false, is_some, List, length, slice_get, Option, Some, None}
+use Rattle.std.specs.Prelude.{ℕ, ◌≡◌, ◌+◌, ◌<◌, ◌≤◌, Bool, true, false, is_some, List, length}
+use Rattle.std.specs.Prelude.{slice_get, Option, Some, None}
 use Rattle.link_plans.specs.Plans.{next, is_next, IsPlan, AreSuccessors, ComesNoLater}
 use Rattle.link_plans.specs.Potentials.{PotentialParts, at, AreOver, IsTight}
 use Rattle.plan_search.specs.declared.claim.Claim.{Claim}

@@ -5,12 +5,13 @@ ghost use Rattle.link_plans.specs.Plans.{next, IsPlan, IsFirstBest};
 ghost use Rattle.link_plans.specs.Links.{links_in};
 ghost use Rattle.assignment.specs.Choices.{AreRight, IsSearch, IsSettled, is_claimed};
 ghost use Rattle.assignment.specs.ClaimablePlaces.{AreClaimable, AreTies};
+ghost use Rattle.assignment.specs.Seekers.{AreKept, IsSeeker};
 ghost use Rattle.link_plans.specs.Places.{place_of};
 ghost use Rattle.plan_search.specs.Searches.{IsHandedOn, Search};
 
-use crate::claimable::{all_places, put_back, take_out};
-use crate::seek::seek;
-use crate::ties::ties_of;
+use crate::claimable::{Claimed, all_places, put_back, take_out};
+use crate::seek::{Seeker, seek};
+use crate::ties::{Ties, ties_of};
 use bit_rows::BitRows;
 use link_plans::{Assignment, LinkTable, Plan, Potentials, Solved};
 use plan_num::NoMemory;
@@ -26,56 +27,50 @@ pub fn first_best_plan(alloc: Global, trips: &LinkTable, solved: &Solved) -> Res
     requires valid { AreValid (links_in trips.now) solved.now.plan solved.now.potentials }
     ensures { IfOk result (IsFirstBest (links_in trips.now)) }
 {
-    let ties = ties_of(alloc, trips, &solved.potentials)?;
+    let ties = Ties {
+        links: trips,
+        potentials: &solved.potentials,
+        places: ties_of(alloc, trips, &solved.potentials)?,
+    };
     let mut assignment = Assignment::of_plan(alloc, &solved.plan)?;
-    let mut claims = Claims::new(alloc, trips.len() + 1)?;
-    let mut places = all_places(alloc, trips.len() + 1)?;
+    let mut claimed = Claimed {
+        claims: Claims::new(alloc, trips.len() + 1)?,
+        places: all_places(alloc, trips.len() + 1)?,
+    };
     for trip in 0..trips.len() {
-        settle(
-            alloc,
-            trips,
-            &solved.potentials,
-            &ties,
-            trip,
-            &mut claims,
-            &mut places,
-            &mut assignment,
-        )?;
+        place_for_good(alloc, &ties, trip, &mut claimed, &mut assignment)?;
     }
     assignment.to_plan(alloc)
 }
 
 // Gives a trip the first place that it has in a plan of least cost that keeps what is decided, and
-// takes all claims back. The trips and the potentials are those that the contract speaks of.
-fn settle(
+// takes all claims back.
+fn place_for_good(
     alloc: Global,
-    _trips: &LinkTable,
-    _potentials: &Potentials,
-    ties: &BitRows,
+    ties: &Ties,
     trip: usize,
-    claims: &mut Claims,
-    places: &mut BitRows,
+    claimed: &mut Claimed,
     assignment: &mut Assignment,
 ) -> Result<(), NoMemory>
     ghost search: { Search }
     requires search { IsSearch search assignment.old }
     requires trip { search.trip ≡ trip }
-    requires ties { AreTies search.links search.potentials ties.now }
-    requires none { claims.old ≡ record {
+    requires ties { AreTies search.links search.potentials ties.now.places }
+    requires none { claimed.old.claims ≡ record {
       at = replicate (search.links.count + 1) None;
       order = [];
     } }
-    requires places { AreClaimable search.links.count search.low assignment.old claims.old
-        places.old }
+    requires places { AreClaimable search.links.count search.low assignment.old
+        claimed.old.claims claimed.old.places }
     ensures settled { OnOk result (IsSettled search assignment.old assignment.new) }
-    ensures none { OnOk result (claims.new ≡ claims.old) }
-    ensures places { OnOk result (AreClaimable search.links.count (search.trip + 1) assignment.new
-        claims.new places.new) }
+    ensures none { OnOk result (claimed.new.claims ≡ claimed.old.claims) }
+    ensures places { OnOk result (AreClaimable search.links.count (search.trip + 1)
+        assignment.new claimed.new.claims claimed.new.places) }
 {
-    decide(alloc, ties, trip, claims, places, assignment)?;
-    put_back(claims, places);
-    claims.clear();
-    take_out(places, assignment.next(trip));
+    decide(alloc, &ties.places, trip, claimed, assignment)?;
+    put_back(&claimed.claims, &mut claimed.places);
+    claimed.claims.clear();
+    take_out(&mut claimed.places, assignment.next(trip));
     Ok(())
 }
 
@@ -84,28 +79,29 @@ fn decide(
     alloc: Global,
     ties: &BitRows,
     trip: usize,
-    claims: &mut Claims,
-    places: &mut BitRows,
+    claimed: &mut Claimed,
     assignment: &mut Assignment,
 ) -> Result<(), NoMemory>
     ghost search: { Search }
-    requires search { IsSearch search assignment.old }
-    requires trip { search.trip ≡ trip }
-    requires ties { AreTies search.links search.potentials ties.now }
-    requires none { claims.old ≡ record {
+    requires seeker { IsSeeker search assignment.old trip ties.now }
+    requires none { claimed.old.claims ≡ record {
       at = replicate (search.links.count + 1) None;
       order = [];
     } }
-    requires places { AreClaimable search.links.count search.low assignment.old claims.old
-        places.old }
+    requires places { AreClaimable search.links.count search.low assignment.old
+        claimed.old.claims claimed.old.places }
     ensures settled { OnOk result (IsSettled search assignment.old assignment.new) }
-    ensures right { OnOk result (AreRight search assignment.old claims.new) }
-    ensures places { OnOk result (AreClaimable search.links.count search.low assignment.old
-        claims.new places.new) }
+    ensures kept { OnOk result
+        (AreKept search assignment.old claimed.new.claims claimed.new.places) }
 {
     let own = assignment.place(trip);
-    if seek(alloc, ties, trip, own, claims, places, assignment)? {
-        move_to(trip, own, claims, assignment);
+    let seeker = Seeker {
+        trip,
+        plan: &*assignment,
+        ties,
+    };
+    if seek(alloc, &seeker, own, claimed)? {
+        move_to(trip, own, &claimed.claims, assignment);
     }
     Ok(())
 }

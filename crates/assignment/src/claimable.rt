@@ -1,5 +1,6 @@
 // The places that a search among the plans of least cost can claim, as bits.
-ghost use Rattle.std.specs.Prelude.{ℕ, ◌≡◌, ◌+◌, ◌<◌, ◌≤◌, ◌++◌, ◌∷◌, [], List, Bool, true, false, length, slice_set, Option, Some, None, IfOk, IfSome, OnOk};
+ghost use Rattle.std.specs.Prelude.{ℕ, ◌≡◌, ◌+◌, ◌<◌, ◌≤◌, ◌++◌, ◌∷◌, [], List, Bool, true, false};
+ghost use Rattle.std.specs.Prelude.{length, slice_set, Option, Some, None, IfOk, IfSome, OnOk};
 ghost use Rattle.bit_rows.specs.Bits.{has};
 ghost use Rattle.assignment.specs.Choices.{ArePlaces};
 ghost use Rattle.assignment.specs.ClaimablePlaces.{AreClaimable, ArePutBack, IsPut, IsTakenOut};
@@ -9,6 +10,15 @@ use bit_rows::BitRows;
 use plan_num::NoMemory;
 use plan_search::Claims;
 use std::alloc::Global;
+
+/// The claims of a search, and in one row the places that it can still claim.
+#[derive(Drop)]
+pub(crate) struct Claimed {
+    /// The claims.
+    pub claims: Claims,
+    /// The places.
+    pub places: BitRows,
+}
 
 /// So many places that can all be claimed, in one row.
 pub(crate) fn all_places(alloc: Global, count: usize) -> Result<BitRows, NoMemory>
@@ -69,23 +79,22 @@ pub(crate) fn claim(
     place: usize,
     by: Option<usize>,
     from: Option<usize>,
-    claims: &mut Claims,
-    places: &mut BitRows,
+    claimed: &mut Claimed,
 ) -> Result<(), NoMemory>
-    requires place { place < length claims.old.at }
-    requires within { place < places.old.columns }
-    requires one { places.old.rows ≡ 1 }
-    requires unclaimed { claim_at claims.old place ≡ None }
-    ensures claimed { OnOk result (claims.new ≡ record {
-      at = slice_set claims.old.at place
-          (Some (record { by = by; from = from; step = length claims.old.order }));
-      order = claims.old.order ++ place ∷ [];
+    requires place { place < length claimed.old.claims.at }
+    requires within { place < claimed.old.places.columns }
+    requires one { claimed.old.places.rows ≡ 1 }
+    requires unclaimed { claim_at claimed.old.claims place ≡ None }
+    ensures claimed { OnOk result (claimed.new.claims ≡ record {
+      at = slice_set claimed.old.claims.at place
+          (Some (record { by = by; from = from; step = length claimed.old.claims.order }));
+      order = claimed.old.claims.order ++ place ∷ [];
     }) }
-    ensures few { length claims.old.order < length claims.old.at }
-    ensures put { OnOk result (IsPut places.old places.new 0 place false) }
+    ensures few { length claimed.old.claims.order < length claimed.old.claims.at }
+    ensures put { OnOk result (IsPut claimed.old.places claimed.new.places 0 place false) }
 {
-    claims.claim(place, by, from)?;
-    unset(places, 0, place);
+    claimed.claims.claim(place, by, from)?;
+    unset(&mut claimed.places, 0, place);
     Ok(())
 }
 

@@ -1,54 +1,62 @@
 // The search for the first place that a trip has in a plan of least cost.
-ghost use Rattle.std.specs.Prelude.{◌≡◌, ◌+◌, ◌-◌, ◌<◌, ◌≤◌, true, MatchBool, [], length, replicate, None, IfOk, IfSome, OnOk};
+ghost use Rattle.std.specs.Prelude.{◌≡◌, ◌+◌, ◌-◌, ◌<◌, ◌≤◌, true, MatchBool, [], length};
+ghost use Rattle.std.specs.Prelude.{replicate, None, IfOk, IfSome, OnOk};
 ghost use Rattle.link_plans.specs.Plans.{next};
-ghost use Rattle.assignment.specs.Choices.{AllClaimed, AreExpanded, AreMore, AreOthers, AreRight, IsExpanded, IsFirst, IsSearch, IsSought, LastExpanded, is_claimed};
-ghost use Rattle.assignment.specs.ClaimablePlaces.{AreClaimable, AreTies};
-ghost use Rattle.plan_search.specs.Claims.{claim_at};
 ghost use Rattle.link_plans.specs.Places.{place_of};
+ghost use Rattle.assignment.specs.Choices.{AllClaimed, AreExpanded, IsExpanded, IsFirst, IsSought};
+ghost use Rattle.assignment.specs.Choices.{LastExpanded, is_claimed};
+ghost use Rattle.assignment.specs.ClaimablePlaces.{AreClaimable};
+ghost use Rattle.assignment.specs.Seekers.{AreKept, HaveMore, IsSeeker};
+ghost use Rattle.plan_search.specs.Claims.{claim_at};
 ghost use Rattle.plan_search.specs.Searches.{IsLeft, Search};
 
-use crate::claimable::{claim, claimable_of};
+use crate::claimable::{Claimed, claim, claimable_of};
 use bit_rows::BitRows;
 use link_plans::Assignment;
 use plan_num::NoMemory;
-use plan_search::Claims;
 use std::alloc::Global;
+
+/// A trip that seeks its first place, the plan in which it has one, and the places at which each
+/// trip is tight.
+#[derive(Clone, Copy)]
+pub(crate) struct Seeker<'a> {
+    /// The trip.
+    pub trip: usize,
+    /// The plan.
+    pub plan: &'a Assignment,
+    /// For each trip the places, and in a last row those that need no trip.
+    pub ties: &'a BitRows,
+}
 
 /// Claims the places before a trip's own one, and looks from each whether the trip can give up its
 /// own one for it.
 pub(crate) fn seek(
     alloc: Global,
-    ties: &BitRows,
-    trip: usize,
+    seeker: &Seeker,
     own: usize,
-    claims: &mut Claims,
-    places: &mut BitRows,
-    assignment: &Assignment,
+    claimed: &mut Claimed,
 ) -> Result<bool, NoMemory>
     ghost search: { Search }
-    requires search { IsSearch search assignment.now }
-    requires trip { search.trip ≡ trip }
-    requires own { own ≡ place_of search.links.count (next assignment.now search.trip) }
-    requires ties { AreTies search.links search.potentials ties.now }
-    requires none { claims.old ≡ record {
+    requires seeker { IsSeeker search seeker.now.plan.now seeker.now.trip seeker.now.ties.now }
+    requires own { own ≡ place_of search.links.count (next seeker.now.plan.now search.trip) }
+    requires none { claimed.old.claims ≡ record {
       at = replicate (search.links.count + 1) None;
       order = [];
     } }
-    requires places { AreClaimable search.links.count search.low assignment.now claims.old
-        places.old }
+    requires places { AreClaimable search.links.count search.low seeker.now.plan.now
+        claimed.old.claims claimed.old.places }
     ensures sought { IfOk result (λ found. MatchBool found
-        (IsSought search assignment.now claims.new own)
-        (IsFirst search assignment.now own)) }
-    ensures right { OnOk result (AreRight search assignment.now claims.new) }
-    ensures places { OnOk result (AreClaimable search.links.count search.low assignment.now
-        claims.new places.new) }
+        (IsSought search seeker.now.plan.now claimed.new.claims own)
+        (IsFirst search seeker.now.plan.now own)) }
+    ensures kept { OnOk result
+        (AreKept search seeker.now.plan.now claimed.new.claims claimed.new.places) }
 {
-    let before = claimable_of(alloc, ties, trip, places)?;
+    let before = claimable_of(alloc, seeker.ties, seeker.trip, &claimed.places)?;
     for place in &before {
-        if *place < own && places.has(0, *place) {
-            claim(*place, Some(trip), None, claims, places)?;
-            grow(alloc, ties, trip, own, claims, places, assignment)?;
-            if claims.at(own).is_some() {
+        if *place < own && claimed.places.has(0, *place) {
+            claim(*place, Some(seeker.trip), None, claimed)?;
+            grow(alloc, seeker, own, claimed)?;
+            if claimed.claims.at(own).is_some() {
                 return Ok(true);
             }
         }
@@ -58,44 +66,23 @@ pub(crate) fn seek(
 
 // Goes on from the place that was claimed last, until all claimed places are expanded or the own
 // one of a trip is claimed.
-fn grow(
-    alloc: Global,
-    ties: &BitRows,
-    trip: usize,
-    own: usize,
-    claims: &mut Claims,
-    places: &mut BitRows,
-    assignment: &Assignment,
-) -> Result<(), NoMemory>
+fn grow(alloc: Global, seeker: &Seeker, own: usize, claimed: &mut Claimed) -> Result<(), NoMemory>
     ghost search: { Search }
-    requires search { IsSearch search assignment.now }
-    requires trip { search.trip ≡ trip }
-    requires own { own ≡ place_of search.links.count (next assignment.now search.trip) }
-    requires ties { AreTies search.links search.potentials ties.now }
-    requires places { AreClaimable search.links.count search.low assignment.now claims.old
-        places.old }
-    requires right { AreRight search assignment.now claims.old }
-    requires some { 0 < length claims.old.order }
-    requires done { AreExpanded search assignment.now claims.old (length claims.old.order - 1) }
-    ensures right { OnOk result (AreRight search assignment.now claims.new) }
-    ensures more { OnOk result (AreMore claims.old claims.new) }
-    ensures others { OnOk result (AreOthers search claims.old claims.new) }
-    ensures places { OnOk result (AreClaimable search.links.count search.low assignment.now
-        claims.new places.new) }
-    ensures done { OnOk result (claim_at claims.new own ≡ None
-        → AreExpanded search assignment.now claims.new (length claims.new.order)) }
+    requires seeker { IsSeeker search seeker.now.plan.now seeker.now.trip seeker.now.ties.now }
+    requires own { own ≡ place_of search.links.count (next seeker.now.plan.now search.trip) }
+    requires kept { AreKept search seeker.now.plan.now claimed.old.claims claimed.old.places }
+    requires some { 0 < length claimed.old.claims.order }
+    requires done { AreExpanded search seeker.now.plan.now claimed.old.claims
+        (length claimed.old.claims.order - 1) }
+    ensures more { OnOk result (HaveMore search seeker.now.plan.now claimed.old.claims
+        claimed.new.claims claimed.new.places) }
+    ensures done { OnOk result (claim_at claimed.new.claims own ≡ None
+        → AreExpanded search seeker.now.plan.now claimed.new.claims
+        (length claimed.new.claims.order)) }
 {
-    let mut step = claims.count() - 1;
-    while step < claims.count() && claims.at(own).is_none() {
-        expand(
-            alloc,
-            ties,
-            trip,
-            claims.nth(step),
-            claims,
-            places,
-            assignment,
-        )?;
+    let mut step = claimed.claims.count() - 1;
+    while step < claimed.claims.count() && claimed.claims.at(own).is_none() {
+        expand(alloc, seeker, claimed.claims.nth(step), claimed)?;
         step += 1;
     }
     Ok(())
@@ -104,34 +91,25 @@ fn grow(
 // Claims all places at which those are tight who have a place.
 fn expand(
     alloc: Global,
-    ties: &BitRows,
-    trip: usize,
+    seeker: &Seeker,
     place: usize,
-    claims: &mut Claims,
-    places: &mut BitRows,
-    assignment: &Assignment,
+    claimed: &mut Claimed,
 ) -> Result<(), NoMemory>
     ghost search: { Search }
-    requires search { IsSearch search assignment.now }
-    requires trip { search.trip ≡ trip }
-    requires ties { AreTies search.links search.potentials ties.now }
-    requires places { AreClaimable search.links.count search.low assignment.now claims.old
-        places.old }
-    requires right { AreRight search assignment.now claims.old }
-    requires place { is_claimed claims.old place ≡ true }
-    requires apart { place_of search.links.count (next assignment.now search.trip) ≡ place → ⊥ }
-    ensures right { OnOk result (AreRight search assignment.now claims.new) }
-    ensures more { OnOk result (AreMore claims.old claims.new) }
-    ensures others { OnOk result (AreOthers search claims.old claims.new) }
-    ensures places { OnOk result (AreClaimable search.links.count search.low assignment.now
-        claims.new places.new) }
-    ensures expanded { OnOk result (IsExpanded search assignment.now claims.new place) }
+    requires seeker { IsSeeker search seeker.now.plan.now seeker.now.trip seeker.now.ties.now }
+    requires kept { AreKept search seeker.now.plan.now claimed.old.claims claimed.old.places }
+    requires place { is_claimed claimed.old.claims place ≡ true }
+    requires apart { place_of search.links.count (next seeker.now.plan.now search.trip) ≡ place → ⊥ }
+    ensures more { OnOk result (HaveMore search seeker.now.plan.now claimed.old.claims
+        claimed.new.claims claimed.new.places) }
+    ensures expanded { OnOk result
+        (IsExpanded search seeker.now.plan.now claimed.new.claims place) }
 {
-    match assignment.trip_at(place) {
-        Some(by) => claim_all(alloc, ties, Some(by), place, claims, places, assignment),
+    match seeker.plan.trip_at(place) {
+        Some(by) => claim_all(alloc, seeker, Some(by), place, claimed),
         None => {
-            claim_all(alloc, ties, None, place, claims, places, assignment)?;
-            expand_last(alloc, ties, trip, place, claims, places, assignment)
+            claim_all(alloc, seeker, None, place, claimed)?;
+            expand_last(alloc, seeker, place, claimed)
         }
     }
 }
@@ -139,36 +117,26 @@ fn expand(
 // Where a place is the last one, claims the places at which trips without a next one are tight.
 fn expand_last(
     alloc: Global,
-    ties: &BitRows,
-    trip: usize,
+    seeker: &Seeker,
     place: usize,
-    claims: &mut Claims,
-    places: &mut BitRows,
-    assignment: &Assignment,
+    claimed: &mut Claimed,
 ) -> Result<(), NoMemory>
     ghost search: { Search }
-    requires search { IsSearch search assignment.now }
-    requires trip { search.trip ≡ trip }
-    requires ties { AreTies search.links search.potentials ties.now }
-    requires places { AreClaimable search.links.count search.low assignment.now claims.old
-        places.old }
-    requires right { AreRight search assignment.now claims.old }
-    requires place { is_claimed claims.old place ≡ true }
-    requires apart { place_of search.links.count (next assignment.now search.trip) ≡ place → ⊥ }
-    ensures right { OnOk result (AreRight search assignment.now claims.new) }
-    ensures more { OnOk result (AreMore claims.old claims.new) }
-    ensures others { OnOk result (AreOthers search claims.old claims.new) }
-    ensures places { OnOk result (AreClaimable search.links.count search.low assignment.now
-        claims.new places.new) }
+    requires seeker { IsSeeker search seeker.now.plan.now seeker.now.trip seeker.now.ties.now }
+    requires kept { AreKept search seeker.now.plan.now claimed.old.claims claimed.old.places }
+    requires place { is_claimed claimed.old.claims place ≡ true }
+    requires apart { place_of search.links.count (next seeker.now.plan.now search.trip) ≡ place → ⊥ }
+    ensures more { OnOk result (HaveMore search seeker.now.plan.now claimed.old.claims
+        claimed.new.claims claimed.new.places) }
     ensures expanded { OnOk result (place ≡ search.links.count
-        → LastExpanded search assignment.now claims.new search.links.count) }
+        → LastExpanded search seeker.now.plan.now claimed.new.claims search.links.count) }
 {
-    if place < assignment.len() {
+    if place < seeker.plan.len() {
         return Ok(());
     }
-    for by in trip..assignment.len() {
-        if assignment.next(by).is_none() {
-            claim_all(alloc, ties, Some(by), place, claims, places, assignment)?;
+    for by in seeker.trip..seeker.plan.len() {
+        if seeker.plan.next(by).is_none() {
+            claim_all(alloc, seeker, Some(by), place, claimed)?;
         }
     }
     Ok(())
@@ -177,32 +145,29 @@ fn expand_last(
 // Claims all places for a trip or none at which it is tight and that can be claimed.
 fn claim_all(
     alloc: Global,
-    ties: &BitRows,
+    seeker: &Seeker,
     by: Option<usize>,
     from: usize,
-    claims: &mut Claims,
-    places: &mut BitRows,
-    assignment: &Assignment,
+    claimed: &mut Claimed,
 ) -> Result<(), NoMemory>
     ghost search: { Search }
-    requires search { IsSearch search assignment.now }
-    requires ties { AreTies search.links search.potentials ties.now }
-    requires places { AreClaimable search.links.count search.low assignment.now claims.old
-        places.old }
+    requires seeker { IsSeeker search seeker.now.plan.now seeker.now.trip seeker.now.ties.now }
+    requires kept { AreKept search seeker.now.plan.now claimed.old.claims claimed.old.places }
     requires movable { IfSome by (λ i. (search.low ≤ i) × (i < search.links.count)) }
-    requires left { IsLeft search assignment.now from by }
-    requires right { AreRight search assignment.now claims.old }
-    requires from { is_claimed claims.old from ≡ true }
-    ensures right { OnOk result (AreRight search assignment.now claims.new) }
-    ensures more { OnOk result (AreMore claims.old claims.new) }
-    ensures others { OnOk result (AreOthers search claims.old claims.new) }
-    ensures all { OnOk result (AllClaimed search assignment.now claims.new by) }
-    ensures places { OnOk result (AreClaimable search.links.count search.low assignment.now
-        claims.new places.new) }
+    requires left { IsLeft search seeker.now.plan.now from by }
+    requires from { is_claimed claimed.old.claims from ≡ true }
+    ensures more { OnOk result (HaveMore search seeker.now.plan.now claimed.old.claims
+        claimed.new.claims claimed.new.places) }
+    ensures all { OnOk result (AllClaimed search seeker.now.plan.now claimed.new.claims by) }
 {
-    let found = claimable_of(alloc, ties, by.unwrap_or(assignment.len()), places)?;
+    let found = claimable_of(
+        alloc,
+        seeker.ties,
+        by.unwrap_or(seeker.plan.len()),
+        &claimed.places,
+    )?;
     for place in &found {
-        claim(*place, by, Some(from), claims, places)?;
+        claim(*place, by, Some(from), claimed)?;
     }
     Ok(())
 }

@@ -1,5 +1,6 @@
 // The places at which trips are tight.
-ghost use Rattle.std.specs.Prelude.{ℕ, ◌≡◌, ◌+◌, ◌<◌, ◌≤◌, nat_eq, true, false, length, Some, None, IfOk, MatchBool};
+ghost use Rattle.std.specs.Prelude.{ℕ, ◌≡◌, ◌+◌, ◌<◌, ◌≤◌, nat_eq, true, false, length, Some, None};
+ghost use Rattle.std.specs.Prelude.{IfOk, MatchBool};
 ghost use Rattle.bit_rows.specs.Bits.{has};
 ghost use Rattle.link_plans.specs.Potentials.{AreOver, at};
 ghost use Rattle.link_plans.specs.Links.{links_in};
@@ -12,6 +13,17 @@ use bit_rows::BitRows;
 use link_plans::{LinkTable, Potentials, link_slack, of_trip};
 use plan_num::NoMemory;
 use std::alloc::Global;
+
+/// Links with potentials, and the places at which trips are tight under them.
+#[derive(Drop)]
+pub(crate) struct Ties<'a> {
+    /// The links.
+    pub links: &'a LinkTable,
+    /// The potentials.
+    pub potentials: &'a Potentials,
+    /// For each trip the places, and in a last row those that need no trip.
+    pub places: BitRows,
+}
 
 /// For each trip the places at which it is tight under potentials that cover its links, and in a
 /// last row those that need no trip.

@@ -12,18 +12,9 @@ use Rattle.bit_rows.specs.Bits.{AreBits, Bits, IsFirstBit, common, has, has_bit,
 use Rattle.bit_rows.specs.Bits.{with_bit, word_of, words_of}
 use Rattle.bit_rows.proofs.RowBits.{bit_is, bit_there}
 use Rattle.bit_rows.proofs.WordBits.{and_bit, with_other, with_same}
+use Rattle.plan_num.proofs.Parts.{none_of_range, range_parts}
 
 -- ---- filters of ranges
-
-pub range_append : (from n more : ℕ)
-    → range_with_len from (n + more) ≡ range_with_len from n ++ range_with_len (from + n) more
-range_append from zero more = grind arith
-range_append from (suc n) more =
-    let size : suc n + more ≡ suc (n + more) = omega arith in
-    let start : from + 1 + n ≡ from + suc n = omega arith in
-    ap (range_with_len from) size
-    ∙ ap (λ rest. from ∷ rest) (range_append (from + 1) n more
-    ∙ ap (λ start. range_with_len (from + 1) n ++ range_with_len start more) start)
 
 pub same_filter : (test other : ℕ → Bool) (from n : ℕ)
     → ((x : ℕ) → from ≤ x → x < from + n → test x ≡ other x)
@@ -34,15 +25,6 @@ same_filter test other from (suc n) same =
     let rest = same_filter test other (from + 1) n
     (λ x low high. same x (omega (arith, low)) (omega (arith, high))) in
     λ i. cond (first i) (from ∷ rest i) (rest i)
-
-pub none_pass : (test : ℕ → Bool) (from n : ℕ)
-    → ((x : ℕ) → from ≤ x → x < from + n → test x ≡ false)
-    → filter test (range_with_len from n) ≡ []
-none_pass test from zero none = refl
-none_pass test from (suc n) none =
-    let rest = none_pass test (from + 1) n
-    (λ x low high. none x (omega (arith, low)) (omega (arith, high))) in
-    λ i. cond (none from (omega arith) (omega arith) i) (from ∷ rest i) (rest i)
 
 -- the first that passes a test, and those that pass another one, which it alone does not pass
 first_apart : (test other : ℕ → Bool) (from n first : ℕ) → from ≤ first → first < from + n
@@ -141,9 +123,9 @@ module _ (bits : Bits) (row : ℕ) (other : Bits) (other_row : ℕ) where
   all_common index end =
       let size : 64 * index ≡ bits.columns + (64 * index - bits.columns) = omega (arith, end) in
       ap common_to size
-      ∙ ap (filter both) (range_append 0 bits.columns (64 * index - bits.columns))
+      ∙ ap (filter both) (range_parts 0 bits.columns (64 * index - bits.columns))
       ∙ filter-append both (range_with_len 0 bits.columns) _
-      ∙ ap (λ rest. common bits row other other_row ++ rest) (none_pass both (0 + bits.columns)
+      ∙ ap (λ rest. common bits row other other_row ++ rest) (none_of_range both (0 + bits.columns)
       (64 * index - bits.columns) (λ column low _. past column (omega (arith, low))))
       ∙ append-nil _
     where
@@ -162,7 +144,7 @@ module _ (bits : Bits) (row : ℕ) (other : Bits) (other_row : ℕ) where
     one_word_common index word one two low is first second =
         let size : 64 * (index + 1) ≡ 64 * index + 64 = omega arith in
         let start : 64 * index + 0 ≡ 0 + 64 * index = omega arith in
-        ap common_to size ∙ ap (filter both) (range_append 0 (64 * index) 64)
+        ap common_to size ∙ ap (filter both) (range_parts 0 (64 * index) 64)
         ∙ filter-append both (range_with_len 0 (64 * index)) (range_with_len (0 + 64 * index) 64)
         ∙ ap (λ rest. common_to (64 * index) ++ rest)
         (sym (moved (has_bit word) both (64 * index) 0 64

@@ -32,6 +32,7 @@ impl Model for Marking {
 
 impl Marking {
     /// No place of so many is marked. It takes a bit for each, and a bit for each 64.
+    #[tactic(auto, using(crate::proofs::MarkWords::none_marked))]
     pub fn none(alloc: Global, count: usize) -> Result<Marking, NoMemory>
         requires few { count ≤ most_places }
         ensures { IfOk result (λ marks. marks ≡ replicate count false) }
@@ -45,6 +46,7 @@ impl Marking {
     }
 
     /// No place is marked any more.
+    #[tactic(auto, using(crate::proofs::MarkWords::none_marked, crate::proofs::MarkWords::size_is))]
     pub fn clear(&mut self)
         ensures { self.new ≡ replicate (length self.old) false }
     {

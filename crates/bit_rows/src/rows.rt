@@ -135,6 +135,7 @@ impl BitRows {
     }
 
     /// Sets a bit or takes it away.
+    #[tactic(auto, using(crate::proofs::RowBits::bit_put, crate::proofs::RowBits::fits))]
     pub fn put(&mut self, row: usize, column: usize, is: bool)
         requires row { row < self.old.rows }
         requires column { column < self.old.columns }

@@ -58,6 +58,7 @@ pub fn last_bit(word: u64, end: usize) -> Option<usize>
 }
 
 /// The first bits of a word, so many, and none of the others.
+#[tactic(auto, using(crate::proofs::WordBits::cut_low))]
 pub fn cut(word: u64, count: usize) -> u64
     ensures { (bit : ℕ) → bit < 64 → has_bit result bit ≡ (nat_lt bit count && has_bit word bit) }
 {
@@ -69,6 +70,7 @@ pub fn cut(word: u64, count: usize) -> u64
 }
 
 /// The last bits of a word, from one on, and behind them the first ones of another word.
+#[tactic(auto, using(crate::proofs::WordBits::joined_bit))]
 pub fn joined(first: u64, second: u64, from: usize) -> u64
     requires some { 1 ≤ from }
     requires few { from < 64 }
@@ -80,6 +82,7 @@ pub fn joined(first: u64, second: u64, from: usize) -> u64
 }
 
 // The word at a place of rows of so many columns where all bits are set.
+#[tactic(auto, using(crate::proofs::FullRows::whole_word))]
 pub(crate) fn full_word(place: usize, columns: usize) -> u64
     requires some { 1 ≤ columns }
     requires few { columns ≤ 1000000 }

@@ -52,4 +52,19 @@ impl<N: Drop> Tree<N> {
     {
         &self.nodes[index]
     }
+
+    /// The same, by the name that lists of waiting decisions have for it.
+    pub fn at(&self, index: usize) -> &N
+        requires { index < length self.now }
+        ensures { slice_get self.now index ≡ Some result.now }
+    {
+        self.node(index)
+    }
+
+    /// All nodes.
+    pub fn nodes(&self) -> &[N]
+        ensures { result.now ≡ self.now }
+    {
+        &self.nodes
+    }
 }

@@ -26,7 +26,7 @@ fn the_least_is_found_with_its_tree(rt: HostRuntime) -> Result<(), Fail> {
     let tree = found.tree.expect(&rt, "a whole listing");
     assert_eq!(rt; tree.len(), 5);
     assert_eq!(rt; *tree.node(0), Some(1));
-    assert_eq!(rt; *tree.node(1), None);
+    assert_eq!(rt; *tree.at(1), None);
     assert_eq!(rt; *tree.node(2), Some(2));
     Ok(())
 }

@@ -20,12 +20,13 @@ use Rattle.tables.specs.Inputs.{Input, broken_whys, records, table_row_faults}
 use Rattle.tables.specs.Reading.{table_of}
 use Rattle.tables.specs.Tables.{TableRow, no_row}
 use Rattle.tables.specs.Writing.{InColumns}
-use Rattle.tables.proofs.Inputs.{none_breaks, parts_sound, records_all, table_sound, whole_rule_sound, SoundBefore}
-use Rattle.tables.proofs.Ranges.{table_in_columns, unmapped}
+use Rattle.tables.proofs.Inputs.{none_breaks, parts_sound, records_all, table_sound}
+use Rattle.tables.proofs.Inputs.{whole_rule_sound, SoundBefore}
+use Rattle.tables.proofs.Ranges.{table_in_columns}
 use Rattle.line_cost_model.specs.declared.edge.BoundedEdge.{BoundedEdge}
 use Rattle.line_cost_model.specs.declared.side.Side.{Side}
 use Rattle.line_cost_model.specs.Problems.{IsId, IsProblem, ProblemParts}
-use Rattle.branch_certificate.specs.declared.node.Node.TheVariants as node
+use Rattle.line_concepts.specs.declared.node.Node.TheVariants as node
 use Rattle.branch_certificate.specs.declared.read_so_far.ReadSoFar.{ReadSoFar}
 use Rattle.branch_certificate.specs.declared.row_says.RowSays.{RowSays}
 use Rattle.branch_certificate.specs.declared.row_says.RowSays.TheVariants as says
@@ -35,16 +36,19 @@ use Rattle.branch_certificate.specs.ReadRows.{IsTreeRow, Says, SaysBound, SaysNo
 use Rattle.branch_certificate.specs.ReadRows.{closed, takes_row, with_row}
 use Rattle.branch_certificate.specs.TreeFiles.{NamedIds, ids_of, is_due, side_of, tree_input}
 use Rattle.branch_certificate.specs.TreeFiles.{tree_of, tree_row, tree_rules, read_faults}
-use Rattle.branch_certificate.specs.TreeTexts.{CanBeWritten, NamesWhatIs}
-use Rattle.branch_certificate.proofs.ReadIds.{rises}
+use Rattle.branch_certificate.specs.TreeTexts.{CanBeWritten}
+use Rattle.line_concepts.specs.Nodes.{NamesWhatIs}
+use Rattle.plan_num.proofs.SortedIds.{rises}
 use Rattle.branch_certificate.proofs.ReadRules.{empty_aside, empty_says, empty_stray}
 use Rattle.branch_certificate.proofs.ReadRules.{empty_unknown, multiplier_of_0, multiplier_says}
-use Rattle.branch_certificate.proofs.ReadRules.{multiplier_stray, multiplier_unknown, or_true}
+use Rattle.branch_certificate.proofs.ReadRules.{multiplier_stray, multiplier_unknown}
 use Rattle.branch_certificate.proofs.ReadRules.{split_says, split_stray, split_unknown}
 use Rattle.branch_certificate.proofs.ReadSteps.{due_told}
 use Rattle.branch_certificate.proofs.ReadTaken.{taken}
 use Rattle.branch_certificate.proofs.ReadTexts.{tree_read}
 use Rattle.branch_certificate.proofs.ReadWhole.{next_row}
+use Rattle.plan_num.proofs.Tests.{less_is, or_true}
+use Rattle.plan_num.proofs.Lists.{unmapped}
 
 -- ---- a bound, and a point
 
@@ -221,15 +225,12 @@ module _ (ids : NamedIds) (up : AreRising ids) (small : length ids.edges ≤ 2 ^
 
 -- ---- ids that rise in a range are few
 
-less : (x y : ℤ) → int_cmp x y ≡ Less → x <ℤ y
-less x y e = subst (λ r. MatchOrdering r (x <ℤ y) (x ≡ y) (y <ℤ x)) e (int_ranks x y)
-
 at_least : (ids : List ℤ) → IsStrictlySortedBy int_cmp ids → All IsId ids → (k : ℕ) → k < length ids
     → pos (k + 1) ≤ℤ get_or ids k (pos 0)
 at_least ids up each zero h = let low = (each 0 (pos 0) h).low in omega (arith, ints, low)
 at_least ids up each (suc k) h =
     let before = at_least ids up each k (omega (arith, h)) in
-    let rise : get_or ids k (pos 0) <ℤ get_or ids (suc k) (pos 0) = less _ _
+    let rise : get_or ids k (pos 0) <ℤ get_or ids (suc k) (pos 0) = less_is _ _
     (rises ids up k (suc k) (pos 0) (omega arith) h) in
     omega (arith, ints, before, rise)
 

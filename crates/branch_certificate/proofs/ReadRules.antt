@@ -13,13 +13,14 @@ use Rattle.std.proofs.lemmas.List.Quantifiers.{position-Some}
 use Rattle.tables.specs.declared.row_why.RowWhy.{RowWhy}
 use Rattle.tables.specs.declared.row_why.RowWhy.TheVariants as why
 use Rattle.line_cost_model.specs.declared.side.Side.{Side}
-use Rattle.branch_certificate.specs.declared.node.Node.TheVariants as node
+use Rattle.line_concepts.specs.declared.node.Node.TheVariants as node
 use Rattle.branch_certificate.specs.declared.tree_row.TreeRow.{TreeRow}
 use Rattle.branch_certificate.specs.ReadRows.{IsTreeRow, first_why, IsRefused, IsRefusedIf}
 use Rattle.branch_certificate.specs.ReadRows.{SaysNode, SaysMultiplier}
 use Rattle.branch_certificate.specs.TreeFiles.{NamedIds, is_split, is_empty, is_multiplier}
 use Rattle.branch_certificate.specs.TreeFiles.{has_stray_cell, is_due, falls_back, has_line}
 use Rattle.branch_certificate.specs.TreeFiles.{has_edge, announced, node_of, side_of}
+use Rattle.plan_num.proofs.Tests.{or_false, or_true}
 
 -- ---- an id that is there
 
@@ -67,14 +68,6 @@ out_of_order false true e f g h = ap (λ b. cond b (Some why.OrderGap) None) h
 out_of_order false false true f g h = ap (λ b. cond b (Some why.OrderGap) None) h
 out_of_order false false false true g h = ap (λ b. cond b (Some why.OrderGap) None) h
 out_of_order false false false false g h = ap (λ b. cond b (Some why.OrderGap) None) h
-
-pub or_true : (b : Bool) → (b || true) ≡ true
-or_true true = refl
-or_true false = refl
-
-pub or_false : (b : Bool) → (b || false) ≡ b
-or_false true = refl
-or_false false = refl
 
 -- the reason for which a row is refused, by the rules that it breaks
 first_is : (ids : NamedIds) (before : List TreeRow) (row : TreeRow) → first_why ids before row

@@ -12,8 +12,8 @@ use Rattle.std.proofs.lemmas.List.Sums.{fold_push}
 use Rattle.line_cost_model.specs.declared.multipliers.Multiplier.{Multiplier}
 use Rattle.line_cost_model.specs.Multipliers.{AreMultipliers, IsAmount}
 use Rattle.line_cost_model.proofs.Pushed.{multipliers_push}
-use Rattle.branch_certificate.specs.declared.node.Node.{Node}
-use Rattle.branch_certificate.specs.declared.node.Node.TheVariants as node
+use Rattle.line_concepts.specs.declared.node.Node.{Node}
+use Rattle.line_concepts.specs.declared.node.Node.TheVariants as node
 use Rattle.branch_certificate.specs.declared.open_bound.OpenBound.{OpenBound}
 use Rattle.branch_certificate.specs.declared.tree_row.TreeRow.{TreeRow}
 use Rattle.branch_certificate.specs.ReadRows.{AreRising, SaysNode, SaysBound, SaysMultiplier}
@@ -23,8 +23,9 @@ use Rattle.branch_certificate.specs.ReadRows.{taken_by, closed}
 use Rattle.branch_certificate.specs.TreeFiles.{NamedIds, is_multiplier, is_due, due_after}
 use Rattle.branch_certificate.specs.TreeFiles.{announced, falls_back, multiplier_in}
 use Rattle.branch_certificate.specs.TreeFiles.{multiplier_rows, node_of, nodes_of}
-use Rattle.branch_certificate.proofs.ReadIds.{found_twice}
+use Rattle.plan_num.proofs.SortedIds.{found_twice}
 use Rattle.branch_certificate.proofs.ReadRules.{within}
+use Rattle.plan_num.proofs.Tests.{or_false}
 
 -- ---- rows with one more
 
@@ -163,16 +164,12 @@ module _ (ids : NamedIds) (before : List TreeRow) (row : TreeRow) (nodes : List 
     due = due_more before row true said.alone ∙ ap (λ n. n - 1) h.due;
     last = λ other place stands.
         falls_more before row other true said.alone
-        ∙ or_none (not (int_lt row.id other.id))
+        ∙ or_false (not (int_lt row.id other.id))
         ∙ ap not (found_twice ids.edges row.id other.id edge place up.1 said.stands stands)
         ∙ not_before edge place;
     sound = sound_more rising;
   }
     where
-      or_none : (b : Bool) → (b || false) ≡ b
-      or_none true = refl
-      or_none false = refl
-
       not_before : (i j : ℕ) → not (nat_lt i j) ≡ nat_lt j (i + 1)
       not_before i j = grind (arith, cases_lt, lt-ltb, le-ltb)
 

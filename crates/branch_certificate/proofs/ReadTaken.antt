@@ -5,21 +5,19 @@ use Rattle.std.proofs.Common.{None, option_map, unwrap_or, All}
 use Rattle.std.proofs.lemmas.List.Elements.{All-push}
 use Rattle.tables.specs.declared.row_why.RowWhy.{RowWhy}
 use Rattle.tables.specs.declared.row_why.RowWhy.TheVariants as why
-use Rattle.branch_certificate.specs.declared.node.Node.{Node}
+use Rattle.line_concepts.specs.declared.node.Node.{Node}
 use Rattle.branch_certificate.specs.declared.open_bound.OpenBound.{OpenBound}
 use Rattle.branch_certificate.specs.declared.read_so_far.ReadSoFar.{ReadSoFar}
 use Rattle.branch_certificate.specs.declared.row_says.RowSays.{RowSays}
 use Rattle.branch_certificate.specs.declared.row_says.RowSays.TheVariants as says
 use Rattle.branch_certificate.specs.declared.tree_row.TreeRow.{TreeRow}
-use Rattle.branch_certificate.specs.ReadRows.{AreRising, SaysMultiplier, Says}
-use Rattle.branch_certificate.specs.ReadRows.{IsSoundNode, StandsBehind, IsReadSoFar, is_due_in}
-use Rattle.branch_certificate.specs.ReadRows.{takes, taken_by, takes_row, closed, with_row}
-use Rattle.branch_certificate.specs.ReadRows.{first_why}
-use Rattle.branch_certificate.specs.TreeFiles.{NamedIds, is_due}
-use Rattle.branch_certificate.specs.TreeFiles.{falls_back}
-use Rattle.branch_certificate.specs.TreeFiles.{nodes_of}
+use Rattle.branch_certificate.specs.ReadRows.{AreRising, SaysMultiplier, Says, IsSoundNode}
+use Rattle.branch_certificate.specs.ReadRows.{StandsBehind, IsReadSoFar, is_due_in, takes, taken_by}
+use Rattle.branch_certificate.specs.ReadRows.{takes_row, closed, with_row, first_why}
+use Rattle.branch_certificate.specs.TreeFiles.{NamedIds, is_due, falls_back, nodes_of}
 use Rattle.branch_certificate.proofs.ReadSteps.{node_more, bound_more, multiplier_more, due_told}
 use Rattle.branch_certificate.proofs.ReadSteps.{ended, ended_sound}
+use Rattle.std.proofs.lemmas.Bool.{not-true}
 
 -- ---- any row
 
@@ -44,10 +42,6 @@ module _ (ids : NamedIds) (before : List TreeRow) (row : TreeRow) (so_far : Read
   abbrev Next : RowSays → Type 0
   Next said = (first_why ids before row ≡ refused_unless (takes_row so_far said))
       × (takes_row so_far said ≡ true → IsReadSoFar ids (before ++ row ∷ []) (with_row so_far said))
-
-  none_due : (b : Bool) → not b ≡ true → b ≡ false
-  none_due true e = cc
-  none_due false e = refl
 
   goes_on : (a b : Bool) → (a && not b) ≡ true → b ≡ false
   goes_on true true e = cc
@@ -89,7 +83,7 @@ module _ (ids : NamedIds) (before : List TreeRow) (row : TreeRow) (so_far : Read
   taken (says.Whole one) said = (
     placed (said.place before),
     λ goes.
-        let none = none_due _ goes in
+        let none = not-true _ goes in
         record {
           sound = All-push (IsSoundNode ids) _ one
               (ended_sound ids before so_far.nodes so_far.bound read.behind read.sound) said.sound;
@@ -100,7 +94,7 @@ module _ (ids : NamedIds) (before : List TreeRow) (row : TreeRow) (so_far : Read
   taken (says.Bound count) said = (
     placed (said.place before),
     λ goes.
-        let none = none_due _ goes in
+        let none = not-true _ goes in
         record {
           sound = ended_sound ids before so_far.nodes so_far.bound read.behind read.sound;
           behind = bound_more ids before row _ count

@@ -14,8 +14,8 @@ use Rattle.tables.specs.Tables.{TableRow}
 use Rattle.tables.proofs.Inputs.{refused_cells, faults_of_table, refused_rows, refused_whole}
 use Rattle.tables.proofs.Inputs.{no_faults, whole_rule_broken, whole_rule_kept}
 use Rattle.line_cost_model.specs.Problems.{ProblemParts}
-use Rattle.branch_certificate.specs.declared.node.Node.{Node}
-use Rattle.branch_certificate.specs.declared.node.Node.TheVariants as node
+use Rattle.line_concepts.specs.declared.node.Node.{Node}
+use Rattle.line_concepts.specs.declared.node.Node.TheVariants as node
 use Rattle.branch_certificate.specs.declared.read_fault.TreeReadFault.{TreeReadFault}
 use Rattle.branch_certificate.specs.declared.read_fault.TreeReadFault.TheVariants as read
 use Rattle.branch_certificate.specs.declared.read_so_far.ReadSoFar.{ReadSoFar}
@@ -23,7 +23,8 @@ use Rattle.branch_certificate.specs.declared.tree_row.TreeRow.{TreeRow}
 use Rattle.branch_certificate.specs.ReadRows.{IsFirst, IsReadSoFar, IsSoundNode, closed, is_due_in}
 use Rattle.branch_certificate.specs.TreeFiles.{NamedIds, ids_of, is_due, nodes_of, tree_input}
 use Rattle.branch_certificate.specs.TreeFiles.{TreeGives, tree_of, read_faults}
-use Rattle.branch_certificate.specs.TreeTexts.{CanBeWritten, NamesWhatIs}
+use Rattle.branch_certificate.specs.TreeTexts.{CanBeWritten}
+use Rattle.line_concepts.specs.Nodes.{NamesWhatIs}
 use Rattle.branch_certificate.proofs.ReadSteps.{due_told}
 use Rattle.branch_certificate.proofs.ReadTaken.{all_read}
 

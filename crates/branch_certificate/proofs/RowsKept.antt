@@ -21,7 +21,7 @@ use Rattle.tables.specs.Tables.{TableRow}
 use Rattle.tables.specs.Writing.{InColumns, line_text, table_text}
 use Rattle.tables.proofs.Accepted.{KeepRules}
 use Rattle.tables.proofs.Inputs.{parts_sound, table_sound, whole_rule_sound}
-use Rattle.tables.proofs.Ranges.{table_in_columns, unmapped}
+use Rattle.tables.proofs.Ranges.{table_in_columns}
 use Rattle.line_cost_model.specs.Problems.{ProblemParts}
 use Rattle.branch_certificate.specs.declared.tree_row.TreeRow.{TreeRow}
 use Rattle.branch_certificate.specs.ReadRows.{IsTreeRow}
@@ -37,6 +37,7 @@ use Rattle.branch_certificate.proofs.ReadSteps.{due_more, inside_first, multipli
 use Rattle.branch_certificate.proofs.ReadSteps.{no_multiplier, nodes_first, nodes_none}
 use Rattle.branch_certificate.proofs.RowsOfNodes.{multipliers_written, node_written, none_broken}
 use Rattle.branch_certificate.proofs.RowsOfNodes.{whole_row, written}
+use Rattle.plan_num.proofs.Lists.{unmapped}
 
 module _ (problem : ProblemParts) where
   abbrev ids : NamedIds

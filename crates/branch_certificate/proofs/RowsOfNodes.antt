@@ -13,24 +13,23 @@ use Rattle.tables.specs.declared.row_why.RowWhy.{RowWhy}
 use Rattle.tables.specs.Inputs.{RowRule, broken_whys}
 use Rattle.tables.specs.Tables.{TableRow}
 use Rattle.tables.proofs.Accepted.{KeepRules}
-use Rattle.tables.proofs.Found.{any_is}
+use Rattle.plan_num.proofs.Found.{any_is}
 use Rattle.line_cost_model.specs.declared.edge.BoundedEdge.{BoundedEdge}
 use Rattle.line_cost_model.specs.declared.multipliers.Multiplier.{Multiplier}
 use Rattle.line_cost_model.specs.Problems.{CostedLine, ProblemParts}
-use Rattle.branch_certificate.specs.declared.node.Node.{Node}
-use Rattle.branch_certificate.specs.declared.node.Node.TheVariants as node
+use Rattle.line_concepts.specs.declared.node.Node.{Node}
+use Rattle.line_concepts.specs.declared.node.Node.TheVariants as node
 use Rattle.branch_certificate.specs.declared.tree_row.TreeRow.{TreeRow}
 use Rattle.branch_certificate.specs.ReadRows.{IsTreeRow}
-use Rattle.branch_certificate.specs.TreeFiles.{NamedIds, announced, edge_index, has_edge}
-use Rattle.branch_certificate.specs.TreeFiles.{has_line, has_stray_cell, ids_of, is_empty}
-use Rattle.branch_certificate.specs.TreeFiles.{is_multiplier, is_split, line_index, multiplier_in}
-use Rattle.branch_certificate.specs.TreeFiles.{multiplier_rows, node_of}
-use Rattle.branch_certificate.specs.TreeFiles.{side_of, tree_rules}
+use Rattle.branch_certificate.specs.TreeFiles.{NamedIds, announced, edge_index, has_edge, has_line}
+use Rattle.branch_certificate.specs.TreeFiles.{has_stray_cell, ids_of, is_empty, is_multiplier}
+use Rattle.branch_certificate.specs.TreeFiles.{is_split, line_index, multiplier_in, multiplier_rows}
+use Rattle.branch_certificate.specs.TreeFiles.{node_of, side_of, tree_rules}
 use Rattle.branch_certificate.specs.TreeTexts.{cells_row, edge_id, node_rows, row_with, side_place}
 use Rattle.branch_certificate.proofs.FaultlessTrees.{by_kind}
-use Rattle.branch_certificate.proofs.ReadSteps.{inside_first, multiplier_first}
-use Rattle.branch_certificate.proofs.ReadSteps.{no_multiplier}
+use Rattle.branch_certificate.proofs.ReadSteps.{inside_first, multiplier_first, no_multiplier}
 use Rattle.branch_certificate.proofs.WriteMultipliers.{id_is}
+use Rattle.plan_num.proofs.Tests.{number_back}
 
 -- ---- the rules that a row keeps
 
@@ -73,10 +72,6 @@ id_back id_of xs id there = by (position (int_eq id) (map id_of xs)) refl
         ap (λ place. unwrap_or (option_map id_of (slice_get xs (unwrap_or place 0))) (pos 0)) is
         ∙ id_is id_of xs i (omega (arith, at.0, length-map xs id_of))
         ∙ sym ((Decides-int_eq id _).0 at.1)
-
-number_back : (n : ℤ) → pos 0 ≤ℤ n → pos (unsigned_abs n) ≡ n
-number_back (pos n) h = refl
-number_back (negsuc n) h = absurd (omega (arith, ints, h))
 
 side_back : (value : ℤ) → pos 0 ≤ℤ value → int_lt (pos 1) value ≡ false
     → pos (side_place (side_of value)) ≡ value

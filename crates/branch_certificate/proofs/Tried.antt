@@ -1,4 +1,4 @@
--- The definitions on small trees.
+-- The texts of small trees.
 use Rattle.std.proofs.Common.{◌≡◌, ℕ, List, [], ◌∷◌, ◌++◌, refl, pos, codes, slice_get, Some}
 use Rattle.std.specs.Fmt.{digits}
 use Rattle.tables.specs.declared.file_id.FileId.TheVariants as file
@@ -11,35 +11,14 @@ use Rattle.text_fields.specs.Rows.{rows, cleaned}
 use Rattle.tables.specs.Writing.{cell_text, cell_texts, joined, table_text}
 use Rattle.plan_num.specs.Number.{spelling_of, value_of, value_at, fixed_of, whole_of}
 use Rattle.plan_num.specs.Print.{digits_at}
-use Rattle.line_cost_model.specs.declared.edge.BoundedEdge.{BoundedEdge}
-use Rattle.line_cost_model.specs.declared.side.Side.TheVariants as side
-use Rattle.line_cost_model.specs.Problems.{CostedLine, ProblemParts}
+use Rattle.line_cost_model.specs.Problems.{ProblemParts}
 use Rattle.line_cost_model.specs.DualBounds.{bound_by}
-use Rattle.branch_certificate.specs.declared.fault.TreeFault.TheVariants as fault
-use Rattle.branch_certificate.specs.declared.node.Node.{Node}
-use Rattle.branch_certificate.specs.declared.node.Node.TheVariants as node
-use Rattle.branch_certificate.specs.TreeFaults.{tree_faults}
+use Rattle.line_concepts.specs.declared.fault.TreeFault.TheVariants as fault
+use Rattle.line_concepts.specs.TreeFaults.{tree_faults}
 use Rattle.branch_certificate.specs.TreeFiles.{nodes_of, tree_of, read_faults}
 use Rattle.branch_certificate.specs.TreeTexts.{tree_text}
-use Rattle.branch_certificate.specs.Trees.{first_tree, placed_over}
-
-abbrev edge : ℕ → ℕ → ℕ → BoundedEdge
-edge id least most = record { id = pos id; least = least; most = most }
-
-abbrev lines : List CostedLine
-lines =
-    record { id = pos 1; cost = 15000000; edges = 0 ∷ 1 ∷ [] }
-    ∷ record { id = pos 2; cost = 12000000; edges = 0 ∷ [] } ∷ []
-
--- two edges in a row, a line over both and a line over the first
-abbrev two : ProblemParts
-two = record { edges = edge 1 2 3 ∷ edge 2 1 3 ∷ []; lines = lines }
-
--- the tree that certifies that no concept costs less than 27
-abbrev nodes : List Node
-nodes =
-    node.Split 0 1 ∷ node.Split 0 0 ∷ node.Empty 1 side.Under ∷ node.Split 1 1 ∷ node.Split 1 0
-    ∷ node.Empty 0 side.Under ∷ node.Point ∷ node.Bound [] ∷ node.Bound [] ∷ []
+use Rattle.line_concepts.specs.Trees.{first_tree, placed_over}
+use Rattle.line_concepts.proofs.Tried.{edge, lines, nodes, two}
 
 abbrev rows_below : List ℕ
 rows_below = codes "split; 1; 0; 0\nempty; 2; 1; 0\nsplit; 2; 1; 0\n"
@@ -48,34 +27,6 @@ rows_below = codes "split; 1; 0; 0\nempty; 2; 1; 0\nsplit; 2; 1; 0\n"
 
 abbrev header : List ℕ
 header = codes "# kind; id; value; multiplier\n"
-
-certified : tree_faults two (pos 27000000) nodes ≡ []
-unfolding tree_faults first_tree placed_over bound_by
-certified = refl
-
--- one millionth more is not: the point costs less
-dearer : tree_faults two (pos 27000001) nodes ≡ fault.Point 6 ∷ []
-unfolding tree_faults first_tree placed_over bound_by
-dearer = refl
-
--- nor are 30: the bounds are 39 and 30, the point costs 27
-thirty : tree_faults two (pos 30000000) nodes ≡ fault.Point 6 ∷ []
-unfolding tree_faults first_tree placed_over bound_by
-thirty = refl
-
--- a leaf is missing; the last of two points is left over; no node at all
-cut_short : tree_faults two (pos 27000000) (node.Split 0 1 ∷ node.Bound [] ∷ [])
-    ≡ fault.Shape 2 ∷ []
-unfolding tree_faults first_tree placed_over bound_by
-cut_short = refl
-
-left_over : tree_faults two (pos 0) (node.Bound [] ∷ node.Bound [] ∷ []) ≡ fault.Shape 0 ∷ []
-unfolding tree_faults first_tree placed_over bound_by
-left_over = refl
-
-nothing : tree_faults two (pos 0) [] ≡ fault.Shape 0 ∷ []
-unfolding tree_faults first_tree placed_over bound_by
-nothing = refl
 
 text : tree_text two nodes ≡ header ++ codes "split; 1; 1; 0\n" ++ rows_below
 unfolding tree_text table_text cell_texts cell_text joined digits digits_at
@@ -143,11 +94,6 @@ lowered : tree_faults loose (pos 24000000)
 unfolding tree_faults first_tree placed_over bound_by tree_of nodes_of table_of cells_from cell_of
     values rows cleaned spelling_of value_of value_at fixed_of whole_of
 lowered = refl
-
--- an edge that is not empty on the side that is named
-not_empty : tree_faults two (pos 0) (node.Empty 0 side.Under ∷ []) ≡ fault.Empty 0 ∷ []
-unfolding tree_faults first_tree placed_over bound_by
-not_empty = refl
 
 -- ---- what reading refuses
 

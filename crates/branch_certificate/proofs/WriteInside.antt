@@ -13,12 +13,12 @@ use Rattle.line_cost_model.specs.declared.side.Side.{Side}
 use Rattle.line_cost_model.specs.declared.side.Side.TheVariants as side
 use Rattle.line_cost_model.specs.Multipliers.{IsAmount}
 use Rattle.line_cost_model.specs.Problems.{CostedLine, IsId, IsProblem, ProblemParts}
-use Rattle.branch_certificate.specs.declared.node.Node.{Node}
-use Rattle.branch_certificate.specs.declared.node.Node.TheVariants as node
-use Rattle.branch_certificate.specs.TreeTexts.{CanBeWritten, NamesWhatIs, edge_id, line_id}
-use Rattle.branch_certificate.specs.TreeTexts.{node_rows, side_place}
-use Rattle.branch_certificate.proofs.WriteFew.{few_multipliers}
-use Rattle.branch_certificate.specs.TreeTexts.{cells_row}
+use Rattle.line_concepts.specs.declared.node.Node.{Node}
+use Rattle.line_concepts.specs.declared.node.Node.TheVariants as node
+use Rattle.branch_certificate.specs.TreeTexts.{CanBeWritten, edge_id, line_id, node_rows}
+use Rattle.branch_certificate.specs.TreeTexts.{side_place, cells_row}
+use Rattle.line_concepts.specs.Nodes.{NamesWhatIs}
+use Rattle.line_concepts.proofs.FewMultipliers.{few_multipliers}
 
 -- the id at a place is one that may be
 id_there : {X : Type 0} (id : X → ℤ) (xs : List X) (i : ℕ) → All (λ x. IsId (id x)) xs

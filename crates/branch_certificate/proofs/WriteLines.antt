@@ -11,9 +11,10 @@ use Rattle.tables.specs.Writing.{line_text, table_text}
 use Rattle.tables.proofs.Headers.{plain_header}
 use Rattle.tables.proofs.WrittenBack.{written_back}
 use Rattle.line_cost_model.specs.Problems.{IsProblem, ProblemParts}
-use Rattle.branch_certificate.specs.declared.node.Node.{Node}
-use Rattle.branch_certificate.specs.declared.node.Node.TheVariants as node
-use Rattle.branch_certificate.specs.TreeTexts.{CanBeWritten, IsSmallSplit, NamesWhatIs, ReadsBackAs, node_rows}
+use Rattle.line_concepts.specs.declared.node.Node.{Node}
+use Rattle.line_concepts.specs.declared.node.Node.TheVariants as node
+use Rattle.branch_certificate.specs.TreeTexts.{CanBeWritten, IsSmallSplit, ReadsBackAs, node_rows}
+use Rattle.line_concepts.specs.Nodes.{NamesWhatIs}
 use Rattle.branch_certificate.specs.TreeTexts.{tree_header, tree_text}
 use Rattle.branch_certificate.proofs.WriteInside.{rows_inside}
 use Rattle.tables.proofs.WrittenColumns.{columns_written}

@@ -1,9 +1,8 @@
 -- The index of an id, and the rows of multipliers that are read back.
-use Rattle.std.proofs.Common.{◌≡◌, ℕ, ℤ, pos, zero, suc, ◌-◌, ◌<◌, arith}
-use Rattle.std.proofs.Common.{true, false, cond, not, ◌||◌, nat_lt, int_eq, List, [], ◌∷◌, ◌++◌}
-use Rattle.std.proofs.Common.{length, get_or, map, position, slice_get, refl, sym, ap, subst, ◌∙◌}
-use Rattle.std.proofs.Common.{append_assoc, append-nil, Some, None, option_map, unwrap_or}
-use Rattle.std.proofs.Common.{All}
+use Rattle.std.proofs.Common.{◌≡◌, ℕ, ℤ, pos, zero, suc, ◌-◌, ◌<◌, arith, true, false, cond, not}
+use Rattle.std.proofs.Common.{◌||◌, nat_lt, int_eq, List, [], ◌∷◌, ◌++◌, length, get_or, map}
+use Rattle.std.proofs.Common.{position, slice_get, refl, sym, ap, subst, ◌∙◌, append_assoc}
+use Rattle.std.proofs.Common.{append-nil, Some, None, option_map, unwrap_or, All}
 use Rattle.std.specs.List.Sorted.{IsStrictlySortedBy}
 use Rattle.std.specs.Ordering.{int_cmp}
 use Rattle.std.proofs.lemmas.Bool.{lt-ltb, le-ltb}
@@ -15,17 +14,15 @@ use Rattle.tables.specs.Inputs.{broken_whys}
 use Rattle.tables.proofs.Accepted.{KeepRules}
 use Rattle.line_cost_model.specs.declared.multipliers.Multiplier.{Multiplier}
 use Rattle.line_cost_model.specs.Multipliers.{IsAmount}
-use Rattle.branch_certificate.specs.declared.node.Node.{Node}
-use Rattle.branch_certificate.specs.declared.node.Node.TheVariants as node
+use Rattle.line_concepts.specs.declared.node.Node.{Node}
+use Rattle.line_concepts.specs.declared.node.Node.TheVariants as node
 use Rattle.branch_certificate.specs.declared.open_bound.OpenBound.{OpenBound}
 use Rattle.branch_certificate.specs.declared.tree_row.TreeRow.{TreeRow}
-use Rattle.branch_certificate.specs.ReadRows.{IsClosed, IsOpen}
-use Rattle.branch_certificate.specs.ReadRows.{SaysMultiplier, first_why, taken_by}
-use Rattle.branch_certificate.specs.TreeFiles.{NamedIds, is_due, due_after, falls_back}
-use Rattle.branch_certificate.specs.TreeFiles.{tree_rules}
-use Rattle.branch_certificate.proofs.ReadIds.{found}
+use Rattle.branch_certificate.specs.ReadRows.{IsClosed, IsOpen, SaysMultiplier, first_why, taken_by}
+use Rattle.branch_certificate.specs.TreeFiles.{NamedIds, is_due, due_after, falls_back, tree_rules}
+use Rattle.plan_num.proofs.SortedIds.{found}
 use Rattle.branch_certificate.proofs.ReadSteps.{multiplier_more, ended}
-use Rattle.branch_certificate.proofs.WriteFew.{ClimbFrom}
+use Rattle.line_concepts.proofs.FewMultipliers.{ClimbFrom}
 
 -- ---- the index of an id
 

@@ -22,22 +22,19 @@ use Rattle.line_cost_model.specs.declared.side.Side.{Side}
 use Rattle.line_cost_model.specs.declared.side.Side.TheVariants as side
 use Rattle.line_cost_model.specs.Multipliers.{IsAmount}
 use Rattle.line_cost_model.specs.Problems.{CostedLine, IsId, IsProblem, ProblemParts}
-use Rattle.branch_certificate.specs.declared.node.Node.{Node}
-use Rattle.branch_certificate.specs.declared.node.Node.TheVariants as node
+use Rattle.line_concepts.specs.declared.node.Node.{Node}
+use Rattle.line_concepts.specs.declared.node.Node.TheVariants as node
 use Rattle.branch_certificate.specs.declared.tree_row.TreeRow.{TreeRow}
 use Rattle.branch_certificate.specs.ReadRows.{IsTreeRow, IsClosed, SaysNode, SaysBound}
 use Rattle.branch_certificate.specs.ReadRows.{SaysMultiplier}
-use Rattle.branch_certificate.specs.TreeFiles.{NamedIds, ids_of, is_due}
-use Rattle.branch_certificate.specs.TreeFiles.{nodes_of, tree_input, tree_rules, tree_row, tree_of}
-use Rattle.branch_certificate.specs.TreeFiles.{read_faults}
-use Rattle.branch_certificate.specs.TreeTexts.{CanBeWritten, NamesWhatIs, edge_id, line_id}
-use Rattle.branch_certificate.specs.TreeTexts.{node_rows, side_place, ReadsBackAs}
-use Rattle.branch_certificate.proofs.ReadRules.{split_says, empty_says}
-use Rattle.branch_certificate.proofs.ReadRules.{multiplier_says}
-use Rattle.branch_certificate.proofs.ReadSteps.{node_more, bound_more}
-use Rattle.branch_certificate.proofs.ReadSteps.{nodes_none}
-use Rattle.branch_certificate.proofs.WriteFew.{climb_of, few_edges}
-use Rattle.branch_certificate.specs.TreeTexts.{cells_row}
+use Rattle.branch_certificate.specs.TreeFiles.{NamedIds, ids_of, is_due, nodes_of, tree_input}
+use Rattle.branch_certificate.specs.TreeFiles.{tree_rules, tree_row, tree_of, read_faults}
+use Rattle.branch_certificate.specs.TreeTexts.{CanBeWritten, edge_id, line_id, node_rows}
+use Rattle.branch_certificate.specs.TreeTexts.{side_place, ReadsBackAs, cells_row}
+use Rattle.line_concepts.specs.Nodes.{NamesWhatIs}
+use Rattle.branch_certificate.proofs.ReadRules.{split_says, empty_says, multiplier_says}
+use Rattle.branch_certificate.proofs.ReadSteps.{node_more, bound_more, nodes_none}
+use Rattle.line_concepts.proofs.FewMultipliers.{climb_of, few_edges}
 use Rattle.branch_certificate.proofs.WriteInside.{line_there, edge_there}
 use Rattle.branch_certificate.proofs.WriteMultipliers.{own_index, keep_both, kept_here}
 use Rattle.branch_certificate.proofs.WriteMultipliers.{multipliers_kept}

@@ -17,8 +17,8 @@ use Rattle.tables.specs.declared.read_fault.RowFault.{RowFault}
 use Rattle.tables.specs.Inputs.{broken_whys, numbered, records, row_faults, table_row_faults}
 use Rattle.tables.specs.Tables.{TableRow}
 use Rattle.line_cost_model.specs.Multipliers.{AreMultipliers, IsAfter}
-use Rattle.branch_certificate.specs.declared.node.Node.{Node}
-use Rattle.branch_certificate.specs.declared.node.Node.TheVariants as node
+use Rattle.line_concepts.specs.declared.node.Node.{Node}
+use Rattle.line_concepts.specs.declared.node.Node.TheVariants as node
 use Rattle.branch_certificate.specs.declared.open_bound.OpenBound.{OpenBound}
 use Rattle.branch_certificate.specs.declared.read_fault.TreeReadFault.{TreeReadFault}
 use Rattle.branch_certificate.specs.declared.read_fault.TreeReadFault.TheVariants as read
@@ -27,10 +27,10 @@ use Rattle.branch_certificate.specs.declared.row_says.RowSays.{RowSays}
 use Rattle.branch_certificate.specs.declared.row_says.RowSays.TheVariants as says
 use Rattle.branch_certificate.specs.declared.tree_row.TreeRow.{TreeRow}
 use Rattle.branch_certificate.specs.TreeFiles.{NamedIds, tree_input, tree_rules, is_multiplier}
-use Rattle.branch_certificate.specs.TreeFiles.{is_due}
-use Rattle.branch_certificate.specs.TreeFiles.{due_after, announced, falls_back, multiplier_in}
-use Rattle.branch_certificate.specs.TreeFiles.{multiplier_rows, node_of, nodes_of}
+use Rattle.branch_certificate.specs.TreeFiles.{is_due, due_after, announced, falls_back}
+use Rattle.branch_certificate.specs.TreeFiles.{multiplier_in, multiplier_rows, node_of, nodes_of}
 use Rattle.branch_certificate.specs.TreeTexts.{CanBeWritten}
+use Rattle.plan_num.specs.declared.number.TheConstants.{NUMBER_LIMIT}
 
 -- ids that rise
 abbrev pub AreRising : NamedIds → Type 0
@@ -41,7 +41,7 @@ pub record IsTreeRow (row : TreeRow) : Type 0 where
   pub kind : (pos 0 ≤ℤ row.kind) × (row.kind ≤ℤ pos 4)
   pub id : (pos 0 ≤ℤ row.id) × (row.id ≤ℤ pos 1000000000)
   pub value : (pos 0 ≤ℤ row.value) × (row.value ≤ℤ pos 1000000000)
-  pub multiplier : (pos 0 ≤ℤ row.multiplier) × (row.multiplier ≤ℤ pos 1000000000000000000)
+  pub multiplier : (pos 0 ≤ℤ row.multiplier) × (row.multiplier ≤ℤ pos NUMBER_LIMIT)
 
 -- the first reason for which a row is refused behind others
 abbrev pub first_why : NamedIds → List TreeRow → TreeRow → Option RowWhy
@@ -93,7 +93,7 @@ pub record SaysMultiplier (ids : NamedIds) (row : TreeRow) (edge : ℕ) (million
     pub stands : position (int_eq row.id) ids.edges ≡ Some edge
     pub amount : row.multiplier ≡ millionths
     pub some : pos 1 ≤ℤ millionths
-    pub few : millionths ≤ℤ pos 1000000000000000000
+    pub few : millionths ≤ℤ pos NUMBER_LIMIT
     pub small : edge < 2 ^ 63
     pub place : IsRefusedIf ids row (λ before. not (is_due before) || falls_back before row)
 
@@ -185,7 +185,7 @@ with_row so_far (says.Multiplier edge millionths) = record {
 -- what a multiplier may say
 abbrev pub MayBeTaken : RowSays → Type 0
 MayBeTaken (says.Multiplier edge millionths) =
-    (edge < 2 ^ 63) × (pos 1 ≤ℤ millionths) × (millionths ≤ℤ pos 1000000000000000000)
+    (edge < 2 ^ 63) × (pos 1 ≤ℤ millionths) × (millionths ≤ℤ pos NUMBER_LIMIT)
 MayBeTaken said = ⊤
 
 -- the multipliers of an open bound come before its next edge

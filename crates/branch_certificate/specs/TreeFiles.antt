@@ -14,8 +14,8 @@ use Rattle.line_cost_model.specs.declared.multipliers.Multiplier.{Multiplier}
 use Rattle.line_cost_model.specs.declared.side.Side.{Side}
 use Rattle.line_cost_model.specs.declared.side.Side.TheVariants as side
 use Rattle.line_cost_model.specs.Problems.{ProblemParts}
-use Rattle.branch_certificate.specs.declared.node.Node.{Node}
-use Rattle.branch_certificate.specs.declared.node.Node.TheVariants as node
+use Rattle.line_concepts.specs.declared.node.Node.{Node}
+use Rattle.line_concepts.specs.declared.node.Node.TheVariants as node
 use Rattle.branch_certificate.specs.declared.read_fault.TreeReadFault.{TreeReadFault}
 use Rattle.branch_certificate.specs.declared.read_fault.TreeReadFault.TheVariants as read
 use Rattle.branch_certificate.specs.declared.tree_row.TreeRow.{TreeRow}

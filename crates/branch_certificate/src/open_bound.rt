@@ -1,4 +1,5 @@
 // A bound whose multipliers are being read.
+ghost use Rattle.plan_num.specs.declared.number.TheConstants.{NUMBER_LIMIT};
 ghost use Rattle.std.specs.Prelude.{◌≡◌, ◌<◌, ◌^◌, ◌≤ℤ◌, pos, [], true, if◌then◌else◌, IfOk, OnOk};
 ghost use Rattle.line_cost_model.specs.Multipliers.{IsAfter};
 ghost use Rattle.branch_certificate.specs.ReadRows.{takes, taken_by};
@@ -32,7 +33,7 @@ impl OpenBound {
     pub(crate) fn take(&mut self, edge: usize, millionths: i64) -> Result<bool, NoMemory>
         requires after { IsAfter self.old.multipliers self.old.next }
         requires some { pos 1 ≤ℤ millionths }
-        requires few { millionths ≤ℤ pos 1000000000000000000 }
+        requires few { millionths ≤ℤ pos NUMBER_LIMIT }
         requires small { edge < 2 ^ 63 }
         ensures taken { IfOk result (λ taken. taken ≡ takes self.old edge) }
         ensures new { IfOk result (λ taken. self.new

@@ -1,5 +1,6 @@
 // Reading a tree.
-ghost use Rattle.std.specs.Prelude.{◌≡◌, ◌+◌, ◌<◌, ℕ, List, [], All, IfOk, MatchResult, None, length};
+ghost use Rattle.std.specs.Prelude.{◌≡◌, ◌+◌, ◌<◌, ℕ, List, [], All, IfOk, MatchResult, None};
+ghost use Rattle.std.specs.Prelude.{length};
 ghost use Rattle.std.specs.Prelude.{slice_index_or};
 ghost use Rattle.tables.specs.declared.file_id.FileId.TheVariants as file;
 ghost use Rattle.tables.specs.Columns.{tree_columns};
@@ -10,13 +11,14 @@ ghost use Rattle.tables.specs.Writing.{InColumns};
 ghost use Rattle.branch_certificate.specs.ReadRows.{AreRising, IsFirst, IsInOrder, IsReadSoFar};
 ghost use Rattle.branch_certificate.specs.ReadRows.{IsReadUpTo};
 ghost use Rattle.branch_certificate.specs.TreeFiles.{TreeGives, tree_input, tree_of, read_faults};
-ghost use Rattle.branch_certificate.specs.TreeTexts.{CanBeWritten, NamesWhatIs};
+ghost use Rattle.branch_certificate.specs.TreeTexts.{CanBeWritten};
+ghost use Rattle.line_concepts.specs.Nodes.{NamesWhatIs};
 
 use crate::problem_ids::ProblemIds;
 use crate::read_fault::TreeReadFault;
 use crate::read_so_far::ReadSoFar;
-use crate::tree::Tree;
 use crate::tree_row::TreeRow;
+use line_concepts::Tree;
 use line_cost_model::LineProblem;
 use plan_num::NoMemory;
 use std::alloc::Global;

@@ -1,14 +1,13 @@
 // What is read of a tree so far.
+ghost use Rattle.plan_num.specs.declared.number.TheConstants.{NUMBER_LIMIT};
 ghost use Rattle.std.specs.Prelude.{◌≡◌, ◌<◌, ◌^◌, ◌≤ℤ◌, ◌++◌, ◌∷◌, [], pos, not, option_map};
-ghost use Rattle.std.specs.Prelude.{unwrap_or};
-ghost use Rattle.std.specs.Prelude.{if◌then◌else◌, false, None, Some, IfOk, OnOk};
+ghost use Rattle.std.specs.Prelude.{unwrap_or, if◌then◌else◌, false, None, Some, IfOk, OnOk};
 ghost use Rattle.branch_certificate.specs.ReadRows.{IsInOrder, MayBeTaken, closed, is_due_in};
 ghost use Rattle.branch_certificate.specs.ReadRows.{taken_by, takes, takes_row, with_row};
 
-use crate::node::Node;
 use crate::open_bound::OpenBound;
 use crate::row_says::RowSays;
-use crate::tree::Tree;
+use line_concepts::{Node, Tree};
 use plan_num::NoMemory;
 use std::alloc::Global;
 
@@ -117,7 +116,7 @@ impl ReadSoFar {
         requires order { IsInOrder self.old.bound }
         requires small { edge < 2 ^ 63 }
         requires some { pos 1 ≤ℤ millionths }
-        requires few { millionths ≤ℤ pos 1000000000000000000 }
+        requires few { millionths ≤ℤ pos NUMBER_LIMIT }
         ensures taken { IfOk result (λ taken. taken
             ≡ unwrap_or (option_map (λ bound. takes bound edge) self.old.bound) false) }
         ensures new { IfOk result (λ taken. self.new ≡ (if taken then record {

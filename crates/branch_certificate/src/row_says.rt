@@ -1,5 +1,5 @@
 // What a row of a tree says.
-use crate::node::Node;
+use line_concepts::Node;
 
 /// What a row of the file of a tree says.
 #[derive(Drop)]

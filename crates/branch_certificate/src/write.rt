@@ -5,13 +5,13 @@ ghost use Rattle.tables.specs.Columns.{tree_columns};
 ghost use Rattle.tables.specs.Writing.{InColumns, line_text};
 ghost use Rattle.line_cost_model.specs.Multipliers.{AreMultipliers};
 ghost use Rattle.line_cost_model.specs.Problems.{IsProblem};
-ghost use Rattle.branch_certificate.specs.declared.node.Node.TheVariants as node;
-ghost use Rattle.branch_certificate.specs.TreeTexts.{CanBeWritten, IsSmallSplit, NamesWhatIs};
+ghost use Rattle.line_concepts.specs.declared.node.Node.TheVariants as node;
+ghost use Rattle.branch_certificate.specs.TreeTexts.{CanBeWritten, IsSmallSplit};
+ghost use Rattle.line_concepts.specs.Nodes.{NamesWhatIs};
 ghost use Rattle.branch_certificate.specs.TreeTexts.{ReadsBackAs, cells_row, edge_id, line_id};
 ghost use Rattle.branch_certificate.specs.TreeTexts.{node_rows, side_place, tree_header, tree_text};
 
-use crate::node::Node;
-use crate::tree::Tree;
+use line_concepts::{Node, Tree};
 use line_cost_model::{LineProblem, Multipliers, Side};
 use plan_num::{NoMemory, Text};
 use std::alloc::Global;

@@ -47,17 +47,23 @@ two_steps links plan one two three a b both is first second = record {
   where
     deep : (a b : Bool) → both ≡ (a || b) → IsStep links plan one two a → IsStep links plan two three b
         → depth one + one_if both ≤ depth three
-    deep true b is first second = let e : one_if both ≡ 1 = ap one_if is in omega (arith, e, first.deeper, second.deeper)
-    deep false b is first second = let e : one_if both ≡ one_if b = ap one_if is in omega (arith, e, first.deeper, second.deeper)
+    deep true b is first second = let e : one_if both ≡ 1 = ap one_if is in omega
+        (arith, e, first.deeper, second.deeper)
+    deep false b is first second = let e : one_if both ≡ one_if b = ap one_if is in omega
+        (arith, e, first.deeper, second.deeper)
 
-module _ (links : Links) (plan : List (Option ℕ)) (drops : DropParts) (from : Node) (cost : ℤ) (number : ℕ) (further : pos number ≡ (pos (drop_at drops from) -ℤ cost)) where
+module _ (links : Links) (plan : List (Option ℕ)) (drops : DropParts) (from : Node) (cost : ℤ) (number : ℕ)
+    (further : pos number ≡ (pos (drop_at drops from) -ℤ cost)) where
   -- the walk to the node that the arc leaves, and the arc
   goes_on : AreFound links plan drops → (to : Node) → arc links plan from to ≡ Some cost
       → (walk : List Node) × (walk_cost links plan to walk ≡ Some (neg_ℤ (pos number)))
   goes_on found to over =
       let before = found from in
-      let same : (neg_ℤ (pos (drop_at drops from)) +ℤ cost) ≡ neg_ℤ (pos number) = omega (arith, ints, further) in
-      (from ∷ before.0, joined (arc links plan from to) (walk_cost links plan from before.0) cost _ over before.1 ∙ ap Some same)
+      let same : (neg_ℤ (pos (drop_at drops from)) +ℤ cost) ≡ neg_ℤ (pos number) = omega (arith, ints, further) in (
+        from ∷ before.0,
+        joined (arc links plan from to) (walk_cost links plan from before.0) cost _ over
+            before.1 ∙ ap Some same,
+      )
 
   pub step_root : arc links plan from root ≡ Some cost → drops.root < number
       → IsStep links plan drops (record { root = number; left = drops.left; right = drops.right }) true
@@ -68,14 +74,16 @@ module _ (links : Links) (plan : List (Option ℕ)) (drops : DropParts) (from : 
     same = λ e. absurd (false≢true (sym e));
   }
     where
-      found_at : AreFound links plan drops → AreFound links plan (record { root = number; left = drops.left; right = drops.right })
+      found_at : AreFound links plan drops
+          → AreFound links plan (record { root = number; left = drops.left; right = drops.right })
       found_at found root = goes_on found root over
       found_at found (left i) = found (left i)
       found_at found (right j) = found (right j)
 
   pub step_left : (i : ℕ) → i < length drops.left → arc links plan from (left i) ≡ Some cost
       → get_or drops.left i 0 < number
-      → IsStep links plan drops (record { root = drops.root; left = slice_set drops.left i number; right = drops.right }) true
+      → IsStep links plan drops
+      (record { root = drops.root; left = slice_set drops.left i number; right = drops.right }) true
   step_left i within over less = record {
     over = λ are. record { left = length-set drops.left i number ∙ are.left; right = are.right };
     found = λ found. found_at found;
@@ -84,11 +92,13 @@ module _ (links : Links) (plan : List (Option ℕ)) (drops : DropParts) (from : 
   }
     where
       found_at : AreFound links plan drops
-          → AreFound links plan (record { root = drops.root; left = slice_set drops.left i number; right = drops.right })
+          → AreFound links plan
+          (record { root = drops.root; left = slice_set drops.left i number; right = drops.right })
       found_at found root = found root
       found_at found (right j) = found (right j)
       found_at found (left k) = by_number k i
-          (λ same. subst (λ at. (walk : List Node) × (walk_cost links plan (left at) walk ≡ Some (neg_ℤ (pos (get_or (slice_set drops.left i number) at 0)))))
+          (λ same. subst (λ at. (walk : List Node) ×
+          (walk_cost links plan (left at) walk ≡ Some (neg_ℤ (pos (get_or (slice_set drops.left i number) at 0)))))
           (sym same)
           (subst (λ n. (walk : List Node) × (walk_cost links plan (left i) walk ≡ Some (neg_ℤ (pos n))))
           (sym (get_or-set_same drops.left i number 0 within)) (goes_on found (left i) over)))
@@ -97,7 +107,8 @@ module _ (links : Links) (plan : List (Option ℕ)) (drops : DropParts) (from : 
 
   pub step_right : (j : ℕ) → j < length drops.right → arc links plan from (right j) ≡ Some cost
       → get_or drops.right j 0 < number
-      → IsStep links plan drops (record { root = drops.root; left = drops.left; right = slice_set drops.right j number }) true
+      → IsStep links plan drops
+      (record { root = drops.root; left = drops.left; right = slice_set drops.right j number }) true
   step_right j within over less = record {
     over = λ are. record { left = are.left; right = length-set drops.right j number ∙ are.right };
     found = λ found. found_at found;
@@ -106,11 +117,14 @@ module _ (links : Links) (plan : List (Option ℕ)) (drops : DropParts) (from : 
   }
     where
       found_at : AreFound links plan drops
-          → AreFound links plan (record { root = drops.root; left = drops.left; right = slice_set drops.right j number })
+          → AreFound links plan
+          (record { root = drops.root; left = drops.left; right = slice_set drops.right j number })
       found_at found root = found root
       found_at found (left i) = found (left i)
       found_at found (right k) = by_number k j
-          (λ same. subst (λ at. (walk : List Node) × (walk_cost links plan (right at) walk ≡ Some (neg_ℤ (pos (get_or (slice_set drops.right j number) at 0)))))
+          (λ same. subst (λ at. (walk : List Node) ×
+          (walk_cost links plan (right at) walk ≡ Some
+          (neg_ℤ (pos (get_or (slice_set drops.right j number) at 0)))))
           (sym same)
           (subst (λ n. (walk : List Node) × (walk_cost links plan (right j) walk ≡ Some (neg_ℤ (pos n))))
           (sym (get_or-set_same drops.right j number 0 within)) (goes_on found (right j) over)))

@@ -1,5 +1,4 @@
 pub mod Deeper
-pub mod Linked
 pub mod Loops
 pub mod PassedRows
 pub mod Rounds

@@ -4,14 +4,15 @@ use Rattle.std.proofs.Common.{slice_get, get_or, Option, Some, ap, subst, arith}
 use Rattle.std.proofs.lemmas.Option.{slice_get_within}
 use Rattle.link_plans.specs.Plans.{next, is_next}
 use Rattle.link_plans.specs.Links.{Links}
-use Rattle.canonical_potentials.specs.Drops.{DropParts, one_if, IsStep, RowKept, LinkKept, NextKept, RootKept, TripPassed}
+use Rattle.canonical_potentials.specs.Drops.{DropParts, one_if, IsStep, RowKept, NextKept, RootKept, TripPassed}
 use Rattle.link_plans.specs.LinkRows.{link_to, IsRow}
 use Rattle.link_plans.specs.declared.link_table.Link.{Link}
 use Rattle.link_plans.proofs.Certified.{by_bound}
 use Rattle.canonical_potentials.proofs.Deeper.{no_step, two_steps}
 
 -- many arcs as one step; where nothing has changed, something is kept
-pub record IsPassed (links : Links) (plan : List (Option ℕ)) (before after : DropParts) (changed : Bool) (Kept : Type 0) : Type 0 where
+pub record IsPassed (links : Links) (plan : List (Option ℕ)) (before after : DropParts) (changed : Bool)
+    (Kept : Type 0) : Type 0 where
   pub step : IsStep links plan before after changed
   pub kept : changed ≡ false → Kept
 
@@ -43,7 +44,8 @@ below_next P i before here k h = by_bound k i (before k)
     (λ past. let same : i ≡ k = omega (arith, past, h) in subst P same here)
 
 module _ (links : Links) (plan : List (Option ℕ)) (before : DropParts) (i : ℕ) where
-  pub one_link : (row : List Link) (k : ℕ) (link : Link) → slice_get row k ≡ Some link → (now after : DropParts) (changed better both : Bool)
+  pub one_link : (row : List Link) (k : ℕ) (link : Link) → slice_get row k ≡ Some link
+      → (now after : DropParts) (changed better both : Bool)
       → IsPassed links plan before now changed (LinksKept before i row k) → IsStep links plan now after better
       → (better ≡ false → get_or now.left i 0 + link.gain ≤ get_or now.right link.to 0) → both ≡ (changed || better)
       → IsPassed links plan before after both (LinksKept before i row (k + 1))
@@ -61,20 +63,11 @@ module _ (links : Links) (plan : List (Option ℕ)) (before : DropParts) (i : �
       → (better ≡ false → TripPassed links plan now i) → both ≡ (changed || better)
       → IsPassed links plan before after both (TripsKept links plan before (i + 1))
   one_trip now after changed better both passed step kept is =
-      passed_more links plan before now after changed better both (TripsKept links plan before i) (TripPassed links plan before i)
+      passed_more links plan before now after changed better both (TripsKept links plan before i)
+      (TripPassed links plan before i)
       (TripsKept links plan before (i + 1)) passed step
       (λ e same. subst (λ drops. TripPassed links plan drops i) same (kept e))
       (below_next (TripPassed links plan before) i) is
-
-  -- two arcs of a trip that has a successor
-  module _ (j : ℕ) (mid after : DropParts) (link back both : Bool) (is : both ≡ (link || back))
-      (first : IsStep links plan before mid link) (second : IsStep links plan mid after back) where
-    pub linked_step : IsStep links plan before after both
-    linked_step = two_steps links plan before mid after link back both is first second
-
-    pub linked_kept : (link ≡ false → LinkKept links before i j) → (back ≡ false → get_or mid.left i 0 ≤ mid.root)
-        → both ≡ false → NextKept links before i (Some j)
-    linked_kept one other e = grind arith
 
   -- all arcs of a trip
   module _ (one two after : DropParts) (next_better row_better root_better part all : Bool)

@@ -1,6 +1,8 @@
 -- Where a round finds no better walk, the numbers tell the canonical potentials: a link that gains less
 -- than nothing makes no walk better that goes on to the root.
-use Rattle.std.proofs.Common.{◌≡◌, ℕ, ℤ, pos, negsuc, neg_ℤ, ◌+◌, ◌-◌, ◌<◌, ◌≤◌, ◌+ℤ◌, ◌-ℤ◌, ◌≤ℤ◌, ◌&&◌, not, is_some, Bool, true, false, cond, List, ◌∷◌, map, get_or, Option, Some, None, IfSome, refl, ap, sym, ◌∙◌, subst, arith}
+use Rattle.std.proofs.Common.{◌≡◌, ℕ, ℤ, pos, negsuc, neg_ℤ, ◌+◌, ◌-◌, ◌<◌, ◌≤◌, ◌+ℤ◌, ◌-ℤ◌, ◌≤ℤ◌}
+use Rattle.std.proofs.Common.{◌&&◌, not, is_some, Bool, true, false, cond, List, ◌∷◌, map, get_or}
+use Rattle.std.proofs.Common.{Option, Some, None, IfSome, refl, ap, sym, ◌∙◌, subst, arith}
 use Rattle.std.specs.Int.{int_max}
 use Rattle.std.specs.List.{range_with_len}
 use Rattle.std.proofs.lemmas.Bool.{lt-ltb}
@@ -11,7 +13,8 @@ use Rattle.link_plans.specs.Links.{Links, AreLinks}
 use Rattle.link_plans.specs.Plans.{next, is_next}
 use Rattle.link_plans.proofs.Linking.{next_found}
 use Rattle.canonical_potentials.specs.Canonical.{AreCanonical}
-use Rattle.canonical_potentials.specs.Drops.{DropParts, AreDropsOver, IsSearched, LinkKept, NextKept, RootKept, AreKept, ArePassed, potentials_by}
+use Rattle.canonical_potentials.specs.Drops.{DropParts, AreDropsOver, IsSearched, LinkKept}
+use Rattle.canonical_potentials.specs.Drops.{NextKept, RootKept, AreKept, ArePassed, potentials_by}
 use Rattle.link_plans.specs.LinkRows.{worth}
 use Rattle.link_plans.specs.Potentials.{PotentialParts, at, AreValid}
 use Rattle.canonical_potentials.specs.Residual.{root, left, right, arc, free_arc, walk_cost, IsLeastCost}
@@ -23,7 +26,8 @@ use Rattle.canonical_potentials.proofs.Settled.{greater, kept_valid, least_of, o
 abbrev either_of : Bool → ℕ → ℕ → ℕ
 either_of b one other = cond b one other
 
-module _ (links : Links) (sound : AreLinks links) (plan : List (Option ℕ)) (drops : DropParts) (known : IsSearched links plan drops) (passed : ArePassed links plan drops) where
+module _ (links : Links) (sound : AreLinks links) (plan : List (Option ℕ)) (drops : DropParts)
+    (known : IsSearched links plan drops) (passed : ArePassed links plan drops) where
   abbrev n : ℕ
   n = links.count
 
@@ -181,15 +185,18 @@ module _ (links : Links) (sound : AreLinks links) (plan : List (Option ℕ)) (dr
       let of_u : List ℕ → PotentialParts = λ u. record { u = u; v = map (λ right. right - drops.root) drops.right } in
       let of_v : List ℕ → PotentialParts = λ v. record { u = (potentials_by evened).u; v = v } in
       ap of_u (same_numbers (potentials_by drops).u (potentials_by evened).u
-      (length-map drops.left (λ left. drops.root - left) ∙ known.over.left ∙ sym (over_all links sound plan evened known.plan_is sized kept).each_u)
+      (length-map drops.left (λ left. drops.root - left) ∙ known.over.left
+      ∙ sym (over_all links sound plan evened known.plan_is sized kept).each_u)
       (λ k h. u_same k (omega (arith, h, length-map drops.left (λ left. drops.root - left), known.over.left))))
       ∙ ap of_v (same_numbers (potentials_by drops).v (potentials_by evened).v
-      (length-map drops.right (λ right. right - drops.root) ∙ known.over.right ∙ sym (over_all links sound plan evened known.plan_is sized kept).each_v)
+      (length-map drops.right (λ right. right - drops.root) ∙ known.over.right
+      ∙ sym (over_all links sound plan evened known.plan_is sized kept).each_v)
       (λ k h. v_same k (omega (arith, h, length-map drops.right (λ right. right - drops.root), known.over.right))))
     where
       u_same : (k : ℕ) → k < n → at (potentials_by drops).u k ≡ at (potentials_by evened).u k
       u_same k within =
-          let before = get_or-map (λ left. drops.root - left) drops.left k 0 0 (omega (arith, within, known.over.left)) in
+          let before = get_or-map (λ left. drops.root - left) drops.left k 0 0
+          (omega (arith, within, known.over.left)) in
           let after = u_at links sound plan evened known.plan_is sized kept k within in
           before ∙ by_next k
           (λ j e. omega (arith, root_at, left_at k within, left_linked k j e))
@@ -199,7 +206,8 @@ module _ (links : Links) (sound : AreLinks links) (plan : List (Option ℕ)) (dr
 
       v_same : (k : ℕ) → k < n → at (potentials_by drops).v k ≡ at (potentials_by evened).v k
       v_same k within =
-          let before = get_or-map (λ right. right - drops.root) drops.right k 0 0 (omega (arith, within, known.over.right)) in
+          let before = get_or-map (λ right. right - drops.root) drops.right k 0 0
+          (omega (arith, within, known.over.right)) in
           let after = v_at links sound plan evened known.plan_is sized kept k within in
           before ∙ by_before k
           (λ e. omega (arith, root_at, right_at k within, right_linked k e))

@@ -15,10 +15,12 @@ use Rattle.std.proofs.lemmas.List.Sums.{sum_by-cons}
 use Rattle.link_plans.specs.Plans.{next, is_next, plan_gain, IsPlan}
 use Rattle.link_plans.specs.Links.{Links, AreLinks}
 use Rattle.canonical_potentials.specs.Canonical.{AreCanonical}
-use Rattle.canonical_potentials.specs.Drops.{DropParts, drop_at, AreFound, depth, IsSearched, PairKept, LinkKept, NextKept, RootKept, AreKept}
+use Rattle.canonical_potentials.specs.Drops.{DropParts, drop_at, AreFound, depth, IsSearched}
+use Rattle.canonical_potentials.specs.Drops.{PairKept, LinkKept, NextKept, RootKept, AreKept}
 use Rattle.link_plans.specs.Potentials.{PotentialParts, at, total, ArePotentials, AreValid}
 use Rattle.canonical_potentials.specs.Residual.{Node, root, left, right, arc, free_arc, walk_cost, IsLeastCost}
-use Rattle.canonical_potentials.specs.Rounds.{not_below, over_arc, over, greatest, furthest, round, settled, no_drops, canonical}
+use Rattle.canonical_potentials.specs.Rounds.{not_below, over_arc, over, greatest, furthest, round}
+use Rattle.canonical_potentials.specs.Rounds.{settled, no_drops, canonical}
 use Rattle.link_plans.proofs.Certified.{by_bound}
 use Rattle.canonical_potentials.proofs.Deeper.{joined}
 use Rattle.canonical_potentials.proofs.Settled.{searched_first, settled_canonical, settled_small, settled_valid}
@@ -27,7 +29,8 @@ use Rattle.canonical_potentials.proofs.Steps.{sum_most}
 
 -- ---- the greatest of some numbers
 
-greatest_from : (value : ℕ → ℕ) (most from count : ℕ) → most ≤ fold (λ most k. max most (value k)) most (range_with_len from count)
+greatest_from : (value : ℕ → ℕ) (most from count : ℕ) → most ≤ fold (λ most k. max most (value k)) most
+    (range_with_len from count)
 greatest_from value most from zero = omega arith
 greatest_from value most from (suc count) =
     omega (arith, greatest_from value (max most (value from)) (from + 1) count)
@@ -84,12 +87,17 @@ module _ (links : Links) (plan : List (Option ℕ)) (drops : DropParts) where
           (λ less.
           let exact = not_below_is (pos (drop_at drops from) -ℤ cost) (omega (arith, less)) in
           let before = found from in
-          let same : (neg_ℤ (pos (drop_at drops from)) +ℤ cost) ≡ neg_ℤ (pos (not_below (pos (drop_at drops from) -ℤ cost))) =
+          let same : (neg_ℤ (pos (drop_at drops from)) +ℤ cost) ≡ neg_ℤ
+          (pos (not_below (pos (drop_at drops from) -ℤ cost))) =
           omega (arith, ints, exact) in
-          let number_is : not_below (pos (drop_at drops from) -ℤ cost) ≡ max most (not_below (pos (drop_at drops from) -ℤ cost)) =
+          let number_is : not_below (pos (drop_at drops from) -ℤ cost) ≡ max most
+          (not_below (pos (drop_at drops from) -ℤ cost)) =
           omega (arith, less) in
-          subst (IsFoundAt links plan to) number_is
-          (from ∷ before.0, joined (arc links plan from to) (walk_cost links plan from before.0) cost _ e before.1 ∙ ap Some same))
+          subst (IsFoundAt links plan to) number_is (
+            from ∷ before.0,
+            joined (arc links plan from to) (walk_cost links plan from before.0) cost _ e
+                before.1 ∙ ap Some same,
+          ))
           (λ past. same_most past)
 
   furthest_found : AreFound links plan drops → (to : Node) → IsFoundAt links plan to (furthest links plan drops to)
@@ -111,37 +119,52 @@ module _ (links : Links) (plan : List (Option ℕ)) (drops : DropParts) where
   left_most to i within = omega (
     arith,
     greatest_from (λ j. over links plan drops to (right j))
-        (greatest (λ i. over links plan drops to (left i)) (max (drop_at drops to) (over links plan drops to root)) links.count) 0 links.count,
-    greatest_at (λ i. over links plan drops to (left i)) (max (drop_at drops to) (over links plan drops to root)) 0 links.count i
+        (greatest (λ i. over links plan drops to (left i))
+        (max (drop_at drops to) (over links plan drops to root)) links.count) 0 links.count,
+    greatest_at (λ i. over links plan drops to (left i))
+        (max (drop_at drops to) (over links plan drops to root)) 0 links.count i
         (omega arith) (omega (arith, within)),
   )
 
   right_most : (to : Node) (j : ℕ) → j < links.count → over links plan drops to (right j) ≤ furthest links plan drops to
   right_most to j within =
       greatest_at (λ j. over links plan drops to (right j))
-      (greatest (λ i. over links plan drops to (left i)) (max (drop_at drops to) (over links plan drops to root)) links.count) 0 links.count j
+      (greatest (λ i. over links plan drops to (left i))
+      (max (drop_at drops to) (over links plan drops to root)) links.count) 0 links.count j
       (omega arith) (omega (arith, within))
 
   left_is : (i : ℕ) → i < links.count → get_or (round links plan drops).left i 0 ≡ furthest links plan drops (left i)
-  left_is i within = get_or-map-range_with_len (λ k. furthest links plan drops (left k)) 0 links.count i i 0 within (omega arith)
+  left_is i within = get_or-map-range_with_len (λ k. furthest links plan drops (left k)) 0 links.count i i 0
+      within (omega arith)
 
   right_is : (j : ℕ) → j < links.count → get_or (round links plan drops).right j 0 ≡ furthest links plan drops (right j)
-  right_is j within = get_or-map-range_with_len (λ k. furthest links plan drops (right k)) 0 links.count j j 0 within (omega arith)
+  right_is j within = get_or-map-range_with_len (λ k. furthest links plan drops (right k)) 0 links.count j j 0
+      within (omega arith)
 
   left_size : length (round links plan drops).left ≡ links.count
-  left_size = length-map (range_with_len 0 links.count) (λ i. furthest links plan drops (left i)) ∙ length-range_with_len 0 links.count
+  left_size = length-map (range_with_len 0 links.count) (λ i. furthest links plan drops (left i))
+      ∙ length-range_with_len 0 links.count
 
   right_size : length (round links plan drops).right ≡ links.count
-  right_size = length-map (range_with_len 0 links.count) (λ j. furthest links plan drops (right j)) ∙ length-range_with_len 0 links.count
+  right_size = length-map (range_with_len 0 links.count) (λ j. furthest links plan drops (right j))
+      ∙ length-range_with_len 0 links.count
 
   round_found : AreFound links plan drops → AreFound links plan (round links plan drops)
   round_found found root = furthest_found found root
   round_found found (left i) = by_bound i links.count
       (λ within. subst (IsFoundAt links plan (left i)) (sym (left_is i within)) (furthest_found found (left i)))
-      (λ past. ([], ap (λ k. Some (neg_ℤ (pos k))) (sym (get_or-eq_default (round links plan drops).left 0 (omega (arith, past, left_size))))))
+      (λ past. (
+        [],
+        ap (λ k. Some (neg_ℤ (pos k)))
+            (sym (get_or-eq_default (round links plan drops).left 0 (omega (arith, past, left_size)))),
+      ))
   round_found found (right j) = by_bound j links.count
       (λ within. subst (IsFoundAt links plan (right j)) (sym (right_is j within)) (furthest_found found (right j)))
-      (λ past. ([], ap (λ k. Some (neg_ℤ (pos k))) (sym (get_or-eq_default (round links plan drops).right 0 (omega (arith, past, right_size))))))
+      (λ past. (
+        [],
+        ap (λ k. Some (neg_ℤ (pos k)))
+            (sym (get_or-eq_default (round links plan drops).right 0 (omega (arith, past, right_size)))),
+      ))
 
   pub round_searched : IsSearched links plan drops → IsSearched links plan (round links plan drops)
   round_searched known = grind (arith, left_size, right_size, round_found)
@@ -251,7 +274,8 @@ module _ (links : Links) (plan : List (Option ℕ)) (drops : DropParts) (known :
             → IfSome gain (λ value. (pos (get_or drops.left i 0) +ℤ value) ≤ℤ pos (get_or drops.right j 0))
         split None e = tt
         split (Some gain) e =
-            let most = kept_by (get_or drops.left i 0) (furthest links plan drops (right j)) (option_map neg_ℤ (links.gain i j))
+            let most = kept_by (get_or drops.left i 0) (furthest links plan drops (right j))
+            (option_map neg_ℤ (links.gain i j))
             (neg_ℤ gain) (ap (option_map neg_ℤ) e) (left_most links plan drops (right j) i i_in) in
             omega (arith, ints, most, right_same j j_in)
 
@@ -262,7 +286,8 @@ module _ (links : Links) (plan : List (Option ℕ)) (drops : DropParts) (known :
             → IfSome gain (λ value. pos (get_or drops.right j 0) ≤ℤ (pos (get_or drops.left i 0) +ℤ value))
         split None e = tt
         split (Some gain) e =
-            let most = kept_by (get_or drops.right j 0) (furthest links plan drops (left i)) (arc links plan (right j) (left i))
+            let most = kept_by (get_or drops.right j 0) (furthest links plan drops (left i))
+            (arc links plan (right j) (left i))
             gain (back_arc links plan i j is ∙ e) (right_most links plan drops (left i) j j_in) in
             omega (arith, ints, most, left_same i i_in)
 
@@ -291,7 +316,8 @@ module _ (links : Links) (plan : List (Option ℕ)) (drops : DropParts) (known :
     root_kept : (j : ℕ) → j < links.count → (b : Bool) → is_next plan j ≡ b → RootKept drops j b
     root_kept j j_in true is = omega (
       arith,
-      free_kept drops.root (furthest links plan drops (right j)) (is_next plan j) is (root_most links plan drops (right j)),
+      free_kept drops.root (furthest links plan drops (right j)) (is_next plan j) is
+          (root_most links plan drops (right j)),
       right_same j j_in,
     )
     root_kept j j_in false is = omega (
@@ -315,14 +341,17 @@ depth_gain links plan drops known =
     let gain : unsigned_abs (plan_gain links plan) ≡ total known.certified.0 = ap unsigned_abs (sym valid.exact) in
     let each : (node : Node) → drop_at drops node ≤ total known.certified.0 = λ node.
     let walk = known.found node in
-    let least = walk_least links plan known.certified.0 valid known.plan_is node walk.0 (neg_ℤ (pos (drop_at drops node))) walk.1 in
+    let least = walk_least links plan known.certified.0 valid known.plan_is node walk.0
+    (neg_ℤ (pos (drop_at drops node))) walk.1 in
     omega (arith, ints, least) in
     bounded drops.root (sum drops.left) (sum drops.right) links.count (total known.certified.0) gain (each root)
     (sum_most drops.left (total known.certified.0) (λ k. each (left k))) known.over.left
     (sum_most drops.right (total known.certified.0) (λ k. each (right k))) known.over.right
   where
-    bounded : (r l s n t : ℕ) → unsigned_abs (plan_gain links plan) ≡ t → r ≤ t → l ≤ length drops.left * t → length drops.left ≡ n
-        → s ≤ length drops.right * t → length drops.right ≡ n → r + l + s ≤ (2 * n + 1) * unsigned_abs (plan_gain links plan)
+    bounded : (r l s n t : ℕ) → unsigned_abs (plan_gain links plan) ≡ t → r ≤ t → l ≤ length drops.left * t
+        → length drops.left ≡ n
+        → s ≤ length drops.right * t → length drops.right ≡ n → r + l + s ≤ (2 * n + 1) * unsigned_abs
+        (plan_gain links plan)
     bounded r l s n t gain rt lt ln st sn =
         let left_most : l ≤ n * t = subst (λ k. l ≤ k * t) ln lt in
         let right_most : s ≤ n * t = subst (λ k. s ≤ k * t) sn st in
@@ -334,7 +363,8 @@ pub record IsSettled (links : Links) (plan : List (Option ℕ)) (drops : DropPar
   pub known : IsSearched links plan drops
   pub kept : AreKept links plan drops
 
-settles : (links : Links) (plan : List (Option ℕ)) → ((i j : ℕ) → next plan i ≡ Some j → j < links.count) → (fuel : ℕ) (drops : DropParts)
+settles : (links : Links) (plan : List (Option ℕ)) → ((i j : ℕ) → next plan i ≡ Some j → j < links.count)
+    → (fuel : ℕ) (drops : DropParts)
     → IsSearched links plan drops → (2 * links.count + 1) * unsigned_abs (plan_gain links plan) < depth drops + fuel
     → IsSettled links plan (settled links plan fuel drops)
 unfolding settled
@@ -355,18 +385,20 @@ settles links plan there (suc fuel) drops known enough =
         deeper other = omega (arith, enough, round_deeper links plan drops known, other)
 
 -- rounds that are enough end
-pub rounds_end : (links : Links) → AreLinks links → (plan : List (Option ℕ)) (potentials : PotentialParts) → IsPlan links plan
+pub rounds_end : (links : Links) → AreLinks links → (plan : List (Option ℕ)) (potentials : PotentialParts)
+    → IsPlan links plan
     → AreValid links plan potentials
     → IsSettled links plan (settled links plan
     (suc ((2 * links.count + 1) * unsigned_abs (plan_gain links plan))) (no_drops links.count))
 rounds_end links sound plan potentials is valid =
-    let first = searched_first links plan potentials is valid links.count refl (no_drops links.count) refl in
+    let first = searched_first links sound plan potentials is valid links.count refl (no_drops links.count) refl in
     settles links plan (λ i j e. (sound.within i j (is.follow i j e)).1)
     (suc ((2 * links.count + 1) * unsigned_abs (plan_gain links plan))) (no_drops links.count)
     first (omega arith)
 
 -- the canonical potentials are canonical
-pub canonical_is : (links : Links) → AreLinks links → (plan : List (Option ℕ)) (potentials : PotentialParts) → IsPlan links plan
+pub canonical_is : (links : Links) → AreLinks links → (plan : List (Option ℕ)) (potentials : PotentialParts)
+    → IsPlan links plan
     → AreValid links plan potentials → AreCanonical links plan (canonical links plan)
 unfolding canonical
 canonical_is links sound plan potentials is valid =
@@ -374,7 +406,8 @@ canonical_is links sound plan potentials is valid =
     settled_canonical links sound plan _ all.known all.kept
 
 -- they are valid, and in their range
-pub canonical_valid : (links : Links) → AreLinks links → (plan : List (Option ℕ)) (potentials : PotentialParts) → IsPlan links plan
+pub canonical_valid : (links : Links) → AreLinks links → (plan : List (Option ℕ)) (potentials : PotentialParts)
+    → IsPlan links plan
     → AreValid links plan potentials → AreValid links plan (canonical links plan)
 unfolding canonical
 canonical_valid links sound plan potentials is valid =
@@ -398,7 +431,8 @@ one_least links plan node a b first second =
     let high = second.least first.walk a first.has_it in
     omega (arith, ints, low, high)
 
-pub same_numbers : (some other : List ℕ) → length some ≡ length other → ((k : ℕ) → k < length some → at some k ≡ at other k) → some ≡ other
+pub same_numbers : (some other : List ℕ) → length some ≡ length other
+    → ((k : ℕ) → k < length some → at some k ≡ at other k) → some ≡ other
 same_numbers [] [] size each = refl
 same_numbers [] (b ∷ other) size each = absurd (omega (arith, size))
 same_numbers (a ∷ some) [] size each = absurd (omega (arith, size))
@@ -406,12 +440,15 @@ same_numbers (a ∷ some) (b ∷ other) size each =
     ap (λ one. one ∷ some) (each 0 (omega arith)) ∙ ap (λ rest. b ∷ rest)
     (same_numbers some other (omega (arith, size)) (λ k h. each (suc k) (omega (arith, h))))
 
-pub one_canonical : (links : Links) (plan : List (Option ℕ)) (some other : PotentialParts) → AreCanonical links plan some
+pub one_canonical : (links : Links) (plan : List (Option ℕ)) (some other : PotentialParts)
+    → AreCanonical links plan some
     → AreCanonical links plan other → some ≡ other
 one_canonical links plan some other first second =
     let base = one_least links plan root first.base second.base first.base_least second.base_least in
-    let us = same_numbers some.u other.u (first.over.each_u ∙ sym second.over.each_u) (λ k h. u_same base k (omega (arith, h, first.over.each_u))) in
-    let vs = same_numbers some.v other.v (first.over.each_v ∙ sym second.over.each_v) (λ k h. v_same base k (omega (arith, h, first.over.each_v))) in
+    let us = same_numbers some.u other.u (first.over.each_u ∙ sym second.over.each_u)
+    (λ k h. u_same base k (omega (arith, h, first.over.each_u))) in
+    let vs = same_numbers some.v other.v (first.over.each_v ∙ sym second.over.each_v)
+    (λ k h. v_same base k (omega (arith, h, first.over.each_v))) in
     let of_u : List ℕ → PotentialParts = λ u. record { u = u; v = some.v } in
     let of_v : List ℕ → PotentialParts = λ v. record { u = other.u; v = v } in
     ap of_u us ∙ ap of_v vs
@@ -436,7 +473,8 @@ one_canonical links plan some other first second =
         ∙ ap (λ c. int_max (pos 0) (c -ℤ b.0)) base ∙ sym b.1.1)
 
 -- what is canonical is the value
-pub told_canonical : (links : Links) → AreLinks links → (plan : List (Option ℕ)) (potentials : PotentialParts) → IsPlan links plan
+pub told_canonical : (links : Links) → AreLinks links → (plan : List (Option ℕ)) (potentials : PotentialParts)
+    → IsPlan links plan
     → AreValid links plan potentials → {E : Type 0} (result : Result PotentialParts E)
     → IfOk result (AreCanonical links plan) → IfOk result (λ made. made ≡ canonical links plan)
 told_canonical links sound plan potentials is valid (Err why) least = tt

@@ -5,7 +5,7 @@ use Rattle.std.proofs.Common.{map, get_or, replicate, Option, Some, None, IfSome
 use Rattle.std.proofs.Common.{option_map, unwrap_or, refl, ap, sym, ◌∙◌, subst, arith}
 use Rattle.std.specs.Int.{int_max}
 use Rattle.std.proofs.Math.ListN.{get_or-eq_default}
-use Rattle.std.proofs.lemmas.Bool.{and_parts, ltb-true}
+use Rattle.std.proofs.lemmas.Bool.{and_parts, ltb-true, not-true}
 use Rattle.std.proofs.lemmas.Int.{ints, int_max_is}
 use Rattle.std.proofs.lemmas.List.{length-map, length-replicate, get_or-map, get_or_default}
 use Rattle.std.proofs.lemmas.List.Elements.{All-map}
@@ -15,12 +15,13 @@ use Rattle.link_plans.specs.Links.{Links, AreLinks}
 use Rattle.link_plans.proofs.Linking.{some_of}
 use Rattle.link_plans.proofs.Linking.{next_found, followed, is_trip_same}
 use Rattle.canonical_potentials.specs.Canonical.{AreCanonical}
-use Rattle.canonical_potentials.specs.Drops.{DropParts, drop_at, AreFound, AreDropsOver, IsSearched, NextKept, RootKept, AreKept, potentials_by}
+use Rattle.canonical_potentials.specs.Drops.{DropParts, drop_at, AreFound, AreDropsOver, IsSearched}
+use Rattle.canonical_potentials.specs.Drops.{NextKept, RootKept, AreKept, potentials_by}
 use Rattle.link_plans.specs.Potentials.{PotentialParts, at, IsSmall, ArePotentials, AreOver, AreValid}
 use Rattle.canonical_potentials.specs.Residual.{Node, root, left, right, arc, walk_cost, IsLeastCost}
 use Rattle.link_plans.proofs.Certified.{by_bound}
 use Rattle.canonical_potentials.proofs.Deeper.{walk_bound}
-use Rattle.canonical_potentials.proofs.Shallow.{free_is, untrue, found_most}
+use Rattle.canonical_potentials.proofs.Shallow.{free_is, found_most}
 use Rattle.link_plans.proofs.TightGains.{AreCovering, AreTight, tight_gains}
 
 -- ---- before all passes
@@ -30,15 +31,18 @@ zero_at zero i = refl
 zero_at (suc n) zero = refl
 zero_at (suc n) (suc i) = zero_at n i
 
-pub searched_first : (links : Links) (plan : List (Option ℕ)) (potentials : PotentialParts) → IsPlan links plan
+pub searched_first : (links : Links) → AreLinks links → (plan : List (Option ℕ)) (potentials : PotentialParts)
+    → IsPlan links plan
     → AreValid links plan potentials → (n : ℕ) → n ≡ links.count → (drops : DropParts)
     → drops ≡ record { root = 0; left = replicate n 0; right = replicate n 0 } → IsSearched links plan drops
-searched_first links plan potentials is valid n counted drops drops_is = subst (IsSearched links plan) (sym drops_is) (record {
-  plan_is = is;
-  certified = (potentials, valid);
-  over = record { left = length-replicate n 0 ∙ counted; right = length-replicate n 0 ∙ counted };
-  found = found_at;
-})
+searched_first links sound plan potentials is valid n counted drops drops_is = subst (IsSearched links plan)
+    (sym drops_is) (record {
+      sound = sound;
+      plan_is = is;
+      certified = (potentials, valid);
+      over = record { left = length-replicate n 0 ∙ counted; right = length-replicate n 0 ∙ counted };
+      found = found_at;
+    })
   where
     found_at : AreFound links plan (record { root = 0; left = replicate n 0; right = replicate n 0 })
     found_at root = ([], refl)
@@ -47,7 +51,8 @@ searched_first links plan potentials is valid n counted drops drops_is = subst (
 
 -- ---- behind all passes
 
-module _ (links : Links) (sound : AreLinks links) (plan : List (Option ℕ)) (drops : DropParts) (plan_is : IsPlan links plan) (sized : AreDropsOver links.count drops) (kept : AreKept links plan drops) where
+module _ (links : Links) (sound : AreLinks links) (plan : List (Option ℕ)) (drops : DropParts)
+    (plan_is : IsPlan links plan) (sized : AreDropsOver links.count drops) (kept : AreKept links plan drops) where
   abbrev n : ℕ
   n = links.count
 
@@ -69,12 +74,14 @@ module _ (links : Links) (sound : AreLinks links) (plan : List (Option ℕ)) (dr
   covered : (i j : ℕ) → IfSome (links.gain i j) (λ gain. gain ≤ℤ pos (at made.u i + at made.v j))
   covered i j = split (links.gain i j) refl
     where
-      split : (gain : Option ℤ) → links.gain i j ≡ gain → IfSome gain (λ value. value ≤ℤ pos (at made.u i + at made.v j))
+      split : (gain : Option ℤ) → links.gain i j ≡ gain
+          → IfSome gain (λ value. value ≤ℤ pos (at made.u i + at made.v j))
       split None e = tt
       split (Some gain) e =
           let there = sound.within i j (ap is_some e) in
           let pair : (pos (get_or drops.left i 0) +ℤ gain) ≤ℤ pos (get_or drops.right j 0) =
-          subst (λ some. IfSome some (λ value. (pos (get_or drops.left i 0) +ℤ value) ≤ℤ pos (get_or drops.right j 0))) e
+          subst (λ some. IfSome some
+          (λ value. (pos (get_or drops.left i 0) +ℤ value) ≤ℤ pos (get_or drops.right j 0))) e
           ((kept i there.0).pairs j there.1) in
           omega (arith, ints, pair, u_at i there.0, v_at j there.1)
 
@@ -88,7 +95,8 @@ module _ (links : Links) (sound : AreLinks links) (plan : List (Option ℕ)) (dr
       ((kept i there.0).pairs j there.1) in
       let both = subst (NextKept links drops i) e (kept i there.0).next_kept in
       let back : pos (get_or drops.right j 0) ≤ℤ (pos (get_or drops.left i 0) +ℤ gain) =
-      subst (λ some. IfSome some (λ value. pos (get_or drops.right j 0) ≤ℤ (pos (get_or drops.left i 0) +ℤ value))) has both.1 in
+      subst (λ some. IfSome some
+      (λ value. pos (get_or drops.right j 0) ≤ℤ (pos (get_or drops.left i 0) +ℤ value))) has both.1 in
       let high : drops.root ≤ get_or drops.right j 0 =
       subst (RootKept drops j) (next_found plan i j e) (kept j there.1).root_kept in
       omega (arith, ints, pair, back, both.0, high, u_at i there.0, v_at j there.1)
@@ -142,14 +150,15 @@ module _ (links : Links) (sound : AreLinks links) (plan : List (Option ℕ)) (dr
       over_pair (Some gain) f g =
           let there = sound.within i j (ap is_some f) in
           let pair : (pos (get_or drops.left i 0) +ℤ gain) ≤ℤ pos (get_or drops.right j 0) =
-          subst (λ some. IfSome some (λ value. (pos (get_or drops.left i 0) +ℤ value) ≤ℤ pos (get_or drops.right j 0))) f
+          subst (λ some. IfSome some
+          (λ value. (pos (get_or drops.left i 0) +ℤ value) ≤ℤ pos (get_or drops.right j 0))) f
           ((kept i there.0).pairs j there.1) in
           let same : neg_ℤ gain ≡ cost = same_Some (neg_ℤ gain) cost g in
           omega (arith, ints, pair, same)
   rises (right j) root cost e =
       let free = free_is (nat_lt j n && not (is_next plan j)) cost e in
       let parts = and_parts (nat_lt j n) (not (is_next plan j)) free.0 in
-      let low = subst (RootKept drops j) (untrue (is_next plan j) parts.1) (kept j (ltb-true j n parts.0)).root_kept in
+      let low = subst (RootKept drops j) (not-true (is_next plan j) parts.1) (kept j (ltb-true j n parts.0)).root_kept in
       omega (arith, ints, free.1, low)
   rises (right j) (left i) cost e = over_back (is_trip j (next plan i)) refl e
     where
@@ -161,7 +170,8 @@ module _ (links : Links) (sound : AreLinks links) (plan : List (Option ℕ)) (dr
           let there = next_in i j is in
           let both = subst (NextKept links drops i) is (kept i there.0).next_kept in
           let back : pos (get_or drops.right j 0) ≤ℤ (pos (get_or drops.left i 0) +ℤ cost) =
-          subst (λ some. IfSome some (λ value. pos (get_or drops.right j 0) ≤ℤ (pos (get_or drops.left i 0) +ℤ value))) g both.1 in
+          subst (λ some. IfSome some
+          (λ value. pos (get_or drops.right j 0) ≤ℤ (pos (get_or drops.left i 0) +ℤ value))) g both.1 in
           omega (arith, ints, back)
   rises (right j) (right k) cost e = absurd (none-some cost e)
 
@@ -170,7 +180,8 @@ module _ (links : Links) (sound : AreLinks links) (plan : List (Option ℕ)) (dr
   low_all node = omega (arith, ints)
 
   -- a walk that was found costs the least
-  pub least_of : (node : Node) (walk : List Node) → walk_cost links plan node walk ≡ Some (neg_ℤ (pos (drop_at drops node)))
+  pub least_of : (node : Node) (walk : List Node) → walk_cost links plan node walk ≡ Some
+      (neg_ℤ (pos (drop_at drops node)))
       → IsLeastCost links plan node (neg_ℤ (pos (drop_at drops node)))
   unfolding height
   least_of node walk found = record {
@@ -182,12 +193,14 @@ module _ (links : Links) (sound : AreLinks links) (plan : List (Option ℕ)) (dr
 pub greater : (a b : ℕ) → pos (a - b) ≡ int_max (pos 0) (neg_ℤ (pos b) -ℤ neg_ℤ (pos a))
 greater a b = omega (arith, ints, int_max_is (pos 0) (neg_ℤ (pos b) -ℤ neg_ℤ (pos a)))
 
-module _ (links : Links) (sound : AreLinks links) (plan : List (Option ℕ)) (drops : DropParts) (known : IsSearched links plan drops) (kept : AreKept links plan drops) where
+module _ (links : Links) (sound : AreLinks links) (plan : List (Option ℕ)) (drops : DropParts)
+    (known : IsSearched links plan drops) (kept : AreKept links plan drops) where
   pub settled_valid : AreValid links plan (potentials_by drops)
   settled_valid = kept_valid links sound plan drops known.plan_is known.over kept
 
   least_at : (node : Node) → IsLeastCost links plan node (neg_ℤ (pos (drop_at drops node)))
-  least_at node = least_of links sound plan drops known.plan_is known.over kept node (known.found node).0 (known.found node).1
+  least_at node = least_of links sound plan drops known.plan_is known.over kept node (known.found node).0
+      (known.found node).1
 
   pub settled_canonical : AreCanonical links plan (potentials_by drops)
   settled_canonical = record {
@@ -198,14 +211,16 @@ module _ (links : Links) (sound : AreLinks links) (plan : List (Option ℕ)) (dr
       neg_ℤ (pos (get_or drops.left i 0)),
       (
         least_at (left i),
-        ap pos (u_at links sound plan drops known.plan_is known.over kept i within) ∙ greater drops.root (get_or drops.left i 0),
+        ap pos (u_at links sound plan drops known.plan_is known.over kept i within)
+            ∙ greater drops.root (get_or drops.left i 0),
       ),
     );
     v = λ j within. (
       neg_ℤ (pos (get_or drops.right j 0)),
       (
         least_at (right j),
-        ap pos (v_at links sound plan drops known.plan_is known.over kept j within) ∙ greater (get_or drops.right j 0) drops.root,
+        ap pos (v_at links sound plan drops known.plan_is known.over kept j within)
+            ∙ greater (get_or drops.right j 0) drops.root,
       ),
     );
   }

@@ -3,7 +3,7 @@ use Rattle.std.proofs.Common.{◌≡◌, ℕ, ℤ, zero, suc, pos, neg_ℤ, ◌+
 use Rattle.std.proofs.Common.{nat_lt, not, is_some, Bool, true, false, cond, List, [], ◌∷◌, length}
 use Rattle.std.proofs.Common.{unwrap_or, sum, get_or, Option, Some, None, IfSome, option_map, refl, ap, sym}
 use Rattle.std.proofs.Common.{◌∙◌, arith}
-use Rattle.std.proofs.lemmas.Bool.{false≢true, and_parts}
+use Rattle.std.proofs.lemmas.Bool.{false≢true, and_parts, not-true}
 use Rattle.std.proofs.lemmas.Int.{ints}
 use Rattle.std.proofs.lemmas.List.Sums.{sum_by-cons}
 use Rattle.std.proofs.lemmas.Option.{none-some, same_Some}
@@ -31,11 +31,8 @@ pub none_there : (at : Option ℕ) → not (is_some at) ≡ true → at ≡ None
 none_there None h = refl
 none_there (Some i) h = absurd (false≢true h)
 
-pub untrue : (b : Bool) → not b ≡ true → b ≡ false
-untrue true h = absurd (false≢true h)
-untrue false h = refl
-
-module _ (links : Links) (plan : List (Option ℕ)) (potentials : PotentialParts) (valid : AreValid links plan potentials) (is : IsPlan links plan) where
+module _ (links : Links) (plan : List (Option ℕ)) (potentials : PotentialParts)
+    (valid : AreValid links plan potentials) (is : IsPlan links plan) where
   tight : IsTight links potentials plan
   tight = gains_all links plan plan potentials valid is (sym valid.exact)
 
@@ -65,10 +62,8 @@ module _ (links : Links) (plan : List (Option ℕ)) (potentials : PotentialParts
       → cost ≡ pos (at potentials.u i + at potentials.v j)
   back_over i j cost false e f = absurd (none-some cost f)
   back_over i j cost true e f =
-      same_Some cost (pos (at potentials.u i + at potentials.v j)) (sym f ∙ tight.linked i j (is_trip_same j (next plan i) e))
-
-  followed_from : (i : ℕ) → is_some (next plan i) ≡ true → ⊥ → ⊥
-  followed_from i h e = e
+      same_Some cost (pos (at potentials.u i + at potentials.v j))
+      (sym f ∙ tight.linked i j (is_trip_same j (next plan i) e))
 
   over : (from to : Node) (cost : ℤ) → arc links plan from to ≡ Some cost → height to ≤ℤ (height from +ℤ cost)
   unfolding height
@@ -79,7 +74,7 @@ module _ (links : Links) (plan : List (Option ℕ)) (potentials : PotentialParts
   over (left i) root cost e = grind arith
   over (left i) (left k) cost e = absurd (none-some cost e)
   over (left i) (right j) cost e = grind (arith, covered_by, ints)
-  over (right j) root cost e = grind (arith, free_is, nat_lt, untrue, and_parts, ints, tight)
+  over (right j) root cost e = grind (arith, free_is, nat_lt, not-true, and_parts, ints, tight)
   over (right j) (left i) cost e =
       let same = back_over i j cost (is_trip j (next plan i)) refl e in
       omega (arith, ints, same)
@@ -138,7 +133,8 @@ pair_most links plan drops are known i j gain e =
     omega (arith, ints, most)
 
 -- back over a link of the plan
-pub back_arc : (links : Links) (plan : List (Option ℕ)) (i j : ℕ) → next plan i ≡ Some j → arc links plan (right j) (left i) ≡ links.gain i j
+pub back_arc : (links : Links) (plan : List (Option ℕ)) (i j : ℕ) → next plan i ≡ Some j
+    → arc links plan (right j) (left i) ≡ links.gain i j
 back_arc links plan i j e = ap (λ b. cond b (links.gain i j) None) (same_is_trip j (next plan i) e)
 
 -- each number is small

@@ -21,7 +21,8 @@ pub still_searched : (links : Links) (plan : List (Option ℕ)) (before after : 
     → IsSearched links plan before → IsStep links plan before after changed → IsSearched links plan after
 still_searched links plan before after changed known step = grind arith
 
-module _ (links : Links) (plan : List (Option ℕ)) (drops : DropParts) (known : IsSearched links plan drops) (i j : ℕ) where
+module _ (links : Links) (plan : List (Option ℕ)) (drops : DropParts) (known : IsSearched links plan drops)
+    (i j : ℕ) where
   -- over a link of a row
   pub row_step : (gain : ℕ) → worth (links.gain i j) ≡ Some gain → j < links.count
       → (number : ℕ) → number ≡ get_or drops.left i 0 + gain → get_or drops.right j 0 < number → (after : DropParts)
@@ -40,16 +41,19 @@ module _ (links : Links) (plan : List (Option ℕ)) (drops : DropParts) (known :
         → told ≡ Some number → (after : DropParts)
         → after ≡ record { root = drops.root; left = slice_set drops.left i number; right = drops.right }
         → IsStep links plan drops after true
-    link_step within from to number from_is to_is told there raised is after after_is = split (links.gain i j) refl there raised
+    link_step within from to number from_is to_is told there raised is after after_is =
+        split (links.gain i j) refl there raised
       where
-        split : (at : Option ℤ) → links.gain i j ≡ at → is_some at ≡ true → IfSome at (λ gain. IsRaised from (neg_ℤ gain) to told)
+        split : (at : Option ℤ) → links.gain i j ≡ at → is_some at ≡ true
+            → IfSome at (λ gain. IsRaised from (neg_ℤ gain) to told)
             → IsStep links plan drops after true
         split None e some r = absurd (false≢true some)
         split (Some gain) e some r =
             let facts = subst (IsRaised from (neg_ℤ gain) to) is r in
             subst (λ some. IsStep links plan drops some true) (sym after_is)
             (step_left links plan drops (right j) gain number (omega (arith, ints, facts.0, from_is)) i
-            (omega (arith, within, known.over.left)) (back_arc links plan i j linked ∙ e) (omega (arith, facts.1, to_is)))
+            (omega (arith, within, known.over.left)) (back_arc links plan i j linked ∙ e)
+            (omega (arith, facts.1, to_is)))
 
     pub link_kept : (from to : ℕ) → from ≡ get_or drops.right j 0 → to ≡ get_or drops.left i 0
         → (told : Option ℕ) → IfSome (links.gain i j) (λ gain. IsRaised from (neg_ℤ gain) to told) → told ≡ None
@@ -74,7 +78,8 @@ row_asks links plan drops are known i j gain is =
 
 -- ---- arcs of the root
 
-module _ (links : Links) (plan : List (Option ℕ)) (drops : DropParts) (known : IsSearched links plan drops) (i number : ℕ) (after : DropParts) where
+module _ (links : Links) (plan : List (Option ℕ)) (drops : DropParts) (known : IsSearched links plan drops)
+    (i number : ℕ) (after : DropParts) where
   pub back_step : is_some (next plan i) ≡ true → number ≡ get_or drops.left i 0 → drops.root < number
       → after ≡ record { root = number; left = drops.left; right = drops.right } → IsStep links plan drops after true
   back_step linked number_is less after_is = subst (λ some. IsStep links plan drops some true) (sym after_is)
@@ -84,15 +89,18 @@ module _ (links : Links) (plan : List (Option ℕ)) (drops : DropParts) (known :
       → after ≡ record { root = drops.root; left = slice_set drops.left i number; right = drops.right }
       → IsStep links plan drops after true
   alone_step within alone number_is less after_is = subst (λ some. IsStep links plan drops some true) (sym after_is)
-      (step_left links plan drops root (pos 0) number (omega (arith, ints, number_is)) i (omega (arith, within, known.over.left))
+      (step_left links plan drops root (pos 0) number (omega (arith, ints, number_is)) i
+      (omega (arith, within, known.over.left))
       (ap (λ b. free_arc (b && not (is_some (next plan i)))) (lt-ltb i links.count within)
       ∙ ap (λ at. free_arc (not (is_some at))) alone) less)
 
   pub from_root_step : i < links.count → is_next plan i ≡ true → number ≡ drops.root → get_or drops.right i 0 < number
       → after ≡ record { root = drops.root; left = drops.left; right = slice_set drops.right i number }
       → IsStep links plan drops after true
-  from_root_step within linked number_is less after_is = subst (λ some. IsStep links plan drops some true) (sym after_is)
-      (step_right links plan drops root (pos 0) number (omega (arith, ints, number_is)) i (omega (arith, within, known.over.right))
+  from_root_step within linked number_is less after_is = subst (λ some. IsStep links plan drops some true)
+      (sym after_is)
+      (step_right links plan drops root (pos 0) number (omega (arith, ints, number_is)) i
+      (omega (arith, within, known.over.right))
       (ap free_arc linked) less)
 
   pub to_root_step : i < links.count → is_next plan i ≡ false → number ≡ get_or drops.right i 0 → drops.root < number
@@ -115,6 +123,8 @@ pub depth_most : (links : Links) (plan : List (Option ℕ)) (drops : DropParts) 
     → IsSearched links plan drops → depth drops ≤ 8002000000000000000
 depth_most links plan drops are known =
     let each = found_most links plan drops are known in
-    let lefts : sum drops.left ≤ length drops.left * 2000000000000000 = sum_most drops.left 2000000000000000 (λ k. each (left k)) in
-    let rights : sum drops.right ≤ length drops.right * 2000000000000000 = sum_most drops.right 2000000000000000 (λ k. each (right k)) in
+    let lefts : sum drops.left ≤ length drops.left * 2000000000000000 = sum_most drops.left 2000000000000000
+    (λ k. each (left k)) in
+    let rights : sum drops.right ≤ length drops.right * 2000000000000000 =
+    sum_most drops.right 2000000000000000 (λ k. each (right k)) in
     omega (arith, lefts, rights, each root, known.over.left, known.over.right, are.few)

@@ -33,6 +33,10 @@ pub waits_more : (u : List ℕ) (trip height : ℕ) (old new : List Waiting)
     → new ≡ root_waits ∷ map (trip_waits u) (range_with_len 0 (trip + 1))
 waits_more u trip height old new old_is new_is height_is = new_is
     ∙ ap (λ nodes. nodes ++ record { trip = Some trip; height = height } ∷ []) old_is
-    ∙ ap (λ h. (root_waits ∷ map (trip_waits u) (range_with_len 0 trip)) ++ record { trip = Some trip; height = h } ∷ [])
+    ∙ ap (λ h. (root_waits ∷ map (trip_waits u) (range_with_len 0 trip)) ++ record {
+      trip = Some trip;
+      height =
+          h;
+    } ∷ [])
     height_is
     ∙ ap (λ nodes. root_waits ∷ nodes) (sym (map-range_with_len_more (trip_waits u) 0 trip trip (omega arith)))

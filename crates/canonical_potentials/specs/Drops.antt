@@ -1,7 +1,9 @@
 -- Inner words: how far below 0 some walk goes that ends in each node, and steps that find walks that go
 -- further.
-use Rattle.std.specs.Prelude.{ℕ, ℤ, pos, neg_ℤ, ◌≡◌, ◌+◌, ◌<◌, ◌≤◌, ◌+ℤ◌, ◌≤ℤ◌, if◌then◌else◌, Bool, true, false, List, length, sum, map, ◌-◌, get_or, MatchOption, Option, Some, None, IfSome}
-use Rattle.link_plans.specs.Links.{Links}
+use Rattle.std.specs.Prelude.{ℕ, ℤ, pos, neg_ℤ, ◌≡◌, ◌+◌, ◌<◌, ◌≤◌, ◌+ℤ◌, ◌≤ℤ◌, if◌then◌else◌, Bool}
+use Rattle.std.specs.Prelude.{true, false, List, length, sum, map, ◌-◌, get_or, MatchOption, Option}
+use Rattle.std.specs.Prelude.{Some, None, IfSome}
+use Rattle.link_plans.specs.Links.{Links, AreLinks}
 use Rattle.link_plans.specs.Plans.{next, is_next, IsPlan}
 use Rattle.link_plans.specs.Potentials.{PotentialParts, AreValid}
 use Rattle.link_plans.specs.LinkRows.{worth}
@@ -101,6 +103,7 @@ IsCertified links plan = (potentials : PotentialParts) × AreValid links plan po
 
 -- what is known of numbers while better walks are looked for
 pub record IsSearched (links : Links) (plan : List (Option ℕ)) (drops : DropParts) : Type 0 where
+  pub sound : AreLinks links
   pub plan_is : IsPlan links plan
   pub certified : IsCertified links plan
   pub over : AreDropsOver links.count drops

@@ -1,5 +1,7 @@
 -- The residual graph of a plan, its walks, and the least cost of those that end in a node.
-use Rattle.std.specs.Prelude.{ℕ, ℤ, pos, neg_ℤ, ◌≡◌, ◌+ℤ◌, ◌≤ℤ◌, nat_lt, ◌&&◌, if◌then◌else◌, not, is_some, Bool, List, [], ◌∷◌, Option, Some, None, option_map, option_and_then}
+use Rattle.std.specs.Prelude.{ℕ, ℤ, pos, neg_ℤ, ◌≡◌, ◌+ℤ◌, ◌≤ℤ◌, nat_lt, ◌&&◌, if◌then◌else◌, not}
+use Rattle.std.specs.Prelude.{is_some, Bool, List, [], ◌∷◌, Option, Some, None, option_map}
+use Rattle.std.specs.Prelude.{option_and_then}
 use Rattle.link_plans.specs.Links.{Links}
 use Rattle.link_plans.specs.Plans.{next, is_next, is_trip}
 

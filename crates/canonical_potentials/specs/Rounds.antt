@@ -1,5 +1,7 @@
 -- The canonical potentials of a plan as a value: by rounds over all arcs of its residual graph.
-use Rattle.std.specs.Prelude.{ℕ, ℤ, zero, suc, pos, negsuc, ◌+◌, ◌*◌, ◌==◌, ◌-ℤ◌, max, if◌then◌else◌, List, map, fold, replicate, unsigned_abs, Option, Some, None}
+use Rattle.std.specs.Prelude.{ℕ, ℤ, zero, suc, pos, negsuc, ◌+◌, ◌*◌, ◌==◌, ◌-ℤ◌, max}
+use Rattle.std.specs.Prelude.{if◌then◌else◌, List, map, fold, replicate, unsigned_abs, Option, Some}
+use Rattle.std.specs.Prelude.{None}
 use Rattle.std.specs.List.{range_with_len}
 use Rattle.link_plans.specs.Links.{Links}
 use Rattle.link_plans.specs.Plans.{plan_gain}

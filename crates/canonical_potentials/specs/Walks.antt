@@ -1,6 +1,8 @@
 -- Inner words: from which node a walk over the residual graph goes on.
-use Rattle.std.specs.Prelude.{ℕ, ◌≡◌, ◌+◌, ◌≤◌, ◌⊎◌, min, List, [], ◌∷◌, length, map, get_or, All, Option, Some, None, IsPermutation}
+use Rattle.std.specs.Prelude.{ℕ, ◌≡◌, ◌+◌, ◌≤◌, ◌⊎◌, min, List, [], ◌∷◌, length, map, get_or, All}
+use Rattle.std.specs.Prelude.{Option, Some, None, IsPermutation}
 use Rattle.std.specs.List.{range_with_len}
+use Rattle.link_plans.specs.declared.limits.TheConstants.{MOST_POTENTIAL}
 use Rattle.canonical_potentials.specs.declared.walk.Waiting.{Waiting}
 use Rattle.canonical_potentials.specs.Drops.{DropParts}
 use Rattle.link_plans.specs.Potentials.{at}
@@ -30,7 +32,7 @@ LeavesOthers drops before after = ((before ≡ []) × (after ≡ []))
 
 -- the root waits at the middle height, and the left node of a trip above it by the potential of the trip
 abbrev pub middle : ℕ
-middle = 1000000000000000000
+middle = MOST_POTENTIAL
 
 abbrev pub root_waits : Waiting
 root_waits = record { trip = None; height = middle }

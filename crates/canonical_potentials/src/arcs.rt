@@ -1,6 +1,9 @@
 // The arcs of the residual graph: each may make a better walk.
-ghost use Rattle.std.specs.Prelude.{◌+◌, ◌≡◌, ◌<◌, ◌≤◌, ◌+ℤ◌, ◌-ℤ◌, ◌≤ℤ◌, ◌||◌, pos, neg_ℤ, true, false, length, get_or, is_some, MatchOption, Some, None, IfSome};
-ghost use Rattle.canonical_potentials.specs.Drops.{LinkKept, NextKept, RootKept, IsSearched, IsStep, IsRaised};
+ghost use Rattle.std.specs.Prelude.{◌+◌, ◌≡◌, ◌<◌, ◌≤◌, ◌+ℤ◌, ◌-ℤ◌, ◌≤ℤ◌, ◌||◌, pos, neg_ℤ, true};
+ghost use Rattle.std.specs.Prelude.{false, length, get_or, is_some, MatchOption, Some, None};
+ghost use Rattle.std.specs.Prelude.{IfSome};
+ghost use Rattle.canonical_potentials.specs.Drops.{LinkKept, NextKept, RootKept, IsSearched};
+ghost use Rattle.canonical_potentials.specs.Drops.{IsStep, IsRaised};
 ghost use Rattle.link_plans.specs.LinkRows.{IsLinkOf};
 ghost use Rattle.link_plans.specs.Plans.{next, is_next};
 ghost use Rattle.link_plans.specs.Links.{links_in};
@@ -25,7 +28,6 @@ impl Drops {
         ensures kept { result ≡ false
             → get_or self.old.left i 0 + link.gain ≤ get_or self.old.right link.to 0 }
     {
-        let _ = trips.len();
         let number = self.left(i) + link.gain;
         if self.right(link.to) < number {
             self.set_right(link.to, number);
@@ -42,8 +44,6 @@ impl Drops {
         ensures step { IsStep (links_in trips.now) plan.now self.old self.new result }
         ensures kept { result ≡ false → LinkKept (links_in trips.now) self.old i j }
     {
-        let _ = trips.len();
-        let _ = plan.len();
         match over_link(trips, i, j, self.right(j), self.left(i)) {
             Some(number) => {
                 self.set_left(i, number);
@@ -61,8 +61,6 @@ impl Drops {
         ensures step { IsStep (links_in trips.now) plan.now self.old self.new result }
         ensures kept { result ≡ false → get_or self.old.left i 0 ≤ self.old.root }
     {
-        let _ = trips.len();
-        let _ = plan.len();
         let number = self.left(i);
         if self.root() < number {
             self.set_root(number);
@@ -93,8 +91,6 @@ impl Drops {
         ensures step { IsStep (links_in trips.now) plan.now self.old self.new result }
         ensures kept { result ≡ false → NextKept (links_in trips.now) self.old i None }
     {
-        let _ = trips.len();
-        let _ = plan.len();
         let number = self.root();
         if self.left(i) < number {
             self.set_left(i, number);
@@ -139,8 +135,6 @@ impl Drops {
         ensures step { IsStep (links_in trips.now) plan.now self.old self.new result }
         ensures kept { result ≡ false → RootKept self.old j true }
     {
-        let _ = trips.len();
-        let _ = plan.len();
         let number = self.root();
         if self.right(j) < number {
             self.set_right(j, number);
@@ -157,8 +151,6 @@ impl Drops {
         ensures step { IsStep (links_in trips.now) plan.now self.old self.new result }
         ensures kept { result ≡ false → RootKept self.old j false }
     {
-        let _ = trips.len();
-        let _ = plan.len();
         let number = self.right(j);
         if self.root() < number {
             self.set_root(number);

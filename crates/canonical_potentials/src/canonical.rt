@@ -32,6 +32,6 @@ pub fn canonical_potentials(
     let linked = LinkedPlan::new(alloc, plan)?;
     let mut drops = Drops::new(alloc, trips.len())?;
     drops.walk(alloc, trips, &linked, valid)?;
-    drops.settle(trips, &linked);
+    drops.pass_to_end(trips, &linked);
     drops.into_potentials(alloc, trips, &linked)
 }

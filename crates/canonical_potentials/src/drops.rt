@@ -66,8 +66,6 @@ impl Drops {
         ensures least { IfOk result (AreCanonical (links_in trips.now) plan.now) }
         ensures valid { IfOk result (AreValid (links_in trips.now) plan.now) }
     {
-        let _ = trips.len();
-        let _ = plan.len();
         let root = self.root;
         let u = below(alloc, root, &self.left)?;
         let v = above(alloc, root, &self.right)?;
@@ -90,7 +88,7 @@ impl Drops {
 
     /// Gives the root a number.
     pub(crate) fn set_root(&mut self, number: u64)
-        ensures { self.new ≡ record { root = number; left = self.old.left; right = self.old.right } }
+        ensures { self.new ≡ record self.old { root = number } }
     {
         self.root = number;
     }
@@ -114,7 +112,7 @@ impl Drops {
     /// Gives the left node of a trip a number.
     pub(crate) fn set_left(&mut self, i: usize, number: u64)
         requires { i < length self.old.left }
-        ensures { self.new ≡ record { root = self.old.root; left = slice_set self.old.left i number; right = self.old.right } }
+        ensures { self.new ≡ record self.old { left = slice_set self.old.left i number } }
     {
         self.left[i] = number;
     }
@@ -122,7 +120,7 @@ impl Drops {
     /// Gives the right node of a trip a number.
     pub(crate) fn set_right(&mut self, j: usize, number: u64)
         requires { j < length self.old.right }
-        ensures { self.new ≡ record { root = self.old.root; left = self.old.left; right = slice_set self.old.right j number } }
+        ensures { self.new ≡ record self.old { right = slice_set self.old.right j number } }
     {
         self.right[j] = number;
     }

@@ -1,6 +1,7 @@
 // Rounds over all arcs of the residual graph.
 ghost use Rattle.std.specs.Prelude.{◌≡◌, ◌<◌, false, length};
-ghost use Rattle.canonical_potentials.specs.Drops.{RowKept, TripPassed, ArePassed, IsSearched, IsStep};
+ghost use Rattle.canonical_potentials.specs.Drops.{RowKept, TripPassed, ArePassed, IsSearched};
+ghost use Rattle.canonical_potentials.specs.Drops.{IsStep};
 ghost use Rattle.link_plans.specs.Links.{links_in};
 
 use crate::arcs::either;
@@ -54,13 +55,12 @@ impl Drops {
         changed
     }
 
-    /// Looks for better walks until there are none.
-    pub(crate) fn settle(&mut self, trips: &LinkTable, plan: &LinkedPlan)
+    /// Goes round over all arcs until no walk gets better.
+    pub(crate) fn pass_to_end(&mut self, trips: &LinkTable, plan: &LinkedPlan)
         requires known { IsSearched (links_in trips.now) plan.now self.old }
         ensures known { IsSearched (links_in trips.now) plan.now self.new }
         ensures kept { ArePassed (links_in trips.now) plan.now self.new }
     {
-        let _ = trips.len();
         let mut changed = true;
         while changed {
             changed = self.relax_all(trips, plan);

@@ -2,17 +2,18 @@
 ghost use Rattle.std.specs.Prelude.{◌≡◌, ◌<◌, [], length, HoldsAt, IfOk, MatchOption, OnOk};
 ghost use Rattle.canonical_potentials.specs.Drops.{IsSearched};
 ghost use Rattle.link_plans.specs.LinkRows.{IsLinkOf};
-ghost use Rattle.canonical_potentials.specs.Walks.{reach, all_waiting, IsFurthest, IsTakenOut, LeavesOthers};
+ghost use Rattle.canonical_potentials.specs.Walks.{reach, all_waiting, IsFurthest, IsTakenOut};
+ghost use Rattle.canonical_potentials.specs.Walks.{LeavesOthers};
 ghost use Rattle.link_plans.specs.Links.{links_in};
 
 use crate::drops::Drops;
 use crate::linked_plan::LinkedPlan;
-use link_plans::{Link, LinkTable, Potentials};
+use link_plans::{Link, LinkTable, MOST_POTENTIAL, Potentials};
 use plan_num::NoMemory;
 use std::alloc::Global;
 
-// The height of the root.
-const MIDDLE: u64 = 1_000_000_000_000_000_000;
+// The height of the root, from which no potential leads below 0.
+const MIDDLE: u64 = MOST_POTENTIAL;
 
 // A node from which no arc was looked over yet: the root, where no trip is told, or the left node
 // of a trip; and its height by valid potentials. Over an arc a number and a height together never
@@ -121,7 +122,7 @@ impl Drops {
         requires within { j < length trips.now }
         ensures { IsSearched (links_in trips.now) plan.now self.new }
     {
-        let _root = self.relax_root(trips, plan, j);
+        self.relax_root(trips, plan, j);
         self.relax_next_of(trips, plan, plan.before(j));
     }
 
@@ -133,7 +134,7 @@ impl Drops {
     {
         if let Some(i) = trip {
             if i < trips.len() {
-                let _next = self.relax_next(trips, plan, i);
+                self.relax_next(trips, plan, i);
             }
         }
     }

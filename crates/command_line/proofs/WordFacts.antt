@@ -1,15 +1,15 @@
 -- The ids of words, one after the other.
 use Rattle.std.proofs.Common.{◌≡◌, ℕ, ℤ, ◌+◌, ◌<◌, ◌≤◌, List, [], ◌∷◌, ◌++◌, length, map, drop}
-use Rattle.std.proofs.Common.{Option, Some, None, option_map, string_bytes, refl, ap, sym, ◌∙◌, append_assoc, append-nil, arith}
+use Rattle.std.proofs.Common.{Option, Some, None, option_map, string_bytes, refl, ap, sym, ◌∙◌, append_assoc, arith}
 use Rattle.std.specs.Prelude.{slice_index_or}
 use Rattle.std.specs.declared.alloc.Global.{Global}
 use Rattle.std.specs.declared.string.String.{String}
-use Rattle.std.proofs.lemmas.List.{at_drop_all, at_drop_more}
+use Rattle.std.proofs.lemmas.List.{at_drop_more}
 use Rattle.std.proofs.Common.{Bool, true, false, cond, not, ◌&&◌, ◌||◌, ◌⊎◌, ⊎_elim, nat_le, option_and_then, suc}
 use Rattle.std.proofs.lemmas.List.{length-map}
 use Rattle.std.specs.List.{AllByRecursion, IsDistinct, list_any}
 use Rattle.std.specs.Ordering.{int_eq}
-use Rattle.std.proofs.lemmas.Bool.{and_parts, false≢true, lt-leb, true≢false}
+use Rattle.std.proofs.lemmas.Bool.{and_parts, false≢true, lt-leb, true≢false, not-true}
 use Rattle.plan_num.specs.Terminals.{AreTerminals}
 use Rattle.command_line.specs.FormWords.{are_apart, id_in, ids_in, pool_form, pool_of_ids, sized_form, with_id}
 use Rattle.command_line.specs.declared.form.Form.TheVariants.{Pool}
@@ -41,10 +41,6 @@ module _ (words : List (String Global)) (i : ℕ) (word : String Global) (ids : 
       by None = refl
       by (Some more) = ap Some (sym (append_assoc ids (id ∷ []) more))
 
-  pub ids_none : None ≡ id_in (string_bytes word) → None ≡ ids_left words
-  ids_none found =
-      sym (next_left ∙ ap (λ told. option_map (λ more. ids ++ more) (with_id told (ids_left (drop (i + 1) words)))) (sym found))
-
 -- three words after the first are no form
 pub none_of_three : (first : List ℕ) (words : List (String Global)) → 3 ≤ length words
     → length words < 4 → None ≡ sized_form first (map string_bytes words)
@@ -71,11 +67,7 @@ unfolding IsDistinct
 apart_distinct [] h = tt
 apart_distinct (id ∷ ids) h =
     let parts = and_parts _ _ h in
-    (none_alike id ids (not_true _ parts.0), apart_distinct ids parts.1)
-  where
-    not_true : (b : Bool) → not b ≡ true → b ≡ false
-    not_true true e = absurd (false≢true e)
-    not_true false e = refl
+    (none_alike id ids (not-true _ parts.0), apart_distinct ids parts.1)
 
 -- 2 to 20 ids that are apart are terminals
 pub apart_terminals : (ids : List ℤ) → 2 ≤ length ids → length ids ≤ 20 → are_apart ids ≡ true

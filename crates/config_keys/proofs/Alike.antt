@@ -1,12 +1,13 @@
 -- Lists of items that are read alike.
-use Rattle.std.proofs.Common.{arith, ◌≡◌, ◌≢◌, ℕ, ◌+◌, List, ◌∷◌, ◌++◌, Option, Some, None, Result, Ok, Err, refl, sym, ap, ◌∙◌}
+use Rattle.std.proofs.Common.{arith, ◌≡◌, ◌≢◌, ℕ, ◌+◌, List, ◌∷◌, ◌++◌, Option, Some, None, Result}
+use Rattle.std.proofs.Common.{Ok, Err, refl, sym, ap, ◌∙◌}
 use Rattle.giv_files.specs.Keys.{key_name}
 use Rattle.config_keys.specs.declared.config_fault.ConfigFault.{ConfigFault}
 use Rattle.config_keys.specs.declared.config_end.ConfigEnd.{ConfigEnd}
 use Rattle.config_keys.specs.declared.config_end.ConfigEnd.TheVariants.{Refused, FileFault, NoMemory}
 use Rattle.config_keys.specs.declared.reading.Reading.{Reading}
 use Rattle.config_keys.specs.Items.{Item, Fault, first_fault, include_count, last_said}
-use Rattle.config_keys.specs.Said.{ReadGives}
+use Rattle.config_keys.specs.ReadSoFar.{ReadGives}
 use Rattle.config_keys.specs.SettingsFiles.{Alike}
 use Rattle.config_keys.proofs.Steps.{first_fault-further, first_fault-stays, include_count-append, last_said-append}
 
@@ -21,12 +22,14 @@ alike_then xs ys zs h k = record {
 }
 
 -- what no fault is in has no fault at its start
-front_none : (count : ℕ) (xs ys : List Item) (front : Option ConfigFault) → first_fault count xs ≡ front → first_fault count (xs ++ ys) ≡ None → first_fault count xs ≡ None
+front_none : (count : ℕ) (xs ys : List Item) (front : Option ConfigFault) → first_fault count xs ≡ front
+    → first_fault count (xs ++ ys) ≡ None → first_fault count xs ≡ None
 front_none count xs ys None e none = e
 front_none count xs ys (Some reason) e none = grind (arith, first_fault-stays)
 
 -- and none after that
-pub back_none : (count : ℕ) (xs ys : List Item) → first_fault count (xs ++ ys) ≡ None → first_fault (count + include_count xs) ys ≡ None
+pub back_none : (count : ℕ) (xs ys : List Item) → first_fault count (xs ++ ys) ≡ None
+    → first_fault (count + include_count xs) ys ≡ None
 back_none count xs ys none = sym (first_fault-further count xs ys (front_none count xs ys _ refl none)) ∙ none
 
 -- behind the same items
@@ -41,14 +44,17 @@ alike_behind xs ys zs h = record {
       ∙ sym (last_said-append (key_name key) before xs zs);
 }
   where
-    by : (count : ℕ) (front : Option ConfigFault) → first_fault count xs ≡ front → first_fault count (xs ++ ys) ≡ first_fault count (xs ++ zs)
-    by count None e = first_fault-further count xs ys e ∙ h.same (count + include_count xs) ∙ sym (first_fault-further count xs zs e)
+    by : (count : ℕ) (front : Option ConfigFault) → first_fault count xs ≡ front
+        → first_fault count (xs ++ ys) ≡ first_fault count (xs ++ zs)
+    by count None e =
+        first_fault-further count xs ys e ∙ h.same (count + include_count xs) ∙ sym (first_fault-further count xs zs e)
     by count (Some reason) e = first_fault-stays count xs ys reason e ∙ sym (first_fault-stays count xs zs reason e)
 
 -- what comes after a fault is not read
 pub alike_fault : (reason : ConfigFault) (rest more : List Item) → Alike (Fault reason ∷ rest) (Fault reason ∷ more)
 unfolding first_fault
-alike_fault reason rest more = record { same = λ count. refl; counts = λ count none. cc; says = λ count none key before. cc }
+alike_fault reason rest more =
+    record { same = λ count. refl; counts = λ count none. cc; says = λ count none key before. cc }
 
 -- items in which a fault is found, wherever reading stands
 pub alike_stopped : (xs ys : List Item) → ((count : ℕ) → first_fault count xs ≢ None) → Alike (xs ++ ys) xs
@@ -58,12 +64,14 @@ alike_stopped xs ys stopped = record {
   says = λ count none key before. absurd (stopped count (front_none count xs ys _ refl none));
 }
   where
-    by : (count : ℕ) (front : Option ConfigFault) → first_fault count xs ≡ front → first_fault count (xs ++ ys) ≡ first_fault count xs
+    by : (count : ℕ) (front : Option ConfigFault) → first_fault count xs ≡ front
+        → first_fault count (xs ++ ys) ≡ first_fault count xs
     by count None e = absurd (stopped count e)
     by count (Some reason) e = first_fault-stays count xs ys reason e ∙ sym e
 
 -- what reading one of them gives, reading the other gives
-pub gives_alike : (xs ys : List Item) (old new : Reading) (result : Result (Unit {0}) ConfigEnd) → Alike xs ys → ReadGives ys old new result → ReadGives xs old new result
+pub gives_alike : (xs ys : List Item) (old new : Reading) (result : Result (Unit {0}) ConfigEnd) → Alike xs ys
+    → ReadGives ys old new result → ReadGives xs old new result
 gives_alike xs ys old new (Ok done) h k =
     let none : first_fault old.includes xs ≡ None = h.same old.includes ∙ k.faultless in
     record {

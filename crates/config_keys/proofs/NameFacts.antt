@@ -1,5 +1,7 @@
 -- Names of included files are text.
-use Rattle.std.proofs.Common.{◌≡◌, ℕ, ◌<◌, Bool, true, false, List, length, get_or, ⊎_elim, arith, Bor, Option, Result, Ok, Err, MatchResult, MatchOption, ◌&&◌, not, refl, nat_eq, codes}
+use Rattle.std.proofs.Common.{◌≡◌, ℕ, ◌<◌, Bool, true, false, List, length, get_or, ⊎_elim, arith}
+use Rattle.std.proofs.Common.{Bor, Option, Result, Ok, Err, MatchResult, MatchOption, ◌&&◌, not}
+use Rattle.std.proofs.Common.{refl, nat_eq, codes}
 use Rattle.std.specs.List.{list_all, ends_with}
 use Rattle.std.specs.Result.{result_ok}
 use Rattle.std.specs.Str.{IsUtf8}
@@ -9,23 +11,27 @@ use Rattle.std.proofs.lemmas.List.Sums.{AllPass-from_list_all}
 use Rattle.std.proofs.lemmas.Bool.{cases_lt}
 use Rattle.std.proofs.lemmas.Bool.Decides.{nat_tests}
 use Rattle.config_keys.specs.Includes.{is_name_byte, has_two_points, is_inside}
+use Rattle.plan_num.proofs.Tests.{first_true}
 
 name_byte_low : (byte : ℕ) → is_name_byte byte ≡ true → byte < 128
 name_byte_low byte e = grind (arith, nat_tests)
 
 ascii_at : (name : List ℕ) (i : ℕ) → list_all is_name_byte name ≡ true → get_or name i 0 < 128
-ascii_at name i e = ⊎_elim (λ h. name_byte_low _ (AllPass-from_list_all is_name_byte name e i 0 h)) (λ h. rw (get_or_past name i 0 h) (omega arith)) (cases_lt i (length name))
-
-first_true : (a b : Bool) → (a && b) ≡ true → a ≡ true
-first_true true b e = refl
-first_true false b e = e
+ascii_at name i e =
+    ⊎_elim (λ h. name_byte_low _ (AllPass-from_list_all is_name_byte name e i 0 h))
+    (λ h. rw (get_or_past name i 0 h) (omega arith)) (cases_lt i (length name))
 
 -- the name of a config file of the same folder is text
 inside_text : (name : List ℕ) → is_inside name ≡ true → IsUtf8 name
-inside_text name e = IsUtf8-from_ascii name (λ i. ascii_at name i (first_true _ _ (first_true (list_all is_name_byte name && not (has_two_points name)) (ends_with nat_eq name (codes ".cnf")) e)))
+inside_text name e =
+    IsUtf8-from_ascii name
+    (λ i. ascii_at name i
+    (first_true _ _
+    (first_true (list_all is_name_byte name && not (has_two_points name)) (ends_with nat_eq name (codes ".cnf")) e)))
 
 -- so reading it as text gives it
-pub inside_read : {E : Type 0} (Q : E → Type 0) (name : List ℕ) (read : Result (Bor (List ℕ)) E) (text : Option (Bor (List ℕ))) → is_inside name ≡ true
+pub inside_read : {E : Type 0} (Q : E → Type 0) (name : List ℕ) (read : Result (Bor (List ℕ)) E)
+    (text : Option (Bor (List ℕ))) → is_inside name ≡ true
     → MatchResult read (λ s. (s.now ≡ name) × IsUtf8 name) (λ e. ¬ (IsUtf8 name) × Q e) → text ≡ result_ok read
     → MatchOption text (is_inside name ≡ false) (λ text. (is_inside name ≡ true) × (text.now ≡ name))
 inside_read Q name (Ok read) text e h t = rw t (e, h.0)

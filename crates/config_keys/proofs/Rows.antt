@@ -1,5 +1,6 @@
 -- What a row says.
-use Rattle.std.proofs.Common.{◌≡◌, ◌≢◌, ℕ, Bool, true, false, eqb, List, [], length, Some, None, string_bytes, slice_index_or, refl, arith}
+use Rattle.std.proofs.Common.{◌≡◌, ◌≢◌, ℕ, Bool, true, false, eqb, List, [], length, Some, None}
+use Rattle.std.proofs.Common.{string_bytes, slice_index_or, refl, arith}
 use Rattle.std.proofs.lemmas.Bool.Decides.{nat_tests}
 use Rattle.tables.specs.declared.row_why.RowWhy.TheVariants as why
 use Rattle.text_fields.specs.Rows.{Row}
@@ -15,25 +16,32 @@ pub outside : (left : ℕ) (file : List ℕ) (row : ℕ) (optional : Bool) (name
 outside left file row optional name e = rw e refl
 
 -- an include row that is kept
-pub kept : (left : ℕ) (file : List ℕ) (row : ℕ) (optional : Bool) (name : List ℕ) (include : IncludeRow) → is_inside name ≡ true
+pub kept : (left : ℕ) (file : List ℕ) (row : ℕ) (optional : Bool) (name : List ℕ) (include : IncludeRow)
+    → is_inside name ≡ true
     → include.row ≡ row → include.optional ≡ optional → string_bytes include.path ≡ path_of name
     → include_item left file row optional name ≡ kept_item left file include
 kept left file row optional name include e r o p = rw (e, r, o, p) refl
 
 -- a row without two fields
-pub odd_row : (left : ℕ) (file : List ℕ) (row : Row) (number found : ℕ) → length row.fields ≢ 2 → number ≡ row.number → found ≡ length row.fields
+pub odd_row : (left : ℕ) (file : List ℕ) (row : Row) (number found : ℕ) → length row.fields ≢ 2 → number ≡ row.number
+    → found ≡ length row.fields
     → row_item left file row ≡ Fault (fault.BadRow file number (why.FieldCount found))
 unfolding row_item
-odd_row left file row number found e g h = let odd : eqb (length row.fields) 2 ≡ false = grind (arith, nat_tests) in rw (odd, g, h) refl
+odd_row left file row number found e g h =
+    let odd : eqb (length row.fields) 2 ≡ false = grind (arith, nat_tests) in
+    rw (odd, g, h) refl
 
 -- a row of a key with its value
-pub setting_row : (left : ℕ) (file : List ℕ) (row : Row) (key value : List ℕ) → length row.fields ≡ 2 → key ≡ slice_index_or row.fields 0 [] → value ≡ slice_index_or row.fields 1 [] → include_word key ≡ None
+pub setting_row : (left : ℕ) (file : List ℕ) (row : Row) (key value : List ℕ) → length row.fields ≡ 2
+    → key ≡ slice_index_or row.fields 0 [] → value ≡ slice_index_or row.fields 1 [] → include_word key ≡ None
     → row_item left file row ≡ Setting key value
 unfolding row_item
 setting_row left file row key value two k v word = rw (two, ← k, ← v, word) refl
 
 -- an include row
-pub include_row : (left : ℕ) (file : List ℕ) (row : Row) (key value : List ℕ) (number : ℕ) (optional : Bool) → length row.fields ≡ 2 → key ≡ slice_index_or row.fields 0 [] → value ≡ slice_index_or row.fields 1 [] → number ≡ row.number
+pub include_row : (left : ℕ) (file : List ℕ) (row : Row) (key value : List ℕ) (number : ℕ) (optional : Bool)
+    → length row.fields ≡ 2 → key ≡ slice_index_or row.fields 0 [] → value ≡ slice_index_or row.fields 1 []
+    → number ≡ row.number
     → include_word key ≡ Some optional → row_item left file row ≡ include_item left file number optional value
 unfolding row_item
 include_row left file row key value number optional two k v n word = rw (two, ← k, ← v, word, n) refl

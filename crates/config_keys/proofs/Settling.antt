@@ -22,40 +22,51 @@ use Rattle.plan_files.specs.declared.store.Got.{Got}
 use Rattle.config_keys.specs.declared.config_fault.ConfigFault.{ConfigFault}
 use Rattle.config_keys.specs.declared.config_fault.ConfigFault.TheVariants as fault
 use Rattle.config_keys.specs.Items.{config_items, first_fault}
-use Rattle.config_keys.specs.Values.{effective, settings_of, said_in, own_value, own_in, good_value, first_bad, values_in, settled}
+use Rattle.config_keys.specs.Values.{effective, settings_of, said_in, own_value, own_in, good_value}
+use Rattle.config_keys.specs.Values.{first_bad, values_in, settled}
 use Rattle.config_keys.specs.Config.{value_at, setting_at, AreSettings, part_of}
 use Rattle.config_keys.proofs.KeyNames.{find_none}
 
 -- one more passes over
-pub none_more : {X : Type 0} (p : X → Bool) (xs : List X) (i : ℕ) (d : X) → i < length xs → find p (take i xs) ≡ None → p (get_or xs i d) ≡ false → find p (take (i + 1) xs) ≡ None
+pub none_more : {X : Type 0} (p : X → Bool) (xs : List X) (i : ℕ) (d : X) → i < length xs → find p (take i xs) ≡ None
+    → p (get_or xs i d) ≡ false → find p (take (i + 1) xs) ≡ None
 none_more p xs i d h e f = rw (take_more xs i d h, find-append p (take i xs) (get_or xs i d ∷ []), e, f) refl
 
 -- the first that is found
-pub found_first : {X : Type 0} (p : X → Bool) (xs : List X) (i : ℕ) (d : X) → i < length xs → find p (take i xs) ≡ None → p (get_or xs i d) ≡ true → find p xs ≡ Some (get_or xs i d)
+pub found_first : {X : Type 0} (p : X → Bool) (xs : List X) (i : ℕ) (d : X) → i < length xs
+    → find p (take i xs) ≡ None → p (get_or xs i d) ≡ true → find p xs ≡ Some (get_or xs i d)
 found_first p xs i d h e f =
-    let front : find p (take (i + 1) xs) ≡ Some (get_or xs i d) = rw (take_more xs i d h, find-append p (take i xs) (get_or xs i d ∷ []), e, f) refl in
+    let front : find p (take (i + 1) xs) ≡ Some (get_or xs i d) =
+    rw (take_more xs i d h, find-append p (take i xs) (get_or xs i d ∷ []), e, f) refl in
     sym (ap (find p) (take-append-drop (i + 1) xs)) ∙ find-append p (take (i + 1) xs) (drop (i + 1) xs) ∙ rw front refl
 
 -- a key whose value is bad
-pub settled_bad : (said : Key → Option (List ℕ)) (keys : List Key) (i : ℕ) (d : Key) → keys ≡ all_keys → i < length keys → find (λ key. not (is_some (good_value said key))) (take i keys) ≡ None → good_value said (get_or keys i d) ≡ None
+pub settled_bad : (said : Key → Option (List ℕ)) (keys : List Key) (i : ℕ) (d : Key) → keys ≡ all_keys
+    → i < length keys → find (λ key. not (is_some (good_value said key))) (take i keys) ≡ None
+    → good_value said (get_or keys i d) ≡ None
     → settled said ≡ Err (fault.BadValue (get_or keys i d))
 unfolding settled
 settled_bad said keys i d e h none bad =
-    let found : first_bad said ≡ Some (get_or keys i d) = sym (ap (find (λ key. not (is_some (good_value said key)))) e) ∙ found_first (λ key. not (is_some (good_value said key))) keys i d h none (rw bad refl) in
+    let found : first_bad said ≡ Some (get_or keys i d) = sym (ap (find (λ key. not (is_some (good_value said key))))
+    e) ∙ found_first (λ key. not (is_some (good_value said key))) keys i d h none (rw bad refl) in
     rw found refl
 
 -- no key whose value is bad
-pub settled_good : (said : Key → Option (List ℕ)) (keys : List Key) (values : List ℤ) (i : ℕ) → keys ≡ all_keys → length keys ≤ i → find (λ key. not (is_some (good_value said key))) (take i keys) ≡ None
-    → values ≡ map (λ key. unwrap_or (good_value said key) (pos 0)) (take i keys) → (settled said ≡ Ok values) × (first_bad said ≡ None) × (values ≡ values_in said)
+pub settled_good : (said : Key → Option (List ℕ)) (keys : List Key) (values : List ℤ) (i : ℕ) → keys ≡ all_keys
+    → length keys ≤ i → find (λ key. not (is_some (good_value said key))) (take i keys) ≡ None
+    → values ≡ map (λ key. unwrap_or (good_value said key) (pos 0)) (take i keys) → (settled said ≡ Ok values)
+    × (first_bad said ≡ None) × (values ≡ values_in said)
 unfolding settled
 settled_good said keys values i e h none told = grind (arith, take_all)
 
 -- a value that is kept passes the test
-kept_some : (test : ℤ → Bool) (o : Option ℤ) (value : ℤ) → kept_if test o ≡ Some value → (o ≡ Some value) × (test value ≡ true)
+kept_some : (test : ℤ → Bool) (o : Option ℤ) (value : ℤ) → kept_if test o ≡ Some value → (o ≡ Some value)
+    × (test value ≡ true)
 kept_some test None value e = cc
 kept_some test (Some other) value e = at_test (test other) refl e
   where
-    at_test : (t : Bool) → test other ≡ t → cond t (Some other) None ≡ Some value → (Some other ≡ Some value) × (test value ≡ true)
+    at_test : (t : Bool) → test other ≡ t → cond t (Some other) None ≡ Some value → (Some other ≡ Some value)
+        × (test value ≡ true)
     at_test true f g = let same : other ≡ value = cc in (g, rw same at f)
     at_test false f g = cc
 
@@ -78,7 +89,8 @@ module _ (said : Key → Option (List ℕ)) (good : first_bad said ≡ None) whe
   good_there : (k : Key) → good_value said k ≡ Some (value_at (values_in said) k)
   good_there k =
       let there = key_there k k in
-      let some = some_value (good_value said k) (rw there.0 at (find_none (λ key. not (is_some (good_value said key))) all_keys (key_place k) k good there.1)) in
+      let some = some_value (good_value said k) (rw there.0 at
+      (find_none (λ key. not (is_some (good_value said key))) all_keys (key_place k) k good there.1)) in
       let at = get_or-map (λ key. unwrap_or (good_value said key) (pos 0)) all_keys (key_place k) k (pos 0) there.1 in
       some ∙ ap Some (sym (at ∙ ap (λ (j : Key). unwrap_or (good_value said j) (pos 0)) there.0))
 
@@ -106,7 +118,8 @@ module _ (said : Key → Option (List ℕ)) (good : first_bad said ≡ None) whe
   }
 
 -- what holds of each holds of all
-all_mapped : {X Y : Type 0} (p : Y → Bool) (f : X → Y) (xs : List X) → ((x : X) → p (f x) ≡ true) → list_all p (map f xs) ≡ true
+all_mapped : {X Y : Type 0} (p : Y → Bool) (f : X → Y) (xs : List X) → ((x : X) → p (f x) ≡ true)
+    → list_all p (map f xs) ≡ true
 all_mapped p f [] h = refl
 all_mapped p f (x ∷ xs) h = rw (h x) (all_mapped p f xs h)
 
@@ -173,14 +186,20 @@ module _ (values : List ℤ) where
 
 -- ---- the settings of a dataset that are not refused
 
-without_fault : (said : Key → Option (List ℕ)) (fault : Option ConfigFault) (values : List ℤ) → option_map_or (λ reason. Err reason) fault (settled said) ≡ Ok values → settled said ≡ Ok values
+without_fault : (said : Key → Option (List ℕ)) (fault : Option ConfigFault) (values : List ℤ)
+    → option_map_or (λ reason. Err reason) fault (settled said) ≡ Ok values → settled said ≡ Ok values
 without_fault said None values e = e
 without_fault said (Some reason) values e = absurd (cc)
 
-without_bad : (said : Key → Option (List ℕ)) (bad : Option Key) (values : List ℤ) → first_bad said ≡ bad → option_map_or (λ key. Err (fault.BadValue key)) bad (Ok (values_in said)) ≡ Ok values → AreSettings values
-without_bad said None values good e = let same : values_in said ≡ values = cc in subst AreSettings same (are_settings said good)
+without_bad : (said : Key → Option (List ℕ)) (bad : Option Key) (values : List ℤ) → first_bad said ≡ bad
+    → option_map_or (λ key. Err (fault.BadValue key)) bad (Ok (values_in said)) ≡ Ok values → AreSettings values
+without_bad said None values good e =
+    let same : values_in said ≡ values = cc in
+    subst AreSettings same (are_settings said good)
 without_bad said (Some key) values good e = absurd (cc)
 
 pub effective_settings : (look : List ℕ → Got) (values : List ℤ) → effective look ≡ Ok values → AreSettings values
 unfolding settings_of settled
-effective_settings look values e = let said = said_in (config_items look) in without_bad said (first_bad said) values refl (without_fault said (first_fault 0 (config_items look)) values e)
+effective_settings look values e =
+    let said = said_in (config_items look) in
+    without_bad said (first_bad said) values refl (without_fault said (first_fault 0 (config_items look)) values e)

@@ -9,15 +9,19 @@ use Rattle.config_keys.specs.declared.config_end.ConfigEnd.{ConfigEnd}
 use Rattle.config_keys.specs.declared.config_end.ConfigEnd.TheVariants.{Refused, FileFault, NoMemory}
 use Rattle.config_keys.specs.declared.reading.Reading.{Reading}
 use Rattle.config_keys.specs.Items.{Item, Setting, Include, Fault, first_fault, include_count, last_said}
-use Rattle.config_keys.specs.Said.{ReadOn, ReadGives}
+use Rattle.config_keys.specs.ReadSoFar.{ReadOn, ReadGives}
 
-further : (count : ℕ) (last : ConfigFault) (xs ys : List Item) (t : Bool) → (first_fault (count + 1) xs ≡ None → first_fault (count + 1) (xs ++ ys) ≡ first_fault (count + 1 + include_count xs) ys)
-    → cond t (first_fault (count + 1) xs) (Some last) ≡ None → cond t (first_fault (count + 1) (xs ++ ys)) (Some last) ≡ first_fault (count + (include_count xs + 1)) ys
+further : (count : ℕ) (last : ConfigFault) (xs ys : List Item) (t : Bool)
+    → (first_fault (count + 1) xs ≡ None
+    → first_fault (count + 1) (xs ++ ys) ≡ first_fault (count + 1 + include_count xs) ys)
+    → cond t (first_fault (count + 1) xs) (Some last) ≡ None
+    → cond t (first_fault (count + 1) (xs ++ ys)) (Some last) ≡ first_fault (count + (include_count xs + 1)) ys
 further count last xs ys true f e = grind arith
 further count last xs ys false f e = cc
 
 -- where there was no fault, faults are sought further
-pub first_fault-further : (count : ℕ) (xs ys : List Item) → first_fault count xs ≡ None → first_fault count (xs ++ ys) ≡ first_fault (count + include_count xs) ys
+pub first_fault-further : (count : ℕ) (xs ys : List Item) → first_fault count xs ≡ None
+    → first_fault count (xs ++ ys) ≡ first_fault (count + include_count xs) ys
 unfolding first_fault include_count
 first_fault-further count [] ys e = rw add-zero refl
 first_fault-further count (Setting key value ∷ xs) ys e = first_fault-further count xs ys e
@@ -25,12 +29,15 @@ first_fault-further count (Include file row optional path ∷ xs) ys e =
     further count (fault.TooManyIncludes file row) xs ys (ltb count 1000) (first_fault-further (count + 1) xs ys) e
 first_fault-further count (Fault reason ∷ xs) ys e = cc
 
-stays : (all some : Option ConfigFault) (last reason : ConfigFault) (t : Bool) → (some ≡ Some reason → all ≡ Some reason) → cond t some (Some last) ≡ Some reason → cond t all (Some last) ≡ Some reason
+stays : (all some : Option ConfigFault) (last reason : ConfigFault) (t : Bool)
+    → (some ≡ Some reason → all ≡ Some reason) → cond t some (Some last) ≡ Some reason
+    → cond t all (Some last) ≡ Some reason
 stays all some last reason true f e = f e
 stays all some last reason false f e = e
 
 -- a fault that was found stays the first
-pub first_fault-stays : (count : ℕ) (xs ys : List Item) (reason : ConfigFault) → first_fault count xs ≡ Some reason → first_fault count (xs ++ ys) ≡ Some reason
+pub first_fault-stays : (count : ℕ) (xs ys : List Item) (reason : ConfigFault) → first_fault count xs ≡ Some reason
+    → first_fault count (xs ++ ys) ≡ Some reason
 unfolding first_fault
 first_fault-stays count [] ys reason e = cc
 first_fault-stays count (Setting key value ∷ xs) ys reason e = first_fault-stays count xs ys reason e
@@ -45,10 +52,12 @@ include_count-append (Setting key value ∷ xs) ys = include_count-append xs ys
 include_count-append (Include file row optional path ∷ xs) ys = omega (arith, include_count-append xs ys)
 include_count-append (Fault reason ∷ xs) ys = include_count-append xs ys
 
-pub last_said-append : (name : List ℕ) (before : Option (List ℕ)) (xs ys : List Item) → last_said name before (xs ++ ys) ≡ last_said name (last_said name before xs) ys
+pub last_said-append : (name : List ℕ) (before : Option (List ℕ)) (xs ys : List Item)
+    → last_said name before (xs ++ ys) ≡ last_said name (last_said name before xs) ys
 unfolding last_said
 last_said-append name before [] ys = refl
-last_said-append name before (Setting key value ∷ xs) ys = last_said-append name (cond (bytes_eq key name) (Some value) before) xs ys
+last_said-append name before (Setting key value ∷ xs) ys =
+    last_said-append name (cond (bytes_eq key name) (Some value) before) xs ys
 last_said-append name before (Include file row optional path ∷ xs) ys = last_said-append name before xs ys
 last_said-append name before (Fault reason ∷ xs) ys = last_said-append name before xs ys
 
@@ -58,13 +67,16 @@ unfolding first_fault include_count last_said
 read_none reading = record { faultless = refl; counted = omega arith; told = λ key. refl }
 
 -- reading goes on over items, and then over more
-pub read_more : (xs ys : List Item) (old mid new : Reading) → ReadOn xs old mid → ReadOn ys mid new → ReadOn (xs ++ ys) old new
+pub read_more : (xs ys : List Item) (old mid new : Reading) → ReadOn xs old mid → ReadOn ys mid new
+    → ReadOn (xs ++ ys) old new
 read_more xs ys old mid new h k =
     grind (arith, first_fault-further, include_count-append, last_said-append)
 
 -- and what it gives then is what it gives over all of them
-pub gives_more : (xs ys : List Item) (old mid new : Reading) (result : Result (Unit {0}) ConfigEnd) → ReadOn xs old mid → ReadGives ys mid new result → ReadGives (xs ++ ys) old new result
+pub gives_more : (xs ys : List Item) (old mid new : Reading) (result : Result (Unit {0}) ConfigEnd)
+    → ReadOn xs old mid → ReadGives ys mid new result → ReadGives (xs ++ ys) old new result
 gives_more xs ys old mid new (Ok done) h k = read_more xs ys old mid new h k
-gives_more xs ys old mid new (Err (Refused reason)) h k = first_fault-further old.includes xs ys h.faultless ∙ rw (← h.counted) k
+gives_more xs ys old mid new (Err (Refused reason)) h k =
+    first_fault-further old.includes xs ys h.faultless ∙ rw (← h.counted) k
 gives_more xs ys old mid new (Err FileFault) h k = tt
 gives_more xs ys old mid new (Err NoMemory) h k = tt

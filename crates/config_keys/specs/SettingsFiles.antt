@@ -1,5 +1,6 @@
 -- What a settings file says, as it is kept once it is read.
-use Rattle.std.specs.Prelude.{ℕ, ◌≡◌, ◌==◌, if◌then◌else◌, Bool, List, [], ◌∷◌, ◌++◌, Option, Some, None, IfSome, string_bytes}
+use Rattle.std.specs.Prelude.{ℕ, ◌≡◌, ◌==◌, if◌then◌else◌, Bool, List, [], ◌∷◌, ◌++◌, Option, Some}
+use Rattle.std.specs.Prelude.{None, IfSome, string_bytes}
 use Rattle.std.specs.List.{flat_map}
 use Rattle.std.specs.Option.{option_map}
 use Rattle.std.specs.HashMap.{get_by_text}
@@ -21,12 +22,15 @@ use Rattle.config_keys.specs.declared.settings_file.FaultRow.{FaultRow}
 use Rattle.config_keys.specs.declared.settings_file.SettingsFile.{SettingsFile}
 use Rattle.config_keys.specs.declared.settings_file.Turn.{Turn}
 use Rattle.config_keys.specs.declared.settings_file.Turn.TheVariants as turn
-use Rattle.config_keys.specs.Items.{Item, Include, Fault, include_item, brought, row_items, text_items, first_fault, include_count, last_said}
-use Rattle.config_keys.specs.Said.{said_items}
+use Rattle.config_keys.specs.Items.{Item, Include, Fault, include_item, brought, row_items}
+use Rattle.config_keys.specs.Items.{text_items, first_fault, include_count, last_said}
+use Rattle.config_keys.specs.ReadSoFar.{said_items}
 
 -- what an include row says that is kept, in a file below which so many levels are left
 abbrev pub kept_item : ℕ → List ℕ → IncludeRow → Item
-kept_item left file include = if left == 0 then Fault (fault.TooDeep file include.row) else Include file include.row include.optional (string_bytes include.path)
+kept_item left file include =
+    if left == 0 then Fault (fault.TooDeep file include.row) else Include file include.row include.optional
+    (string_bytes include.path)
 
 -- why a row is refused that is refused in any file
 abbrev pub fault_by : List ℕ → ℕ → BadRow → ConfigFault
@@ -65,16 +69,19 @@ module _ (look : List ℕ → Got) (inner : List ℕ → List ℕ → List Item)
 pub record Alike (xs ys : List Item) : Type 0 where
   pub same : (count : ℕ) → first_fault count xs ≡ first_fault count ys
   pub counts : (count : ℕ) → first_fault count xs ≡ None → include_count xs ≡ include_count ys
-  pub says : (count : ℕ) → first_fault count xs ≡ None → (key : Key) (before : Option (List ℕ)) → last_said (key_name key) before xs ≡ last_said (key_name key) before ys
+  pub says : (count : ℕ) → first_fault count xs ≡ None → (key : Key) (before : Option (List ℕ))
+      → last_said (key_name key) before xs ≡ last_said (key_name key) before ys
 
--- what rows say and bring, by what is found under each path, by what included texts bring, and by the levels and the name of the file
+-- what rows say and bring, by what is found under each path, by what included texts bring, and by
+-- the levels and the name of the file
 abbrev pub Brought : Type 0
 Brought = (List ℕ → Got) → (List ℕ → List ℕ → List Item) → ℕ → List ℕ → List Item
 
 -- what is told at last, and then comes, is read like what was told at first, and then came
 abbrev pub TellsOn : Sections → Brought → Sections → Brought → Type 0
 TellsOn old came new comes = (look : List ℕ → Got) (inner : List ℕ → List ℕ → List Item) (left : ℕ) (file : List ℕ) →
-    Alike (told_items look inner left file old ++ came look inner left file) (told_items look inner left file new ++ comes look inner left file)
+    Alike (told_items look inner left file old ++ came look inner left file)
+    (told_items look inner left file new ++ comes look inner left file)
 
 -- what rows say and bring
 abbrev pub brings : List Row → Brought
@@ -82,12 +89,17 @@ brings rows look inner left file = flat_map (row_items look inner left file) row
 
 -- what taking a row gives, whatever rows come after it
 abbrev pub RowGives : Row → Sections → Sections → Turn → Type 0
-RowGives row old new turn = (rest : List Item) → TellsOn old (λ look inner left file. row_items look inner left file row ++ rest) new (λ look inner left file. turn_items file turn rest)
+RowGives row old new turn =
+    (rest : List Item)
+    → TellsOn old (λ look inner left file. row_items look inner left file row ++ rest) new
+    (λ look inner left file. turn_items file turn rest)
 
 -- the same of an include row
 abbrev pub IncludeTold : ℕ → Bool → List ℕ → Sections → Sections → Turn → Type 0
 IncludeTold row optional name old new turn = (rest : List Item) →
-    TellsOn old (λ look inner left file. follow_items look inner left file (include_item left file row optional name) ++ rest) new (λ look inner left file. turn_items file turn rest)
+    TellsOn old
+    (λ look inner left file. follow_items look inner left file (include_item left file row optional name) ++ rest) new
+    (λ look inner left file. turn_items file turn rest)
 
 -- what taking rows gives
 abbrev pub RowsTold : List Row → Sections → Sections → Option FaultRow → Type 0
@@ -95,7 +107,9 @@ RowsTold rows old new refused = TellsOn old (brings rows) new (λ look inner lef
 
 -- what taking a text gives
 abbrev pub TextTold : List ℕ → Sections → Sections → Option FaultRow → Type 0
-TextTold text old new refused = TellsOn old (λ look inner left file. text_items look inner left file text) new (λ look inner left file. fault_items file refused)
+TextTold text old new refused =
+    TellsOn old (λ look inner left file. text_items look inner left file text) new
+    (λ look inner left file. fault_items file refused)
 
 -- a file that is kept says what its text says
 abbrev pub Says : List ℕ → SettingsFile → Type 0

@@ -3,7 +3,7 @@ ghost use Rattle.std.specs.Prelude.{◌≡◌, ◌∷◌, ◌++◌, [], true, If
 ghost use Rattle.giv_files.specs.CrossRules.{keeps_rule};
 ghost use Rattle.giv_files.specs.Keys.{allows};
 ghost use Rattle.giv_files.specs.Settings.{SettingsFit};
-ghost use Rattle.config_keys.specs.Said.{said_of};
+ghost use Rattle.config_keys.specs.ReadSoFar.{said_of};
 ghost use Rattle.config_keys.specs.Values.{good_value, own_in};
 ghost use Rattle.config_keys.specs.Config.{value_at, setting_at, part_of, last_stage_of, SettleGives};
 

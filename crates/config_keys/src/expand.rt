@@ -3,8 +3,8 @@ ghost use Rattle.std.specs.Prelude.{◌≡◌, ◌++◌, false, IfOk, IfSome, On
 ghost use Rattle.plan_files.specs.Reads.{OnlyReads};
 ghost use Rattle.config_keys.specs.Ends.{is_broken};
 ghost use Rattle.config_keys.specs.Items.{look_in, config_items, below};
-ghost use Rattle.config_keys.specs.Said.{ReadOn, ReadGives, said_items};
-ghost use Rattle.config_keys.specs.Parts.{IncludeGives, KeepGives};
+ghost use Rattle.config_keys.specs.ReadSoFar.{ReadOn, ReadGives, said_items};
+ghost use Rattle.config_keys.specs.PartsOfReading.{IncludeGives, KeepGives};
 ghost use Rattle.config_keys.specs.SettingsFiles.{kept_item, fault_by, fault_items, follow_items, file_items};
 
 use crate::config_end::ConfigEnd;
@@ -21,6 +21,13 @@ const CONFIG_NAME: &str = "basis/Config.cnf";
 
 const MOST_LEVELS: u8 = 8;
 
+// Where a row stands: in the file of a name, below which includes may be so many levels deep.
+#[derive(Clone, Copy)]
+struct Place<'a> {
+    name: &'a str,
+    left: u8,
+}
+
 /// Reads a dataset's config file, and what it includes.
 pub(crate) fn read_all<F: Files>(
     alloc: Global,
@@ -35,40 +42,38 @@ pub(crate) fn read_all<F: Files>(
     let mut kept = KeptFiles::new(alloc);
     match kept.file(alloc, files, CONFIG_NAME, true)? {
         None => Ok(()),
-        Some(file) => read_file(
-            alloc,
-            files,
-            &mut kept,
-            reading,
-            CONFIG_NAME,
-            file.as_ref(),
-            MOST_LEVELS,
-        ),
+        Some(file) => {
+            let place = Place {
+                name: CONFIG_NAME,
+                left: MOST_LEVELS,
+            };
+            read_file(alloc, files, &mut kept, reading, place, file.as_ref())
+        }
     }
 }
 
-// Reads what a file says, below which includes may be so many levels deep.
+// Reads what a file says.
 #[cycle(expand)]
 fn read_file<F: Files>(
     alloc: Global,
     files: &mut F,
     kept: &mut KeptFiles,
     reading: &mut Reading,
-    name: &str,
+    place: Place<'_>,
     file: &SettingsFile,
-    left: u8,
 ) -> Result<(), ConfigEnd>
     ensures read { IfSome (F.contents files.old) (λ folder. KeepGives (look_in folder)
-        (file_items (look_in folder) (below (look_in folder) left) left name.now file.now)
+        (file_items (look_in folder) (below (look_in folder) place.entry.left) place.entry.left
+        place.entry.name.now file.now)
         kept.old kept.new reading.old reading.new result) }
     ensures only_reads { OnlyReads F.contents F.writes F.faults files.old files.new
         (is_broken result) }
 {
     for section in &file.told.sections {
         read_said(alloc, reading, &section.said)?;
-        read_include(alloc, files, kept, reading, name, &section.include, left)?;
+        read_include(alloc, files, kept, reading, place, &section.include)?;
     }
-    read_end(alloc, reading, name, file)
+    read_end(alloc, reading, place.name, file)
 }
 
 // Reads an include row, and what its file says.
@@ -78,22 +83,27 @@ fn read_include<F: Files>(
     files: &mut F,
     kept: &mut KeptFiles,
     reading: &mut Reading,
-    name: &str,
+    place: Place<'_>,
     include: &IncludeRow,
-    left: u8,
 ) -> Result<(), ConfigEnd>
     ensures read { IfSome (F.contents files.old) (λ folder. KeepGives (look_in folder)
-        (follow_items (look_in folder) (below (look_in folder) left) left name.now
-        (kept_item left name.now include.now))
+        (follow_items (look_in folder) (below (look_in folder) place.entry.left) place.entry.left
+        place.entry.name.now (kept_item place.entry.left place.entry.name.now include.now))
         kept.old kept.new reading.old reading.new result) }
     ensures only_reads { OnlyReads F.contents F.writes F.faults files.old files.new
         (is_broken result) }
 {
-    take_include(alloc, reading, name, include, left)?;
+    take_include(alloc, reading, place, include)?;
     let path = include.path.as_str();
     match kept.file(alloc, files, path, include.optional)? {
         None => Ok(()),
-        Some(file) => read_file(alloc, files, kept, reading, path, file.as_ref(), left - 1),
+        Some(file) => {
+            let below = Place {
+                name: path,
+                left: place.left - 1,
+            };
+            read_file(alloc, files, kept, reading, below, file.as_ref())
+        }
     }
 }
 
@@ -101,22 +111,22 @@ fn read_include<F: Files>(
 fn take_include(
     alloc: Global,
     reading: &mut Reading,
-    file: &str,
+    place: Place<'_>,
     include: &IncludeRow,
-    left: u8,
 ) -> Result<(), ConfigEnd>
-    ensures { IncludeGives left (kept_item left file.now include.now) reading.old reading.new result }
+    ensures { IncludeGives place.entry.left (kept_item place.entry.left place.entry.name.now include.now)
+        reading.old reading.new result }
 {
     let row = include.row;
-    if left == 0 {
+    if place.left == 0 {
         return Err(ConfigEnd::Refused(ConfigFault::TooDeep {
-            name: Text::copy(alloc, file.as_bytes())?,
+            name: Text::copy(alloc, place.name.as_bytes())?,
             row,
         }));
     }
     if reading.includes >= MOST_INCLUDES {
         return Err(ConfigEnd::Refused(ConfigFault::TooManyIncludes {
-            name: Text::copy(alloc, file.as_bytes())?,
+            name: Text::copy(alloc, place.name.as_bytes())?,
             row,
         }));
     }

@@ -38,7 +38,8 @@ fn is_inside(name: &[u8]) -> bool
 
 /// The name as text, where it is that of a config file of the same folder.
 pub(crate) fn inside(name: &[u8]) -> Option<&str>
-    ensures { MatchOption result (is_inside name.now ≡ false) (λ text. (is_inside name.now ≡ true) × (text.now ≡ name.now)) }
+    ensures { MatchOption result (is_inside name.now ≡ false)
+        (λ text. (is_inside name.now ≡ true) × (text.now ≡ name.now)) }
 {
     if !is_inside(name) {
         return None;

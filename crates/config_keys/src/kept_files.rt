@@ -7,7 +7,7 @@ ghost use Rattle.std.specs.Str.{bytes_eq};
 ghost use Rattle.plan_files.specs.Reads.{OnlyReads};
 ghost use Rattle.config_keys.specs.Ends.{is_broken};
 ghost use Rattle.config_keys.specs.Items.{look_in};
-ghost use Rattle.config_keys.specs.Parts.{FetchGives, FileGives};
+ghost use Rattle.config_keys.specs.PartsOfReading.{FetchGives, FileGives};
 ghost use Rattle.config_keys.specs.SettingsFiles.{Says, AllKept, kept_at};
 
 use crate::config_end::ConfigEnd;

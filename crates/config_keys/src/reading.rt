@@ -1,7 +1,7 @@
 // What has been read of a config.
 ghost use Rattle.std.specs.Prelude.{◌≡◌};
 ghost use Rattle.std.specs.Option.{option_copied};
-ghost use Rattle.config_keys.specs.Said.{said_of};
+ghost use Rattle.config_keys.specs.ReadSoFar.{said_of};
 
 use crate::said::Said;
 use giv_files::Key;

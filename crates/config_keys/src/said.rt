@@ -3,7 +3,7 @@ ghost use Rattle.std.specs.Prelude.{◌≡◌, ◌∷◌, [], OnOk};
 ghost use Rattle.std.specs.Option.{option_copied};
 ghost use Rattle.giv_files.specs.Keys.{key_name};
 ghost use Rattle.config_keys.specs.Items.{Setting};
-ghost use Rattle.config_keys.specs.Said.{text_of, is_named, key_named, said_item, said_items, SaysOn};
+ghost use Rattle.config_keys.specs.ReadSoFar.{text_of, is_named, key_named, said_item, said_items, SaysOn};
 
 use giv_files::Key;
 use indexmap::IndexMap;

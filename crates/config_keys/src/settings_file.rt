@@ -2,7 +2,7 @@
 ghost use Rattle.std.specs.Prelude.{◌≡◌, ◌∷◌, ◌++◌, [], IfOk, OnOk, string_bytes};
 ghost use Rattle.config_keys.specs.Includes.{path_of};
 ghost use Rattle.config_keys.specs.Items.{include_word};
-ghost use Rattle.config_keys.specs.Said.{text_of};
+ghost use Rattle.config_keys.specs.ReadSoFar.{text_of};
 ghost use Rattle.config_keys.specs.SettingsFiles.{RowGives, IncludeTold, RowsTold, TextTold, Says};
 
 use crate::include::{inside, path_of};

@@ -1,11 +1,13 @@
 -- What is found breaks no rule.
-use Rattle.std.proofs.Common.{◌≡◌, ℕ, ℤ, suc, ◌<◌, ◌&&◌, ◌||◌, ◌==◌, nat_lt, not, Bool, true, false, List, [], ◌∷◌, ◌++◌, length, get_or, Some, None, ap, sym, ◌∙◌, refl, arith, inl, inr, subst}
+use Rattle.std.proofs.Common.{◌≡◌, ℕ, ℤ, suc, ◌<◌, ◌&&◌, ◌||◌, ◌==◌, nat_lt, not, Bool, true, false, List, [], ◌∷◌}
+use Rattle.std.proofs.Common.{◌++◌, length, get_or, Some, None, ap, sym, ◌∙◌, refl, arith, inl, inr, subst}
 use Rattle.std.specs.Cmp.{nat_eq_equiv}
 use Rattle.std.specs.Cmp.Derive.{both_true}
 use Rattle.std.specs.Prelude.{All, Contains, slice_get}
 use Rattle.std.specs.List.{list_any, range_with_len}
 use Rattle.std.specs.Option.{option_map_or}
-use Rattle.std.proofs.lemmas.Bool.{both_ways, lt-ltb, ltb-true, or_from, false_from_ne_true as false_from, and_right as false_right, and_parts as both}
+use Rattle.std.proofs.lemmas.Bool.{both_ways, lt-ltb, ltb-true, or_from, false_from_ne_true as false_from}
+use Rattle.std.proofs.lemmas.Bool.{and_right as false_right, and_parts as both}
 use Rattle.std.proofs.lemmas.Bool.Decides.{Decides-eqb}
 use Rattle.std.proofs.lemmas.List.Elements.{All-cons, All-contains_itself}
 use Rattle.std.proofs.lemmas.List.Folds.{list_any_none}
@@ -16,8 +18,10 @@ use Rattle.connections.specs.declared.found.Found.{Found}
 use Rattle.connections.specs.declared.rule.JourneyRule.TheVariants as rule
 use Rattle.connections.specs.Earliest.{IsAnswer, IsNoLater, IsToldJourney, is_before, is_rising}
 use Rattle.connections.specs.Nets.{IsConnection, JourneyParts, time_at}
-use Rattle.connections.specs.Journeys.{IsReached, arrives_at, begins, ends, is_journey, is_ride, last_of, leads, passes_at, starts}
-use Rattle.connections.specs.Judged.{broken_where, first_broken_rule, has_arrival, is_astray, is_in, is_missed, is_no_journey, misses_start, misses_step}
+use Rattle.connections.specs.Journeys.{IsReached, arrives_at, begins, ends, is_journey, is_ride, last_of, leads}
+use Rattle.connections.specs.Journeys.{passes_at, starts}
+use Rattle.connections.specs.Judged.{broken_where, first_broken_rule, has_arrival, is_astray, is_in, is_missed}
+use Rattle.connections.specs.Judged.{is_no_journey, misses_start, misses_step}
 use Rattle.connections.specs.Laws.{AnswersPass}
 use Rattle.connections.proofs.Passing.{last_some, there, way}
 

@@ -1,7 +1,7 @@
 -- The first arrival that can be reached, event by event.
 use Rattle.std.proofs.Common.{◌≡◌, ℕ, ℤ, ◌+◌, ◌<◌, ◌⊎◌, ◌&&◌, inl, inr, nat_lt, Bool, true, false}
 use Rattle.std.proofs.Common.{List, Option, Some, None, refl, sym, ap, subst, arith}
-use Rattle.std.proofs.lemmas.Bool.{and_parts, both_ways, cases_Bool, cases_eq, cases_order, cond_both, ltb-false, ltb-true}
+use Rattle.std.proofs.lemmas.Bool.{and_parts, both_ways, cases_Bool, cases_eq, cond_both, ltb-true}
 use Rattle.connections.specs.declared.way.Way.{Way}
 use Rattle.connections.specs.Earliest.{IsNoLater}
 use Rattle.connections.specs.Ends.{IsFirstEnd, earlier_end, is_end}
@@ -93,18 +93,6 @@ module _ (net : JourneyParts) (ways : List Way) (to : ℤ) (event : ℕ) where
           let early = ltb-true (time_at net event) (time_at net end) is in
           let times = same.0 in
           inl (omega (arith, early, times))
-
-      stays : (end < event) → sooner end ≡ false → IsNoLater net end event
-      stays low fails = from (cases_order (time_at net end) (time_at net event))
-        where
-          from : (time_at net end ≡ time_at net event)
-              ⊎ ((time_at net end < time_at net event) ⊎ (time_at net event < time_at net end))
-              → IsNoLater net end event
-          from (inl same) = inr (same, omega (arith, low))
-          from (inr (inl less)) = inl less
-          from (inr (inr more)) =
-              let late = ltb-false (time_at net event) (time_at net end) fails in
-              absurd (omega (arith, more, late))
 
       by : (other : ℕ) → (arrives && (reached && sooner end)) ≡ false
           → is_end net ways to other ≡ true → (other < event) ⊎ (other ≡ event)

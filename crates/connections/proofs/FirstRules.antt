@@ -8,7 +8,8 @@ use Rattle.connections.specs.declared.rule.JourneyRule.{JourneyRule}
 use Rattle.connections.specs.declared.rule.JourneyRule.TheVariants as rule
 use Rattle.connections.specs.Earliest.{is_rising}
 use Rattle.connections.specs.Nets.{JourneyParts}
-use Rattle.connections.specs.Judged.{broken_where, first_broken_rule, has_arrival, is_astray, is_no_journey, misses_start, misses_step}
+use Rattle.connections.specs.Judged.{broken_where, first_broken_rule, has_arrival, is_astray, is_no_journey}
+use Rattle.connections.specs.Judged.{misses_start, misses_step}
 
 first_of : Bool → Bool → Bool → Bool → Option JourneyRule
 first_of a b c d = slice_get (broken_where a rule.Journey ++ broken_where b rule.Start

@@ -13,6 +13,7 @@ use Rattle.connections.specs.declared.connection.Connection.{Connection}
 use Rattle.connections.specs.declared.links.Link.{Link}
 use Rattle.connections.specs.Journeys.{leads, neighbours}
 use Rattle.connections.specs.Links.{AreLinks, IsInTurn, followed}
+use Rattle.plan_num.proofs.Tests.{same_tests}
 
 -- a link leads from one event to another
 abbrev joins : ℕ → ℕ → Link → Bool
@@ -114,12 +115,6 @@ ride_left (link ∷ links) (event ∷ next ∷ more) turn all =
 
 -- ---- both
 
-both_same : (x y : Bool) → (x ≡ true → y ≡ true) → (y ≡ true → x ≡ true) → x ≡ y
-both_same true true h g = refl
-both_same true false h g = sym (h refl)
-both_same false true h g = g refl
-both_same false false h g = refl
-
 module _ (connections : List Connection) (links : List Link)
     (are : AreLinks connections links) where
   -- a link between two events is a connection between them, and conversely
@@ -134,7 +129,7 @@ module _ (connections : List Connection) (links : List Link)
       → nat_le (length (followed links events)) 1
       ≡ all_pass (λ event next. list_any (leads event next) connections) events
   ride_by_links events =
-      both_same (nat_le (length (followed links events)) 1)
+      same_tests (nat_le (length (followed links events)) 1)
       (all_pass (λ event next. list_any (leads event next) connections) events)
       (λ few. few_left (λ event next. list_any (leads event next) connections) links events joined
       (leb-true (length (followed links events)) 1 few))

@@ -1,5 +1,6 @@
 -- What is found along the ways is the answer.
-use Rattle.std.proofs.Common.{◌≡◌, ◌∙◌, ℕ, ℤ, ◌<◌, ◌&&◌, ◌==◌, Bool, true, false, List, [], ◌∷◌, length, get_or, All, Option, Some, None, refl, ap, sym, subst, arith}
+use Rattle.std.proofs.Common.{◌≡◌, ◌∙◌, ℕ, ℤ, ◌<◌, ◌&&◌, ◌==◌, Bool, true, false, List, [], ◌∷◌, length, get_or, All}
+use Rattle.std.proofs.Common.{Option, Some, None, refl, ap, sym, subst, arith}
 use Rattle.std.specs.List.{list_any}
 use Rattle.std.specs.Option.{option_map_or}
 use Rattle.std.proofs.lemmas.Bool.{and_from, and_parts, both_ways, leb-true, and_parts as both, false_from_ne_true}
@@ -12,9 +13,11 @@ use Rattle.connections.specs.declared.found.Found.{Found}
 use Rattle.connections.specs.declared.way.Way.{Way}
 use Rattle.connections.specs.declared.way.Way.TheVariants as way
 use Rattle.connections.specs.Earliest.{AreReached, IsAnswer, IsFirstWay, IsNoLater, IsToldJourney}
-use Rattle.connections.specs.Ends.{AreLed, IsFirstEnd, IsJourneyTo, IsLed, IsStep, is_before_end, is_end, reached_before}
+use Rattle.connections.specs.Ends.{AreLed, IsFirstEnd, IsJourneyTo, IsLed, IsStep, is_before_end, is_end}
+use Rattle.connections.specs.Ends.{reached_before}
 use Rattle.connections.specs.Nets.{IsConnection, IsNet, JourneyParts}
-use Rattle.connections.specs.Journeys.{IsReached, arrives_at, begins, ends, is_journey, is_ride, last_of, leads, neighbours, passes_at, starts}
+use Rattle.connections.specs.Journeys.{IsReached, arrives_at, begins, ends, is_journey, is_ride, last_of, leads}
+use Rattle.connections.specs.Journeys.{neighbours, passes_at, starts}
 use Rattle.connections.specs.Judged.{NoneEarlier, first_broken_rule}
 use Rattle.connections.specs.Ways.{AreWays, IsBy, IsWay, is_by, is_reached, way_at}
 use Rattle.connections.proofs.FilteredRanges.{filter_rises, in_filter}

@@ -19,8 +19,10 @@ use Rattle.connections.specs.declared.rule.JourneyRule.TheVariants as rule
 use Rattle.connections.specs.declared.timed_event.TimedEvent.{TimedEvent}
 use Rattle.connections.specs.Earliest.{is_before, is_rising}
 use Rattle.connections.specs.Nets.{IsConnection, JourneyParts, time_at}
-use Rattle.connections.specs.Journeys.{IsReached, arrives_at, begins, ends, is_journey, is_ride, last_of, leads, passes_at, starts}
-use Rattle.connections.specs.Judged.{NoneEarlier, broken_where, first_broken_rule, has_arrival, is_astray, is_in, is_no_journey, misses_start, misses_step}
+use Rattle.connections.specs.Journeys.{IsReached, arrives_at, begins, ends, is_journey, is_ride, last_of, leads}
+use Rattle.connections.specs.Journeys.{passes_at, starts}
+use Rattle.connections.specs.Judged.{NoneEarlier, broken_where, first_broken_rule, has_arrival, is_astray, is_in}
+use Rattle.connections.specs.Judged.{is_no_journey, misses_start, misses_step}
 use Rattle.connections.specs.Laws.{PassingProves}
 
 -- where no rule is broken, none of four tests passes

@@ -15,6 +15,7 @@ use Rattle.connections.specs.declared.links.Link.{Link}
 use Rattle.connections.specs.Links.{IsInTurn, IsLinked, link_of, links_of}
 use Rattle.connections.specs.Nets.{IsConnection, IsNet, JourneyParts, time_at}
 use Rattle.connections.specs.RankedNets.{IsRanked, are_few, is_later, is_onward, is_ranked, is_soon, joins, rank_at}
+use Rattle.connections.specs.declared.checked_net.TheConstants.{LATEST}
 
 module _ (net : JourneyParts) (ranks : List ℕ) (are : IsRanked net ranks) where
   pub parts_net : IsNet net
@@ -145,7 +146,7 @@ module _ (net : JourneyParts) (ranks : List ℕ) (passes : is_ranked net ranks �
   passed_ranked = record {
     few = leb-true (length net.events) 100000 few.0;
     few_connections = leb-true (length net.connections) 500000 counts.0;
-    soon = λ k d inside. leb-true (get_or net.events k d).time 1000000000000000000
+    soon = λ k d inside. leb-true (get_or net.events k d).time LATEST
         (AllPass-from_list_all is_soon net.events sound.0 k d inside);
     connections = λ k d inside. is_connection (get_or net.connections k d) (one k d inside);
     each = eqb-true (length ranks) (length net.events) counts.1;

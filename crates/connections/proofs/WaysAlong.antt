@@ -16,7 +16,8 @@ use Rattle.connections.specs.declared.way.Way.TheVariants as way
 use Rattle.connections.specs.Nets.{IsConnection, JourneyParts}
 use Rattle.connections.specs.Journeys.{IsReached, leads, passes_at, starts}
 use Rattle.connections.specs.Links.{AreLinks, IsInTurn}
-use Rattle.connections.specs.Ways.{AreWays, IsWay, first_way, go_by, is_by, is_reached, lesser, or_by, way_at, ways_along}
+use Rattle.connections.specs.Ways.{AreWays, IsWay, first_way, go_by, is_by, is_reached, lesser, or_by, way_at}
+use Rattle.connections.specs.Ways.{ways_along}
 use Rattle.connections.proofs.Answers.{goes_on}
 use Rattle.connections.proofs.FollowedRides.{turn_tail}
 

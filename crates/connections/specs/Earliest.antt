@@ -1,5 +1,6 @@
 -- The journey that arrives first, and the events that can be reached before it arrives.
-use Rattle.std.specs.Prelude.{ℕ, ℤ, ◌≡◌, ◌<◌, ◌≤◌, ◌⊎◌, ◌↔◌, nat_lt, Bool, true, false, List, [], ◌∷◌, slice_get, All, Contains, Some}
+use Rattle.std.specs.Prelude.{ℕ, ℤ, ◌≡◌, ◌<◌, ◌≤◌, ◌⊎◌, ◌↔◌, nat_lt, Bool, true, false, List, [], ◌∷◌, slice_get, All}
+use Rattle.std.specs.Prelude.{Contains, Some}
 use Rattle.std.specs.List.{list_all}
 use Rattle.std.specs.Option.{option_map_or}
 use Rattle.connections.specs.declared.connection.Connection.{Connection}

@@ -1,5 +1,6 @@
 -- Journeys from one stop to another, and the events that can be reached.
-use Rattle.std.specs.Prelude.{ℕ, ℤ, pos, ◌≡◌, ◌&&◌, ◌==◌, int_le, not, Bool, true, false, List, drop, zip, slice_get, Option, Some, None}
+use Rattle.std.specs.Prelude.{ℕ, ℤ, pos, ◌≡◌, ◌&&◌, ◌==◌, int_le, not, Bool, true, false, List, drop, zip, slice_get}
+use Rattle.std.specs.Prelude.{Option, Some, None}
 use Rattle.std.specs.List.{last_or, list_all, list_any}
 use Rattle.std.specs.Option.{option_map_or}
 use Rattle.std.specs.Ordering.{int_eq}

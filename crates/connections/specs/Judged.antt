@@ -1,6 +1,7 @@
 -- The rules of a journey from any hand, and of the events that are to prove that none arrives
 -- earlier, in the order in which they are looked for.
-use Rattle.std.specs.Prelude.{ℕ, ℤ, ◌≡◌, ◌≤◌, ◌&&◌, ◌||◌, ◌==◌, nat_eq, nat_lt, not, if◌then◌else◌, Bool, true, List, [], ◌∷◌, ◌++◌, length, slice_get, Option, Some}
+use Rattle.std.specs.Prelude.{ℕ, ℤ, ◌≡◌, ◌≤◌, ◌&&◌, ◌||◌, ◌==◌, nat_eq, nat_lt, not, if◌then◌else◌, Bool, true, List}
+use Rattle.std.specs.Prelude.{[], ◌∷◌, ◌++◌, length, slice_get, Option, Some}
 use Rattle.std.specs.List.{list_any, range_with_len}
 use Rattle.connections.specs.declared.found.Found.{Found}
 use Rattle.connections.specs.declared.rule.JourneyRule.{JourneyRule}

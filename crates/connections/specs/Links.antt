@@ -1,5 +1,6 @@
 -- Inner words: the connections by the ranks of their tails.
-use Rattle.std.specs.Prelude.{ℕ, ◌≡◌, ◌<◌, ◌≤◌, ◌+◌, ◌==◌, ◌&&◌, if◌then◌else◌, Bool, false, List, [], ◌∷◌, length, map, drop, slice_get, slice_index_or, All, Contains, Some}
+use Rattle.std.specs.Prelude.{ℕ, ◌≡◌, ◌<◌, ◌≤◌, ◌+◌, ◌==◌, ◌&&◌, if◌then◌else◌, Bool, false, List, [], ◌∷◌, length, map}
+use Rattle.std.specs.Prelude.{drop, slice_get, slice_index_or, All, Contains, Some}
 use Rattle.std.specs.List.{enumerate_from}
 use Rattle.connections.specs.declared.connection.Connection.{Connection}
 use Rattle.connections.specs.declared.links.Link.{Link}

@@ -5,6 +5,7 @@ use Rattle.connections.specs.declared.connection.Connection.{Connection}
 use Rattle.connections.specs.declared.event.JourneyEvent.{JourneyEvent}
 use Rattle.connections.specs.declared.event_kind.EventKind.TheVariants as kind
 use Rattle.connections.specs.declared.timed_event.TimedEvent.{TimedEvent}
+use Rattle.connections.specs.declared.checked_net.TheConstants.{LATEST}
 
 -- the events of a day, and the activities that can be used, by id rising; events are told by their
 -- indexes
@@ -31,7 +32,7 @@ pub record IsConnection (net : JourneyParts) (connection : Connection) : Type 0 
 -- each goes forward
 pub record IsNet (net : JourneyParts) : Type 0 where
   pub few : length net.events ≤ 100000
-  pub soon : All (λ event. event.time ≤ 1000000000000000000) net.events
+  pub soon : All (λ event. event.time ≤ LATEST) net.events
   pub connections : All (IsConnection net) net.connections
   pub rank : ℕ → ℕ
   pub forward : All (λ connection. rank connection.from < rank connection.to) net.connections

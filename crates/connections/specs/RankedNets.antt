@@ -4,6 +4,7 @@ use Rattle.std.specs.List.{list_all}
 use Rattle.connections.specs.declared.connection.Connection.{Connection}
 use Rattle.connections.specs.declared.timed_event.TimedEvent.{TimedEvent}
 use Rattle.connections.specs.Nets.{IsConnection, JourneyParts, time_at}
+use Rattle.connections.specs.declared.checked_net.TheConstants.{LATEST}
 
 -- the day of events and connections
 abbrev pub parts_of : List TimedEvent → List Connection → JourneyParts
@@ -18,7 +19,7 @@ rank_at ranks event = get_or ranks event 0
 pub record IsRanked (net : JourneyParts) (ranks : List ℕ) : Type 0 where
   pub few : length net.events ≤ 100000
   pub few_connections : length net.connections ≤ 500000
-  pub soon : All (λ event. event.time ≤ 1000000000000000000) net.events
+  pub soon : All (λ event. event.time ≤ LATEST) net.events
   pub connections : All (IsConnection net) net.connections
   pub each : length ranks ≡ length net.events
   pub forward : All
@@ -26,7 +27,7 @@ pub record IsRanked (net : JourneyParts) (ranks : List ℕ) : Type 0 where
 
 -- the same as a test: a time is not too late
 abbrev pub is_soon : TimedEvent → Bool
-is_soon event = nat_le event.time 1000000000000000000
+is_soon event = nat_le event.time LATEST
 
 -- a connection joins two of so many events
 abbrev pub joins : ℕ → Connection → Bool

@@ -1,5 +1,6 @@
 -- Inner words: how events are reached, and one pass along links.
-use Rattle.std.specs.Prelude.{ℕ, ℤ, ◌≡◌, nat_le, Bool, true, false, if◌then◌else◌, List, length, get_or, slice_get, slice_set, Some}
+use Rattle.std.specs.Prelude.{ℕ, ℤ, ◌≡◌, nat_le, Bool, true, false, if◌then◌else◌, List, length, get_or, slice_get}
+use Rattle.std.specs.Prelude.{slice_set, Some}
 use Rattle.std.specs.List.{fold}
 use Rattle.connections.specs.declared.connection.Connection.{Connection}
 use Rattle.connections.specs.declared.links.Link.{Link}

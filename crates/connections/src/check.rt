@@ -4,7 +4,8 @@ ghost use Rattle.std.specs.Prelude.{◌≡◌, ◌<◌, ◌==◌, ◌&&◌, ◌|
 ghost use Rattle.connections.specs.Earliest.{is_rising};
 ghost use Rattle.connections.specs.Nets.{IsConnection};
 ghost use Rattle.connections.specs.Journeys.{begins, ends, is_journey, is_ride, last_of};
-ghost use Rattle.connections.specs.Judged.{NoneEarlier, first_broken_rule, has_arrival, is_astray, is_in, is_missed, is_no_journey, misses_start, misses_step};
+ghost use Rattle.connections.specs.Judged.{NoneEarlier, first_broken_rule, has_arrival, is_astray, is_in, is_missed};
+ghost use Rattle.connections.specs.Judged.{is_no_journey, misses_start, misses_step};
 ghost use Rattle.connections.specs.Links.{followed, leads_on};
 
 use crate::found::Found;

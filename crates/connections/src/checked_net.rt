@@ -2,24 +2,27 @@
 ghost use Rattle.std.specs.Prelude.{◌≡◌, ◌&&◌, [], is_some, IfOk, IfSome};
 ghost use Rattle.std.specs.List.{list_all};
 ghost use Rattle.connections.specs.Nets.{time_at};
-ghost use Rattle.connections.specs.RankedNets.{are_few, is_later, is_onward, is_ranked, is_soon, joins, parts_of, rank_at};
+ghost use Rattle.connections.specs.RankedNets.{are_few, is_later, is_onward, is_ranked, is_soon, joins, parts_of};
+ghost use Rattle.connections.specs.RankedNets.{rank_at};
 
 use crate::connection::Connection;
 use crate::net::JourneyNet;
 use crate::timed_event::TimedEvent;
-use plan_num::NoMemory;
+use plan_num::{NUMBER_LIMIT, NoMemory};
 use std::alloc::Global;
 
-// The most events and connections, and the latest time.
+/// The latest time that an event may have, in minutes: what a file of times holds at most. With the
+/// minutes of a connection on top it still fits a `u64`.
+pub const LATEST: u64 = NUMBER_LIMIT;
+
+// The most events and connections.
 const MOST_EVENTS: usize = 100_000;
 
 const MOST_CONNECTIONS: usize = 500_000;
 
-const LATEST: u64 = 1_000_000_000_000_000_000;
-
 impl JourneyNet {
     /// The day of events and connections, where these are such: there are at most 100,000 events,
-    /// each with a rank, and 500,000 connections, and no time is over 10^18; each connection leads
+    /// each with a rank, and 500,000 connections, and no time is after `LATEST`; each connection leads
     /// from one event to another that is no earlier and of greater rank. None else.
     pub fn checked(
         alloc: Global,

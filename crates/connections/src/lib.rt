@@ -19,6 +19,7 @@ mod timed_event;
 mod way;
 mod ways;
 
+pub use checked_net::LATEST;
 pub use connection::Connection;
 pub use event::JourneyEvent;
 pub use event_kind::EventKind;

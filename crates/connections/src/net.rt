@@ -1,5 +1,6 @@
 // Events of a day with the connections between them.
-ghost use Rattle.std.specs.Prelude.{◌≡◌, ◌<◌, ◌≤◌, length, slice_get, option_map, option_copied, All, true, Some, None, IfOk, IfNone, IfSome};
+ghost use Rattle.std.specs.Prelude.{◌≡◌, ◌<◌, ◌≤◌, length, slice_get, option_map, option_copied, All, true, Some, None};
+ghost use Rattle.std.specs.Prelude.{IfOk, IfNone, IfSome};
 ghost use Rattle.connections.specs.Earliest.{IsAnswer};
 ghost use Rattle.connections.specs.Nets.{IsConnection, IsNet, event_at, event_told};
 ghost use Rattle.connections.specs.Judged.{NoneEarlier, first_broken_rule};

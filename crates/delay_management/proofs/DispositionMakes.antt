@@ -15,7 +15,8 @@ use Rattle.giv_files.proofs.StageCalls.{refused_names}
 use Rattle.giv_files.proofs.StageCalls.{made_unless}
 use Rattle.event_tables.specs.Delays.{activity_delay_input, event_delay_input}
 use Rattle.event_tables.specs.ExpandedFiles.{expanded_activity_ids, expanded_event_ids}
-use Rattle.delay_management.specs.DispositionStage.{activities_in, delay_faults, disposed_of, disposition_faults, disposition_stage, events_in, made_faults}
+use Rattle.delay_management.specs.DispositionStage.{activities_in, delay_faults, disposed_of, disposition_faults}
+use Rattle.delay_management.specs.DispositionStage.{disposition_stage, events_in, made_faults}
 
 -- they are those that the stage is to make
 pub disposition_stage_makes : (bundle : BundleParts) (made : Made) → disposition_stage bundle ≡ Ok made

@@ -16,7 +16,8 @@ use Rattle.event_tables.specs.ExpandedFiles.{expanded_event_ids}
 use Rattle.propagation.specs.declared.reason.Reason.{Reason}
 use Rattle.propagation.specs.declared.step.Activity.{Activity}
 use Rattle.delay_management.specs.InputProblems.{day_event}
-use Rattle.delay_management.specs.DispositionStage.{disposed_of, disposition_faults, disposition_stage, events_in, kept_in, problem_in, reasons_text, times_text}
+use Rattle.delay_management.specs.DispositionStage.{disposed_of, disposition_faults, disposition_stage, events_in}
+use Rattle.delay_management.specs.DispositionStage.{kept_in, problem_in, reasons_text, times_text}
 use Rattle.propagation.specs.Reasons.{named_activity, canonical_reason, canonical_reasons}
 use Rattle.delay_management.specs.Judged.{Passes, first_broken_rule}
 use Rattle.propagation.specs.LeastTimes.{IsLeast, least_times}
@@ -25,18 +26,22 @@ use Rattle.delay_management.specs.RightDispositions.{DispositionIsRight}
 use Rattle.propagation.specs.Waiting.{is_kept, kept_changes, times_alone}
 use Rattle.delay_management.specs.WaitSettings.{wait_of}
 use Rattle.propagation.proofs.Canonical.{reasons_below}
-use Rattle.delay_management.proofs.InputsSound.{activity_ids, are_inputs, earliest_soon, events_few, problem_forward, steps_short, turnover_few}
+use Rattle.delay_management.proofs.InputsSound.{activity_ids, are_inputs, earliest_soon, events_few, problem_forward}
+use Rattle.delay_management.proofs.InputsSound.{steps_short, turnover_few}
 use Rattle.delay_management.proofs.JudgedTexts.{none_told, told_by}
 use Rattle.propagation.proofs.PassIsLeast.{back_all, front_all}
 use Rattle.propagation.proofs.ReasonsProve.{forward_with, reasons_prove_least}
-use Rattle.propagation.proofs.Rounds.{disposition_is_one, kept_are_changes, least_is_one, least_times_are_least, steps_fewer}
+use Rattle.propagation.proofs.Rounds.{disposition_is_one, kept_are_changes, least_is_one, least_times_are_least}
+use Rattle.propagation.proofs.Rounds.{steps_fewer}
 use Rattle.propagation.proofs.SmallTimes.{least_small}
 use Rattle.delay_management.proofs.TextsBack.{reasons_again, times_accepted, times_again}
 use Rattle.propagation.proofs.WrittenReasons.{written_reasons_are_right}
 use Rattle.delay_management.proofs.WrittenRows.{reasons_fit, times_fit}
+use Rattle.propagation.specs.declared.times.TheConstants.{LATEST}
 
 -- changes that are kept are changes
-among : (problem : DelayProblem) (bundle : BundleParts) → AreChanges problem (kept_changes problem (wait_of bundle.settings))
+among : (problem : DelayProblem) (bundle : BundleParts)
+    → AreChanges problem (kept_changes problem (wait_of bundle.settings))
 unfolding kept_changes
 among problem bundle = kept_are_changes problem (is_kept problem (wait_of bundle.settings) (times_alone problem))
 
@@ -47,7 +52,8 @@ named_ids : (problem : DelayProblem) (kept : List Activity) (times : List ℕ)
     → All (λ why. named_activity why ≤ 500000) (canonical_reasons problem kept times)
 unfolding canonical_reasons
 named_ids problem kept times each small =
-    subst (λ n. All (λ why. named_activity why ≤ 500000) (map (canonical_reason problem kept times) (range_with_len 0 n))) each
+    subst (λ n. All (λ why. named_activity why ≤ 500000)
+    (map (canonical_reason problem kept times) (range_with_len 0 n))) each
     (reasons_below 500000 problem.earliest times (problem.rides ++ kept) small)
 
 event_count : (bundle : BundleParts) → length (problem_in bundle).events ≡ length (events_in bundle)
@@ -84,7 +90,8 @@ module _ (bundle : BundleParts) (none : disposition_faults bundle ≡ []) where
         disposition = record {
           alone = times_alone problem;
           alone_least = least_times_are_least problem [] forward (λ k d within. absurd (omega (arith, within)));
-          least = reasons_prove_least problem kept told.times told.reasons forward (among problem bundle) told.feasible told.right;
+          least = reasons_prove_least problem kept told.times told.reasons forward
+              (among problem bundle) told.feasible told.right;
         };
         right = told.right;
       }
@@ -98,7 +105,8 @@ module _ (bundle : BundleParts) (none : disposition_faults bundle ≡ []) where
       let is = passes.disposition in
       let alone : is.alone ≡ times_alone problem = least_is_one problem [] is.alone (times_alone problem) is.alone_least
       (least_times_are_least problem [] forward (λ k d within. absurd (omega (arith, within)))) in
-      let least = subst (λ alone. IsLeast problem (filter (is_kept problem wait alone) problem.changes) passes.times) alone is.least in
+      let least = subst (λ alone. IsLeast problem
+      (filter (is_kept problem wait alone) problem.changes) passes.times) alone is.least in
       none_told problem kept times_text reasons_text (record {
         times = passes.times;
         reasons = passes.reasons;
@@ -118,7 +126,7 @@ module _ (bundle : BundleParts) (none : disposition_faults bundle ≡ []) where
     least : IsLeast problem kept times
     least = least_times_are_least problem kept forward (among problem bundle)
 
-    small : All (λ time. time ≤ 1000000000000000000) times
+    small : All (λ time. time ≤ LATEST) times
     small =
         let are = are_inputs bundle none in
         least_small problem kept forward.each (events_few bundle are) (earliest_soon bundle are)
@@ -131,14 +139,16 @@ module _ (bundle : BundleParts) (none : disposition_faults bundle ≡ []) where
         let all = activity_ids bundle (are_inputs bundle none) in
         let P = λ (activity : Activity). activity.id ≤ 500000 in
         All-append P problem.rides kept (front_all P problem.rides problem.changes all)
-        (λ k d inside. All-contains P problem.changes _ (back_all P problem.rides problem.changes all) (among problem bundle k d inside))
+        (λ k d inside. All-contains P problem.changes _ (back_all P problem.rides problem.changes all)
+        (among problem bundle k d inside))
 
     accepted_there : input_faults (disposed_time_input (expanded_event_ids (events_in bundle))) (times_text times) ≡ []
     accepted_there =
         let are = are_inputs bundle none in
         let long : length times ≡ length (events_in bundle) = least.feasible.each ∙ event_count bundle in
         subst (λ ids. input_faults (disposed_time_input ids) (times_text times) ≡ []) (sym are.events.numbered)
-        (times_accepted (length (events_in bundle)) times long (times_fit times (omega (arith, long, are.events.few)) small))
+        (times_accepted (length (events_in bundle)) times long
+        (times_fit times (omega (arith, long, are.events.few)) small))
 
     pub made_right : DispositionIsRight bundle (disposed_of problem kept)
     unfolding disposed_of
@@ -148,7 +158,8 @@ module _ (bundle : BundleParts) (none : disposition_faults bundle ≡ []) where
         let few : length times ≤ 100000 = omega (arith, long, events_few bundle are) in
         let right = written_reasons_are_right problem kept times forward (among problem bundle) least in
         let time_fit = times_fit times few small in
-        let why_fit = reasons_fit reasons (omega (arith, right.each, events_few bundle are)) (named_ids problem kept times long ids) in
+        let why_fit = reasons_fit reasons (omega (arith, right.each, events_few bundle are))
+        (named_ids problem kept times long ids) in
         record {
           inputs = none;
           times = times;

@@ -13,15 +13,13 @@ use Rattle.propagation.specs.LeastTimes.{asked, time_at}
 use Rattle.propagation.specs.Marks.{is_source, is_turn, names}
 use Rattle.propagation.specs.Problems.{DelayProblem, earliest_at, steps_with}
 use Rattle.propagation.specs.Reasons.{is_right, is_tight, reason_for}
-use Rattle.propagation.proofs.MarksTell.{or_assoc, or_none}
+use Rattle.propagation.proofs.MarksTell.{or_assoc}
+use Rattle.plan_num.proofs.Tests.{and_false, or_false}
+use Rattle.plan_num.proofs.Found.{any_mapped}
 
 any_alike : {X : Type 0} (p q : X → Bool) → ((x : X) → p x ≡ q x) → (xs : List X) → list_any p xs ≡ list_any q xs
 any_alike p q same [] = refl
 any_alike p q same (x ∷ xs) = λ i. same x i || any_alike p q same xs i
-
-any_map : {X Y : Type 0} (p : Y → Bool) (f : X → Y) (xs : List X) → list_any p (map f xs) ≡ list_any (λ x. p (f x)) xs
-any_map p f [] = refl
-any_map p f (x ∷ xs) = ap (λ rest. p (f x) || rest) (any_map p f xs)
 
 any_none : {X : Type 0} (p : X → Bool) → ((x : X) → p x ≡ false) → (xs : List X) → list_any p xs ≡ false
 any_none p none [] = refl
@@ -34,10 +32,6 @@ any_filter q p (x ∷ xs) = grind (arith, any_filter q p xs)
 -- what is asked of a head is asked of the event where the head is the event
 at_head : (head event : ℕ) (test : ℕ → Bool) → ((head == event) && test head) ≡ ((head == event) && test event)
 at_head head event test = grind arith
-
-never : (b : Bool) → (b && false) ≡ false
-never true = refl
-never false = refl
 
 swapped : (a b c : Bool) → ((a && b) && c) ≡ (a && (c && b))
 swapped true true true = refl
@@ -52,7 +46,7 @@ module _ (problem : DelayProblem) (kept : List Activity) (times : List ℕ) (eve
 
   pub early_is : is_early problem (steps_with problem kept) times event
       ≡ is_early_by problem.earliest activities problem.turns times event
-  early_is = grind (arith, nat_lt, at_head, list_any-append, any_map, any_alike, or_assoc)
+  early_is = grind (arith, nat_lt, at_head, list_any-append, any_mapped, any_alike, or_assoc)
 
   -- the same with one reason
   abbrev right_by : Reason → Bool
@@ -62,18 +56,19 @@ module _ (problem : DelayProblem) (kept : List Activity) (times : List ℕ) (eve
       || list_any (λ (turn : Step). (turn.to == event) && (is_turn why && is_just times turn)) problem.turns
 
   no_activity : list_any (λ (at : Activity). (at.step.to == event) && false) activities ≡ false
-  no_activity = any_none (λ (at : Activity). (at.step.to == event) && false) (λ at. never (at.step.to == event)) activities
+  no_activity = any_none (λ (at : Activity). (at.step.to == event) && false)
+      (λ at. and_false (at.step.to == event)) activities
 
   no_turn : list_any (λ (turn : Step). (turn.to == event) && false) problem.turns ≡ false
-  no_turn = any_none (λ (turn : Step). (turn.to == event) && false) (λ turn. never (turn.to == event)) problem.turns
+  no_turn = any_none (λ (turn : Step). (turn.to == event) && false) (λ turn. and_false (turn.to == event)) problem.turns
 
   just : (step : Step) → is_tight times event step ≡ ((step.to == event) && is_just times step)
   just step = sym (at_head step.to event (λ e. nat_eq (asked times step) (time_at times e)))
 
   by_reason : (why : Reason) → is_right problem kept times event why ≡ right_by why
-  by_reason reason.Source = grind (arith, nat_eq, no_activity, no_turn, or_none)
+  by_reason reason.Source = grind (arith, nat_eq, no_activity, no_turn, or_false)
   by_reason (reason.Activity id) =
-      grind (arith, any_map, nat_eq, any_filter, any_alike, just, swapped, no_turn, or_none)
+      grind (arith, any_mapped, nat_eq, any_filter, any_alike, just, swapped, no_turn, or_false)
   by_reason reason.Turn = grind (arith, any_alike, just, no_activity)
 
   pub right_is : (reasons : List Reason) → is_right problem kept times event (reason_for reasons event)
@@ -83,7 +78,8 @@ module _ (problem : DelayProblem) (kept : List Activity) (times : List ℕ) (eve
       ∙ (λ i. ((is_source (reason_for reasons event) && nat_eq (time_at times event) (earliest_at problem event))
       || any_alike (λ at. (at.step.to == event) && (names (reason_for reasons event) at.id && is_just times at.step))
       (λ at. (at.step.to == event) && (names (reason_for reasons at.step.to) at.id && is_just times at.step))
-      (λ at. sym (at_head at.step.to event (λ e. names (reason_for reasons e) at.id && is_just times at.step))) activities i)
+      (λ at. sym (at_head at.step.to event (λ e. names (reason_for reasons e) at.id
+      && is_just times at.step))) activities i)
       || any_alike (λ turn. (turn.to == event) && (is_turn (reason_for reasons event) && is_just times turn))
       (λ turn. (turn.to == event) && (is_turn (reason_for reasons turn.to) && is_just times turn))
       (λ turn. sym (at_head turn.to event (λ e. is_turn (reason_for reasons e) && is_just times turn))) problem.turns i)

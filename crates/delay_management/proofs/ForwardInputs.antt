@@ -22,7 +22,8 @@ use Rattle.propagation.specs.declared.step.Step.{Step}
 use Rattle.propagation.specs.DayEvents.{stands_before}
 use Rattle.propagation.specs.Links.{IsDay, parts_of}
 use Rattle.propagation.specs.Problems.{DelayProblem, GoesForward, IsForward}
-use Rattle.delay_management.specs.InputProblems.{activities_of, day_event, day_events, delayed, earliest_of, index_of, is_of, problem_over, turn_of}
+use Rattle.delay_management.specs.InputProblems.{activities_of, day_event, day_events, delayed, earliest_of, index_of}
+use Rattle.delay_management.specs.InputProblems.{is_of, problem_over, turn_of}
 use Rattle.propagation.proofs.PassIsLeast.{steps_all}
 use Rattle.delay_management.proofs.SoonInputs.{day_at, ids_rise, none_early, steps_gain}
 
@@ -64,7 +65,8 @@ module _ (turnover : ℕ) (events : List ExpandedEvent) (activities : List Expan
   some_forward changes =
       All-map (λ activity. GoesForward days activity.step) (delayed activity_rows) (filter (is_of changes) activities)
       (All-weaker (IsExpandedActivity events) (λ row. GoesForward days (delayed activity_rows row).step)
-      (λ row is. forward_step events row.from row.to (delayed activity_rows row).step are.numbered refl refl is.from is.to is.forward)
+      (λ row is. forward_step events row.from row.to
+      (delayed activity_rows row).step are.numbered refl refl is.from is.to is.forward)
       (filter (is_of changes) activities)
       (All-filter (is_of changes) (IsExpandedActivity events) activities activities_are.each))
 
@@ -73,8 +75,10 @@ module _ (turnover : ℕ) (events : List ExpandedEvent) (activities : List Expan
       All-map (GoesForward days) (turn_of turnover) (filter is_empty_row schedule)
       (λ k d inside.
       let row = get_or (filter is_empty_row schedule) k d in
-      let is : IsScheduleRow events row = All-filter is_empty_row (IsScheduleRow events) schedule rows_are.each k d inside in
-      forward_step events row.run.start.event row.run.end.event (turn_of turnover row) are.numbered refl refl is.start is.end
+      let is : IsScheduleRow events row = All-filter is_empty_row
+      (IsScheduleRow events) schedule rows_are.each k d inside in
+      forward_step events row.run.start.event row.run.end.event
+      (turn_of turnover row) are.numbered refl refl is.start is.end
       (is.forward (filter_passes is_empty_row schedule k d inside)))
 
   pub inputs_go_forward : IsForward problem
@@ -86,15 +90,35 @@ module _ (turnover : ℕ) (events : List ExpandedEvent) (activities : List Expan
   pub few_of : (changes : Bool) → length (activities_of changes activity_rows activities) ≤ 500000
   few_of changes = by changes (length-filter_both (is_of true) (is_of false) both_kinds activities)
     where
-      by : (changes : Bool) → length (filter (is_of true) activities) + length (filter (is_of false) activities) ≡ length activities
+      by : (changes : Bool) → length (filter (is_of true) activities) + length (filter (is_of false) activities)
+          ≡ length activities
           → length (activities_of changes activity_rows activities) ≤ 500000
-      by true sum = omega (arith, sum, length-map (filter (is_of true) activities) (delayed activity_rows), activities_are.few)
-      by false sum = omega (arith, sum, length-map (filter (is_of false) activities) (delayed activity_rows), activities_are.few)
+      by true sum = omega (
+        arith,
+        sum,
+        length-map (filter (is_of true) activities)
+            (delayed activity_rows),
+        activities_are.few,
+      )
+      by false sum = omega (
+        arith,
+        sum,
+        length-map (filter (is_of false) activities)
+            (delayed activity_rows),
+        activities_are.few,
+      )
 
   pub ids_below : All (λ row. row.id ≤ 500000) activities
-  ids_below k d inside = omega (arith, id_at (λ row. row.id) activities k d activities_are.numbered inside, inside, activities_are.few)
+  ids_below k d inside = omega (
+    arith,
+    id_at
+        (λ row. row.id) activities k d activities_are.numbered inside,
+    inside,
+    activities_are.few,
+  )
 
-  pub some_ids : (changes : Bool) → All (λ activity. activity.id ≤ 500000) (activities_of changes activity_rows activities)
+  pub some_ids : (changes : Bool) → All (λ activity. activity.id ≤ 500000)
+      (activities_of changes activity_rows activities)
   some_ids changes =
       All-map (λ activity. activity.id ≤ 500000) (delayed activity_rows) (filter (is_of changes) activities)
       (All-filter (is_of changes) (λ row. row.id ≤ 500000) activities ids_below)
@@ -109,7 +133,8 @@ module _ (turnover : ℕ) (events : List ExpandedEvent) (activities : List Expan
           ∙ ap (range_with_len 1) (sym count);
       few = omega (arith, are.few, count);
       forward = inputs_go_forward;
-      ids = All-append (λ activity. activity.id ≤ 500000) problem.rides problem.changes (some_ids false) (some_ids true);
+      ids = All-append (λ activity. activity.id ≤ 500000) problem.rides problem.changes (some_ids false)
+          (some_ids true);
       rise = ids_rise true activity_rows activities activities_are.numbered;
       late = λ event inside. none_early event_rows events event (omega (arith, inside, count));
       soon = soon;

@@ -21,7 +21,10 @@ use Rattle.event_tables.specs.ExpandedFiles.{AreExpandedActivities, AreExpandedE
 use Rattle.event_tables.specs.Schedules.{AreScheduleRows, is_empty_row}
 use Rattle.event_tables.proofs.SoundFiles.{expanded_activities_sound, expanded_events_sound}
 use Rattle.event_tables.proofs.SoundTrips.{delays_sound, schedule_rows_sound}
-use Rattle.delay_management.specs.DispositionStage.{activities_in, activity_delay_faults, activity_delays_in, activity_faults, delay_faults, disposition_faults, event_delay_faults, event_delays_in, event_faults, events_in, made_faults, problem_in, schedule_faults, schedule_in, turnover_in}
+use Rattle.delay_management.specs.DispositionStage.{activities_in, activity_delay_faults, activity_delays_in}
+use Rattle.delay_management.specs.DispositionStage.{activity_faults, delay_faults, disposition_faults}
+use Rattle.delay_management.specs.DispositionStage.{event_delay_faults, event_delays_in, event_faults, events_in}
+use Rattle.delay_management.specs.DispositionStage.{made_faults, problem_in, schedule_faults, schedule_in, turnover_in}
 use Rattle.propagation.specs.Problems.{IsForward, minutes, steps_with}
 use Rattle.delay_management.specs.InputProblems.{activities_of, day_event, delayed, earliest_of, is_of, turn_of}
 use Rattle.delay_management.proofs.SoonInputs.{delay_below}
@@ -48,17 +51,22 @@ are_inputs bundle none =
     let E = activity_delay_faults bundle in
     let events = expanded_events_sound (input_text bundle 0) (front_none A (B ++ C) made) in
     let behind = back_none A (B ++ C) made in
-    let activities = expanded_activities_sound (events_in bundle) (input_text bundle 1) events.numbered (front_none B C behind) in
+    let activities = expanded_activities_sound (events_in bundle) (input_text bundle 1) events.numbered
+    (front_none B C behind) in
     record {
       events = events;
       activities = activities;
       schedule = schedule_rows_sound (events_in bundle) (input_text bundle 2) events.numbered (back_none B C behind);
-      event_delays = subst (λ ids. AreDelays (length (events_in bundle)) (records_of (event_delay_input ids) (input_text bundle 3))) (sym events.numbered)
+      event_delays = subst (λ ids. AreDelays (length (events_in bundle))
+          (records_of (event_delay_input ids) (input_text bundle 3))) (sym events.numbered)
           (delays_sound file.EventDelays why.UnknownEvent (length (events_in bundle)) (input_text bundle 3)
-          (subst (λ ids. input_faults (event_delay_input ids) (input_text bundle 3) ≡ []) events.numbered (front_none D E delays)));
-      activity_delays = subst (λ ids. AreDelays (length (activities_in bundle)) (records_of (activity_delay_input ids) (input_text bundle 4))) (sym activities.numbered)
+          (subst (λ ids. input_faults (event_delay_input ids) (input_text bundle 3) ≡ []) events.numbered
+          (front_none D E delays)));
+      activity_delays = subst (λ ids. AreDelays (length (activities_in bundle))
+          (records_of (activity_delay_input ids) (input_text bundle 4))) (sym activities.numbered)
           (delays_sound file.ActivityDelays why.UnknownActivity (length (activities_in bundle)) (input_text bundle 4)
-          (subst (λ ids. input_faults (activity_delay_input ids) (input_text bundle 4) ≡ []) activities.numbered (back_none D E delays)));
+          (subst (λ ids. input_faults (activity_delay_input ids) (input_text bundle 4) ≡ []) activities.numbered
+          (back_none D E delays)));
     }
 
 -- ---- numbers that are not too great
@@ -76,7 +84,8 @@ module _ (bundle : BundleParts) (are : AreInputs bundle) where
   pub problem_forward : IsForward (problem_in bundle)
   unfolding problem_in
   problem_forward =
-      inputs_go_forward (turnover_in bundle) events activities schedule (event_delays_in bundle) (activity_delays_in bundle) are.events are.activities are.schedule
+      inputs_go_forward (turnover_in bundle) events activities schedule (event_delays_in bundle)
+      (activity_delays_in bundle) are.events are.activities are.schedule
 
   pub events_few : length (problem_in bundle).events ≤ 100000
   unfolding problem_in
@@ -87,8 +96,10 @@ module _ (bundle : BundleParts) (are : AreInputs bundle) where
   pub activity_ids : All (λ activity. activity.id ≤ 500000) ((problem_in bundle).rides ++ (problem_in bundle).changes)
   unfolding problem_in
   activity_ids =
-      let some = some_ids (turnover_in bundle) events activities schedule (event_delays_in bundle) (activity_delays_in bundle) are.events are.activities are.schedule in
-      All-append (λ activity. activity.id ≤ 500000) (problem_in bundle).rides (problem_in bundle).changes (some false) (some true)
+      let some = some_ids (turnover_in bundle) events activities schedule (event_delays_in bundle)
+      (activity_delays_in bundle) are.events are.activities are.schedule in
+      All-append (λ activity. activity.id ≤ 500000) (problem_in bundle).rides (problem_in bundle).changes (some false)
+      (some true)
 
   pub earliest_soon : All (λ time. time ≤ 2000000000) (problem_in bundle).earliest
   unfolding problem_in
@@ -100,17 +111,21 @@ module _ (bundle : BundleParts) (are : AreInputs bundle) where
       let late = delay_below (event_delays_in bundle) are.event_delays.fit event.id in
       omega (arith, ints, fit.1.1.1.0.1, late))
 
-  some_short : (changes : Bool) → All (λ activity. minutes activity.step ≤ 2000000000) (activities_of changes (activity_delays_in bundle) activities)
+  some_short : (changes : Bool) → All (λ activity. minutes activity.step ≤ 2000000000)
+      (activities_of changes (activity_delays_in bundle) activities)
   some_short changes =
-      All-map (λ activity. minutes activity.step ≤ 2000000000) (delayed (activity_delays_in bundle)) (filter (is_of changes) activities)
-      (All-filter (is_of changes) (λ row. minutes (delayed (activity_delays_in bundle) row).step ≤ 2000000000) activities
+      All-map (λ activity. minutes activity.step ≤ 2000000000) (delayed (activity_delays_in bundle))
+      (filter (is_of changes) activities)
+      (All-filter (is_of changes) (λ row. minutes
+      (delayed (activity_delays_in bundle) row).step ≤ 2000000000) activities
       (λ k d inside.
       let row = get_or activities k d in
       let fit = are.activities.fit k d inside in
       let late = delay_below (activity_delays_in bundle) are.activity_delays.fit row.id in
       omega (arith, ints, fit.1.1.1.1.1.0.1, late)))
 
-  turns_short : turnover_in bundle ≤ 10000 → All (λ turn. minutes turn ≤ 2000000000) (map (turn_of (turnover_in bundle)) (filter is_empty_row schedule))
+  turns_short : turnover_in bundle ≤ 10000
+      → All (λ turn. minutes turn ≤ 2000000000) (map (turn_of (turnover_in bundle)) (filter is_empty_row schedule))
   turns_short few =
       All-map (λ turn. minutes turn ≤ 2000000000) (turn_of (turnover_in bundle)) (filter is_empty_row schedule)
       (All-filter is_empty_row (λ row. minutes (turn_of (turnover_in bundle) row) ≤ 2000000000) schedule
@@ -122,7 +137,8 @@ module _ (bundle : BundleParts) (are : AreInputs bundle) where
       → All (λ step. minutes step ≤ 2000000000) (steps_with (problem_in bundle) (problem_in bundle).changes)
   unfolding problem_in
   steps_short few =
-      steps_all (problem_in bundle) (λ step. minutes step ≤ 2000000000) (problem_in bundle).changes (some_short false) (some_short true) (turns_short few)
+      steps_all (problem_in bundle) (λ step. minutes step ≤ 2000000000) (problem_in bundle).changes (some_short false)
+      (some_short true) (turns_short few)
 
 pub turnover_few : (bundle : BundleParts) → bundle.stage ≡ stage.Disposition → Fits bundle → turnover_in bundle ≤ 10000
 turnover_few bundle own fits =

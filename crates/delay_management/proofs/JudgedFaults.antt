@@ -17,7 +17,8 @@ use Rattle.delay_management.specs.DispositionStage.{ReasonRow, disposition_fault
 use Rattle.propagation.specs.declared.step.Activity.{Activity}
 use Rattle.propagation.specs.declared.step.Step.{Step}
 use Rattle.propagation.specs.EarlyEvents.{is_early_by, is_right_by}
-use Rattle.delay_management.specs.Judged.{Passes, are_all, broken_reasons, broken_rows, broken_times, broken_where, events_where, first_broken_rule, is_early, is_table, is_wrong, reason_faults}
+use Rattle.delay_management.specs.Judged.{Passes, are_all, broken_reasons, broken_rows, broken_times, broken_where}
+use Rattle.delay_management.specs.Judged.{events_where, first_broken_rule, is_early, is_table, is_wrong, reason_faults}
 use Rattle.propagation.specs.Problems.{DelayProblem, steps_with}
 use Rattle.delay_management.proofs.DispositionReads.{breaking_none, passing}
 use Rattle.delay_management.proofs.EventTests.{early_is, right_is}
@@ -42,20 +43,23 @@ module _ (problem : DelayProblem) (kept : List Activity) (times : List ℕ) (ear
   early_events = grind (arith, filter_alike, early_is)
 
   wrong_events : (reasons : List Reason)
-      → filter (λ event. not (is_right_by earliest activities turns times reasons event)) (range_with_len 0 (length times))
+      → filter (λ event. not (is_right_by earliest activities turns times reasons event))
+      (range_with_len 0 (length times))
       ≡ events_where problem (is_wrong problem kept times reasons)
   wrong_events reasons = grind (arith, filter_alike, right_is)
 
   pub found_wrong : (rows : List ReasonRow) (reasons : List Reason) (found : Option ℕ)
       → reasons ≡ map (λ row. row.reason) rows
       → are_all (length times) (map (λ row. row.event) rows) ≡ true
-      → found ≡ slice_get (filter (λ event. not (is_right_by earliest activities turns times reasons event)) (range_with_len 0 (length times))) 0
+      → found ≡ slice_get (filter (λ event. not (is_right_by earliest activities turns times reasons event))
+      (range_with_len 0 (length times))) 0
       → option_map (λ event. fault.Reason event) found ≡ slice_get (broken_reasons problem kept times rows) 0
   found_wrong rows reasons found are order is =
       grind (arith, option_map, slice_get, wrong_events, slice_get-map)
 
   pub found_early : (text : List ℕ) (event : ℕ)
-      → Some event ≡ slice_get (filter (is_early_by earliest activities turns times) (range_with_len 0 (length times))) 0
+      → Some event ≡ slice_get (filter (is_early_by earliest activities turns times)
+      (range_with_len 0 (length times))) 0
       → Some (fault.Early event) ≡ slice_get (broken_times problem kept times text) 0
   found_early text event is = grind (arith, first_mapped, slice_get, early_events)
 
@@ -75,7 +79,8 @@ read_as text = cond (is_table disposed_columns text) (Some (table_of disposed_co
 
 module _ (problem : DelayProblem) (kept : List Activity) (text reasons : List ℕ) where
   abbrev by_table : Bool → Option ReasonFault
-  by_table b = slice_get (broken_where (not b) fault.TimesRow ++ broken_rows problem kept (records_by disposed_time (table_of disposed_columns text)) reasons) 0
+  by_table b = slice_get (broken_where (not b) fault.TimesRow ++ broken_rows problem kept
+      (records_by disposed_time (table_of disposed_columns text)) reasons) 0
 
   pub not_table : None ≡ read_as text → Some fault.TimesRow ≡ first_broken_rule problem kept text reasons
   unfolding first_broken_rule
@@ -92,7 +97,8 @@ module _ (problem : DelayProblem) (kept : List Activity) (text reasons : List �
     some_read false is = absurd (cc)
 
     pub as_rows_told : {E : Type 0} (result : Result (Option ReasonFault) E)
-        → IfOk result (λ answer. answer ≡ slice_get (broken_rows problem kept (records_by disposed_time table) reasons) 0)
+        → IfOk result (λ answer. answer ≡ slice_get
+        (broken_rows problem kept (records_by disposed_time table) reasons) 0)
         → IfOk result (λ answer. answer ≡ first_broken_rule problem kept text reasons)
     unfolding first_broken_rule
     as_rows_told (Err error) told = tt

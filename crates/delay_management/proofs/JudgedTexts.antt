@@ -4,12 +4,13 @@ use Rattle.std.proofs.Common.{◌≡◌, ◌∙◌, ℕ, zero, suc, ◌+◌, ◌
 use Rattle.std.proofs.Common.{false, cond, eqb, ltb, nat_eq, nat_lt, List, [], ◌∷◌, length, map}
 use Rattle.std.proofs.Common.{filter, get_or, slice_get, All, None, refl, ap, sym, arith}
 use Rattle.std.specs.List.{enumerate_from, list_all, list_any, range_with_len}
-use Rattle.std.proofs.lemmas.Bool.{and_from, and_parts, eq-eqb, eqb-true, ltb-false, ltb-true, le-ltb, not-false, or_parts}
+use Rattle.std.proofs.lemmas.Bool.{and_from, and_parts, eq-eqb, eqb-true, ltb-false, ltb-true, le-ltb, not-false}
+use Rattle.std.proofs.lemmas.Bool.{or_parts}
 use Rattle.std.proofs.lemmas.List.{length-map}
 use Rattle.std.proofs.lemmas.List.FromFn.{length-enumerate_from}
 use Rattle.tables.specs.Columns.{disposed_columns, reasons_columns}
 use Rattle.tables.specs.Reading.{faults}
-use Rattle.tables.proofs.Ranges.{back_none, front_none, unmapped}
+use Rattle.tables.proofs.Ranges.{back_none, front_none}
 use Rattle.event_tables.specs.declared.disposed_time.DisposedTime.{DisposedTime}
 use Rattle.event_tables.specs.Cells.{disposed_time}
 use Rattle.tables.specs.RowsOfTables.{ReadsAs}
@@ -19,25 +20,20 @@ use Rattle.propagation.specs.declared.reason.Reason.{Reason}
 use Rattle.delay_management.specs.DispositionStage.{ReasonRow, reason_rows, time_rows}
 use Rattle.propagation.specs.declared.step.Activity.{Activity}
 use Rattle.propagation.specs.declared.step.Step.{Step}
-use Rattle.delay_management.specs.Judged.{are_all, broken_reasons, broken_rows, broken_rules, broken_times, broken_where, events_where, first_broken_rule, is_early, is_table, is_wrong, reason_faults, reason_row, reasons_read, times_read}
+use Rattle.delay_management.specs.Judged.{are_all, broken_reasons, broken_rows, broken_rules, broken_times}
+use Rattle.delay_management.specs.Judged.{broken_where, events_where, first_broken_rule, is_early, is_table, is_wrong}
+use Rattle.delay_management.specs.Judged.{reason_faults, reason_row, reasons_read, times_read}
 use Rattle.propagation.specs.LeastTimes.{IsFeasible}
 use Rattle.propagation.specs.Problems.{DelayProblem, steps_with}
 use Rattle.propagation.specs.Reasons.{AreRight}
 use Rattle.delay_management.proofs.WrittenRows.{reasons_from, times_from}
+use Rattle.plan_num.proofs.Lists.{unmapped, none_first, none_long}
 
 -- ---- lists that tell nothing
-
-nothing_first : {X : Type 0} (xs : List X) → slice_get xs 0 ≡ None → xs ≡ []
-nothing_first [] none = refl
-nothing_first (x ∷ xs) none = absurd (cc)
 
 kept_rule : (broken : Bool) (rule : ReasonFault) → broken_where broken rule ≡ [] → broken ≡ false
 kept_rule false rule none = refl
 kept_rule true rule none = absurd (cc)
-
-no_faults : {X : Type 0} (list : List X) → (length list == 0) ≡ true → list ≡ []
-no_faults [] is = refl
-no_faults (x ∷ list) is = absurd (omega (arith, eqb-true (length (x ∷ list)) 0 is))
 
 module _ (test : ℕ → Bool) where
   none_pass : (a n : ℕ) → filter test (range_with_len a n) ≡ [] → (e : ℕ) → a ≤ e → e < a + n → test e ≡ false
@@ -46,7 +42,9 @@ module _ (test : ℕ → Bool) where
       by (test a) refl (λ rest low. none_pass (a + 1) n rest e low (omega (arith, high))) none
     where
       by : (b : Bool) → test a ≡ b
-          → (filter test (range_with_len (a + 1) n) ≡ [] → a + 1 ≤ e → test e ≡ false) → cond b (a ∷ filter test (range_with_len (a + 1) n)) (filter test (range_with_len (a + 1) n)) ≡ [] → test e ≡ false
+          → (filter test (range_with_len (a + 1) n) ≡ [] → a + 1 ≤ e → test e ≡ false)
+          → cond b (a ∷ filter test (range_with_len (a + 1) n)) (filter test (range_with_len (a + 1) n)) ≡ []
+          → test e ≡ false
       by true is rest none = absurd (cc)
       by false is rest none =
           elim (eqb e a) as (λ b. eqb e a ≡ b → test e ≡ false) [
@@ -65,18 +63,21 @@ module _ (test : ℕ → Bool) where
   pass_none : (a n : ℕ) → ((e : ℕ) → a ≤ e → e < a + n → test e ≡ false) → filter test (range_with_len a n) ≡ []
   pass_none a zero fails = refl
   pass_none a (suc n) fails =
-      ap (λ b. cond b (a ∷ filter test (range_with_len (a + 1) n)) (filter test (range_with_len (a + 1) n))) (fails a (omega arith) (omega arith))
+      ap (λ b. cond b (a ∷ filter test (range_with_len (a + 1) n)) (filter test (range_with_len (a + 1) n)))
+      (fails a (omega arith) (omega arith))
       ∙ pass_none (a + 1) n (λ e low high. fails e (omega (arith, low)) (omega (arith, high)))
 
 any_false : {X : Type 0} (test : X → Bool) (xs : List X) → list_any test xs ≡ false → All (λ x. test x ≡ false) xs
 any_false test [] none k d inside = absurd (omega (arith, inside))
 any_false test (x ∷ xs) none zero d inside = (or_parts (test x) (list_any test xs) none).0
-any_false test (x ∷ xs) none (suc k) d inside = any_false test xs (or_parts (test x) (list_any test xs) none).1 k d (omega (arith, inside))
+any_false test (x ∷ xs) none (suc k) d inside =
+    any_false test xs (or_parts (test x) (list_any test xs) none).1 k d (omega (arith, inside))
 
 false_any : {X : Type 0} (test : X → Bool) (xs : List X) → All (λ x. test x ≡ false) xs → list_any test xs ≡ false
 false_any test [] all = refl
 false_any test (x ∷ xs) all =
-    ap (λ b. b || list_any test xs) (all 0 x (omega arith)) ∙ false_any test xs (λ k d h. all (suc k) d (omega (arith, h)))
+    ap (λ b. b || list_any test xs) (all 0 x (omega arith))
+    ∙ false_any test xs (λ k d h. all (suc k) d (omega (arith, h)))
 
 -- ---- rows in order
 
@@ -102,7 +103,8 @@ reasons_are n (row ∷ rows) order =
 
 module _ {X Y : Type 0} (row : ℕ × X → Y) (event : Y → ℕ) (part : Y → X)
     (first : (at : ℕ × X) → event (row at) ≡ at.0) (second : (at : ℕ × X) → part (row at) ≡ at.1) where
-  ids_in_order : (n : ℕ) (xs : List X) → list_all (λ at. nat_eq at.1 at.0) (enumerate_from n (map event (map row (enumerate_from n xs)))) ≡ true
+  ids_in_order : (n : ℕ) (xs : List X) → list_all (λ at. nat_eq at.1 at.0)
+      (enumerate_from n (map event (map row (enumerate_from n xs)))) ≡ true
   ids_in_order n [] = refl
   ids_in_order n (x ∷ xs) = and_from _ _ (eq-eqb (event (row (n, x))) n (first (n, x))) (ids_in_order (n + 1) xs)
 
@@ -110,7 +112,8 @@ module _ {X Y : Type 0} (row : ℕ × X → Y) (event : Y → ℕ) (part : Y →
   parts_back n [] = refl
   parts_back n (x ∷ xs) = λ i. second (n, x) i ∷ parts_back (n + 1) xs i
 
-  all_there : (count : ℕ) (xs : List X) → length xs ≡ count → are_all count (map event (map row (enumerate_from 1 xs))) ≡ true
+  all_there : (count : ℕ) (xs : List X) → length xs ≡ count
+      → are_all count (map event (map row (enumerate_from 1 xs))) ≡ true
   all_there count xs each =
       grind (arith, and_from, eq-eqb, length-map, length-enumerate_from, ids_in_order)
 
@@ -163,31 +166,56 @@ module _ (problem : DelayProblem) (kept : List Activity) where
         → first_broken_rule problem kept times_text reasons_text ≡ None → Told problem kept times_text reasons_text
     unfolding first_broken_rule
     told_by heads none =
-        let all = nothing_first (broken_rules problem kept times_text reasons_text) none in
-        let no_table = kept_rule (not (is_table disposed_columns times_text)) fault.TimesRow (front_none _ (broken_rows problem kept rows reasons_text) all) in
-        let behind = back_none (broken_where (not (is_table disposed_columns times_text)) fault.TimesRow) (broken_rows problem kept rows reasons_text) all in
-        let order = not-false _ (kept_rule (not (are_all n (map (λ row. row.event) rows))) fault.Events (front_none _ (broken_times problem kept times_of reasons_text) behind)) in
-        let timed = back_none (broken_where (not (are_all n (map (λ row. row.event) rows))) fault.Events) (broken_times problem kept times_of reasons_text) behind in
-        let early = unmapped _ (events_where problem (is_early problem steps times_of)) (front_none (map (λ event. fault.Early event) (events_where problem (is_early problem steps times_of))) (reason_faults problem kept times_of reasons_text) timed) in
-        let whys = back_none (map (λ event. fault.Early event) (events_where problem (is_early problem steps times_of))) (reason_faults problem kept times_of reasons_text) timed in
-        let no_reasons = kept_rule (not (is_table reasons_columns reasons_text)) fault.ReasonsRow (front_none _ (broken_reasons problem kept times_of why_rows) whys) in
-        let rest = back_none (broken_where (not (is_table reasons_columns reasons_text)) fault.ReasonsRow) (broken_reasons problem kept times_of why_rows) whys in
-        let why_order = not-false _ (kept_rule (not (are_all n (map (λ row. row.event) why_rows))) fault.ReasonsRow (front_none _ (map (λ event. fault.Reason event) (events_where problem (is_wrong problem kept times_of reasons_of))) rest)) in
-        let wrong = unmapped _ (events_where problem (is_wrong problem kept times_of reasons_of)) (back_none (broken_where (not (are_all n (map (λ row. row.event) why_rows))) fault.ReasonsRow) (map (λ event. fault.Reason event) (events_where problem (is_wrong problem kept times_of reasons_of))) rest) in
+        let all = none_first (broken_rules problem kept times_text reasons_text) none in
+        let no_table = kept_rule (not (is_table disposed_columns times_text)) fault.TimesRow
+        (front_none _ (broken_rows problem kept rows reasons_text) all) in
+        let behind = back_none (broken_where (not (is_table disposed_columns times_text)) fault.TimesRow)
+        (broken_rows problem kept rows reasons_text) all in
+        let order = not-false _ (kept_rule (not (are_all n (map (λ row. row.event) rows))) fault.Events
+        (front_none _ (broken_times problem kept times_of reasons_text) behind)) in
+        let timed = back_none (broken_where (not (are_all n (map (λ row. row.event) rows))) fault.Events)
+        (broken_times problem kept times_of reasons_text) behind in
+        let early = unmapped _ (events_where problem (is_early problem steps times_of))
+        (front_none (map (λ event. fault.Early event) (events_where problem (is_early problem steps times_of)))
+        (reason_faults problem kept times_of reasons_text) timed) in
+        let whys = back_none (map (λ event. fault.Early event) (events_where problem (is_early problem steps times_of)))
+        (reason_faults problem kept times_of reasons_text) timed in
+        let no_reasons = kept_rule (not (is_table reasons_columns reasons_text)) fault.ReasonsRow
+        (front_none _ (broken_reasons problem kept times_of why_rows) whys) in
+        let rest = back_none (broken_where (not (is_table reasons_columns reasons_text)) fault.ReasonsRow)
+        (broken_reasons problem kept times_of why_rows) whys in
+        let why_order = not-false _ (kept_rule (not (are_all n (map (λ row. row.event) why_rows))) fault.ReasonsRow
+        (front_none _ (map (λ event. fault.Reason event)
+        (events_where problem (is_wrong problem kept times_of reasons_of))) rest)) in
+        let wrong = unmapped _ (events_where problem (is_wrong problem kept times_of reasons_of))
+        (back_none (broken_where (not (are_all n (map (λ row. row.event) why_rows))) fault.ReasonsRow)
+        (map (λ event. fault.Reason event) (events_where problem (is_wrong problem kept times_of reasons_of))) rest) in
         let ordered = and_parts (length (map (λ (row : DisposedTime). row.event) rows) == n) _ order in
         let why_ordered = and_parts (length (map (λ (row : ReasonRow). row.event) why_rows) == n) _ why_order in
-        let long : length times_of ≡ n = length-map rows (λ row. row.time) ∙ sym (length-map rows (λ row. row.event)) ∙ eqb-true _ n ordered.0 in
-        let why_long : length reasons_of ≡ n = length-map why_rows (λ row. row.reason) ∙ sym (length-map why_rows (λ row. row.event)) ∙ eqb-true _ n why_ordered.0 in
+        let long : length times_of ≡ n = length-map rows (λ row. row.time) ∙ sym (length-map rows (λ row. row.event))
+        ∙ eqb-true _ n ordered.0 in
+        let why_long : length reasons_of ≡ n = length-map why_rows (λ row. row.reason)
+        ∙ sym (length-map why_rows (λ row. row.event)) ∙ eqb-true _ n why_ordered.0 in
         record {
           times = times_of;
           reasons = reasons_of;
-          times_again = (no_faults (faults disposed_columns times_text) (not-false _ no_table), times_are 1 rows ordered.1);
-          reasons_again = (no_faults (faults reasons_columns reasons_text) (not-false _ no_reasons), reasons_are 1 why_rows why_ordered.1);
+          times_again = (
+            none_long (faults disposed_columns times_text)
+                (not-false _ no_table),
+            times_are 1 rows ordered.1,
+          );
+          reasons_again = (
+            none_long (faults reasons_columns reasons_text)
+                (not-false _ no_reasons),
+            reasons_are 1 why_rows why_ordered.1,
+          );
           feasible = feasible_by times_of long heads
-              (λ event inside. none_pass (is_early problem steps times_of) 0 n early event (omega arith) (omega (arith, inside)));
+              (λ event inside. none_pass (is_early problem steps times_of) 0 n early event (omega arith)
+              (omega (arith, inside)));
           right = record {
             each = why_long;
-            right = λ event inside. not-false _ (none_pass (is_wrong problem kept times_of reasons_of) 0 n wrong event (omega arith) (omega (arith, inside)));
+            right = λ event inside. not-false _ (none_pass (is_wrong problem kept times_of reasons_of) 0 n wrong event
+                (omega arith) (omega (arith, inside)));
           };
         }
 
@@ -195,18 +223,28 @@ module _ (problem : DelayProblem) (kept : List Activity) where
         → first_broken_rule problem kept times_text reasons_text ≡ None
     unfolding first_broken_rule
     none_told told =
-        let table : is_table disposed_columns times_text ≡ true = ap (λ (faults : List _). length faults == 0) told.times_again.0 in
-        let why_table : is_table reasons_columns reasons_text ≡ true = ap (λ (faults : List _). length faults == 0) told.reasons_again.0 in
+        let table : is_table disposed_columns times_text ≡ true =
+        ap (λ (faults : List _). length faults == 0) told.times_again.0 in
+        let why_table : is_table reasons_columns reasons_text ≡ true =
+        ap (λ (faults : List _). length faults == 0) told.reasons_again.0 in
         let same : times_of ≡ told.times = ap (map (λ (row : DisposedTime). row.time)) told.times_again.1
         ∙ parts_back time_row (λ row. row.event) (λ row. row.time) (λ at. refl) (λ at. refl) 1 told.times in
         let why_same : reasons_of ≡ told.reasons = ap (map (λ (row : ReasonRow). row.reason)) told.reasons_again.1
         ∙ parts_back reasoned (λ row. row.event) (λ row. row.reason) (λ at. refl) (λ at. refl) 1 told.reasons in
-        let order : are_all n (map (λ row. row.event) rows) ≡ true = ap (λ (rows : List DisposedTime). are_all n (map (λ row. row.event) rows)) told.times_again.1
-        ∙ all_there time_row (λ row. row.event) (λ row. row.time) (λ at. refl) (λ at. refl) n told.times told.feasible.each in
-        let why_order : are_all n (map (λ row. row.event) why_rows) ≡ true = ap (λ (rows : List ReasonRow). are_all n (map (λ row. row.event) rows)) told.reasons_again.1
-        ∙ all_there reasoned (λ row. row.event) (λ row. row.reason) (λ at. refl) (λ at. refl) n told.reasons told.right.each in
-        let early : events_where problem (is_early problem steps times_of) ≡ [] = ap (λ times. events_where problem (is_early problem steps times)) same
-        ∙ pass_none (is_early problem steps told.times) 0 n (λ e low high. early_by told.times told.feasible e (omega (arith, high))) in
-        let wrong : events_where problem (is_wrong problem kept times_of reasons_of) ≡ [] = (λ i. events_where problem (is_wrong problem kept (same i) (why_same i)))
-        ∙ pass_none (is_wrong problem kept told.times told.reasons) 0 n (λ e low high. ap not (told.right.right e (omega (arith, high)))) in
+        let order : are_all n (map (λ row. row.event) rows) ≡ true =
+        ap (λ (rows : List DisposedTime). are_all n (map (λ row. row.event) rows)) told.times_again.1
+        ∙ all_there time_row (λ row. row.event) (λ row. row.time) (λ at. refl)
+        (λ at. refl) n told.times told.feasible.each in
+        let why_order : are_all n (map (λ row. row.event) why_rows) ≡ true =
+        ap (λ (rows : List ReasonRow). are_all n (map (λ row. row.event) rows)) told.reasons_again.1
+        ∙ all_there reasoned (λ row. row.event) (λ row. row.reason) (λ at. refl)
+        (λ at. refl) n told.reasons told.right.each in
+        let early : events_where problem (is_early problem steps times_of) ≡ [] =
+        ap (λ times. events_where problem (is_early problem steps times)) same
+        ∙ pass_none (is_early problem steps told.times) 0 n
+        (λ e low high. early_by told.times told.feasible e (omega (arith, high))) in
+        let wrong : events_where problem (is_wrong problem kept times_of reasons_of) ≡ [] =
+        (λ i. events_where problem (is_wrong problem kept (same i) (why_same i)))
+        ∙ pass_none (is_wrong problem kept told.times told.reasons) 0 n
+        (λ e low high. ap not (told.right.right e (omega (arith, high)))) in
         rw (table, order, early, why_table, why_order, wrong) refl

@@ -1,4 +1,3 @@
-mod DayLate
 mod DelaysByPlace
 pub mod DispositionMakes
 pub mod DispositionReads

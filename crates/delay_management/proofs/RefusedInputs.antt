@@ -11,7 +11,10 @@ use Rattle.event_tables.specs.declared.expanded_activity.ExpandedActivity.{Expan
 use Rattle.event_tables.specs.declared.expanded_event.ExpandedEvent.{ExpandedEvent}
 use Rattle.event_tables.specs.declared.schedule_row.ScheduleRow.{ScheduleRow}
 use Rattle.tables.specs.RowsOfTables.{ReadsFile}
-use Rattle.delay_management.specs.DispositionStage.{activities_in, activity_delay_faults, activity_delays_in, activity_faults, delay_faults, disposition_faults, event_delay_faults, event_delays_in, event_faults, events_in, made_faults, problem_in, schedule_faults, schedule_in, turnover_in}
+use Rattle.delay_management.specs.DispositionStage.{activities_in, activity_delay_faults, activity_delays_in}
+use Rattle.delay_management.specs.DispositionStage.{activity_faults, delay_faults, disposition_faults}
+use Rattle.delay_management.specs.DispositionStage.{event_delay_faults, event_delays_in, event_faults, events_in}
+use Rattle.delay_management.specs.DispositionStage.{made_faults, problem_in, schedule_faults, schedule_in, turnover_in}
 use Rattle.delay_management.specs.InputProblems.{problem_over}
 
 -- what is read of a text as a kind of file, told by others that are equal to them

@@ -3,7 +3,7 @@ use Rattle.std.proofs.Common.{◌≡◌, ◌∙◌, ℕ, suc, ◌+◌, ◌-◌, 
 use Rattle.std.proofs.Common.{eqb, List, [], ◌∷◌, length, map, filter, get_or, All, Some, refl, ap}
 use Rattle.std.proofs.Common.{sym, arith}
 use Rattle.std.specs.List.Sorted.{IsStrictlyIncreasing}
-use Rattle.std.proofs.lemmas.Bool.{ltb-false, not-false}
+use Rattle.std.proofs.lemmas.Bool.{ltb-false, not-false, not-true}
 use Rattle.std.proofs.lemmas.Int.{ints}
 use Rattle.std.proofs.lemmas.List.{get_or-map, length-map}
 use Rattle.std.proofs.lemmas.List.Elements.{All-filter, All-map, filter_passes}
@@ -30,7 +30,8 @@ use Rattle.propagation.specs.declared.step.Step.{Step}
 use Rattle.propagation.specs.DayEvents.{no_event}
 use Rattle.propagation.specs.Links.{GainsLittle}
 use Rattle.propagation.specs.Problems.{DelayProblem, GoesForward, event_at, minutes, planned_at, steps_with}
-use Rattle.delay_management.specs.InputProblems.{activities_of, day_event, day_events, delay_of, delayed, earliest_of, index_of, is_of, problem_over, turn_of}
+use Rattle.delay_management.specs.InputProblems.{activities_of, day_event, day_events, delay_of, delayed, earliest_of}
+use Rattle.delay_management.specs.InputProblems.{index_of, is_of, problem_over, turn_of}
 use Rattle.propagation.proofs.PassIsLeast.{steps_all}
 
 -- an event of a day is that of the row at its place
@@ -73,12 +74,19 @@ ids_rise changes rows activities are k within =
     let row = expanded_activity [] in
     let one = get_or-map (delayed rows) some k row none (omega (arith, within, long, size)) in
     let two = get_or-map (delayed rows) some (k + 1) row none (omega (arith, within, long, size)) in
-    let up = AllPairs-filter (λ (x y : ExpandedActivity). x.id < y.id) (is_of changes) activities pairs k (k + 1) row (omega arith) (omega (arith, within, long, size)) in
+    let up = AllPairs-filter (λ (x y : ExpandedActivity). x.id < y.id) (is_of changes) activities pairs k (k + 1) row
+    (omega arith) (omega (arith, within, long, size)) in
     omega (arith, first, second, ap (λ (at : Activity). at.id) one, ap (λ (at : Activity). at.id) two, up)
   where
     pairs : AllPairs (λ (x y : ExpandedActivity). x.id < y.id) activities
     pairs i j d less inside =
-        omega (arith, id_at (λ row. row.id) activities i d are (omega (arith, less, inside)), id_at (λ row. row.id) activities j d are inside, less)
+        omega (
+          arith,
+          id_at (λ row. row.id) activities i d are (omega (arith, less, inside)),
+          id_at
+              (λ row. row.id) activities j d are inside,
+          less,
+        )
 
 -- an activity that goes forward gains no more than what it takes
 gains_by : (days : List DayEvent) (step : Step) → GoesForward days step
@@ -90,10 +98,6 @@ gains_by days step goes few =
 room_for : (minutes : ℕ) (start end : ExpandedEvent) → has_room minutes start end ≡ true
     → start.time + minutes ≤ end.time
 room_for minutes start end has = ltb-false end.time (start.time + minutes) (not-true _ has)
-  where
-    not-true : (b : Bool) → not b ≡ true → b ≡ false
-    not-true false h = refl
-    not-true true h = absurd (cc)
 
 module _ (turnover : ℕ) (events : List ExpandedEvent) (activities : List ExpandedActivity)
     (schedule : List ScheduleRow) (event_rows activity_rows : List DelayRow)
@@ -115,25 +119,30 @@ module _ (turnover : ℕ) (events : List ExpandedEvent) (activities : List Expan
       → All (λ activity. GoesForward days activity.step) (activities_of changes activity_rows activities)
       → All (λ activity. GainsLittle days activity.step) (activities_of changes activity_rows activities)
   some_gain changes forward =
-      let short : All (λ (activity : Activity). minutes activity.step ≤ 1100000) (activities_of changes activity_rows activities) =
-      All-map (λ (activity : Activity). minutes activity.step ≤ 1100000) (delayed activity_rows) (filter (is_of changes) activities)
+      let short : All (λ (activity : Activity). minutes activity.step ≤ 1100000)
+      (activities_of changes activity_rows activities) =
+      All-map (λ (activity : Activity). minutes activity.step ≤ 1100000) (delayed activity_rows)
+      (filter (is_of changes) activities)
       (All-filter (is_of changes) (λ row. minutes (delayed activity_rows row).step ≤ 1100000) activities
       (λ k d inside.
       let row = get_or activities k d in
       let fit = activities_are.fit k d inside in
       short_activity row (omega (arith, ints, fit.1.1.1.1.1.0.1)))) in
-      λ k d inside. gains_by days (get_or (activities_of changes activity_rows activities) k d).step (forward k d inside) (short k d inside)
+      λ k d inside. gains_by days (get_or (activities_of changes activity_rows activities) k d).step
+      (forward k d inside) (short k d inside)
 
   turns_gain : All (GainsLittle days) problem.turns
   turns_gain =
       All-map (GainsLittle days) (turn_of turnover) (filter is_empty_row schedule)
       (λ k d inside.
       let row = get_or (filter is_empty_row schedule) k d in
-      let is : IsScheduleRow events row = All-filter is_empty_row (IsScheduleRow events) schedule rows_are.each k d inside in
+      let is : IsScheduleRow events row = All-filter is_empty_row
+      (IsScheduleRow events) schedule rows_are.each k d inside in
       let ride = row.run.end.time - row.run.start.time in
       let start = get_or events (index_of row.run.start.event) (expanded_event []) in
       let end = get_or events (index_of row.run.end.event) (expanded_event []) in
-      let found : both_pass (has_room ride) (event_with events row.run.start.event) (event_with events row.run.end.event) ≡ has_room ride start end =
+      let found : both_pass (has_room ride) (event_with events row.run.start.event)
+      (event_with events row.run.end.event) ≡ has_room ride start end =
       ap (λ first. both_pass (has_room ride) first (event_with events row.run.end.event))
       (find_numbered (λ event. event.id) row.run.start.event events (expanded_event []) are.numbered is.start)
       ∙ ap (both_pass (has_room ride) (Some start))

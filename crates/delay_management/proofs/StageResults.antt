@@ -8,7 +8,8 @@ use Rattle.giv_files.specs.StageCalls.{StageGives}
 use Rattle.giv_files.proofs.StageCalls as calls
 use Rattle.propagation.specs.declared.reason.Reason.{Reason}
 use Rattle.propagation.specs.declared.step.Activity.{Activity}
-use Rattle.delay_management.specs.DispositionStage.{disposed_of, disposition_faults, disposition_made, disposition_stage, kept_in, problem_in}
+use Rattle.delay_management.specs.DispositionStage.{disposed_of, disposition_faults, disposition_made}
+use Rattle.delay_management.specs.DispositionStage.{disposition_stage, kept_in, problem_in}
 use Rattle.propagation.specs.LeastTimes.{least_times}
 use Rattle.propagation.specs.Problems.{DelayProblem}
 use Rattle.propagation.specs.Reasons.{canonical_reasons}
@@ -26,7 +27,8 @@ disposed_is : (problem : DelayProblem) (kept : List Activity) (times : List ℕ)
     → disposition_made problem times reasons ≡ disposed_of problem kept
 unfolding disposed_of
 disposed_is problem kept times reasons t r =
-    ap (disposition_made problem times) r ∙ ap (λ times. disposition_made problem times (canonical_reasons problem kept times)) t
+    ap (disposition_made problem times) r ∙ ap (λ times. disposition_made problem times
+    (canonical_reasons problem kept times)) t
 
 pub stage_made : (bundle : BundleParts) (problem : DelayProblem) (kept : List Bool) (wait : ℤ)
     (times : List ℕ) (reasons : List Reason) (made : Made) → disposition_faults bundle ≡ []

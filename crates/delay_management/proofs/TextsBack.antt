@@ -28,7 +28,8 @@ use Rattle.tables.proofs.WrittenColumns.{columns_written}
 use Rattle.event_tables.proofs.Numbering.{none_of_places, some_missing}
 use Rattle.propagation.specs.declared.reason.Reason.{Reason}
 use Rattle.propagation.specs.declared.reason.Reason.TheVariants as reason
-use Rattle.delay_management.specs.DispositionStage.{ReasonRow, reason_cells, reason_rows, reasons_header, reasons_text, time_rows, times_text}
+use Rattle.delay_management.specs.DispositionStage.{ReasonRow, reason_cells, reason_rows, reasons_header, reasons_text}
+use Rattle.delay_management.specs.DispositionStage.{time_rows, times_text}
 use Rattle.delay_management.specs.Judged.{reason_row}
 use Rattle.delay_management.proofs.WrittenRows.{ReasonFits, TimeFits, reason_table_fits, times_from}
 
@@ -66,7 +67,8 @@ times_back times fit =
 pub times_again : (times : List ℕ) → All TimeFits (time_rows times)
     → ReadsAs disposed_columns disposed_time (time_rows times) (times_text times)
 times_again times fit =
-    read_again disposed_columns disposed_time disposed_time_cells time_same (time_rows times) (times_text times) (times_back times fit)
+    read_again disposed_columns disposed_time disposed_time_cells time_same (time_rows times) (times_text times)
+    (times_back times fit)
 
 -- ---- reasons
 
@@ -102,7 +104,8 @@ module _ (count : ℕ) where
   rows_keep before n (time ∷ times) place few =
       let row : DisposedTime = record { event = n; time = time } in (
         row_keeps before n time place (omega (arith, few)),
-        rows_keep (before ++ row ∷ []) (n + 1) times (omega (arith, place, length_push before row)) (omega (arith, few)),
+        rows_keep (before ++ row ∷ []) (n + 1) times (omega (arith, place, length_push before row))
+            (omega (arith, few)),
       )
 
   events_are : (n : ℕ) (times : List ℕ) → map (λ row. row.event) (times_from n times) ≡ range_with_len n (length times)
@@ -114,7 +117,8 @@ module _ (count : ℕ) where
   times_accepted times each fit =
       let input = disposed_time_input (range_with_len 1 count) in
       let rows = rows_by disposed_time_cells (time_rows times) in
-      let same : records input rows ≡ time_rows times = same_rows disposed_columns disposed_time disposed_time_cells time_same (time_rows times) in
+      let same : records input rows ≡ time_rows times =
+      same_rows disposed_columns disposed_time disposed_time_cells time_same (time_rows times) in
       accepted input rows (times_text times) (times_back times fit) refl
       (subst (KeepRules (disposed_time_rules (range_with_len 1 count)) []) (sym same)
       (rows_keep [] 1 times refl (omega (arith, each))))

@@ -1,6 +1,7 @@
 -- The definitions on small datasets.
 use Rattle.std.specs.Prelude.{⊤}
-use Rattle.std.proofs.Common.{◌≡◌, ℕ, ℤ, List, [], ◌∷◌, ◌++◌, refl, pos, negsuc, codes, Ok, Option, Some, None, true, false}
+use Rattle.std.proofs.Common.{◌≡◌, ℕ, ℤ, List, [], ◌∷◌, ◌++◌, refl, pos, negsuc, codes, Ok, Option, Some, None, true}
+use Rattle.std.proofs.Common.{false}
 use Rattle.std.specs.Fmt.{digits}
 use Rattle.tables.specs.declared.file_id.FileId.TheVariants as file
 use Rattle.giv_files.specs.declared.key.Key.TheVariants as key
@@ -18,7 +19,9 @@ use Rattle.plan_num.specs.Print.{digits_at}
 use Rattle.event_tables.specs.Headers.{disposed_time_header}
 use Rattle.delay_management.specs.declared.fault.ReasonFault.{ReasonFault}
 use Rattle.delay_management.specs.declared.fault.ReasonFault.TheVariants as fault
-use Rattle.delay_management.specs.DispositionStage.{reasons_header, events_in, activities_in, schedule_in, event_delays_in, activity_delays_in, problem_in, kept_in, disposed_of, disposition_stage, disposition_faults}
+use Rattle.delay_management.specs.DispositionStage.{reasons_header, events_in, activities_in, schedule_in}
+use Rattle.delay_management.specs.DispositionStage.{event_delays_in, activity_delays_in, problem_in, kept_in}
+use Rattle.delay_management.specs.DispositionStage.{disposed_of, disposition_stage, disposition_faults}
 use Rattle.delay_management.specs.Judged.{first_broken_rule}
 use Rattle.propagation.specs.LeastTimes.{pushed_often, least_times}
 use Rattle.delay_management.specs.InputProblems.{delay_of}

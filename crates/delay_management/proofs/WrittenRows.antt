@@ -1,5 +1,6 @@
 -- The rows of times and of reasons, in their columns.
-use Rattle.std.proofs.Common.{◌≡◌, ◌∙◌, ℕ, suc, ◌+◌, ◌<◌, ◌≤◌, List, [], ◌∷◌, ◌++◌, length, map, take, get_or, All, refl, ap, arith}
+use Rattle.std.proofs.Common.{◌≡◌, ◌∙◌, ℕ, suc, ◌+◌, ◌<◌, ◌≤◌, List, [], ◌∷◌, ◌++◌, length, map, take, get_or, All}
+use Rattle.std.proofs.Common.{refl, ap, arith}
 use Rattle.std.specs.List.{enumerate_from}
 use Rattle.std.proofs.lemmas.Int.{ints}
 use Rattle.std.proofs.lemmas.List.{get_or-map, length-map, take_all, take_more}
@@ -15,6 +16,7 @@ use Rattle.propagation.specs.declared.reason.Reason.{Reason}
 use Rattle.propagation.specs.declared.reason.Reason.TheVariants as reason
 use Rattle.delay_management.specs.DispositionStage.{ReasonRow, reason_cells, reason_place, reason_rows, time_rows}
 use Rattle.propagation.specs.Reasons.{named_activity}
+use Rattle.propagation.specs.declared.times.TheConstants.{LATEST}
 
 -- ---- one row more, of rows that are numbered from 1
 
@@ -45,17 +47,17 @@ abbrev pub times_from : ℕ → List ℕ → List DisposedTime
 times_from n times = map (λ at. record { event = at.0; time = at.1 }) (enumerate_from n times)
 
 times_fit_from : (n : ℕ) (times : List ℕ) → 1 ≤ n → n + length times ≤ 100001
-    → All (λ time. time ≤ 1000000000000000000) times → All TimeFits (times_from n times)
+    → All (λ time. time ≤ LATEST) times → All TimeFits (times_from n times)
 times_fit_from n [] some few small = All-nil TimeFits
 times_fit_from n (time ∷ times) some few small =
-    let here : time ≤ 1000000000000000000 = small 0 time (omega arith) in
+    let here : time ≤ LATEST = small 0 time (omega arith) in
     let row : DisposedTime = record { event = n; time = time } in
     All-cons TimeFits row (times_from (n + 1) times)
     ((omega (arith, ints, some), omega (arith, ints, few)), ((omega (arith, ints), omega (arith, ints, here)), tt))
     (times_fit_from (n + 1) times (omega arith) (omega (arith, few)) (λ k d h. small (suc k) d (omega (arith, h))))
 
 pub times_fit : (times : List ℕ) → length times ≤ 100000
-    → All (λ time. time ≤ 1000000000000000000) times → All TimeFits (time_rows times)
+    → All (λ time. time ≤ LATEST) times → All TimeFits (time_rows times)
 times_fit times few small = times_fit_from 1 times (omega arith) (omega (arith, few)) small
 
 abbrev pub ReasonFits : ReasonRow → Type 0
@@ -75,8 +77,10 @@ reasons_fit_from n [] some few small = All-nil ReasonFits
 reasons_fit_from n (why ∷ reasons) some few small =
     let here : named_activity why ≤ 500000 = small 0 why (omega arith) in
     let row : ReasonRow = record { event = n; reason = why } in
-    All-cons ReasonFits row (reasons_from (n + 1) reasons)
-    ((omega (arith, ints, some), omega (arith, ints, few)), ((reason_place why, place_below why, refl), ((omega (arith, ints), omega (arith, ints, here)), tt)))
+    All-cons ReasonFits row (reasons_from (n + 1) reasons) (
+      (omega (arith, ints, some), omega (arith, ints, few)),
+      ((reason_place why, place_below why, refl), ((omega (arith, ints), omega (arith, ints, here)), tt)),
+    )
     (reasons_fit_from (n + 1) reasons (omega arith) (omega (arith, few)) (λ k d h. small (suc k) d (omega (arith, h))))
 
 pub reasons_fit : (reasons : List Reason) → length reasons ≤ 100000

@@ -18,7 +18,8 @@ use Rattle.event_tables.specs.declared.expanded_event.ExpandedEvent.{ExpandedEve
 use Rattle.event_tables.specs.declared.schedule_row.ScheduleRow.{ScheduleRow}
 use Rattle.event_tables.specs.Cells.{disposed_time_cells}
 use Rattle.event_tables.specs.Delays.{event_delay_input, activity_delay_input}
-use Rattle.event_tables.specs.ExpandedFiles.{expanded_event_input, expanded_activity_input, expanded_event_ids, expanded_activity_ids}
+use Rattle.event_tables.specs.ExpandedFiles.{expanded_event_input, expanded_activity_input, expanded_event_ids}
+use Rattle.event_tables.specs.ExpandedFiles.{expanded_activity_ids}
 use Rattle.event_tables.specs.Headers.{disposed_time_header}
 use Rattle.tables.specs.RowsOfTables.{file_text}
 use Rattle.event_tables.specs.Schedules.{schedule_input}

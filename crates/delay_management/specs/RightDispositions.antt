@@ -11,7 +11,8 @@ use Rattle.event_tables.specs.DisposedTimes.{disposed_time_input}
 use Rattle.event_tables.specs.ExpandedFiles.{expanded_event_ids}
 use Rattle.tables.specs.RowsOfTables.{ReadsAs}
 use Rattle.propagation.specs.declared.reason.Reason.{Reason}
-use Rattle.delay_management.specs.DispositionStage.{disposition_faults, events_in, kept_in, problem_in, reason_rows, time_rows}
+use Rattle.delay_management.specs.DispositionStage.{disposition_faults, events_in, kept_in, problem_in, reason_rows}
+use Rattle.delay_management.specs.DispositionStage.{time_rows}
 use Rattle.delay_management.specs.Judged.{first_broken_rule, reason_row}
 use Rattle.propagation.specs.Reasons.{AreRight, canonical_reasons}
 use Rattle.propagation.specs.Waiting.{IsDisposition}

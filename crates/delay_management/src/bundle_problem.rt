@@ -6,6 +6,8 @@ ghost use Rattle.giv_files.specs.Settings.{Fits};
 ghost use Rattle.event_tables.specs.Delays.{AreDelays};
 ghost use Rattle.event_tables.specs.ExpandedFiles.{AreExpandedActivities, AreExpandedEvents};
 ghost use Rattle.event_tables.specs.Schedules.{AreScheduleRows};
+ghost use Rattle.std.specs.List.Sorted.{IsStrictlyIncreasing};
+ghost use Rattle.propagation.specs.Problems.{IsForward};
 ghost use Rattle.delay_management.specs.DispositionStage.{disposition_faults, problem_in};
 ghost use Rattle.delay_management.specs.InputProblems.{day_event, problem_over};
 
@@ -21,12 +23,23 @@ use propagation::{DayEvent, Propagation};
 use std::alloc::Global;
 use tables::StageFault;
 
-/// The problem of the inputs of the stage of dispositions, or their first fault.
+// The delays of events and those of activities.
+#[derive(Drop)]
+struct Delays<'a> {
+    events: &'a [DelayRow],
+    activities: &'a [DelayRow],
+}
+
+/// The problem of the inputs of the stage of dispositions, or their first fault. Its steps go forward,
+/// and its changes stand by their ids.
 pub fn problem_of_bundle(alloc: Global, bundle: &Bundle) -> Result<Propagation, StageFault>
     requires stage { bundle.now.stage ≡ stages.Disposition }
     requires fits { Fits bundle.now }
     ensures read { UnlessFault (disposition_faults bundle.now)
         (λ problem. problem ≡ problem_in bundle.now) result }
+    ensures forward { IfOk result IsForward }
+    ensures rise { IfOk result
+        (λ problem. IsStrictlyIncreasing (map (λ change. change.id) problem.changes)) }
 {
     let events = events_of(alloc, bundle)?;
     let activities = activities_of(alloc, bundle, &events)?;
@@ -39,8 +52,10 @@ pub fn problem_of_bundle(alloc: Global, bundle: &Bundle) -> Result<Propagation, 
         events,
         activities,
         &schedule,
-        &event_rows,
-        &activity_rows,
+        &Delays {
+            events: &event_rows,
+            activities: &activity_rows,
+        },
         turnover,
     )?;
     Ok(problem)
@@ -52,21 +67,23 @@ fn problem_of_rows(
     events: Vec<ExpandedEvent>,
     activities: Vec<ExpandedActivity>,
     schedule: &[ScheduleRow],
-    event_rows: &[DelayRow],
-    activity_rows: &[DelayRow],
+    delays: &Delays,
     turnover: u32,
 ) -> Result<Propagation, NoMemory>
     requires events { AreExpandedEvents events.items }
     requires activities { AreExpandedActivities events.items activities.items }
     requires schedule { AreScheduleRows events.items schedule.now }
-    requires event_delays { AreDelays (length events.items) event_rows.now }
-    requires activity_delays { AreDelays (length activities.items) activity_rows.now }
+    requires event_delays { AreDelays (length events.items) delays.now.events.now }
+    requires activity_delays { AreDelays (length activities.items) delays.now.activities.now }
     requires turnover { turnover ≤ 10000 }
-    ensures { IfOk result (λ problem. problem ≡ problem_over turnover events.items activities.items
-        schedule.now event_rows.now activity_rows.now) }
+    ensures value { IfOk result (λ problem. problem ≡ problem_over turnover events.items
+        activities.items schedule.now delays.now.events.now delays.now.activities.now) }
+    ensures forward { IfOk result IsForward }
+    ensures rise { IfOk result
+        (λ problem. IsStrictlyIncreasing (map (λ change. change.id) problem.changes)) }
 {
-    let earliest = earliest_times(alloc, &events, event_rows)?;
-    let parted = delayed_activities(alloc, &activities, activity_rows)?;
+    let earliest = earliest_times(alloc, &events, delays.events)?;
+    let parted = delayed_activities(alloc, &activities, delays.activities)?;
     drop(activities);
     let RidesAndChanges { rides, changes } = parted;
     let turns = turns_of(alloc, schedule, turnover)?;
@@ -83,8 +100,8 @@ fn day_events(alloc: Global, events: &[ExpandedEvent]) -> Result<Vec<DayEvent>, 
     Ok(events.iter().map(day_event).collect(alloc)?)
 }
 
-// An event of a day, of an expanded event.
-fn day_event(event: &ExpandedEvent) -> DayEvent
+/// An event of a day, of an expanded event.
+pub(crate) fn day_event(event: &ExpandedEvent) -> DayEvent
     ensures { result ≡ day_event event.now }
 {
     DayEvent {

@@ -1,8 +1,10 @@
 // The files of a disposition, and its line in the report.
 ghost use Rattle.std.specs.Prelude.{◌≡◌, ◌+◌, ◌++◌, ◌≤◌, codes, decimal, length, All, IfOk};
 ghost use Rattle.std.specs.Fmt.{signed_decimal};
-ghost use Rattle.delay_management.specs.DispositionStage.{disposition_made, reason_cells, reason_place, reasons_text, time_rows, times_text};
+ghost use Rattle.delay_management.specs.DispositionStage.{disposition_made, reason_cells, reason_place, reasons_text};
+ghost use Rattle.delay_management.specs.DispositionStage.{time_rows, times_text};
 ghost use Rattle.propagation.specs.Reasons.{named_activity};
+ghost use Rattle.propagation.specs.declared.times.TheConstants.{LATEST};
 
 use event_tables::{DisposedTime, disposed_times_text};
 use giv_files::{Made, MadeFile, MadeList, Stage, count_text, report_line};
@@ -20,7 +22,7 @@ pub(crate) fn disposition_made(
     reasons: &[Reason],
 ) -> Result<Made, NoMemory>
     requires each { length times.now ≡ length problem.now.events }
-    requires small { All (λ time. time ≤ 1000000000000000000) times.now }
+    requires small { All (λ time. time ≤ LATEST) times.now }
     requires few { length reasons.now ≤ 100000 }
     requires ids { All (λ reason. named_activity reason ≤ 500000) reasons.now }
     ensures { IfOk result (λ made. made ≡ disposition_made problem.now times.now reasons.now) }
@@ -71,7 +73,7 @@ fn delay_text(alloc: Global, delay: i128) -> Result<Text, NoMemory>
 // The text of times.
 fn times_text(alloc: Global, times: &[u64]) -> Result<Text, NoMemory>
     requires few { length times.now ≤ 100000 }
-    requires small { All (λ time. time ≤ 1000000000000000000) times.now }
+    requires small { All (λ time. time ≤ LATEST) times.now }
     ensures { IfOk result (λ text. text ≡ times_text times.now) }
 {
     let rows = time_rows(alloc, times)?;

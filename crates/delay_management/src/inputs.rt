@@ -7,7 +7,10 @@ ghost use Rattle.event_tables.specs.Delays.{AreDelays};
 ghost use Rattle.event_tables.specs.ExpandedFiles.{AreExpandedActivities, AreExpandedEvents};
 ghost use Rattle.event_tables.specs.Places.{AreNumbered};
 ghost use Rattle.event_tables.specs.Schedules.{AreScheduleRows};
-ghost use Rattle.delay_management.specs.DispositionStage.{activities_in, activity_delay_faults, activity_delays_in, activity_faults, event_delay_faults, event_delays_in, event_faults, events_in, schedule_faults, schedule_in, turnover_in};
+ghost use Rattle.delay_management.specs.DispositionStage.{activities_in, activity_delay_faults, activity_delays_in};
+ghost use Rattle.delay_management.specs.DispositionStage.{activity_faults, event_delay_faults, event_delays_in};
+ghost use Rattle.delay_management.specs.DispositionStage.{event_faults, events_in, schedule_faults, schedule_in};
+ghost use Rattle.delay_management.specs.DispositionStage.{turnover_in};
 
 use event_tables::{
     DelayRow, ExpandedActivity, ExpandedEvent, ScheduleRow, activity_delays, event_delays,

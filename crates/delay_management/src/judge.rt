@@ -1,14 +1,17 @@
 // The rules of a disposition from any hand, in their order.
-ghost use Rattle.std.specs.Prelude.{◌≡◌, ◌≤◌, ◌++◌, List, length, slice_get, if◌then◌else◌, None, Some, All, IfOk, IfSome};
+ghost use Rattle.std.specs.Prelude.{◌≡◌, ◌≤◌, ◌++◌, List, length, slice_get, if◌then◌else◌, None, Some, All, IfOk};
+ghost use Rattle.std.specs.Prelude.{IfSome};
 ghost use Rattle.tables.specs.Columns.{disposed_columns, reasons_columns};
 ghost use Rattle.tables.specs.Reading.{table_of};
 ghost use Rattle.tables.specs.Writing.{InColumns};
 ghost use Rattle.event_tables.specs.Cells.{disposed_time};
 ghost use Rattle.tables.specs.RowsOfTables.{records_by};
 ghost use Rattle.propagation.specs.declared.step.Activity.{Activity};
-ghost use Rattle.delay_management.specs.Judged.{broken_reasons, broken_rows, broken_times, first_broken_rule, is_table, reason_faults, reason_row};
+ghost use Rattle.delay_management.specs.Judged.{broken_reasons, broken_rows, broken_times, first_broken_rule, is_table};
+ghost use Rattle.delay_management.specs.Judged.{reason_faults, reason_row};
 ghost use Rattle.propagation.specs.Problems.{Joins};
 ghost use Rattle.propagation.specs.Waiting.{chosen_changes};
+ghost use Rattle.propagation.specs.declared.times.TheConstants.{LATEST};
 
 use crate::fault::ReasonFault;
 use crate::rows::{are_all_reasons, are_all_times, reasons_of, times_of};
@@ -90,7 +93,7 @@ fn times_fault(
     reasons: &[u8],
 ) -> Result<Option<ReasonFault>, NoMemory>
     requires each { length times.now ≡ length problem.now.events }
-    requires small { All (λ time. time ≤ 1000000000000000000) times.now }
+    requires small { All (λ time. time ≤ LATEST) times.now }
     ensures { IfOk result (λ answer. answer ≡ slice_get (broken_times problem.now
         (chosen_changes problem.now kept.now) times.now reasons.now) 0) }
 {
@@ -111,7 +114,7 @@ fn reasons_fault(
     text: &[u8],
 ) -> Result<Option<ReasonFault>, NoMemory>
     requires each { length times.now ≡ length problem.now.events }
-    requires small { All (λ time. time ≤ 1000000000000000000) times.now }
+    requires small { All (λ time. time ≤ LATEST) times.now }
     requires ends { All (λ activity. Joins (length times.now) activity.step) activities.now }
     ensures { IfOk result (λ answer. (kept : List Activity)
         → activities.now ≡ problem.now.rides ++ kept
@@ -132,7 +135,7 @@ fn reason_rows_fault(
     table: &Table<3>,
 ) -> Result<Option<ReasonFault>, NoMemory>
     requires each { length times.now ≡ length problem.now.events }
-    requires small { All (λ time. time ≤ 1000000000000000000) times.now }
+    requires small { All (λ time. time ≤ LATEST) times.now }
     requires ends { All (λ activity. Joins (length times.now) activity.step) activities.now }
     requires cells { All (λ row. InColumns reasons_columns row.cells) table.now }
     ensures { IfOk result (λ answer. (kept : List Activity)

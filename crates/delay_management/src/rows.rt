@@ -6,6 +6,7 @@ ghost use Rattle.tables.specs.Writing.{InColumns};
 ghost use Rattle.event_tables.specs.Cells.{disposed_time, number_in};
 ghost use Rattle.tables.specs.RowsOfTables.{records_by};
 ghost use Rattle.delay_management.specs.Judged.{are_all, reason_at, reason_row};
+ghost use Rattle.propagation.specs.declared.times.TheConstants.{LATEST};
 
 use plan_num::NoMemory;
 use propagation::Reason;
@@ -50,7 +51,7 @@ pub(crate) fn times_of(alloc: Global, table: &Table<2>) -> Result<Vec<u64>, NoMe
     requires { All (λ row. InColumns disposed_columns row.cells) table.now }
     ensures times { IfOk result
         (λ times. times.items ≡ map (λ row. row.time) (records_by disposed_time table.now)) }
-    ensures small { IfOk result (λ times. All (λ time. time ≤ 1000000000000000000) times.items) }
+    ensures small { IfOk result (λ times. All (λ time. time ≤ LATEST) times.items) }
 {
     let mut times = Vec::with_capacity(alloc, table.len())?;
     for row in 0..table.len() {
@@ -106,7 +107,7 @@ fn time_number(table: &Table<2>, row: usize) -> u64
     requires row { row < length table.now }
     requires cells { All (λ row. InColumns disposed_columns row.cells) table.now }
     ensures value { result ≡ number_in (slice_index_or table.now row no_row).cells 1 }
-    ensures small { result ≤ 1000000000000000000 }
+    ensures small { result ≤ LATEST }
 {
     table.cell(row, 1) as u64
 }

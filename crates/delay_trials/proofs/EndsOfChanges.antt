@@ -5,7 +5,8 @@ use Rattle.std.specs.List.{Contains}
 use Rattle.std.specs.List.Sorted.{IsNonDecreasingBy, IsPartitionPoint, IsPermutation}
 use Rattle.std.proofs.lemmas.Bool.{eqb-false}
 use Rattle.std.proofs.lemmas.List.{get_or_default}
-use Rattle.std.proofs.lemmas.List.Elements.{All-append, All-cons, All-contains, All-contains_itself, All-nil, Contains-append_left, Contains-push}
+use Rattle.std.proofs.lemmas.List.Elements.{All-append, All-cons, All-contains, All-contains_itself, All-nil}
+use Rattle.std.proofs.lemmas.List.Elements.{Contains-append_left, Contains-push}
 use Rattle.std.proofs.lemmas.List.Sorted.{All-permutation, IsPermutation-sym}
 use Rattle.delay_trials.specs.declared.ends.ChangeEnd.{ChangeEnd}
 use Rattle.propagation.specs.declared.step.Activity.{Activity}
@@ -42,10 +43,13 @@ one_more changes count ends so_far inside e first second one two =
           (All-append P ends (a ∷ []) so_far.there (All-cons P a [] inside (All-nil P)))
           (All-cons P b [] inside (All-nil P));
       from = λ k d less. by k count less
-          (λ old. Contains-append_left (ends ++ a ∷ []) (b ∷ []) _ (Contains-append_left ends (a ∷ []) _ (so_far.from k d old)))
-          (λ same. rw (same, get_or_default changes count d e inside) (Contains-append_left (ends ++ a ∷ []) (b ∷ []) a (Contains-push ends a)));
+          (λ old. Contains-append_left (ends ++ a ∷ []) (b ∷ []) _
+          (Contains-append_left ends (a ∷ []) _ (so_far.from k d old)))
+          (λ same. rw (same, get_or_default changes count d e inside)
+          (Contains-append_left (ends ++ a ∷ []) (b ∷ []) a (Contains-push ends a)));
       to = λ k d less. by k count less
-          (λ old. Contains-append_left (ends ++ a ∷ []) (b ∷ []) _ (Contains-append_left ends (a ∷ []) _ (so_far.to k d old)))
+          (λ old. Contains-append_left (ends ++ a ∷ []) (b ∷ []) _
+          (Contains-append_left ends (a ∷ []) _ (so_far.to k d old)))
           (λ same. rw (same, get_or_default changes count d e inside) (Contains-push (ends ++ a ∷ []) b));
     })
   where
@@ -80,5 +84,6 @@ none_there ends first event sorted is d inside apart j e there same =
     let later = sorted first j e most there in
     let behind = is.behind first e (omega arith) inside in
     let other = eqb-false (get_or ends first d).event event apart in
-    let one : (get_or ends first d).event ≡ (get_or ends first e).event = ap (λ (e : ChangeEnd). e.event) (get_or_default ends first d e inside) in
+    let one : (get_or ends first d).event ≡ (get_or ends first e).event =
+    ap (λ (e : ChangeEnd). e.event) (get_or_default ends first d e inside) in
     other (omega (arith, one, later, behind, same)))

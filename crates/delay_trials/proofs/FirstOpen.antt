@@ -16,6 +16,7 @@ tells_first all decided kept is None tells =
 tells_first all decided kept is (Some at) tells =
     one_open (record { problem = all.problem; decided = decided }) all.times is.told at tells.0
     (λ k d less. ap (λ b. b && is_broken all.times (get_or all.problem.changes k d))
-    (sym (open_flag all.problem decided kept all.open_yet all.times is k (omega (arith, less, tells.0)))) ∙ tells.1 k d less)
+    (sym (open_flag all.problem decided kept all.open_yet all.times is k (omega (arith, less, tells.0))))
+    ∙ tells.1 k d less)
     (λ d. ap (λ b. b && is_broken all.times (get_or all.problem.changes at d))
     (sym (open_flag all.problem decided kept all.open_yet all.times is at tells.0)) ∙ tells.2 d)

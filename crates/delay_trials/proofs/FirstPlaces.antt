@@ -16,8 +16,10 @@ module _ {X : Type 0} (key : X → ℕ) (xs : List X) (least : ℕ → ℕ) wher
         each = length_push old first ∙ ap (λ n. n + 1) are.each;
         first = λ k less.
             by_less k count
-            (λ before. subst (IsFirst key xs (least k)) (sym (get_or_append_left old (first ∷ []) 0 k (omega (arith, before, are.each)))) (are.first k before))
+            (λ before. subst (IsFirst key xs (least k))
+            (sym (get_or_append_left old (first ∷ []) 0 k (omega (arith, before, are.each)))) (are.first k before))
             (λ past. let same : k ≡ length old = omega (arith, less, past, are.each) in
-            subst (IsFirst key xs (least k)) (sym (ap (λ k. get_or (old ++ first ∷ []) k 0) same ∙ get_or-append_seam old first [] 0))
+            subst (IsFirst key xs (least k)) (sym (ap (λ k. get_or (old ++ first ∷ []) k 0) same
+            ∙ get_or-append_seam old first [] 0))
             (subst (λ n. IsFirst key xs (least n) first) (sym (same ∙ are.each)) is));
       })

@@ -5,7 +5,7 @@ pub mod FirstPlaces
 pub mod OnTrialFacts
 pub mod RunningDelay
 pub mod Settling
-pub mod Taking
+pub mod DecisionsTakenBack
 pub mod Testing
 pub mod TrialDelay
 pub mod TrialFacts

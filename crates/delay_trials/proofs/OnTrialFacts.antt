@@ -8,21 +8,32 @@ use Rattle.std.proofs.lemmas.List.Elements.{All-head, All-set, All-tail}
 use Rattle.std.proofs.lemmas.Int.{ints}
 use Rattle.propagation.specs.declared.day_event.DayEvent.{DayEvent}
 use Rattle.delay_trials.specs.declared.ends.ChangeEnd.{ChangeEnd}
-use Rattle.delay_trials.specs.declared.moved.Moved.{Moved}
+use Rattle.delay_trials.specs.declared.moved_event.Moved.{Moved}
 use Rattle.propagation.specs.declared.step.Activity.{Activity}
 use Rattle.propagation.specs.Lateness.{delay_at, is_broken, more_delay}
 use Rattle.propagation.specs.LeastTimes.{time_at}
 use Rattle.delay_trials.specs.OnTrial.{AreTested, IsLastMoved, IsOnTrial, TrialTimes}
+use Rattle.delay_trials.specs.OpenChanges.{OpenParts}
 use Rattle.delay_trials.specs.Stillness.{MayHaveLimits}
-use Rattle.delay_trials.proofs.Apart.{set_there}
+use Rattle.delay_trials.proofs.Apart.{set_back, set_there}
 use Rattle.delay_trials.proofs.RunningDelay.{Bounded, delay_bounded, later_at}
 use Rattle.delay_trials.proofs.Testing.{one_tested, same_size}
 use Rattle.delay_trials.proofs.TrialFacts.{reversed}
 use Rattle.delay_trials.proofs.Turning.{limits_again}
+use Rattle.propagation.specs.declared.times.TheConstants.{LATEST}
 
 -- a note is of an event of so many, and of a time that is not too large
 abbrev pub IsSound : ℕ → Moved → Type 0
-IsSound events moved = (moved.event < events) × (moved.before ≤ 1000000000000000000)
+IsSound events moved = (moved.event < events) × (moved.before ≤ LATEST)
+
+-- open changes of the same parts
+pub day_is : {day : OpenParts} {changes changes_seen : List Activity} {times times_seen : List ℕ} {open_yet open_seen : List Bool}
+    {ends ends_seen : List ChangeEnd}
+    → day ≡ record { changes = changes_seen; times = times_seen; open_yet = open_seen; ends = ends_seen }
+    → changes_seen ≡ changes → times_seen ≡ times → open_seen ≡ open_yet → ends_seen ≡ ends
+    → day ≡ record { changes = changes; times = times; open_yet = open_yet; ends = ends }
+day_is is changes times open_yet ends =
+    is ∙ (λ i. record { changes = changes i; times = times i; open_yet = open_yet i; ends = ends i })
 
 module _ (all : TrialTimes) (ends : List ChangeEnd) (delay : ℤ) (broken : List Bool)
     (first_links first_ends : List ℕ) (shifted : ℕ) (until : List ℕ)
@@ -30,8 +41,12 @@ module _ (all : TrialTimes) (ends : List ChangeEnd) (delay : ℤ) (broken : List
   -- a change is open, or it is no more
   pub opened : (change : ℕ) (is : Bool) (new : List Bool) → change < length all.problem.changes
       → ((d : Activity) → new ≡ slice_set broken change
-      (get_or (slice_set all.open_yet change is) change false && is_broken all.times (get_or all.problem.changes change d)))
-      → IsOnTrial (record all { open_yet = slice_set all.open_yet change is }) ends delay new first_links first_ends shifted until
+      (get_or (slice_set all.open_yet change is) change false
+      && is_broken all.times (get_or all.problem.changes change d)))
+      → IsOnTrial (record all {
+        open_yet =
+            slice_set all.open_yet change is;
+      }) ends delay new first_links first_ends shifted until
   opened change is new there told = record {
     linked = on.linked;
     all_ends = on.all_ends;
@@ -46,7 +61,8 @@ module _ (all : TrialTimes) (ends : List ChangeEnd) (delay : ℤ) (broken : List
         one_tested all.problem.changes all.times (slice_set all.open_yet change is) broken new change told
         (omega (arith, there, on.marks)) k d
         (λ apart. on.tested k d inside ∙ ap (λ b. b && is_broken all.times (get_or all.problem.changes k d))
-        (sym (set_there all.open_yet (slice_set all.open_yet change is) change is false (λ i. slice_set all.open_yet change is) k apart)));
+        (sym (set_there all.open_yet (slice_set all.open_yet change is) change is false
+        (λ i. slice_set all.open_yet change is) k apart)));
     noted = on.noted;
     waits = on.waits;
     links_at = on.links_at;
@@ -56,17 +72,21 @@ module _ (all : TrialTimes) (ends : List ChangeEnd) (delay : ℤ) (broken : List
 
   -- the time of an event is another one
   pub timed : (event time before : ℕ) (seen : List DayEvent) (d : DayEvent) (more : ℤ) (new : List Bool)
-      → event < length all.problem.events → time ≤ 1000000000000000000 → seen ≡ all.problem.events
+      → event < length all.problem.events → time ≤ LATEST → seen ≡ all.problem.events
       → before ≡ time_at all.times event → more ≡ delay +ℤ more_delay (get_or seen event d) before time
       → AreTested all.problem.changes (slice_set all.times event time) all.open_yet new → length new ≡ length broken
-      → (count : ℕ) (limits : List ℕ) → MayHaveLimits all.problem.changes (slice_set all.times event time) ends count limits
-      → IsOnTrial (record all { times = slice_set all.times event time }) ends more new first_links first_ends count limits
+      → (count : ℕ) (limits : List ℕ) → MayHaveLimits all.problem.changes
+      (slice_set all.times event time) ends count limits
+      → IsOnTrial (record all {
+        times =
+            slice_set all.times event time;
+      }) ends more new first_links first_ends count limits
   timed event time before seen d more new there small events_are before_is told tested size count limits are = record {
     linked = on.linked;
     all_ends = on.all_ends;
     in_order = on.in_order;
     each = length-set all.times event time ∙ on.each;
-    small = All-set (λ time. time ≤ 1000000000000000000) all.times event time small on.small;
+    small = All-set (λ time. time ≤ LATEST) all.times event time small on.small;
     late = told ∙ (λ i. on.late i +ℤ more_delay (get_or (events_are i) event d) (before_is i) time)
         ∙ sym (later_at all.problem.events all.times event time d there (omega (arith, there, on.each)));
     flags = on.flags;
@@ -79,9 +99,32 @@ module _ (all : TrialTimes) (ends : List ChangeEnd) (delay : ℤ) (broken : List
     limits = are;
   }
 
+  -- and with its time before again, all that was known
+  module _ (event time before : ℕ) (before_is : before ≡ time_at all.times event) (day : OpenParts)
+      (is : day ≡ record {
+        changes = all.problem.changes;
+        times = slice_set all.times event time;
+        open_yet = all.open_yet;
+        ends = ends;
+      }) where
+    back : all.times ≡ slice_set (slice_set all.times event time) event before
+    back = sym (ap (slice_set (slice_set all.times event time) event) before_is ∙ set_back all.times event time 0)
+
+    pub tested_before : AreTested day.changes (slice_set day.times event before) day.open_yet broken
+    tested_before =
+        subst (λ (day : OpenParts). AreTested day.changes (slice_set day.times event before) day.open_yet broken)
+        (sym is)
+        (subst (λ times. AreTested all.problem.changes times all.open_yet broken) back on.tested)
+
+    pub limits_before : MayHaveLimits day.changes (slice_set day.times event before) day.ends shifted until
+    limits_before =
+        subst (λ (day : OpenParts). MayHaveLimits day.changes (slice_set day.times event before) day.ends shifted until)
+        (sym is)
+        (subst (λ times. MayHaveLimits all.problem.changes times ends shifted until) back on.limits)
+
   -- all times are other ones
   pub renewed : (times : List ℕ) (late : ℤ) (new : List Bool) → length times ≡ length all.problem.events
-      → All (λ time. time ≤ 1000000000000000000) times → late ≡ delay_at all.problem.events times
+      → All (λ time. time ≤ LATEST) times → late ≡ delay_at all.problem.events times
       → AreTested all.problem.changes times all.open_yet new → length new ≡ length broken
       → (zeros : List ℕ) → zeros ≡ replicate (length until) 0
       → IsOnTrial (record all { times = times }) ends late new first_links first_ends shifted zeros
@@ -106,7 +149,8 @@ module _ (all : TrialTimes) (ends : List ChangeEnd) (delay : ℤ) (broken : List
   delay_room =
       let bounds = delay_bounded all.problem.events all.times
       (λ k inside. let planned = on.linked.late k inside in
-      let soon = on.linked.soon k 0 (omega (arith, inside, on.linked.forward.each)) in omega (arith, planned, soon)) on.small in
+      let soon = on.linked.soon k 0
+      (omega (arith, inside, on.linked.forward.each)) in omega (arith, planned, soon)) on.small in
       let least = bounds.least in let most = bounds.most in let few = on.linked.few in
       let is = on.late in
       record { least = omega (arith, ints, least, few, is); most = omega (arith, ints, most, few, is) }
@@ -124,7 +168,8 @@ module _ (all : TrialTimes) (ends : List ChangeEnd) (delay : ℤ) (broken : List
     flags = on.flags;
     marks = on.marks;
     tested = on.tested;
-    noted = All-tail (IsSound (length all.problem.events)) last rest (subst (All (IsSound (length all.problem.events))) is on.noted);
+    noted = All-tail (IsSound (length all.problem.events)) last rest
+        (subst (All (IsSound (length all.problem.events))) is on.noted);
     waits = on.waits;
     links_at = on.links_at;
     ends_at = on.ends_at;
@@ -132,7 +177,8 @@ module _ (all : TrialTimes) (ends : List ChangeEnd) (delay : ℤ) (broken : List
   }
 
   pub popped : (old new : List Moved) (result : Option Moved) → all.noted ≡ reverse old
-      → old ≡ new ++ option_to_list result → IsOnTrial (record all { noted = reverse new }) ends delay broken first_links first_ends shifted until
+      → old ≡ new ++ option_to_list result → IsOnTrial
+      (record all { noted = reverse new }) ends delay broken first_links first_ends shifted until
   popped old new None is parts = grind (arith, append-nil)
   popped old new (Some last) is parts =
       less_noted last (reverse new) (is ∙ ap reverse parts ∙ reversed new last)
@@ -144,6 +190,7 @@ module _ (all : TrialTimes) (ends : List ChangeEnd) (delay : ℤ) (broken : List
   last_is left old new None is more n size Q C none parts = absurd (omega (arith, more, size, none.0))
   last_is left old new (Some last) is more n size Q C some parts =
       let noted = is ∙ ap reverse parts ∙ reversed new last in
-      let sound = All-head (IsSound (length all.problem.events)) last (reverse new) (subst (All (IsSound (length all.problem.events))) noted on.noted) in
+      let sound = All-head (IsSound (length all.problem.events)) last (reverse new)
+      (subst (All (IsSound (length all.problem.events))) noted on.noted) in
       let size = ap length is ∙ length-reverse old in
       (omega (arith, more, size), sound.0, sound.1, λ i. record all { noted = noted i })

@@ -11,6 +11,7 @@ use Rattle.propagation.specs.declared.day_event.DayEvent.{DayEvent}
 use Rattle.propagation.specs.Lateness.{arrives, delay_at, lateness, more_delay}
 use Rattle.propagation.specs.LeastTimes.{time_at}
 use Rattle.propagation.specs.Problems.{planned_at}
+use Rattle.propagation.specs.declared.times.TheConstants.{LATEST}
 
 abbrev Timed : Type 0
 Timed = DayEvent × ℕ
@@ -40,7 +41,8 @@ later_one (e ∷ events) (t ∷ times) zero time d sum there within = by e.arriv
         ≡ sum_of sum (cond is ((e, t) ∷ filter arrives (zip events times)) (filter arrives (zip events times)))
         +ℤ cond is (pos time -ℤ pos t) (pos 0)
     by true =
-        let turned : sum +ℤ lateness (e, time) ≡ (sum +ℤ lateness (e, t)) +ℤ (pos time -ℤ pos t) = omega (arith, ints) in
+        let turned : sum +ℤ lateness (e, time) ≡ (sum +ℤ lateness (e, t)) +ℤ (pos time -ℤ pos t) =
+        omega (arith, ints) in
         ap (λ s. sum_of s (filter arrives (zip events times))) turned
         ∙ more_first (filter arrives (zip events times)) (sum +ℤ lateness (e, t)) (pos time -ℤ pos t)
     by false = let same : (s : ℤ) → s ≡ s +ℤ pos 0 = λ s. omega (arith, ints) in same (late_from sum events times)
@@ -67,12 +69,12 @@ later_at events times event time d there within = later_one events times event t
 -- ---- how large it can be
 
 pub record Bounded (sum : ℤ) (count : ℕ) : Type 0 where
-  pub least : neg_ℤ (pos (count * 1000000000000000000)) ≤ℤ sum
-  pub most : sum ≤ℤ pos (count * 1000000000000000000)
+  pub least : neg_ℤ (pos (count * LATEST)) ≤ℤ sum
+  pub most : sum ≤ℤ pos (count * LATEST)
 
 sums_bounded : (events : List DayEvent) (times : List ℕ) (sum : ℤ) (count : ℕ)
-    → ((k : ℕ) → k < length events → planned_at events k ≤ 1000000000000000000)
-    → All (λ time. time ≤ 1000000000000000000) times → Bounded sum count
+    → ((k : ℕ) → k < length events → planned_at events k ≤ LATEST)
+    → All (λ time. time ≤ LATEST) times → Bounded sum count
     → Bounded (late_from sum events times) (count + length events)
 sums_bounded [] times sum count soon small within = grind arith
 sums_bounded (event ∷ events) [] sum count soon small within = grind arith
@@ -81,10 +83,10 @@ sums_bounded (event ∷ events) (time ∷ times) sum count soon small within =
     (λ sum here. more (sums_bounded events times sum (count + 1)
     (λ k inside. soon (suc k) (omega (arith, inside))) (λ k d inside. small (suc k) d (omega (arith, inside))) here))
   where
-    here : event.time ≤ 1000000000000000000
+    here : event.time ≤ LATEST
     here = soon 0 (omega arith)
 
-    few : time ≤ 1000000000000000000
+    few : time ≤ LATEST
     few = small 0 0 (omega arith)
 
     more : {sum : ℤ} → Bounded sum ((count + 1) + length events) → Bounded sum (count + suc (length events))
@@ -92,7 +94,8 @@ sums_bounded (event ∷ events) (time ∷ times) sum count soon small within =
 
     by : (is : Bool) → ((sum : ℤ) → Bounded sum (count + 1)
         → Bounded (late_from sum events times) (count + suc (length events)))
-        → Bounded (sum_of sum (cond is ((event, time) ∷ filter arrives (zip events times)) (filter arrives (zip events times))))
+        → Bounded (sum_of sum (cond is ((event, time) ∷ filter arrives (zip events times))
+        (filter arrives (zip events times))))
         (count + suc (length events))
     by true rest =
         let least = within.least in let most = within.most in
@@ -105,8 +108,8 @@ sums_bounded (event ∷ events) (time ∷ times) sum count soon small within =
         rest sum (record { least = omega (arith, ints, least); most = omega (arith, ints, most) })
 
 pub delay_bounded : (events : List DayEvent) (times : List ℕ)
-    → ((k : ℕ) → k < length events → planned_at events k ≤ 1000000000000000000)
-    → All (λ time. time ≤ 1000000000000000000) times
+    → ((k : ℕ) → k < length events → planned_at events k ≤ LATEST)
+    → All (λ time. time ≤ LATEST) times
     → Bounded (delay_at events times) (0 + length events)
 delay_bounded events times soon small =
     sums_bounded events times (pos 0) 0 soon small (record { least = omega (arith, ints); most = omega (arith, ints) })
@@ -115,7 +118,7 @@ module _ (sum more : ℤ) (bounded : Bounded sum 100000) where
   pub sum_fits : SFits w128 sum
   sum_fits = grind arith
 
-  pub more_fits : neg_ℤ (pos 1000000000000000000) ≤ℤ more → more ≤ℤ pos 1000000000000000000
+  pub more_fits : neg_ℤ (pos LATEST) ≤ℤ more → more ≤ℤ pos LATEST
       → SFits w128 (sum +ℤ more)
   more_fits low high = grind arith
 

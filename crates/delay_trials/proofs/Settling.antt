@@ -7,12 +7,13 @@ use Rattle.std.proofs.lemmas.Bool.{false≢true, lt-ltb}
 use Rattle.std.proofs.lemmas.List.{append_assoc, get_or_default}
 use Rattle.propagation.specs.DayEvents.{forward_rank}
 use Rattle.propagation.specs.declared.links.Link.{Link}
-use Rattle.delay_trials.specs.declared.moved.Moved.{Moved}
+use Rattle.delay_trials.specs.declared.moved_event.Moved.{Moved}
 use Rattle.propagation.specs.declared.step.Step.{Step}
 use Rattle.propagation.specs.LeastTimes.{IsLeast, asked, later, least_times, time_at}
 use Rattle.propagation.specs.Links.{IsLinked, counts, head_pushed}
 use Rattle.bit_rows.specs.Markings.{IsNext}
-use Rattle.delay_trials.specs.OnTrial.{Follows, IsHeld, IsSettling, IsSettlingBut, NoneWaits, Pushes, TrialTimes, WaitBy, rewound}
+use Rattle.delay_trials.specs.OnTrial.{Follows, IsHeld, IsSettling, IsSettlingBut, NoneWaits, Pushes, TrialTimes}
+use Rattle.delay_trials.specs.OnTrial.{WaitBy, rewound}
 use Rattle.propagation.specs.Problems.{DelayProblem, Joins}
 use Rattle.propagation.specs.Waiting.{chosen_changes}
 use Rattle.bit_rows.proofs.Cases.{by_less, by_same}
@@ -21,6 +22,7 @@ use Rattle.propagation.proofs.ForwardPass.{is_pushed}
 use Rattle.propagation.proofs.PassIsLeast.{all_join, chosen_are_changes, links_hold, pass_is, steps_hold}
 use Rattle.propagation.proofs.Rounds.{least_is_one, least_times_are_least}
 use Rattle.propagation.proofs.SoonTimes.{all_slow, pass_small}
+use Rattle.propagation.specs.declared.times.TheConstants.{LATEST}
 
 -- ---- times before can be had again
 
@@ -65,8 +67,10 @@ pushed_later step old noted timed new asks before one two three waits before_is 
         );
       };
       times = times ∙ ap (slice_set old.times step.to) (sym (ap (λ b. cond b asks (time_at old.times step.to))
-          (lt-ltb (time_at old.times step.to) asks (omega (arith, less, before_is)))) ∙ ap (later (time_at old.times step.to)) asks_is);
-      waits = inr (subst (λ (t : TrialTimes). WaitBy (λ link. link.rank ≡ forward_rank t.problem.events step.to) t.links t.waiting new.waiting)
+          (lt-ltb (time_at old.times step.to) asks (omega (arith, less, before_is))))
+          ∙ ap (later (time_at old.times step.to)) asks_is);
+      waits = inr (subst (λ (t : TrialTimes). WaitBy
+          (λ link. link.rank ≡ forward_rank t.problem.events step.to) t.links t.waiting new.waiting)
           so_far waits);
     }
 
@@ -77,10 +81,12 @@ module _ (problem : DelayProblem) (links : List Link) (linked : IsLinked problem
   least = least_times problem (chosen_changes problem kept)
 
   pub is_least : IsLeast problem (chosen_changes problem kept) least
-  is_least = least_times_are_least problem (chosen_changes problem kept) linked.forward (chosen_are_changes problem kept)
+  is_least = least_times_are_least problem (chosen_changes problem kept) linked.forward
+      (chosen_are_changes problem kept)
 
   pub least_small : All (λ time. time ≤ 600000000000) least
-  least_small = subst (All (λ time. time ≤ 600000000000)) (pass_is problem links linked kept) (pass_small problem links linked kept)
+  least_small = subst (All (λ time. time ≤ 600000000000)) (pass_is problem links linked kept)
+      (pass_small problem links linked kept)
 
   pub all_held : All (IsHeld kept least) links
   all_held = links_hold problem links linked kept least is_least.feasible.steps
@@ -110,7 +116,8 @@ module _ (all : TrialTimes) (each : length all.times ≡ length all.problem.even
   pub own_held : asked new step ≤ time_at new step.to
   own_held =
       let from = stayed step.from apart_ends in
-      let held = subst (λ times. asked all.times step ≤ time_at times step.to) (sym pushed) (is_pushed all.times step fits).holds in
+      let held = subst (λ times. asked all.times step ≤ time_at times step.to) (sym pushed)
+      (is_pushed all.times step fits).holds in
       omega (arith, from, held)
 
   -- no time is above one that the step respects
@@ -139,7 +146,8 @@ module _ (all : TrialTimes) (each : length all.times ≡ length all.problem.even
 
 -- ---- one link
 
-module _ (all : TrialTimes) (linked : IsLinked all.problem all.links) (each : length all.times ≡ length all.problem.events)
+module _ (all : TrialTimes) (linked : IsLinked all.problem all.links) (each : length all.times
+    ≡ length all.problem.events)
     (size : length all.waiting ≡ length all.links) (kept : List Bool) (at : ℕ)
     (settling : IsSettling kept all at) (there : at < length all.links) (e : Link) where
   abbrev goal : List ℕ
@@ -157,7 +165,7 @@ module _ (all : TrialTimes) (linked : IsLinked all.problem all.links) (each : le
   pub link_joins : (link.step.from < length all.problem.events) × (link.step.to < length all.problem.events)
   link_joins = let joins = all_join all.problem all.links linked at e there in (joins.from, joins.to)
 
-  pub asks_little : asked all.times link.step ≤ 1000000000000000000
+  pub asks_little : asked all.times link.step ≤ LATEST
   asks_little =
       let joins = all_join all.problem all.links linked at e there in
       let slow = all_slow all.problem all.links linked kept at e there in
@@ -226,7 +234,8 @@ module _ (all : TrialTimes) (linked : IsLinked all.problem all.links) (each : le
             → IsHeld kept new.times (get_or all.links k d)
         other apart (inl same) =
             subst (λ times. IsHeld kept times (get_or all.links k d)) (sym (ap (λ (t : TrialTimes). t.times) same))
-            (settling.held k d inside (not_here k apart (sym (ap (λ (t : TrialTimes). get_or t.waiting k false) same) ∙ none)))
+            (settling.held k d inside (not_here k apart
+            (sym (ap (λ (t : TrialTimes). get_or t.waiting k false) same) ∙ none)))
         other apart (inr waits) =
             let out = waits.out k d inside none in
             held_still all each step joined rises new.times pushed_times kept (get_or all.links k d)
@@ -241,12 +250,14 @@ module _ (all : TrialTimes) (linked : IsLinked all.problem all.links) (each : le
         by (inl same) = ap (λ (t : TrialTimes). get_or t.waiting k false) same ∙ gone k less
         by (inr waits) = only (waits.only k e (gone k less))
           where
-            only : (get_or new.waiting k false ≡ false) ⊎ ((k < length all.links) × ((get_or all.links k e).rank ≡ ranks step.to))
+            only : (get_or new.waiting k false ≡ false)
+                ⊎ ((k < length all.links) × ((get_or all.links k e).rank ≡ ranks step.to))
                 → get_or new.waiting k false ≡ false
             only (inl none) = none
             only (inr rank) =
                 let joins = all_join all.problem all.links linked at e there in
-                let sorted : (get_or all.links k e).rank ≤ link.rank = linked.in_order k at e (omega (arith, less)) there in
+                let sorted : (get_or all.links k e).rank ≤ link.rank =
+                linked.in_order k at e (omega (arith, less)) there in
                 absurd (omega (arith, sorted, rank.1, joins.own, joins.rises))
 
     pub pushed_on : IsSettling kept new (at + 1)
@@ -261,7 +272,8 @@ module _ (all : TrialTimes) (kept : List Bool) (step : Step) (but : IsSettlingBu
   held_first k d inside none = by (but.held k d inside) pushes.waits
     where
       by : ((get_or all.links k d).step ≡ step) ⊎ IsHeld kept all.times (get_or all.links k d)
-          → (new ≡ all) ⊎ WaitBy (λ link. link.rank ≡ forward_rank all.problem.events step.to) all.links all.waiting new.waiting
+          → (new ≡ all) ⊎ WaitBy (λ link. link.rank
+          ≡ forward_rank all.problem.events step.to) all.links all.waiting new.waiting
           → IsHeld kept new.times (get_or all.links k d)
       by (inl own) waits =
           λ _. subst (λ (step : Step). asked new.times step ≤ time_at new.times step.to) (sym own)
@@ -294,7 +306,8 @@ module _ (all : TrialTimes) (kept : List Bool) (step : Step) (but : IsSettlingBu
 
 -- ---- at the end
 
-module _ (all : TrialTimes) (linked : IsLinked all.problem all.links) (each : length all.times ≡ length all.problem.events)
+module _ (all : TrialTimes) (linked : IsLinked all.problem all.links) (each : length all.times
+    ≡ length all.problem.events)
     (kept : List Bool) (from : ℕ) (settling : IsSettling kept all from) (next : IsNext all.waiting from None) where
   pub none_waits : NoneWaits all
   none_waits k = by_less k from (settling.done k) (next k)
@@ -307,8 +320,10 @@ module _ (all : TrialTimes) (linked : IsLinked all.problem all.links) (each : le
         feasible = record {
           each = each;
           earliest = settling.earliest;
-          steps = steps_hold problem all.links linked kept all.times (λ k d inside. settling.held k d inside (none_waits k));
+          steps = steps_hold problem all.links linked kept all.times
+              (λ k d inside. settling.held k d inside (none_waits k));
         };
         least = λ others fits event inside.
-            let most = settling.most event inside in let less = last.least others fits event inside in omega (arith, most, less);
+            let most = settling.most event inside in let less =
+            last.least others fits event inside in omega (arith, most, less);
       }) last

@@ -1,7 +1,7 @@
 -- Which open changes times break, one after the other.
 use Rattle.std.proofs.Common.{◌≡◌, ◌≢◌, ◌∙◌, ℕ, ◌+◌, ◌<◌, ◌&&◌, Bool, false, List, length}
 use Rattle.std.proofs.Common.{get_or, slice_set, ap, sym, subst, arith}
-use Rattle.std.proofs.lemmas.List.{get_or_default, length-set}
+use Rattle.std.proofs.lemmas.List.{length-set}
 use Rattle.delay_trials.specs.declared.ends.ChangeEnd.{ChangeEnd}
 use Rattle.propagation.specs.declared.step.Activity.{Activity}
 use Rattle.propagation.specs.Lateness.{is_broken}
@@ -31,19 +31,15 @@ module _ (changes : List Activity) (times : List ℕ) (open_yet : List Bool) whe
     more_tested inside so_far k d less = grind (arith, one_tested, by_less)
 
   -- the change of one end is tested
-  pub one_done : (ends : List ChangeEnd) (old new : List Bool) (at : ℕ) (e : ChangeEnd)
-      → ((d : Activity) → new ≡ slice_set old (get_or ends at e).change (test (get_or ends at e).change d))
-      → at < length ends → (get_or ends at e).change < length old
+  pub one_done : (ends : List ChangeEnd) (old new : List Bool) (at change : ℕ)
+      → ((e : ChangeEnd) → change ≡ (get_or ends at e).change)
+      → ((d : Activity) → new ≡ slice_set old change (test change d)) → change < length old
       → TestsSome changes times open_yet ends at (at + 1) old new
-  one_done ends old new at e is inside room = record {
-    size = same_size old new (get_or ends at e).change is (record { id = 0; step = record { from = 0; to = 0; lower = 0; extra = 0 } });
-    keeps = λ k d tested. one_tested old new (get_or ends at e).change is room k d (λ apart. tested);
+  one_done ends old new at change told is room = record {
+    size = same_size old new change is (record { id = 0; step = record { from = 0; to = 0; lower = 0; extra = 0 } });
+    keeps = λ k d tested. one_tested old new change is room k d (λ apart. tested);
     done = λ j f d low high there.
-        subst (λ n. Tested new n d) (sym (named j f (omega (arith, low, high))))
-        (set_here old new (get_or ends at e).change (test (get_or ends at e).change d) false (is d) room);
+        let same : at ≡ j = omega (arith, low, high) in
+        subst (λ n. Tested new n d) (told f ∙ ap (λ n. (get_or ends n f).change) same)
+        (set_here old new change (test change d) false (is d) room);
   }
-    where
-      named : (j : ℕ) (f : ChangeEnd) → j ≡ at → (get_or ends j f).change ≡ (get_or ends at e).change
-      named j f same =
-          ap (λ n. (get_or ends n f).change) same
-          ∙ ap (λ (e : ChangeEnd). e.change) (get_or_default ends at f e inside)

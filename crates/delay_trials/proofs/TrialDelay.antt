@@ -32,9 +32,11 @@ sums_within (event ∷ events) (time ∷ times) sum count each late small within
     few = small 0 0 (omega arith)
 
     by : (is : Bool) → ((sum : ℤ) → Within sum (count + 1)
-        → Within (fold (λ sum timed. sum +ℤ lateness timed) sum (filter arrives (zip events times))) ((count + 1) + length events))
+        → Within (fold (λ sum timed. sum +ℤ lateness timed) sum (filter arrives (zip events times)))
+        ((count + 1) + length events))
         → Within (fold (λ sum timed. sum +ℤ lateness timed) sum
-        (cond is ((event, time) ∷ filter arrives (zip events times)) (filter arrives (zip events times)))) (count + suc (length events))
+        (cond is ((event, time) ∷ filter arrives (zip events times)) (filter arrives (zip events times))))
+        (count + suc (length events))
     by true rest =
         let least = within.least in let most = within.most in
         more (rest (sum +ℤ lateness (event, time)) (record {
@@ -53,7 +55,8 @@ sums_within (event ∷ events) (time ∷ times) sum count each late small within
 
 module _ (problem : DelayProblem) (kept : List Activity) (times : List ℕ) (least : IsLeast problem kept times)
     (small : All (λ time. time ≤ 600000000000) times) (few : length problem.events ≤ 100000)
-    (late : (event : ℕ) → event < length problem.events → planned_at problem.events event ≤ earliest_at problem event) where
+    (late : (event : ℕ) → event < length problem.events
+    → planned_at problem.events event ≤ earliest_at problem event) where
   all_within : Within (delay_at problem.events times) (0 + length problem.events)
   all_within =
       sums_within problem.events times (pos 0) 0 least.feasible.each

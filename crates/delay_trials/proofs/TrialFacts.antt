@@ -44,7 +44,8 @@ module _ (count : ℕ) where
       → slice_set (flags decided) last.change true ≡ flags (last ∷ decided)) [
         | true ↦ λ less.
             let zeroed : 0 + last.change ≡ last.change = omega arith in
-            told_anew (is_kept decided) (is_kept (last ∷ decided)) 0 count last.change true (ltb-true last.change count less)
+            told_anew (is_kept decided) (is_kept (last ∷ decided)) 0 count last.change true
+            (ltb-true last.change count less)
             (ap (is_kept (last ∷ decided)) zeroed
             ∙ ap (λ b. (b && last.kept) || is_kept decided last.change) (eq-eqb last.change last.change refl)
             ∙ ap (λ b. b || is_kept decided last.change) kept)
@@ -70,7 +71,8 @@ module _ (count : ℕ) where
   pub kept_same : (decided : List Decided) (last : Decided) → last.kept ≡ false → flags decided ≡ flags (last ∷ decided)
   kept_same decided last out =
       told_alike (is_kept decided) (is_kept (last ∷ decided)) count
-      (λ k inside. sym (ap (λ b. (eqb last.change k && b) || is_kept decided k) out ∙ gone (eqb last.change k) (is_kept decided k)))
+      (λ k inside. sym (ap (λ b. (eqb last.change k && b) || is_kept decided k) out
+      ∙ gone (eqb last.change k) (is_kept decided k)))
     where
       gone : (a b : Bool) → ((a && false) || b) ≡ b
       gone true b = refl
@@ -82,7 +84,8 @@ pub all_open : (a n : ℕ) → replicate n true ≡ map (λ change. not (is_deci
 all_open a zero = refl
 all_open a (suc n) = ap (λ some. true ∷ some) (all_open (a + 1) n)
 
-pub not_kept : (decided : List Decided) (change : ℕ) → is_decided decided change ≡ false → is_kept decided change ≡ false
+pub not_kept : (decided : List Decided) (change : ℕ) → is_decided decided change ≡ false
+    → is_kept decided change ≡ false
 not_kept [] change none = refl
 not_kept (last ∷ before) change none = by (eqb last.change change) last.kept none (not_kept before change)
   where
@@ -102,7 +105,8 @@ module _ (count : ℕ) (decided : List Decided) (last : Decided) (there : last.c
   zeroed : 0 + last.change ≡ last.change
   zeroed = omega arith
 
-  at_zero : {X : Type 0} (f g : ℕ → X) → ((k : ℕ) → k ≢ last.change → f k ≡ g k) → (k : ℕ) → k ≢ last.change → f (0 + k) ≡ g (0 + k)
+  at_zero : {X : Type 0} (f g : ℕ → X) → ((k : ℕ) → k ≢ last.change → f k ≡ g k) → (k : ℕ) → k ≢ last.change
+      → f (0 + k) ≡ g (0 + k)
   at_zero f g same k other = let here : 0 + k ≡ k = omega arith in ap f here ∙ same k other ∙ ap g (sym here)
 
   -- the flags before the last decision
@@ -146,7 +150,8 @@ module _ (problem : DelayProblem) where
       (is : IsTrial problem decided kept open_yet times) where
     pub kept_on : (change : ℕ) → change < n → is_decided decided change ≡ false
         → (kept_now open_now : List Bool) (now : List ℕ) → kept_now ≡ slice_set kept change true
-        → open_now ≡ slice_set open_yet change false → IsForward problem → now ≡ least_times problem (chosen_changes problem kept_now)
+        → open_now ≡ slice_set open_yet change false → IsForward problem
+        → now ≡ least_times problem (chosen_changes problem kept_now)
         → All (λ time. time ≤ 600000000000) now
         → IsTrial problem (record { change = change; kept = true } ∷ decided) kept_now open_now now
     unfolding AreOnce
@@ -229,14 +234,17 @@ module _ (trial : TrialParts) (times : List ℕ) (are : times ≡ times_of trial
   abbrev none : Activity
   none = record { id = 0; step = record { from = 0; to = 0; lower = 0; extra = 0 } }
 
-  open_at : (k : ℕ) → k < length changes → is_open (get_or (enumerate_from 0 changes) k (0, none)) ≡ is_open (k, get_or changes k none)
+  open_at : (k : ℕ) → k < length changes → is_open (get_or (enumerate_from 0 changes) k (0, none))
+      ≡ is_open (k, get_or changes k none)
   open_at k inside = ap is_open (placed_at changes k (0, none) inside)
 
   at_times : position is_open (enumerate_from 0 changes) ≡ first_broken trial
-  at_times = ap (λ times. position (λ (at : ℕ × Activity). not (is_decided trial.decided at.0) && is_broken times at.1) (enumerate_from 0 changes)) are
+  at_times = ap (λ times. position (λ (at : ℕ × Activity). not (is_decided trial.decided at.0) && is_broken times at.1)
+      (enumerate_from 0 changes)) are
 
   pub one_open : (i : ℕ) → i < length changes
-      → ((k : ℕ) (d : Activity) → k < i → (not (is_decided trial.decided k) && is_broken times (get_or changes k d)) ≡ false)
+      → ((k : ℕ) (d : Activity) → k < i → (not (is_decided trial.decided k) && is_broken times (get_or changes k d))
+      ≡ false)
       → ((d : Activity) → (not (is_decided trial.decided i) && is_broken times (get_or changes i d)) ≡ true)
       → Some i ≡ first_broken trial
   one_open i inside fails is =
@@ -261,9 +269,11 @@ module _ (problem : DelayProblem) (decided : List Decided) (kept open_yet : List
   kept_size = ap length is.flags ∙ length-map-range_with_len (is_kept decided) 0 (length problem.changes)
 
   pub open_size : length open_yet ≡ length problem.changes
-  open_size = ap length is.undecided ∙ length-map-range_with_len (λ change. not (is_decided decided change)) 0 (length problem.changes)
+  open_size = ap length is.undecided ∙ length-map-range_with_len (λ change. not (is_decided decided change)) 0
+      (length problem.changes)
 
-  pub open_flag : (change : ℕ) → change < length problem.changes → get_or open_yet change false ≡ not (is_decided decided change)
+  pub open_flag : (change : ℕ) → change < length problem.changes
+      → get_or open_yet change false ≡ not (is_decided decided change)
   open_flag change there = grind (arith, get_or, get_or-map-range_with_len)
 
 pub not_twice : (a b : Bool) → a ≡ not b → not a ≡ b

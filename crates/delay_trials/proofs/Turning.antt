@@ -5,7 +5,7 @@ use Rattle.std.specs.Prelude.{replicate}
 use Rattle.std.specs.List.{Contains}
 use Rattle.std.specs.List.Sorted.{IsNonDecreasingBy}
 use Rattle.std.proofs.Math.Nat.{min-le_left, min-le_right}
-use Rattle.std.proofs.lemmas.List.{get_or_default, get_or-replicate, length-replicate}
+use Rattle.std.proofs.lemmas.List.{get_or-replicate, length-replicate}
 use Rattle.delay_trials.specs.declared.ends.ChangeEnd.{ChangeEnd}
 use Rattle.propagation.specs.declared.step.Activity.{Activity}
 use Rattle.delay_trials.specs.ChangeEnds.{HasEnds, HasNone, IsFirst}
@@ -24,7 +24,8 @@ module _ (times : List ℕ) (event before : ℕ) (there : event < length times) 
   abbrev times_before : List ℕ
   times_before = slice_set times event before
 
-  pub others_tested : (changes : List Activity) (open_yet marks : List Bool) → AreTested changes times_before open_yet marks
+  pub others_tested : (changes : List Activity) (open_yet marks : List Bool)
+      → AreTested changes times_before open_yet marks
       → AreTestedBut event changes times open_yet marks
   others_tested changes open_yet marks tested k d inside from to =
       tested k d inside ∙ ap (λ is. get_or open_yet k false && is) (broken_as (get_or changes k d) from to)
@@ -33,7 +34,8 @@ module _ (times : List ℕ) (event before : ℕ) (there : event < length times) 
           → is_broken times_before change ≡ is_broken times change
       broken_as change from to = λ i.
           nat_lt (set_there times times_before event before 0 (λ i. times_before) change.step.to to i)
-          (set_there times times_before event before 0 (λ i. times_before) change.step.from from i + minutes change.step)
+          (set_there times times_before event before 0
+          (λ i. times_before) change.step.from from i + minutes change.step)
 
   module _ (changes : List Activity) (ends : List ChangeEnd) (has : HasEnds changes ends) where
     known : (j : ℕ) (e : ChangeEnd) → j < length ends → (get_or ends j e).change < length changes
@@ -60,8 +62,10 @@ module _ (times : List ℕ) (event before : ℕ) (there : event < length times) 
         room = λ j e d inside less.
             let k = (get_or ends j e).change in
             let change = get_or changes k d in
-            let from = set_there times times_before event before 0 (λ i. times_before) change.step.from (from_apart k d (known j e inside)) in
-            let to = set_there times times_before event before 0 (λ i. times_before) change.step.to (to_apart k d (known j e inside)) in
+            let from = set_there times times_before event before 0 (λ i. times_before) change.step.from
+            (from_apart k d (known j e inside)) in
+            let to = set_there times times_before event before 0 (λ i. times_before) change.step.to
+            (to_apart k d (known j e inside)) in
             let was = are.room j e d inside less in
             omega (arith, from, to, was);
       })
@@ -72,7 +76,8 @@ pub limits_none : (changes : List Activity) (times : List ℕ) (ends : List Chan
 limits_none changes times ends shifted n there zeros are = record {
   there = let size = ap length are ∙ length-replicate n 0 in omega (arith, size, there);
   room = λ j e d inside less.
-      let zero = ap (λ ns. get_or ns (j / 64) 0) are ∙ get_or-replicate n (j / 64) 0 0 (omega (arith, inside, there)) in omega (arith, zero);
+      let zero = ap (λ ns. get_or ns (j / 64) 0) are
+      ∙ get_or-replicate n (j / 64) 0 0 (omega (arith, inside, there)) in omega (arith, zero);
 }
 
 pub limits_at_first : (changes : List Activity) (times : List ℕ) (ends : List ChangeEnd) (shifted : ℕ) (until : List ℕ)
@@ -112,25 +117,21 @@ module _ (changes : List Activity) (times : List ℕ) (open_yet : List Bool) (en
       tests.keeps (get_or ends j e).change d (still j e d inside few below)
 
   -- the least room of the ends so far, and of one more
-  pub room_more : (at place least room new : ℕ) (e : ChangeEnd) (d : Activity)
-      → room ≡ room_of times (get_or changes (get_or ends place e).change d) → new ≡ min least room
-      → place < length ends → (get_or ends place e).change < length changes
-      → ((j : ℕ) (f : ChangeEnd) (g : Activity) → at ≤ j → j < place
-      → least ≤ room_of times (get_or changes (get_or ends j f).change g))
-      → (j : ℕ) (f : ChangeEnd) (g : Activity) → at ≤ j → j < place + 1
-      → new ≤ room_of times (get_or changes (get_or ends j f).change g)
-  room_more at place least room new e d own is inside known so_far j f g low high =
+  pub room_more : (at place least room new : ℕ)
+      → ((e : ChangeEnd) (d : Activity) → room ≡ room_of times (get_or changes (get_or ends place e).change d))
+      → new ≡ min least room
+      → ((j : ℕ) (e : ChangeEnd) (d : Activity) → at ≤ j → j < place
+      → least ≤ room_of times (get_or changes (get_or ends j e).change d))
+      → (j : ℕ) (e : ChangeEnd) (d : Activity) → at ≤ j → j < place + 1
+      → new ≤ room_of times (get_or changes (get_or ends j e).change d)
+  room_more at place least room new own is so_far j e d low high =
       by_less j place
-      (λ less. let rest = so_far j f g low less in let left = min-le_left least room in omega (arith, rest, left, is))
+      (λ less. let rest = so_far j e d low less in let left = min-le_left least room in omega (arith, rest, left, is))
       (λ most.
+      let same : place ≡ j = omega (arith, most, high) in
       let right = min-le_right least room in
-      let same = ap (room_of times) (one (omega (arith, most, high))) in
-      omega (arith, right, is, own, same))
-    where
-      one : j ≡ place → get_or changes (get_or ends j f).change g ≡ get_or changes (get_or ends place e).change d
-      one same =
-          ap (λ (end : ChangeEnd). get_or changes end.change g) (ap (λ n. get_or ends n f) same ∙ get_or_default ends place f e inside)
-          ∙ get_or_default changes (get_or ends place e).change g d known
+      let here = own e d ∙ ap (λ n. room_of times (get_or changes (get_or ends n e).change d)) same in
+      omega (arith, right, is, here))
 
   -- all changes are tested where those of all ends at an event are
   pub all_done : (event first at : ℕ) (old new : List Bool) → HasEnds changes ends

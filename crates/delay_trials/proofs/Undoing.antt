@@ -1,10 +1,11 @@
 -- Events that were made later have their times before again, one after the other.
 use Rattle.std.proofs.Common.{◌≡◌, ℕ, List, [], ◌∷◌, ◌++◌, slice_set, Some, arith}
-use Rattle.delay_trials.specs.declared.moved.Moved.{Moved}
+use Rattle.delay_trials.specs.declared.moved_event.Moved.{Moved}
 use Rattle.delay_trials.specs.OnTrial.{IsDropping, IsLastMoved, IsUndoing, TrialTimes, rewound}
 
 pub undone_one : (left : ℕ) (first old popped new : TrialTimes) (last : Moved) → IsUndoing left first old
-    → IsLastMoved left old popped (Some last) → new ≡ record popped { times = slice_set popped.times last.event last.before }
+    → IsLastMoved left old popped (Some last)
+    → new ≡ record popped { times = slice_set popped.times last.event last.before }
     → IsUndoing left first new
 undone_one left first old popped new last is moved timed top rest parts size =
     by (so_far.0) so_far.1 so_far.2

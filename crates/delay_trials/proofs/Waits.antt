@@ -1,5 +1,6 @@
 -- The links of a rank wait, one after the other.
-use Rattle.std.proofs.Common.{◌≡◌, ◌≢◌, ◌∙◌, ℕ, ◌+◌, ◌<◌, ◌≤◌, ◌⊎◌, inl, inr, Bool, true, false, List, length, get_or, slice_set, ap, sym, subst, arith}
+use Rattle.std.proofs.Common.{◌≡◌, ◌≢◌, ◌∙◌, ℕ, ◌+◌, ◌<◌, ◌≤◌, ◌⊎◌, inl, inr, Bool, true, false, List, length, get_or}
+use Rattle.std.proofs.Common.{slice_set, ap, sym, subst, arith}
 use Rattle.std.specs.List.Sorted.{IsNonDecreasingBy}
 use Rattle.std.proofs.lemmas.Bool.{false≢true}
 use Rattle.std.proofs.lemmas.List.{get_or_default, length-set}
@@ -29,11 +30,14 @@ module _ (links : List Link) (rank : ℕ) (first : List Bool) where
   one_waits at old new e is inside same set = record {
     size = ap length set ∙ length-set old at true ∙ is.size;
     behind = λ j d low within. is.behind j d (omega (arith, low)) within;
-    ahead = λ k low. set_there old new at true false set k (λ e. omega (arith, e, low)) ∙ is.ahead k (omega (arith, low));
+    ahead = λ k low. set_there old new at true false set k (λ e. omega (arith, e, low))
+        ∙ is.ahead k (omega (arith, low));
     out = λ k d less within none.
         by_same k at
-        (λ here. absurd (false≢true (sym (subst (λ n. get_or new n false ≡ false) here none) ∙ set_here old new at true false set (omega (arith, inside, is.size)))))
-        (λ other. is.out k d (omega (arith, less, other)) within (sym (set_there old new at true false set k other) ∙ none));
+        (λ here. absurd (false≢true (sym (subst (λ n. get_or new n false ≡ false) here none)
+        ∙ set_here old new at true false set (omega (arith, inside, is.size)))))
+        (λ other. is.out k d (omega (arith, less, other)) within
+        (sym (set_there old new at true false set k other) ∙ none));
     only = λ k d none.
         by_same k at
         (λ here. inr (

@@ -1,4 +1,5 @@
 pub mod ChangeEnds
 pub mod OnTrial
+pub mod OpenChanges
 pub mod Stillness
 pub mod Trials

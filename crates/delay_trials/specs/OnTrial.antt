@@ -1,11 +1,12 @@
 -- Inner words: what is known of decisions on trial.
-use Rattle.std.specs.Prelude.{ℕ, ℤ, ◌≡◌, ◌≢◌, ◌≤◌, ◌<◌, ◌&&◌, ◌⊎◌, Bool, true, false, not, List, [], ◌∷◌, ◌++◌, length, map, get_or, replicate, slice_set, All, Option, Some, None, reverse, ⊤}
+use Rattle.std.specs.Prelude.{ℕ, ℤ, ◌≡◌, ◌≢◌, ◌≤◌, ◌<◌, ◌&&◌, ◌⊎◌, Bool, true, false, not, List, [], ◌∷◌, ◌++◌, length}
+use Rattle.std.specs.Prelude.{map, get_or, replicate, slice_set, All, Option, Some, None, reverse, ⊤}
 use Rattle.std.specs.List.{range_with_len}
 use Rattle.std.specs.List.Sorted.{IsNonDecreasingBy}
 use Rattle.delay_trials.specs.declared.decided.Decided.{Decided}
 use Rattle.delay_trials.specs.declared.ends.ChangeEnd.{ChangeEnd}
 use Rattle.propagation.specs.declared.links.Link.{Link}
-use Rattle.delay_trials.specs.declared.moved.Moved.{Moved}
+use Rattle.delay_trials.specs.declared.moved_event.Moved.{Moved}
 use Rattle.propagation.specs.declared.step.Activity.{Activity}
 use Rattle.propagation.specs.declared.step.Step.{Step}
 use Rattle.delay_trials.specs.declared.taken.Taken.{Taken}
@@ -18,6 +19,7 @@ use Rattle.propagation.specs.Problems.{DelayProblem, Joins, earliest_at}
 use Rattle.delay_trials.specs.Stillness.{MayHaveLimits}
 use Rattle.delay_trials.specs.Trials.{is_decided, is_kept, times_of}
 use Rattle.propagation.specs.Waiting.{chosen_changes}
+use Rattle.propagation.specs.declared.times.TheConstants.{LATEST}
 
 -- each change is there, and is decided once
 unfoldable pub AreOnce : ℕ → List Decided → Type 0
@@ -84,13 +86,13 @@ pub record IsOnTrial (all : TrialTimes) (ends : List ChangeEnd) (delay : ℤ) (b
   pub all_ends : HasEnds all.problem.changes ends
   pub in_order : IsNonDecreasingBy (λ end. end.event) ends
   pub each : length all.times ≡ length all.problem.events
-  pub small : All (λ time. time ≤ 1000000000000000000) all.times
+  pub small : All (λ time. time ≤ LATEST) all.times
   pub late : delay ≡ delay_at all.problem.events all.times
   pub flags : length all.open_yet ≡ length all.problem.changes
   pub marks : length broken ≡ length all.problem.changes
   pub tested : AreTested all.problem.changes all.times all.open_yet broken
   pub noted : All (λ moved. (moved.event < length all.problem.events)
-      × (moved.before ≤ 1000000000000000000)) all.noted
+      × (moved.before ≤ LATEST)) all.noted
   pub waits : length all.waiting ≡ length all.links
   pub links_at : AreFirst (λ link. link.rank) all.links (forward_rank all.problem.events)
       (length all.problem.events) first_links
@@ -152,7 +154,7 @@ pub record IsSettlingBut (kept : List Bool) (step : Step) (all : TrialTimes) : T
   pub each : length all.times ≡ length all.problem.events
   pub joins : Joins (length all.problem.events) step
   pub rises : forward_rank all.problem.events step.from < forward_rank all.problem.events step.to
-  pub small : asked all.times step ≤ 1000000000000000000
+  pub small : asked all.times step ≤ LATEST
   pub holds : asked (least_times all.problem (chosen_changes all.problem kept)) step
       ≤ time_at (least_times all.problem (chosen_changes all.problem kept)) step.to
   pub earliest : (event : ℕ) → event < length all.problem.events
@@ -193,12 +195,13 @@ TellsBroken all (Some at) = (at < length all.problem.changes)
 abbrev pub IsLastMoved : ℕ → TrialTimes → TrialTimes → Option Moved → Type 0
 IsLastMoved left old new None = (new ≡ old) × (length old.noted ≤ left)
 IsLastMoved left old new (Some last) = (left < length old.noted)
-    × (last.event < length old.problem.events) × (last.before ≤ 1000000000000000000)
+    × (last.event < length old.problem.events) × (last.before ≤ LATEST)
     × (old ≡ record new { noted = last ∷ new.noted })
 
 -- times on trial before anything is decided
 pub record StartsTrial (problem : DelayProblem) (all : TrialTimes) : Type 0 where
   pub problem_is : all.problem ≡ problem
+  pub linked : IsLinked all.problem all.links
   pub times : all.times ≡ least_times problem (chosen_changes problem [])
   pub least_small : All (λ time. time ≤ 600000000000) all.times
   pub open_yet : all.open_yet ≡ replicate (length problem.changes) true
@@ -242,6 +245,7 @@ AreSaved problem (last ∷ before) noted times = (top rest : List Moved) × (not
 
 -- decisions with their times on trial
 pub record IsTaken (all : TrialTimes) (taken : List Taken) (kept : List Bool) : Type 0 where
+  pub linked : IsLinked all.problem all.links
   pub trial : IsTrial all.problem (decided_in taken) kept all.open_yet all.times
   pub saved : AreSaved all.problem taken all.noted all.times
   pub rest : NoneWaits all

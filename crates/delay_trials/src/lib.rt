@@ -5,11 +5,12 @@
 mod decided;
 mod ends;
 mod link_places;
-mod moved;
+mod moved_ends;
+mod moved_event;
 mod on_trial;
+mod open_changes;
 mod settle;
 mod taken;
-mod tested;
 mod trial;
 
 pub use decided::Decided;

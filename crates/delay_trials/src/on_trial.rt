@@ -1,18 +1,21 @@
 // Times on trial, and what they tell.
-ghost use Rattle.std.specs.Prelude.{◌≡◌, ◌+◌, ◌∷◌, ◌<◌, ◌≤◌, false, get_or, length, slice_set, IfOk, IfSome, OnErr, OnOk};
+ghost use Rattle.std.specs.Prelude.{◌≡◌, ◌+◌, ◌∷◌, ◌<◌, ◌≤◌, false, get_or, length, slice_set, IfOk, IfSome, OnErr};
+ghost use Rattle.std.specs.Prelude.{OnOk};
 ghost use Rattle.propagation.specs.DayEvents.{forward_rank};
 ghost use Rattle.propagation.specs.Lateness.{delay_at};
 ghost use Rattle.propagation.specs.LeastTimes.{asked, least_times};
 ghost use Rattle.propagation.specs.Links.{IsLinked};
 ghost use Rattle.bit_rows.specs.Markings.{IsNext};
-ghost use Rattle.delay_trials.specs.OnTrial.{Follows, IsLastMoved, IsSettling, NoneWaits, Pushes, StartsTrial, TellsBroken, WaitBy};
-ghost use Rattle.propagation.specs.Problems.{Joins};
+ghost use Rattle.delay_trials.specs.OnTrial.{Follows, IsLastMoved, IsSettling, NoneWaits, Pushes, StartsTrial};
+ghost use Rattle.delay_trials.specs.OnTrial.{TellsBroken, WaitBy};
+ghost use Rattle.propagation.specs.Problems.{IsForward, Joins};
 ghost use Rattle.propagation.specs.Waiting.{chosen_changes};
+ghost use Rattle.propagation.specs.declared.times.TheConstants.{LATEST};
 
 use crate::ends::{ChangeEnd, ends_in_order, first_ends, forget_limits, no_limits};
 use crate::link_places::{first_links, wait_behind};
-use crate::moved::Moved;
-use crate::tested::{test, test_all, test_moved};
+use crate::moved_event::Moved;
+use crate::open_changes::OpenChanges;
 use bit_rows::Marking;
 use plan_num::NoMemory;
 use propagation::{Link, Propagation, Step, asked, counts, delay_at, forward_rank, more_delay};
@@ -75,16 +78,17 @@ impl<'a> Model for TimesOnTrial<'a> {
 impl<'a> TimesOnTrial<'a> {
     /// The least times where no change is kept; all changes are open.
     pub(crate) fn new(alloc: Global, problem: &'a Propagation) -> Result<TimesOnTrial<'a>, NoMemory>
-        ensures { IfOk result (λ all. StartsTrial problem.now all) }
+        ensures starts { IfOk result (λ all. StartsTrial problem.now all) }
+        ensures forward { IsForward problem.now }
     {
         let count = problem.change_count();
         let events = problem.events();
         let links = problem.links();
         let times = problem.least_times(alloc, &[])?;
         let undecided = vec![in alloc; true; count]?;
-        let mut broken = Marking::none(alloc, count)?;
-        test_all(&mut broken, problem.changes(), &times, &undecided);
         let ends = ends_in_order(alloc, problem.changes())?;
+        let mut broken = Marking::none(alloc, count)?;
+        OpenChanges::new(problem.changes(), &times, &undecided, &ends).test_all(&mut broken);
         let until = no_limits(alloc, &ends)?;
         Ok(TimesOnTrial {
             problem,
@@ -119,13 +123,13 @@ impl<'a> TimesOnTrial<'a> {
         } }
     {
         self.undecided[change] = is;
-        test(
-            &mut self.broken,
+        OpenChanges::new(
             self.problem.changes(),
             &self.times,
             &self.undecided,
-            change,
-        );
+            &self.ends,
+        )
+        .test(&mut self.broken, change);
     }
 
     /// Whether a change is open.
@@ -153,7 +157,7 @@ impl<'a> TimesOnTrial<'a> {
     /// The time of an event is another one.
     pub(crate) fn set_time(&mut self, event: u32, time: u64)
         requires there { event < length self.old.problem.events }
-        requires small { time ≤ 1000000000000000000 }
+        requires small { time ≤ LATEST }
         ensures { self.new ≡ record self.old { times = slice_set self.old.times event time } }
     {
         let at = event as usize;
@@ -161,17 +165,18 @@ impl<'a> TimesOnTrial<'a> {
         let more = more_delay(&self.problem.events()[at], before, time);
         self.delay += more;
         self.times[at] = time;
-        test_moved(
-            &mut self.broken,
-            &mut self.until,
-            &mut self.shifted,
-            &self.ends,
-            self.first_ends[at],
-            event,
-            before,
+        OpenChanges::new(
             self.problem.changes(),
             &self.times,
             &self.undecided,
+            &self.ends,
+        )
+        .test_moved(
+            &mut self.broken,
+            &mut self.until,
+            &mut self.shifted,
+            self.first_ends[at],
+            Moved { event, before },
         );
     }
 
@@ -223,7 +228,7 @@ impl<'a> TimesOnTrial<'a> {
     /// The head of a step, no earlier than the step asks.
     pub(crate) fn push(&mut self, step: Step) -> Result<(), NoMemory>
         requires joins { Joins (length self.old.problem.events) step }
-        requires small { asked self.old.times step ≤ 1000000000000000000 }
+        requires small { asked self.old.times step ≤ LATEST }
         ensures ok { OnOk result (Pushes step self.old self.new) }
         ensures err { OnErr result (self.new ≡ self.old) }
     {
@@ -240,7 +245,7 @@ impl<'a> TimesOnTrial<'a> {
     // The time of an event is noted.
     fn note(&mut self, event: u32, before: u64) -> Result<(), NoMemory>
         requires there { event < length self.old.problem.events }
-        requires small { before ≤ 1000000000000000000 }
+        requires small { before ≤ LATEST }
         ensures ok { OnOk result (self.new ≡ record self.old {
           noted = record { event = event; before = before } ∷ self.old.noted;
         }) }
@@ -266,12 +271,13 @@ impl<'a> TimesOnTrial<'a> {
         self.problem.put_least_times(&mut self.times, kept);
         self.delay = delay_at(self.problem.events(), &self.times);
         forget_limits(&mut self.until);
-        test_all(
-            &mut self.broken,
+        OpenChanges::new(
             self.problem.changes(),
             &self.times,
             &self.undecided,
-        );
+            &self.ends,
+        )
+        .test_all(&mut self.broken);
     }
 
     /// The last event that was made later, where more than so many are left; it is no more noted.

@@ -1,6 +1,6 @@
 // Times on trial behind a decision: what follows from it, and the way back.
 ghost use Rattle.std.specs.Prelude.{◌≡◌, ◌++◌, length, List, OnOk};
-ghost use Rattle.delay_trials.specs.declared.moved.Moved.{Moved};
+ghost use Rattle.delay_trials.specs.declared.moved_event.Moved.{Moved};
 ghost use Rattle.propagation.specs.LeastTimes.{least_times};
 ghost use Rattle.delay_trials.specs.OnTrial.{Follows, IsSettling, IsSettlingBut, NoneWaits, rewound};
 ghost use Rattle.propagation.specs.Waiting.{chosen_changes};
@@ -20,12 +20,12 @@ impl TimesOnTrial<'_> {
         ensures none { OnOk result (NoneWaits self.new) }
     {
         self.push(step)?;
-        self.settle(kept)
+        self.take_waiting_links(kept)
     }
 
     // Takes the links that wait in their order, and makes heads later where they ask for it, until
     // none waits.
-    fn settle(&mut self, kept: &[bool]) -> Result<(), NoMemory>
+    fn take_waiting_links(&mut self, kept: &[bool]) -> Result<(), NoMemory>
         requires { IsSettling kept.now self.old 0 }
         ensures follows { Follows self.old self.new }
         ensures least { OnOk result (self.new.times

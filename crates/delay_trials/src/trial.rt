@@ -1,5 +1,6 @@
 // Decisions on trial.
-ghost use Rattle.std.specs.Prelude.{nat_le, [], ◌≡◌, ◌<◌, ◌≤◌, ◌≤ℤ◌, ◌∷◌, pos, true, false, drop, length, slice_get, slice_set, IfOk, OnOk, OnErr};
+ghost use Rattle.std.specs.Prelude.{nat_le, [], ◌≡◌, ◌<◌, ◌≤◌, ◌≤ℤ◌, ◌∷◌, pos, true, false, drop, length, slice_get};
+ghost use Rattle.std.specs.Prelude.{slice_set, IfOk, OnOk, OnErr};
 ghost use Rattle.propagation.specs.Lateness.{delay_at};
 ghost use Rattle.delay_trials.specs.OnTrial.{DropsNotes, GoesBack};
 ghost use Rattle.propagation.specs.Problems.{IsForward};
@@ -54,9 +55,10 @@ impl<'a> Model for Trial<'a> {
 impl<'a> Trial<'a> {
     /// Nothing is decided yet.
     pub fn new(alloc: Global, problem: &'a Propagation) -> Result<Trial<'a>, NoMemory>
-        ensures { IfOk result (λ trial. trial ≡ record { problem = problem.now; decided = [] }) }
+        ensures value { IfOk result
+            (λ trial. trial ≡ record { problem = problem.now; decided = [] }) }
+        ensures forward { IsForward problem.now }
     {
-        let _forward = problem.change_count();
         Ok(Trial {
             times: TimesOnTrial::new(alloc, problem)?,
             taken: Vec::new(alloc),
@@ -106,7 +108,7 @@ impl<'a> Trial<'a> {
                 self.times.undo(moved);
                 self.times.set_open(change, true);
                 set_at(&mut self.kept, change, false);
-                let _ = self.taken.pop();
+                self.taken.pop();
                 Err(NoMemory)
             }
         }
@@ -121,7 +123,6 @@ impl<'a> Trial<'a> {
         }) }
         ensures err { OnErr result (self.new ≡ self.old) }
     {
-        let _linked = self.times.problem();
         let moved = self.times.moved();
         self.taken.push(Taken::new(change, false, moved, true))?;
         self.times.set_open(change, false);
@@ -133,7 +134,6 @@ impl<'a> Trial<'a> {
         ensures last { result ≡ slice_get self.old.decided 0 }
         ensures rest { self.new ≡ record self.old { decided = drop 1 self.old.decided } }
     {
-        let _linked = self.times.problem();
         let last = self.taken.pop()?;
         set_at(&mut self.kept, last.decided.change, false);
         go_back(&mut self.times, &last, &self.kept);
@@ -146,8 +146,9 @@ impl<'a> Trial<'a> {
         ensures value { result ≡ delay_at self.now.problem.events (times_of self.now) }
         ensures least { pos 0 ≤ℤ result }
         ensures most { result ≤ℤ pos 60000000000000000 }
+        ensures few { length self.now.problem.changes ≤ 502000 }
+        ensures forward { IsForward self.now.problem }
     {
-        let _linked = self.times.problem();
         self.times.delay()
     }
 

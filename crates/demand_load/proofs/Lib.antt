@@ -6,3 +6,5 @@ mod LoadRows
 mod LoadsAccepted
 mod SoundLoads
 mod Tried
+pub mod DemandRows
+pub mod SmallLoads

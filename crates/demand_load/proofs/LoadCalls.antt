@@ -1,14 +1,12 @@
 -- The stage of loads, from what each of its inputs gives.
-use Rattle.std.proofs.Common.{arith, ◌≡◌, ◌≢◌, ℕ, cond, true, false, List, [], ◌∷◌, length, map, ap}
+use Rattle.std.proofs.Common.{arith, ◌≡◌, ◌≢◌, ℕ, cond, true, false, List, [], length, map, ap}
 use Rattle.std.proofs.Common.{refl, subst, sym, ◌∙◌, Ok, Err}
 use Rattle.std.proofs.lemmas.Bool.{ne_eqb, eq-eqb}
 use Rattle.std.proofs.lemmas.List.{length-map}
 use Rattle.std.proofs.lemmas.List.FromFn.{length-map-range_with_len}
 use Rattle.giv_files.specs.declared.key.Key.TheVariants as key
 use Rattle.giv_files.specs.declared.made.Made.{Made}
-use Rattle.tables.specs.declared.refusal.Refusal.{Refusal}
 use Rattle.tables.specs.declared.refusal.StageFault.{StageFault}
-use Rattle.tables.specs.declared.refusal.StageFault.TheVariants as fault
 use Rattle.giv_files.specs.declared.setting.Setting.{Setting}
 use Rattle.giv_files.specs.declared.stage.Stage.TheVariants as stage
 use Rattle.tables.specs.Inputs.{Refuses, or_else, input_faults, records_of}
@@ -17,14 +15,16 @@ use Rattle.giv_files.specs.StageCalls.{input_text, StageGives}
 use Rattle.tables.proofs.Inputs.{refused_append}
 use Rattle.giv_files.proofs.SettingFacts.{amount_within}
 use Rattle.giv_files.proofs.StageCalls.{stage_refused}
-use Rattle.ptn_network.specs.Networks.{NetworkParts, network_of, network_faults}
+use Rattle.walks.specs.Networks.{NetworkParts}
+use Rattle.ptn_network.specs.Networks.{network_of, network_faults}
 use Rattle.ptn_network.specs.declared.edge_load.EdgeLoad.{EdgeLoad}
-use Rattle.demand_paths.specs.Demand.{demand_input, demand_loads}
+use Rattle.demand_load.specs.Demand.{demand_input, demand_loads}
 use Rattle.tables.specs.declared.file_id.FileId.TheVariants as file
 use Rattle.ptn_network.specs.Loads.{load_input, loads_of}
 use Rattle.ptn_network.proofs.LoadRows.{loads_count as edge_loads_count}
 use Rattle.demand_load.specs.LoadStage.{takes_demand, bounded, loads_by, text_faults, frequency_faults, load_faults, loads_in, load_stage}
 use Rattle.demand_load.specs.LoadTables.{loads_made, HasSpread}
+use Rattle.tables.proofs.InTurn.{refused_before}
 
 -- the settings of a bundle that fits are within their ranges
 pub settings_fit : (bundle : BundleParts) → bundle.stage ≡ stage.Load → Fits bundle
@@ -77,19 +77,13 @@ module _ (settings : List Setting) (network : NetworkParts) (text : List ℕ) wh
 
 -- ---- the stage
 
-refused_first : (all others : List Refusal) (reason : StageFault) → Refuses all reason
-    → Refuses (or_else all others) reason
-refused_first [] others (fault.Refused first) h = cc
-refused_first (x ∷ all) others (fault.Refused first) h = h
-refused_first all others fault.NoMemory h = tt
-
 module _ (bundle : BundleParts) where
   -- texts that give no network
   pub network_refused : (reason : StageFault)
       → Refuses (network_faults (input_text bundle 0) (input_text bundle 1)) reason
       → StageGives (load_stage bundle) (Err reason)
   unfolding load_stage
-  network_refused reason h = grind (arith, stage_refused, refused_first, refused_append)
+  network_refused reason h = grind (arith, stage_refused, refused_before, refused_append)
 
   module _ (network : NetworkParts) (none : network_faults (input_text bundle 0)
       (input_text bundle 1) ≡ []) (is : network ≡ network_of (input_text bundle 0)
@@ -103,7 +97,7 @@ module _ (bundle : BundleParts) where
         → StageGives (load_stage bundle) (Err reason)
     unfolding load_stage
     text_refused reason h = stage_refused (or_else (load_faults bundle) _) _ reason
-        (refused_first (load_faults bundle) _ reason (subst (λ all. Refuses all reason) later h))
+        (refused_before (load_faults bundle) _ reason (subst (λ all. Refuses all reason) later h))
 
     module _ (loads : List EdgeLoad) (faultless : text_faults bundle.settings network
         (input_text bundle 2) ≡ []) (read : loads ≡ loads_by bundle.settings network

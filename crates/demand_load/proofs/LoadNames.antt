@@ -12,9 +12,10 @@ use Rattle.giv_files.specs.StageCalls.{input_text}
 use Rattle.tables.specs.NamedFiles.{NamesInput}
 use Rattle.tables.proofs.Named.{AllName, names_both, names_or_else, names_where, input_names}
 use Rattle.giv_files.proofs.StageCalls.{refused_names}
-use Rattle.ptn_network.specs.Networks.{NetworkParts, network_faults}
+use Rattle.walks.specs.Networks.{NetworkParts}
+use Rattle.ptn_network.specs.Networks.{network_faults}
 use Rattle.ptn_network.proofs.NamedFaults.{network_names}
-use Rattle.demand_paths.specs.Demand.{demand_input}
+use Rattle.demand_load.specs.Demand.{demand_input}
 use Rattle.ptn_network.specs.Loads.{load_input}
 use Rattle.demand_load.specs.LoadStage.{takes_demand, text_faults, frequency_faults, network_in, loads_in, load_faults, load_stage}
 

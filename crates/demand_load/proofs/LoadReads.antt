@@ -1,21 +1,17 @@
 -- The loads that are made, read again, are right.
-use Rattle.std.proofs.Common.{◌≡◌, List, [], ◌∷◌, refl, ap, sym, arith, Ok, Err, Result}
-use Rattle.std.specs.Prelude.{IfOk}
+use Rattle.std.proofs.Common.{◌≡◌, refl, ap, sym, arith, Ok}
 use Rattle.giv_files.specs.declared.made.Made.{Made}
-use Rattle.tables.specs.declared.refusal.Refusal.{Refusal}
-use Rattle.tables.specs.declared.refusal.StageFault.{StageFault}
 use Rattle.giv_files.specs.declared.stage.Stage.TheVariants as stage
 use Rattle.tables.specs.Columns.{load_columns}
-use Rattle.tables.specs.Inputs.{or_else}
 use Rattle.giv_files.specs.Settings.{BundleParts, Fits}
-use Rattle.giv_files.specs.StageCalls.{input_text, StageGives}
+use Rattle.giv_files.specs.StageCalls.{input_text}
 use Rattle.tables.specs.Writing.{table_text, ReadsBack}
 use Rattle.tables.proofs.Ranges.{front_none, back_none}
 use Rattle.giv_files.proofs.StageCalls.{made_unless, none_unless}
 use Rattle.tables.proofs.WrittenBack.{written_back}
 use Rattle.ptn_network.specs.Networks.{network_faults}
 use Rattle.ptn_network.proofs.Sound.{network_sound}
-use Rattle.demand_load.specs.LoadStage.{load_faults, load_stage, loads_in, network_in, text_faults, frequency_faults}
+use Rattle.demand_load.specs.LoadStage.{load_faults, load_stage, loads_in, network_in, text_faults}
 use Rattle.demand_load.specs.LoadTables.{load_header, load_rows}
 use Rattle.demand_load.specs.RightLoads.{LoadsAreRight}
 use Rattle.demand_load.proofs.LoadCalls.{loads_count}
@@ -24,42 +20,32 @@ use Rattle.demand_load.proofs.LoadRows.{all_rare, rows_in_columns}
 use Rattle.tables.proofs.WrittenColumns.{columns_written}
 use Rattle.demand_load.proofs.LoadsAccepted.{loads_accepted}
 use Rattle.demand_load.proofs.SoundLoads.{edges_named, loads_sound}
-
--- no fault first, and no other one
-none_first : (all others : List Refusal) → or_else all others ≡ [] → (all ≡ []) × (others ≡ [])
-none_first [] others none = (refl, none)
-none_first (first ∷ all) others none = cc
+use Rattle.tables.proofs.InTurn.{none_after, none_first}
 
 -- what the stage makes of inputs without a fault
 pub loads_are_right : (bundle : BundleParts) (made : Made) → bundle.stage ≡ stage.Load → Fits bundle
     → load_stage bundle ≡ Ok made → LoadsAreRight bundle made
 unfolding load_stage
 loads_are_right bundle made _ _ is =
-    let none = none_first (load_faults bundle) (frequency_faults (loads_in bundle))
-    (none_unless _ _ made is) in
-    let edges = edges_named (input_text bundle 0) (input_text bundle 1) (front_none _ _ none.0) in
+    let nothing = none_unless _ _ made is in
+    let fine = none_first (load_faults bundle) _ nothing in
+    let rare = none_after (load_faults bundle) _ nothing in
+    let edges = edges_named (input_text bundle 0) (input_text bundle 1) (front_none _ _ fine) in
     let later = back_none (network_faults (input_text bundle 0) (input_text bundle 1))
-    (text_faults bundle.settings (network_in bundle.inputs) (input_text bundle 2)) none.0 in
+    (text_faults bundle.settings (network_in bundle.inputs) (input_text bundle 2)) fine in
     let loads = loads_sound bundle.settings (network_in bundle.inputs) (input_text bundle 2) later in
     let rows = load_rows (network_in bundle.inputs).edges (loads_in bundle) in
     let text = table_text load_header load_columns rows in
     let each = loads_count bundle.settings (network_in bundle.inputs) (input_text bundle 2) in
     let reads : ReadsBack load_columns rows text =
     written_back load_header load_columns rows (omega arith) (columns_written load_columns refl)
-    (rows_in_columns (network_in bundle.inputs).edges (loads_in bundle) edges loads (all_rare (loads_in bundle) none.1))
+    (rows_in_columns (network_in bundle.inputs).edges (loads_in bundle) edges loads (all_rare (loads_in bundle) rare))
     (refl, plain_header load_header refl) in
     record {
-      inputs = none.0;
+      inputs = fine;
       each = each;
       text = text;
       one = ap (λ (made : Made). made.files) (sym (made_unless _ _ made is));
       reads = reads;
-      accepted = loads_accepted (network_in bundle.inputs).edges (loads_in bundle) text (network_sound (input_text bundle 0) (input_text bundle 1) (front_none _ _ none.0)).edges_rise each loads reads;
+      accepted = loads_accepted (network_in bundle.inputs).edges (loads_in bundle) text (network_sound (input_text bundle 0) (input_text bundle 1) (front_none _ _ fine)).edges_rise each loads reads;
     }
-
--- what a call gives that meets the stage
-pub right_given : (bundle : BundleParts) (result : Result Made StageFault)
-    → bundle.stage ≡ stage.Load → Fits bundle → StageGives (load_stage bundle) result
-    → IfOk result (λ made. LoadsAreRight bundle made)
-right_given bundle (Ok made) own fits given = loads_are_right bundle made own fits given
-right_given bundle (Err fault) own fits given = tt

@@ -11,7 +11,7 @@ use Rattle.tables.specs.Columns.{load_columns}
 use Rattle.tables.specs.Tables.{TableRow}
 use Rattle.tables.specs.Writing.{InColumns}
 use Rattle.tables.proofs.Ranges.{back_none}
-use Rattle.ptn_network.specs.declared.edge.Edge.{Edge}
+use Rattle.walks.specs.declared.edge.Edge.{Edge}
 use Rattle.ptn_network.specs.declared.edge_load.EdgeLoad.{EdgeLoad}
 use Rattle.ptn_network.specs.Loads.{IsBounded}
 use Rattle.demand_load.specs.LoadTables.{load_row, load_rows, HasId}

@@ -12,8 +12,8 @@ use Rattle.tables.specs.Columns.{load_columns}
 use Rattle.tables.specs.Inputs.{records, input_faults}
 use Rattle.tables.specs.Writing.{ReadsBack}
 use Rattle.tables.proofs.Accepted.{accepted, whole_accepted, all_keep, each_known, none_missing}
-use Rattle.tables.proofs.Found.{any_mapped, any_found}
-use Rattle.ptn_network.specs.declared.edge.Edge.{Edge}
+use Rattle.plan_num.proofs.Found.{any_mapped, any_found}
+use Rattle.walks.specs.declared.edge.Edge.{Edge}
 use Rattle.ptn_network.specs.declared.edge_load.EdgeLoad.{EdgeLoad}
 use Rattle.ptn_network.specs.Ids.{edge_with}
 use Rattle.ptn_network.specs.Loads.{load_input, load_rules, given_for, IsBounded}

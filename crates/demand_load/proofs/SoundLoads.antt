@@ -16,15 +16,16 @@ use Rattle.tables.proofs.Inputs.{few_rows, sound_rows}
 use Rattle.tables.proofs.Ranges.{back_none}
 use Rattle.tables.proofs.WriteFacts.{in_column}
 use Rattle.ptn_network.specs.Inputs.{stop_input, edge_input, edge_row}
-use Rattle.ptn_network.specs.Networks.{NetworkParts, edge_of, edge_entry, stops_of, network_of, network_faults}
-use Rattle.demand_paths.specs.Demand.{demand_input, demand_loads, load_of}
+use Rattle.walks.specs.Networks.{NetworkParts}
+use Rattle.ptn_network.specs.Networks.{edge_of, edge_entry, stops_of, network_of, network_faults}
+use Rattle.demand_load.specs.Demand.{demand_input, demand_loads, load_of}
 use Rattle.tables.specs.declared.file_id.FileId.TheVariants as file
 use Rattle.ptn_network.specs.Loads.{load_input, loads_of, IsBounded, IsLoad}
 use Rattle.ptn_network.proofs.LoadRows.{loads_sound as edge_loads_sound}
 use Rattle.demand_load.specs.LoadStage.{bounded, takes_demand, loads_by, text_faults}
 use Rattle.demand_load.specs.LoadTables.{HasId}
-use Rattle.ptn_network.proofs.Sound.{all_by_id}
-use Rattle.demand_paths.proofs.SmallLoads.{few_customers, load_small}
+use Rattle.walks.proofs.RisingIds.{all_by_id}
+use Rattle.demand_load.proofs.SmallLoads.{few_customers, load_small}
 
 -- ---- the ids of edges
 

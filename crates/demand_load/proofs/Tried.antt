@@ -17,10 +17,12 @@ use Rattle.tables.specs.Writing.{cell_text, cell_texts, joined, table_text}
 use Rattle.plan_num.specs.Number.{spelling_of, value_of, value_at, fixed_of, whole_of}
 use Rattle.plan_num.specs.Print.{digits_at}
 use Rattle.ptn_network.specs.Loads.{loads_of}
-use Rattle.ptn_network.specs.declared.edge.Edge.{Edge}
-use Rattle.ptn_network.specs.Networks.{NetworkParts, by_id, stops_of, network_of, network_faults}
-use Rattle.ptn_network.specs.Walks.{walks_within, least_of, least_sum}
-use Rattle.ptn_network.specs.Paths.{path_within, path}
+use Rattle.walks.specs.declared.edge.Edge.{Edge}
+use Rattle.walks.specs.Networks.{NetworkParts}
+use Rattle.ptn_network.specs.Networks.{stops_of, network_of, network_faults}
+use Rattle.walks.specs.RisingIds.{by_id}
+use Rattle.walks.specs.Walks.{walks_within, least_of, least_sum}
+use Rattle.walks.specs.Paths.{path_within, path}
 use Rattle.demand_load.specs.LoadTables.{load_header}
 use Rattle.demand_load.specs.LoadStage.{loads_by, text_faults, load_stage}
 

@@ -1,3 +1,4 @@
 pub mod LoadStage
 pub mod LoadTables
 pub mod RightLoads
+pub mod Demand

@@ -11,10 +11,11 @@ use Rattle.giv_files.specs.declared.setting.Setting.{Setting}
 use Rattle.tables.specs.Inputs.{input_faults, records_of, or_else}
 use Rattle.giv_files.specs.Settings.{BundleParts, amount}
 use Rattle.giv_files.specs.StageCalls.{input_text, unless_fault}
-use Rattle.ptn_network.specs.Networks.{NetworkParts, network_faults}
+use Rattle.walks.specs.Networks.{NetworkParts}
+use Rattle.ptn_network.specs.Networks.{network_faults}
 pub use Rattle.ptn_network.specs.Networks.{network_in}
 use Rattle.ptn_network.specs.declared.edge_load.EdgeLoad.{EdgeLoad}
-use Rattle.demand_paths.specs.Demand.{demand_input, demand_loads}
+use Rattle.demand_load.specs.Demand.{demand_input, demand_loads}
 use Rattle.tables.specs.declared.file_id.FileId.TheVariants as file
 use Rattle.ptn_network.specs.Loads.{load_input, loads_of}
 use Rattle.demand_load.specs.LoadTables.{loads_made}

@@ -10,7 +10,7 @@ use Rattle.giv_files.specs.ReportLines.{count_text, report_line}
 use Rattle.giv_files.specs.Settings.{amount}
 use Rattle.tables.specs.Tables.{TableRow}
 use Rattle.tables.specs.Writing.{table_text}
-use Rattle.ptn_network.specs.declared.edge.Edge.{Edge}
+use Rattle.walks.specs.declared.edge.Edge.{Edge}
 use Rattle.ptn_network.specs.declared.edge_load.EdgeLoad.{EdgeLoad}
 
 -- the row of an edge: its id, its load and its bounds of frequency

@@ -10,9 +10,9 @@ ghost use Rattle.demand_load.specs.LoadStage.{load_stage, loads_by, text_faults}
 ghost use Rattle.demand_load.specs.LoadTables.{HasSpread};
 ghost use Rattle.demand_load.specs.RightLoads.{LoadsAreRight};
 
+use crate::demand::read_demand;
 use crate::frequency::{bounds_of, check_frequencies};
 use crate::load_table::loads_made;
-use demand_paths::read_demand;
 use giv_files::{Bundle, Key, Made, Settings};
 use plan_num::{Ledger, Steps};
 use ptn_network::{EdgeLoad, Loads, Network};

@@ -9,9 +9,9 @@ use Rattle.std.proofs.lemmas.List.Elements.{All-from_get_or, Contains-get_or}
 use Rattle.std.proofs.lemmas.List.FromFn.{get_or-map-range_with_len, length-map-range_with_len}
 use Rattle.std.proofs.lemmas.List.Sorted.{All-permutation, Contains-permutation, length_permutation}
 use Rattle.std.proofs.lemmas.Option.{get_or_from_slice_get}
-use Rattle.ptn_network.specs.Networks.{NetworkParts}
-use Rattle.ptn_network.specs.Paths.{PathParts, path, paths_from}
-use Rattle.tables.proofs.Members.{Contains-map}
+use Rattle.walks.specs.Networks.{NetworkParts}
+use Rattle.walks.specs.Paths.{PathParts, path, paths_from}
+use Rattle.plan_num.proofs.Members.{Contains-map}
 use Rattle.demand_paths.specs.declared.far_stop.FarStop.{FarStop}
 use Rattle.demand_paths.specs.Wanted.{distance, far_stop, goes_over, sum_where, AreByDistance, NobodyLeft}
 use Rattle.demand_paths.proofs.WantedSums.{sum_where-none}

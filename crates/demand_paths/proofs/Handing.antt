@@ -9,15 +9,15 @@ use Rattle.std.proofs.lemmas.List.{length-set}
 use Rattle.std.proofs.lemmas.List.Elements.{All-get_or, filter_map-append}
 use Rattle.std.proofs.lemmas.List.Folds.{list_any-append}
 use Rattle.std.proofs.lemmas.Option.{slice_get-get_or, same_Some}
-use Rattle.ptn_network.specs.declared.edge.Edge.{Edge}
-use Rattle.ptn_network.specs.Networks.{NetworkParts, IsEdge, IsNetwork}
-use Rattle.ptn_network.specs.Walks.{edge_length, least_sums, IsWalk, AreLeastSums}
-use Rattle.ptn_network.specs.Paths.{last_edge, stop_before, path_within, path, length_to, edges_at, PathParts, ArePaths}
-use Rattle.ptn_network.proofs.LastWalks.{splits, across_back}
-use Rattle.ptn_network.proofs.PathEdges.{some_length, last_is_step, last_is_new, comes_from}
-use Rattle.ptn_network.proofs.PathSteps.{no_edge, none_there, none_before, last_step, last_known, last_there, before_there}
-use Rattle.ptn_network.proofs.ShortestPaths.{path_shortest}
-use Rattle.ptn_network.proofs.Walks as walks
+use Rattle.walks.specs.declared.edge.Edge.{Edge}
+use Rattle.walks.specs.Networks.{NetworkParts, IsEdge, IsNetwork}
+use Rattle.walks.specs.Walks.{edge_length, least_sums, IsWalk, AreLeastSums}
+use Rattle.walks.specs.Paths.{last_edge, stop_before, path_within, path, length_to, edges_at, PathParts, ArePaths}
+use Rattle.walks.proofs.LastWalks.{splits, across_back}
+use Rattle.walks.proofs.PathEdges.{some_length, last_is_step, last_is_new, comes_from}
+use Rattle.walks.proofs.PathSteps.{no_edge, none_there, none_before, last_step, last_known, last_there, before_there}
+use Rattle.walks.proofs.ShortestPaths.{path_shortest}
+use Rattle.walks.proofs.Walks as walks
 use Rattle.demand_paths.specs.Wanted.{distance, goes_over, sum_where, everyone, NobodyLeft}
 use Rattle.demand_paths.proofs.WantedSums.{moved, sum_where-one, sum_where-set}
 

@@ -4,7 +4,7 @@ use Rattle.std.proofs.Common.{get_or, set, replicate, refl, ap, arith, get_or-se
 use Rattle.std.proofs.Common.{get_or-set_same}
 use Rattle.std.proofs.lemmas.Bool.{cases_eq}
 use Rattle.std.proofs.lemmas.List.{length-set}
-use Rattle.ptn_network.specs.Networks.{NetworkParts}
+use Rattle.walks.specs.Networks.{NetworkParts}
 use Rattle.demand_paths.specs.Wanted.{sum_where, sum_between, everyone, AreWanted}
 use Rattle.demand_paths.proofs.WantedSums.{sum_where-set, sum_where-one, sum_where-zeros, sum_between-set, sum_between-one}
 

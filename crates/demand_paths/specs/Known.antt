@@ -1,7 +1,7 @@
 -- Paths that are known.
 use Rattle.std.specs.Prelude.{ℕ, ◌≡◌, ◌<◌, List, length, get_or, Option, None, IfSome}
-use Rattle.ptn_network.specs.Networks.{NetworkParts}
-use Rattle.ptn_network.specs.Paths.{PathParts, ArePaths}
+use Rattle.walks.specs.Networks.{NetworkParts}
+use Rattle.walks.specs.Paths.{PathParts, ArePaths}
 
 -- of each stop of a network the paths from it, where they are known
 pub record AreKnown (network : NetworkParts) (known : List (Option PathParts)) : Type 0 where

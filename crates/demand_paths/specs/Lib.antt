@@ -1,3 +1,2 @@
-pub mod Demand
 pub mod Known
 pub mod Wanted

@@ -2,9 +2,9 @@
 use Rattle.std.specs.Prelude.{ℕ, suc, ◌≡◌, ◌+◌, ◌<◌, ◌⊎◌, nat_eq, Bool, true, if◌then◌else◌, List, [], ◌∷◌, length, map, get_or, unwrap_or, All, Contains}
 use Rattle.std.specs.List.{list_any}
 use Rattle.std.specs.List.Sorted.{IsNonDecreasingBy}
-use Rattle.ptn_network.specs.Networks.{NetworkParts}
-use Rattle.ptn_network.specs.Walks.{edge_length, least_sums}
-use Rattle.ptn_network.specs.Paths.{length_to, path}
+use Rattle.walks.specs.Networks.{NetworkParts}
+use Rattle.walks.specs.Walks.{edge_length, least_sums}
+use Rattle.walks.specs.Paths.{length_to, path}
 use Rattle.demand_paths.specs.declared.far_stop.FarStop.{FarStop}
 
 -- the sum of those amounts whose number passes a test, where the amounts are numbered from a first

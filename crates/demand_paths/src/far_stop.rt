@@ -1,12 +1,12 @@
 // Stops by their distance from one stop.
 ghost use Rattle.std.specs.Prelude.{◌≡◌, length, map, option_map, unsigned_abs, unwrap_or, IfOk};
 ghost use Rattle.std.specs.List.{range_with_len};
-ghost use Rattle.ptn_network.specs.Paths.{ArePaths};
+ghost use Rattle.walks.specs.Paths.{ArePaths};
 ghost use Rattle.demand_paths.specs.Wanted.{far_stop, AreByDistance};
 
 use plan_num::NoMemory;
-use ptn_network::{Network, Paths};
 use std::alloc::Global;
+use walks::{Network, Paths};
 
 /// A stop with its distance from another, in millionths.
 #[derive(Clone, Copy)]

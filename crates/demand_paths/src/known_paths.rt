@@ -1,24 +1,24 @@
 // Paths that are known.
 ghost use Rattle.std.specs.Prelude.{◌≡◌, ◌<◌, true, is_some, length, slice_index_or, None, Some, IfOk, OnOk};
-ghost use Rattle.ptn_network.specs.Paths.{ArePaths};
-ghost use Rattle.ptn_network.specs.Walks.{edge_length, least_sum};
+ghost use Rattle.walks.specs.Paths.{ArePaths};
+ghost use Rattle.walks.specs.Walks.{edge_length, least_sum};
 ghost use Rattle.demand_paths.specs.Known.{AreKnown};
 
 use plan_num::NoMemory;
-use ptn_network::{Network, Paths};
 use std::alloc::Global;
 use std::marker::Model;
+use walks::{Network, Paths};
 
 /// The paths from each stop, where they were asked for. Contracts see it as the list of them, by
 /// stop.
 #[derive(Drop)]
-pub(crate) struct KnownPaths {
+pub struct KnownPaths {
     paths: Vec<Option<Paths>>,
 }
 
 impl Model for KnownPaths {
     ghost use Rattle.std.specs.Prelude.{List, Option};
-    ghost use Rattle.ptn_network.specs.Paths.{PathParts};
+    ghost use Rattle.walks.specs.Paths.{PathParts};
 
     ghost Value = { List (Option PathParts) };
 
@@ -27,7 +27,7 @@ impl Model for KnownPaths {
 
 impl KnownPaths {
     /// Before any path was asked for.
-    pub(crate) fn new(alloc: Global, network: &Network) -> Result<KnownPaths, NoMemory>
+    pub fn new(alloc: Global, network: &Network) -> Result<KnownPaths, NoMemory>
         ensures { IfOk result (AreKnown network.now) }
     {
         let mut paths = Vec::new(alloc);
@@ -38,7 +38,7 @@ impl KnownPaths {
     }
 
     /// Whether a walk joins two stops. The paths from the first one are known from then on.
-    pub(crate) fn joins(
+    pub fn joins(
         &mut self,
         alloc: Global,
         network: &Network,

@@ -1,7 +1,7 @@
 // Customers on the edges of their paths.
 ghost use Rattle.std.specs.Prelude.{◌≡◌, ◌+◌, ◌<◌, ◌≤◌, ◌^◌, ℕ, length, slice_index_or, slice_set, vec_len, IfOk, OnOk};
-ghost use Rattle.ptn_network.specs.Networks.{IsNetwork};
-ghost use Rattle.ptn_network.specs.Paths.{stop_before, ArePaths};
+ghost use Rattle.walks.specs.Networks.{IsNetwork};
+ghost use Rattle.walks.specs.Paths.{stop_before, ArePaths};
 ghost use Rattle.demand_paths.specs.Known.{AreKnown};
 ghost use Rattle.demand_paths.specs.Wanted.{distance, everyone, goes_over, sum_between, sum_where, AreWanted, NobodyLeft};
 
@@ -9,11 +9,11 @@ use crate::far_stop::nearest_first;
 use crate::known_paths::KnownPaths;
 use crate::wanted::Wanted;
 use plan_num::NoMemory;
-use ptn_network::{Network, Paths};
 use std::alloc::Global;
+use walks::{Network, Paths};
 
 /// How many of the customers go over each edge.
-pub(crate) fn loads_of_wanted(
+pub fn loads_of_wanted(
     alloc: Global,
     network: &Network,
     known: &mut KnownPaths,

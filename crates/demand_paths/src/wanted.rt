@@ -3,14 +3,14 @@ ghost use Rattle.std.specs.Prelude.{◌≡◌, ◌+◌, ◌<◌, ◌^◌, ℕ, B
 ghost use Rattle.demand_paths.specs.Wanted.{sum_between, everyone, AreWanted};
 
 use plan_num::NoMemory;
-use ptn_network::Network;
 use std::alloc::Global;
 use std::marker::Model;
+use walks::Network;
 
 /// How many customers, in millionths, want to go from each stop to each stop. Contracts see it as
 /// the lists of them, by the first stop; a list is empty until someone starts there.
 #[derive(Drop)]
-pub(crate) struct Wanted {
+pub struct Wanted {
     by_source: Vec<Vec<u64>>,
 }
 
@@ -24,7 +24,7 @@ impl Model for Wanted {
 
 impl Wanted {
     /// Before anyone wants to go.
-    pub(crate) fn new(alloc: Global, network: &Network) -> Result<Wanted, NoMemory>
+    pub fn new(alloc: Global, network: &Network) -> Result<Wanted, NoMemory>
         ensures wanted { IfOk result (AreWanted network.now) }
         ensures none { IfOk result (λ wanted. (passes : ℕ → ℕ → Bool)
             → sum_between passes 0 wanted ≡ 0) }
@@ -37,7 +37,7 @@ impl Wanted {
     }
 
     /// Customers more want to go from one stop to another.
-    pub(crate) fn add(
+    pub fn add(
         &mut self,
         alloc: Global,
         network: &Network,

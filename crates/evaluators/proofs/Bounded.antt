@@ -22,7 +22,10 @@ use Rattle.evaluators.specs.declared.rows.CostRow.{CostRow}
 use Rattle.evaluators.specs.declared.rows.LineRow.{LineRow}
 use Rattle.evaluators.specs.FirstRows.{firsts}
 use Rattle.evaluators.specs.Statistic.{cost_of, cost_of_runs, times_of}
-use Rattle.evaluators.specs.StatisticInputs.{concept_input, cost_input, cost_row, cost_with, line_limit, line_row, lines_of}
+use Rattle.evaluators.specs.StatisticInputs.{concept_input, cost_input, cost_row, cost_with, line_limit, line_row}
+use Rattle.evaluators.specs.StatisticInputs.{lines_of}
+use Rattle.propagation.specs.declared.times.TheConstants.{LATEST}
+use Rattle.std.proofs.lemmas.Nat.{mul-le}
 
 -- ---- costs and frequencies
 
@@ -73,9 +76,6 @@ found_below (row ∷ costs) line h =
       | false ↦ rest
     ]
 
-product : (a b c d : ℕ) → a ≤ c → b ≤ d → a * b ≤ c * d
-product a b c d h k = grind arith
-
 -- what holds of all rows holds of the first ones
 pub all_firsts : {X : Type 0} (key : X → ℤ) (P : X → Type 0) (rows : List X) → All P rows
     → All P (firsts key rows)
@@ -101,7 +101,7 @@ module _ (costs : List CostRow) (text : List ℕ)
       (records_of (concept_input costs) text)
       (λ k d inside.
       let row = get_or (records_of (concept_input costs) text) k d in
-      product (cost_of costs row.line) row.frequency 1000000000000000000 1000
+      mul-le (cost_of costs row.line) row.frequency 1000000000000000000 1000
       (found_below costs row.line small) (frequencies_below costs text none k d inside))
 
   pub cost_sum_below : sum_by (cost_of_runs costs) lines ≤ 200000000000000000000000
@@ -112,9 +112,9 @@ module _ (costs : List CostRow) (text : List ℕ)
 -- ---- the day
 
 pub times_below : (count : ℕ) (rows : List DisposedTime) → AreDisposedTimes count rows
-    → All (λ time. time ≤ 1000000000000000000) (times_of rows)
+    → All (λ time. time ≤ LATEST) (times_of rows)
 times_below count rows are =
-    All-map (λ (time : ℕ). time ≤ 1000000000000000000) (λ (row : DisposedTime). row.time) rows
+    All-map (λ (time : ℕ). time ≤ LATEST) (λ (row : DisposedTime). row.time) rows
     (λ k d inside. let fit = are.fit k d inside in omega (arith, ints, fit.1.0.1))
 
 pub rows_few : (events : List ExpandedEvent) (rows : List ScheduleRow) → AreScheduleRows events rows

@@ -9,6 +9,7 @@ use Rattle.std.proofs.lemmas.Cmp.{int_eq_equiv}
 use Rattle.std.proofs.lemmas.List.{length_push, take_more}
 use Rattle.std.proofs.lemmas.List.Elements.{filter-append}
 use Rattle.evaluators.specs.FirstRows.{firsts}
+use Rattle.plan_num.proofs.Lists.{find_passing, any_push}
 
 -- a row is added behind the others, or it is not
 step : {X : Type 0} (first row : X) (some : List X) (test : X → Bool) (old same : Bool)
@@ -19,35 +20,6 @@ step first row some test true true is = refl
 step first row some test true false is = refl
 step {X} first row some test false true is = grind (arith, filter-append, test, append-nil)
 step {X} first row some test false false is = grind (arith, filter-append, test)
-
--- what is found of all is found of those that pass a test, where what is looked for passes it
-find_passing : {X : Type 0} (p test : X → Bool) → ((x : X) → p x ≡ true → test x ≡ true)
-    → (xs : List X) → find p (filter test xs) ≡ find p xs
-find_passing p test passes [] = refl
-find_passing {X} p test passes (x ∷ xs) = by (p x) (test x) refl refl (find_passing p test passes
-    xs)
-  where
-    by : (a b : Bool) → p x ≡ a → test x ≡ b → find p (filter test xs) ≡ find p xs
-        → find p (cond b (x ∷ filter test xs) (filter test xs)) ≡ cond a (Some x) (find p xs)
-    by true true e f rest = ap (λ c. cond c (Some x) (find p (filter test xs))) e
-    by true false e f rest = absurd (false≢true (sym f ∙ passes x e))
-    by false true e f rest = ap (λ c. cond c (Some x) (find p (filter test xs))) e ∙ rest
-    by false false e f rest = rest
-
--- whether an item passes a test, where there is one more
-pub any_push : {X : Type 0} (p : X → Bool) (xs : List X) (x : X)
-    → list_any p (xs ++ x ∷ []) ≡ (list_any p xs || p x)
-any_push p [] x = by (p x)
-  where
-    by : (b : Bool) → (b || false) ≡ b
-    by true = refl
-    by false = refl
-any_push p (y ∷ xs) x = by (p y) (any_push p xs x)
-  where
-    by : (b : Bool) → list_any p (xs ++ x ∷ []) ≡ (list_any p xs || p x)
-        → (b || list_any p (xs ++ x ∷ [])) ≡ ((b || list_any p xs) || p x)
-    by true e = refl
-    by false e = e
 
 module _ {X : Type 0} (key : X → ℤ) where
   -- no rows have no first ones

@@ -1,9 +1,9 @@
 mod FirstRowFacts
 mod Bounded
 mod ConceptRules
-mod Parts
+mod ValuesOfParts
 mod SeenLines
-mod Small
+mod PrintableStatistic
 mod StageParts
 pub mod StatisticMakes
 pub mod StatisticReads

@@ -6,7 +6,8 @@ use Rattle.std.specs.Ordering.{int_eq}
 use Rattle.std.proofs.lemmas.List.{map_more, take_more}
 use Rattle.tables.specs.Tables.{TableRow}
 use Rattle.evaluators.specs.FirstRows.{firsts}
-use Rattle.evaluators.proofs.FirstRowFacts.{any_push, firsts_push, is_old, new_counts, old_counts}
+use Rattle.evaluators.proofs.FirstRowFacts.{firsts_push, is_old, new_counts, old_counts}
+use Rattle.plan_num.proofs.Lists.{any_push}
 
 -- an answer and its negation
 pub turned : (test new answer : Bool) → new ≡ not test → new ≡ not answer → test ≡ answer

@@ -14,8 +14,10 @@ use Rattle.evaluators.specs.declared.line_values.LineValues.{LineValues}
 use Rattle.evaluators.specs.declared.periodic_values.PeriodicValues.{PeriodicValues}
 use Rattle.evaluators.specs.declared.statistic.Statistic.{Statistic}
 use Rattle.evaluators.specs.Statistic.{schedule_cost}
-use Rattle.evaluators.specs.StatisticStage.{bundle_day, day_part, line_part, lines_in, period_in, periodic_in, periodic_part, statistic_faults, statistic_in, statistic_made, statistic_stage, trip_part}
-use Rattle.evaluators.proofs.Parts.{refused_next}
+use Rattle.evaluators.specs.StatisticStage.{bundle_day, day_part, line_part, lines_in, period_in, periodic_in}
+use Rattle.evaluators.specs.StatisticStage.{periodic_part, statistic_faults, statistic_in, statistic_made}
+use Rattle.evaluators.specs.StatisticStage.{statistic_stage, trip_part}
+use Rattle.evaluators.proofs.ValuesOfParts.{refused_next}
 
 module _ (bundle : BundleParts) where
   pub lines_refuse : (fault : StageFault) → Refuses (line_part bundle) fault

@@ -10,7 +10,7 @@ use Rattle.giv_files.proofs.StageCalls.{made_unless, none_unless}
 use Rattle.plan_num.proofs.ReadBack.{number_back}
 use Rattle.evaluators.specs.RightStatistic.{StatisticIsRight}
 use Rattle.evaluators.specs.StatisticStage.{statistic_stage}
-use Rattle.evaluators.proofs.Small.{statistic_small}
+use Rattle.evaluators.proofs.PrintableStatistic.{statistic_small}
 use Rattle.evaluators.proofs.TextRows.{text_rows, value_printable}
 
 pub statistic_is_right : (bundle : BundleParts) (made : Made) → bundle.stage ≡ stage.Statistic

@@ -12,7 +12,8 @@ use Rattle.text_fields.specs.Rows.{Row, parts_of, rows}
 use Rattle.tables.specs.Writing.{joined}
 use Rattle.tables.proofs.CellTexts.{number_plain, plain_word}
 use Rattle.tables.proofs.Headers.{plain_header}
-use Rattle.tables.proofs.PlainBytes.{AreCells, IsCell, all_weaker, cells_quiet, cells_row, is_plain, line_cut, line_some, quiet_line, quiet_stripped}
+use Rattle.tables.proofs.PlainBytes.{AreCells, IsCell, all_weaker, cells_quiet, cells_row, is_plain, line_cut}
+use Rattle.tables.proofs.PlainBytes.{line_some, quiet_line, quiet_stripped}
 use Rattle.text_fields.proofs.RowsLeft.{all_left, numbered_step, rows_left}
 use Rattle.evaluators.specs.declared.measure.Measure.{Measure}
 use Rattle.evaluators.specs.declared.measure.Measure.TheVariants as measure

@@ -1,5 +1,6 @@
 -- Inner words: lines with their costs.
-use Rattle.std.specs.Prelude.{ℕ, ◌*◌, ◌==◌, not, is_some, if◌then◌else◌, List, Option, Some, None, option_map, unwrap_or}
+use Rattle.std.specs.Prelude.{ℕ, ◌*◌, ◌==◌, not, is_some, if◌then◌else◌, List, Option, Some, None, option_map}
+use Rattle.std.specs.Prelude.{unwrap_or}
 use Rattle.tables.specs.declared.row_why.RowWhy.{RowWhy}
 use Rattle.tables.specs.declared.row_why.RowWhy.TheVariants as why
 use Rattle.evaluators.specs.declared.costed_line.CostedLine.{CostedLine}

@@ -1,5 +1,6 @@
 -- The fourteen values of the statistic.
-use Rattle.std.specs.Prelude.{ℕ, ℤ, pos, ◌+◌, ◌-◌, ◌*◌, ◌*ℤ◌, true, nat_lt, unsigned_abs, List, [], ◌∷◌, length, map, filter, zip, codes, get_or, option_map, unwrap_or}
+use Rattle.std.specs.Prelude.{ℕ, ℤ, pos, ◌+◌, ◌-◌, ◌*◌, ◌*ℤ◌, true, nat_lt, unsigned_abs, List, [], ◌∷◌, length, map}
+use Rattle.std.specs.Prelude.{filter, zip, codes, get_or, option_map, unwrap_or}
 use Rattle.std.specs.List.{sum_by}
 use Rattle.event_tables.specs.declared.periodic_kind.PeriodicKind.{PeriodicKind}
 use Rattle.event_tables.specs.declared.periodic_kind.PeriodicKind.TheVariants as kind

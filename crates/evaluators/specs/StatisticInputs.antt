@@ -1,5 +1,6 @@
 -- The files of costs of lines and of the line concept, as the statistic reads them.
-use Rattle.std.specs.Prelude.{ℤ, pos, ◌==◌, not, is_some, get_or, Bool, false, List, [], ◌∷◌, length, Option, Some, None}
+use Rattle.std.specs.Prelude.{ℤ, pos, ◌==◌, not, is_some, get_or, Bool, false, List, [], ◌∷◌, length, Option, Some}
+use Rattle.std.specs.Prelude.{None}
 use Rattle.std.specs.List.{find}
 use Rattle.std.specs.Ordering.{int_eq}
 use Rattle.tables.specs.declared.counted.Counted.TheVariants as counted

@@ -14,7 +14,8 @@ use Rattle.event_tables.specs.declared.periodic_activity.PeriodicActivity.{Perio
 use Rattle.event_tables.specs.declared.periodic_event.PeriodicEvent.{PeriodicEvent}
 use Rattle.event_tables.specs.DisposedTimes.{disposed_time_input}
 use Rattle.event_tables.specs.ExpandedFiles.{expanded_event_input, expanded_activity_input, expanded_event_ids}
-use Rattle.event_tables.specs.PeriodicFiles.{periodic_event_input, periodic_activity_input, periodic_time_input, periodic_event_ids}
+use Rattle.event_tables.specs.PeriodicFiles.{periodic_event_input, periodic_activity_input, periodic_time_input}
+use Rattle.event_tables.specs.PeriodicFiles.{periodic_event_ids}
 use Rattle.event_tables.specs.Schedules.{schedule_input}
 use Rattle.event_tables.specs.Trips.{trip_input}
 use Rattle.evaluators.specs.declared.day_values.DayValues.{DayValues}
@@ -23,7 +24,8 @@ use Rattle.evaluators.specs.declared.measure.Measure.{Measure}
 use Rattle.evaluators.specs.declared.periodic_values.PeriodicValues.{PeriodicValues}
 use Rattle.evaluators.specs.declared.rows.CostRow.{CostRow}
 use Rattle.evaluators.specs.declared.statistic.Statistic.{Statistic}
-use Rattle.evaluators.specs.Statistic.{day_values, line_values, measure_name, measures, periodic_values, schedule_cost, value_of}
+use Rattle.evaluators.specs.Statistic.{day_values, line_values, measure_name, measures, periodic_values, schedule_cost}
+use Rattle.evaluators.specs.Statistic.{value_of}
 use Rattle.evaluators.specs.StatisticInputs.{concept_input, cost_input}
 
 -- ---- the texts of costs and of the line concept

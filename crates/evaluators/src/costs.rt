@@ -7,7 +7,7 @@ ghost use Rattle.tables.specs.Inputs.{UnlessFault, input_faults, records_of};
 ghost use Rattle.evaluators.specs.StatisticInputs.{cost_input};
 
 use crate::rows::CostRow;
-use crate::seen::note;
+use crate::seen_lines::note;
 use plan_num::NoMemory;
 use std::alloc::Global;
 use std::collections::HashSet;

@@ -9,6 +9,7 @@ ghost use Rattle.propagation.specs.Lateness.{is_missed, missed_at};
 ghost use Rattle.delay_management.specs.InputProblems.{activities_of, delayed, is_change_kind, is_of};
 ghost use Rattle.evaluators.specs.Statistic.{day_values, greatest_delay, minutes_late, times_of};
 ghost use Rattle.evaluators.specs.StatisticStage.{day_faults, day_in, faults_over, values_over};
+ghost use Rattle.propagation.specs.declared.times.TheConstants.{LATEST};
 
 use crate::day_values::DayValues;
 use crate::first_rows::vehicle_count;
@@ -105,7 +106,7 @@ fn times_of(alloc: Global, rows: &[DisposedTime]) -> Result<Vec<u64>, NoMemory>
 fn missed_changes(activities: &[ExpandedActivity], times: &[u64]) -> u64
     requires from { All (λ activity. IsOneOf (length times.now) activity.from) activities.now }
     requires to { All (λ activity. IsOneOf (length times.now) activity.to) activities.now }
-    requires small { All (λ time. time ≤ 1000000000000000000) times.now }
+    requires small { All (λ time. time ≤ LATEST) times.now }
     ensures { result ≡ missed_at (activities_of true [] activities.now) times.now }
 {
     let mut missed = 0;
@@ -121,7 +122,7 @@ fn missed_changes(activities: &[ExpandedActivity], times: &[u64]) -> u64
 fn is_missed(activity: &ExpandedActivity, times: &[u64]) -> bool
     requires from { IsOneOf (length times.now) activity.now.from }
     requires to { IsOneOf (length times.now) activity.now.to }
-    requires small { All (λ time. time ≤ 1000000000000000000) times.now }
+    requires small { All (λ time. time ≤ LATEST) times.now }
     ensures { result
         ≡ (is_of true activity.now && is_missed times.now (delayed [] activity.now)) }
 {

@@ -6,7 +6,7 @@ ghost use Rattle.evaluators.specs.FirstRows.{firsts};
 ghost use Rattle.evaluators.specs.StatisticInputs.{line_row, lines_of};
 
 use crate::rows::LineRow;
-use crate::seen::note;
+use crate::seen_lines::note;
 use event_tables::ScheduleRow;
 use plan_num::NoMemory;
 use std::alloc::Global;

@@ -15,7 +15,7 @@ mod periodic;
 mod periodic_values;
 mod rows;
 mod schedule;
-mod seen;
+mod seen_lines;
 mod stage;
 mod statistic;
 mod text;

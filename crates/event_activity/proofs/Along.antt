@@ -8,10 +8,10 @@ use Rattle.std.proofs.lemmas.Option.{slice_get-get_or, same_Some}
 use Rattle.event_tables.specs.declared.direction.Direction.{Direction}
 use Rattle.event_tables.specs.declared.direction.Direction.TheVariants as direction
 use Rattle.line_walks.specs.Pools.{LineParts, walk_from, walk_of, IsLine}
-use Rattle.ptn_network.specs.declared.edge.Edge.{Edge}
-use Rattle.ptn_network.specs.Networks.{NetworkParts, IsEdge, IsNetwork}
-use Rattle.ptn_network.specs.Paths.{edges_at}
-use Rattle.ptn_network.specs.Walks.{across}
+use Rattle.walks.specs.declared.edge.Edge.{Edge}
+use Rattle.walks.specs.Networks.{NetworkParts, IsEdge, IsNetwork}
+use Rattle.walks.specs.Paths.{edges_at}
+use Rattle.walks.specs.Walks.{across}
 use Rattle.event_activity.specs.Runs.{along}
 use Rattle.event_activity.proofs.Crossings.{step_of}
 

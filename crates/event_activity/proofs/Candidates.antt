@@ -8,6 +8,7 @@ use Rattle.event_activity.specs.declared.joining.Joining.TheVariants as joining
 use Rattle.event_activity.specs.declared.run_event.RunEvent.{RunEvent}
 use Rattle.event_activity.specs.Activities.{joined}
 use Rattle.event_activity.specs.NextEvents.{AreNextEvents, key_from, key_of, may_end, stands_in}
+use Rattle.plan_num.proofs.Lists.{filter_few}
 
 -- ---- filters
 
@@ -17,9 +18,6 @@ filter_within : {X : Type 0} (p q : X → Bool) (xs : List X)
 filter_within p q [] weaker = refl
 filter_within p q (x ∷ xs) weaker =
     grind (arith, cases_Bool, false_from_ne_true, both_ways, filter_within p q xs weaker)
-
-filter_few : {X : Type 0} (q : X → Bool) (xs : List X) → length (filter q xs) ≤ length xs
-filter_few q xs = omega (arith, length-filter q xs, count_by-le-length q xs)
 
 -- ---- keys
 

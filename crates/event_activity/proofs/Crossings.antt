@@ -9,10 +9,10 @@ use Rattle.std.proofs.lemmas.Option.{slice_get-get_or, same_Some}
 use Rattle.event_tables.specs.declared.direction.Direction.{Direction}
 use Rattle.event_tables.specs.declared.direction.Direction.TheVariants as direction
 use Rattle.line_walks.specs.Pools.{LineParts, walk_from, or_walk, walk_of, IsLine}
-use Rattle.ptn_network.specs.declared.edge.Edge.{Edge}
-use Rattle.ptn_network.specs.Networks.{NetworkParts}
-use Rattle.ptn_network.specs.Paths.{edges_at}
-use Rattle.ptn_network.specs.Walks.{across}
+use Rattle.walks.specs.declared.edge.Edge.{Edge}
+use Rattle.walks.specs.Networks.{NetworkParts}
+use Rattle.walks.specs.Paths.{edges_at}
+use Rattle.walks.specs.Walks.{across}
 use Rattle.event_activity.specs.ActivitiesOfRuns.{Crosses}
 use Rattle.event_activity.specs.Runs.{along, no_edge, edge_at, stop_id, run_event}
 

@@ -6,15 +6,15 @@ use Rattle.std.proofs.lemmas.List.Elements.{All-append, All-map, All-weaker, All
 use Rattle.event_tables.specs.declared.direction.Direction.{Direction}
 use Rattle.event_tables.specs.declared.direction.Direction.TheVariants as direction
 use Rattle.line_walks.specs.Pools.{LineParts, IsLine}
-use Rattle.ptn_network.specs.declared.edge.Edge.{Edge}
-use Rattle.ptn_network.specs.Networks.{NetworkParts, IsEdge}
-use Rattle.tables.proofs.Members.{All-flat_map as all_parts}
+use Rattle.walks.specs.declared.edge.Edge.{Edge}
+use Rattle.walks.specs.Networks.{NetworkParts, IsEdge}
+use Rattle.plan_num.proofs.Members.{All-flat_map as all_parts}
 use Rattle.event_activity.specs.declared.run_event.RunEvent.{RunEvent}
 use Rattle.event_activity.specs.Fitting.{AreBounds, drive_bounds, IsDriven, IsNumbered}
 use Rattle.event_activity.specs.Runs.{AreServed, along, no_edge, no_line, line_at, edge_at, run_event, run, runs, line_events, with_id, concept_events}
 use Rattle.event_activity.proofs.Along.{all_along, length-along}
 use Rattle.event_activity.proofs.LineEvents.{numbered_size}
-use Rattle.event_activity.proofs.Numbered.{all_numbers, all_numbered}
+use Rattle.plan_num.proofs.Numbered.{all_numbers, all_numbered}
 use Rattle.event_activity.proofs.StopsOfRuns.{stop_within, id_within}
 
 -- the bounds of the drives over an edge

@@ -18,7 +18,8 @@ use Rattle.event_activity.specs.Activities.{concept_activities}
 use Rattle.event_activity.specs.EanStage.{ean_made, ean_faults, ean_stage, events_in, activities_in, long_activities, too_many, rows_of}
 use Rattle.event_activity.specs.Runs.{concept_events}
 use Rattle.line_walks.specs.Pools.{LineParts, concept_of, concept_faults}
-use Rattle.ptn_network.specs.Networks.{NetworkParts, network_of, network_faults}
+use Rattle.walks.specs.Networks.{NetworkParts}
+use Rattle.ptn_network.specs.Networks.{network_of, network_faults}
 
 module _ (bundle : BundleParts) where
   -- texts that give no network

@@ -13,7 +13,8 @@ use Rattle.giv_files.specs.StageCalls.{input_text}
 use Rattle.tables.proofs.Named.{AllName, names_both, names_or_else, input_names}
 use Rattle.giv_files.proofs.StageCalls.{refused_names}
 use Rattle.line_walks.specs.Pools.{line_faults, concept_faults}
-use Rattle.ptn_network.specs.Networks.{NetworkParts, network_faults}
+use Rattle.walks.specs.Networks.{NetworkParts}
+use Rattle.ptn_network.specs.Networks.{network_faults}
 use Rattle.ptn_network.proofs.NamedFaults.{network_names}
 use Rattle.event_activity.specs.EanStage.{network_in, ean_faults, ean_stage, events_in, activities_in, too_many}
 

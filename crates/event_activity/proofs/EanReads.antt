@@ -162,10 +162,3 @@ ean_is_right bundle made own fits is =
       network = is_network bundle own fits none short;
       accepted = ean_accepted bundle own fits none short;
     }
-
--- what a call gives that meets the stage
-pub right_given : (bundle : BundleParts) (result : Result Made StageFault)
-    → bundle.stage ≡ stage.Ean → Fits bundle → StageGives (ean_stage bundle) result
-    → IfOk result (λ made. EanIsRight bundle made)
-right_given bundle (Ok made) own fits given = ean_is_right bundle made own fits given
-right_given bundle (Err fault) own fits given = tt

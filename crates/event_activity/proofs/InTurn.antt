@@ -12,7 +12,7 @@ use Rattle.event_tables.specs.declared.direction.Direction.TheVariants as direct
 use Rattle.event_tables.specs.Kinds.{event_kind_at, same_direction}
 use Rattle.event_tables.specs.PeriodicRuns.{same_run}
 use Rattle.line_walks.specs.Pools.{LineParts}
-use Rattle.ptn_network.specs.Networks.{NetworkParts}
+use Rattle.walks.specs.Networks.{NetworkParts}
 use Rattle.event_activity.specs.declared.run_event.RunEvent.{RunEvent}
 use Rattle.event_activity.specs.ActivitiesOfRuns.{Crosses}
 use Rattle.event_activity.specs.Runs.{run_event, run, runs, line_events, with_id}

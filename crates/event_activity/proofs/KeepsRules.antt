@@ -15,8 +15,8 @@ use Rattle.event_tables.specs.Kinds.{is_arrival, event_kind_at}
 use Rattle.event_tables.specs.PeriodicRuns.{is_next, joins, same_run}
 use Rattle.event_tables.specs.RunRules.{lacks_way, goes_between, is_placed, drives_at_once, is_stray, KeepRunRules}
 use Rattle.line_walks.specs.Pools.{LineParts}
-use Rattle.ptn_network.specs.Networks.{NetworkParts, IsEdge}
-use Rattle.tables.proofs.Members.{Contains-map as contains_map}
+use Rattle.walks.specs.Networks.{NetworkParts, IsEdge}
+use Rattle.plan_num.proofs.Members.{Contains-map as contains_map}
 use Rattle.event_activity.specs.declared.run_event.RunEvent.{RunEvent}
 use Rattle.event_activity.specs.Activities.{bounds_from, concept_activities}
 use Rattle.event_activity.specs.ActivitiesOfRuns.{joins_events, bounds_of, IsActivityOf, IsDriveOver}
@@ -26,7 +26,7 @@ use Rattle.event_activity.specs.Fitting.{drive_bounds}
 use Rattle.event_activity.specs.Runs.{AreServed, no_edge, concept_events}
 use Rattle.event_activity.proofs.InTurn.{InTurn, BeginsRun, IsOfPlace, Onward, Follows, EndsRun, kinds_of}
 use Rattle.event_activity.proofs.LinesInTurn.{events_turn, events_begin}
-use Rattle.event_activity.proofs.Members.{any_of, none_pass}
+use Rattle.plan_num.proofs.Members.{any_of, none_pass}
 use Rattle.event_activity.proofs.OneWay.{id_at, one_way}
 use Rattle.event_activity.proofs.PlainActivities.{activities_sound}
 use Rattle.event_activity.proofs.PlainEvents.{events_are, edge_there}

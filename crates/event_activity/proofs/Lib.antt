@@ -1,4 +1,3 @@
-mod Added
 mod Along
 mod Candidates
 mod Crossings
@@ -15,10 +14,7 @@ mod KeepsRules
 mod LineEvents
 mod LinesInTurn
 mod MadeActivities
-mod Members
-mod Numbered
 mod OneWay
-mod Picked
 mod PlainActivities
 mod PlainEvents
 mod ReadAgain

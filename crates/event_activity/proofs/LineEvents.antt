@@ -8,10 +8,11 @@ use Rattle.std.proofs.lemmas.List.FromFn.{length-map-range_with_len, length-enum
 use Rattle.event_tables.specs.declared.direction.Direction.{Direction}
 use Rattle.event_tables.specs.declared.direction.Direction.TheVariants as direction
 use Rattle.line_walks.specs.Pools.{LineParts}
-use Rattle.ptn_network.specs.Networks.{NetworkParts}
+use Rattle.walks.specs.Networks.{NetworkParts}
 use Rattle.event_activity.specs.declared.run_event.RunEvent.{RunEvent}
 use Rattle.event_activity.specs.Runs.{AreServed, no_line, line_at, runs, line_events, with_id, concept_events}
-use Rattle.event_activity.proofs.Added.{parts_size}
+use Rattle.plan_num.proofs.Added.{parts_size}
+use Rattle.std.proofs.lemmas.Nat.{mul-le}
 
 -- what a pool tells of the line at a place
 pub told_of : {A : Type 0} (field : LineParts → A) (lines : List LineParts) (line : ℕ) (x : A)
@@ -31,9 +32,6 @@ module _ (network : NetworkParts) (line : LineParts) where
   -- two events for each edge, in each run of both directions
   pub line_size : length (line_events network line) ≡ 4 * length line.edges * line.frequency
   line_size = grind (arith, length-append, runs_size, sums)
-
-product : (a b c d : ℕ) → a ≤ c → b ≤ d → a * b ≤ c * d
-product a b c d h k = grind arith
 
 -- a line has not too many events
 pub line_few : (network : NetworkParts) (lines : List LineParts) (line edges frequency : ℕ)

@@ -8,7 +8,7 @@ use Rattle.std.specs.declared.cmp.Ordering.TheVariants.{Less}
 use Rattle.std.proofs.lemmas.Int.{ints}
 use Rattle.std.proofs.lemmas.List.Elements.{All-head, All-tail}
 use Rattle.line_walks.specs.Pools.{LineParts, IsLine}
-use Rattle.ptn_network.specs.Networks.{NetworkParts}
+use Rattle.walks.specs.Networks.{NetworkParts}
 use Rattle.event_activity.specs.Runs.{AreServed, line_events, concept_events}
 use Rattle.event_activity.proofs.Crossings.{drive_crosses}
 use Rattle.event_activity.proofs.InTurn.{InTurn, Starts, BeginsRun, OnOther, starts_append, line_starts, line_turn, numbered_turn, numbered_starts}

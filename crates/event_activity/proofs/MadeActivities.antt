@@ -13,8 +13,8 @@ use Rattle.event_activity.specs.declared.run_event.RunEvent.{RunEvent}
 use Rattle.event_activity.specs.Activities.{joined, kind_from, bounds_from, activity_of, from_event, joined_events, joinings, with_number, concept_activities}
 use Rattle.event_activity.specs.Fitting.{AreBounds, AreTimely, IsDriven, IsNumbered}
 use Rattle.event_activity.proofs.LineEvents.{numbered_size}
-use Rattle.event_activity.proofs.Numbered.{all_numbered}
-use Rattle.tables.proofs.Members.{All-flat_map as all_parts}
+use Rattle.plan_num.proofs.Numbered.{all_numbered}
+use Rattle.plan_num.proofs.Members.{All-flat_map as all_parts}
 
 -- an activity between two of so many events, with bounds in order that are not too great
 pub record IsMade (count : ℕ) (activity : PeriodicActivity) : Type 0 where

@@ -19,7 +19,8 @@ use Rattle.event_activity.specs.declared.joining.Joining.{Joining}
 use Rattle.event_activity.specs.declared.joining.Joining.TheVariants as joining
 use Rattle.event_activity.specs.declared.run_event.RunEvent.{RunEvent}
 use Rattle.event_activity.specs.Activities.{joined, kind_from, activity_of, from_event, joined_events, joinings, joinings_with, keeps_headway, with_number, concept_activities}
-use Rattle.event_activity.proofs.Picked.{numbered_count, filter_parts, no_parts, none_mapped, both_tests, picked}
+use Rattle.plan_num.proofs.Parts.{filter_parts}
+use Rattle.plan_num.proofs.Picked.{numbered_count, no_parts, none_mapped, both_tests, picked}
 
 -- the kind of the way on is that of a drive or a wait
 way_kind : (arrival : EventKind)

@@ -14,11 +14,11 @@ use Rattle.event_activity.specs.declared.joining.Joining.TheVariants as joining
 use Rattle.event_activity.specs.declared.run_event.RunEvent.{RunEvent}
 use Rattle.event_activity.specs.Activities.{joined, kind_from, activity_of, from_event, joined_events, joinings, joinings_with, keeps_headway, shares_edge, with_number, concept_activities}
 use Rattle.event_activity.specs.ActivitiesOfRuns.{joins_events, IsActivityOf, AreActivitiesOf}
-use Rattle.tables.proofs.Members.{Contains-filter as contains_filter}
-use Rattle.event_activity.proofs.Members.{contains_numbered}
-use Rattle.event_activity.proofs.Numbered.{all_numbered}
+use Rattle.plan_num.proofs.Members.{Contains-filter as contains_filter}
+use Rattle.plan_num.proofs.Members.{contains_numbered}
+use Rattle.plan_num.proofs.Numbered.{all_numbered}
 use Rattle.event_activity.proofs.ReadAgain.{activities_placed}
-use Rattle.tables.proofs.Members.{Contains-flat_map as contains_part, Contains-map as contains_map, All-flat_map as all_parts}
+use Rattle.plan_num.proofs.Members.{Contains-flat_map as contains_part, Contains-map as contains_map, All-flat_map as all_parts}
 
 module _ (settings : List Setting) where
   -- the joinings that are made

@@ -6,16 +6,16 @@ use Rattle.std.proofs.lemmas.List.Elements.{All-append, All-map, All-weaker, All
 use Rattle.event_tables.specs.declared.direction.Direction.{Direction}
 use Rattle.event_tables.specs.declared.direction.Direction.TheVariants as direction
 use Rattle.line_walks.specs.Pools.{LineParts, IsLine}
-use Rattle.ptn_network.specs.Networks.{NetworkParts}
-use Rattle.tables.proofs.Members.{Contains-flat_map as contains_part, Contains-map as contains_map, All-flat_map as all_parts}
+use Rattle.walks.specs.Networks.{NetworkParts}
+use Rattle.plan_num.proofs.Members.{Contains-flat_map as contains_part, Contains-map as contains_map, All-flat_map as all_parts}
 use Rattle.event_activity.specs.declared.run_event.RunEvent.{RunEvent}
 use Rattle.event_activity.specs.EventsOfRuns.{IsEventOf, AreEventsOf}
 use Rattle.event_activity.specs.Runs.{AreServed, along, no_edge, run_event, run, runs, line_events, with_id, concept_events}
 use Rattle.event_activity.proofs.Along.{all_along, length-along, stops_inside}
 use Rattle.event_activity.proofs.LineEvents.{numbered_size}
-use Rattle.tables.proofs.Members.{Contains-range as contains_range}
-use Rattle.event_activity.proofs.Members.{contains_numbered}
-use Rattle.event_activity.proofs.Numbered.{all_numbers, all_numbered, numbers_are}
+use Rattle.plan_num.proofs.Members.{Contains-range as contains_range}
+use Rattle.plan_num.proofs.Members.{contains_numbered}
+use Rattle.plan_num.proofs.Numbered.{all_numbers, all_numbered, numbers_are}
 
 module _ (network : NetworkParts) (lines : List LineParts) where
   abbrev IsOne : RunEvent → Type 0

@@ -11,10 +11,10 @@ use Rattle.event_activity.specs.Activities.{concept_activities}
 use Rattle.event_activity.specs.EanStage.{rows_of}
 use Rattle.event_activity.specs.Runs.{concept_events}
 use Rattle.event_activity.proofs.LineEvents.{numbered_size}
-use Rattle.event_activity.proofs.Numbered.{numbers_are}
+use Rattle.plan_num.proofs.Numbered.{numbers_are}
 use Rattle.event_activity.proofs.PlainEvents.{events_are}
 use Rattle.line_walks.specs.Pools.{LineParts}
-use Rattle.ptn_network.specs.Networks.{NetworkParts}
+use Rattle.walks.specs.Networks.{NetworkParts}
 
 -- the ids of events are their places
 pub events_placed : (network : NetworkParts) (lines : List LineParts)

@@ -10,7 +10,7 @@ use Rattle.event_tables.specs.declared.periodic_event.PeriodicEvent.{PeriodicEve
 use Rattle.event_tables.specs.Kinds.{event_kind_at, event_kind_place}
 use Rattle.event_tables.specs.PeriodicRuns.{same_run, before_runs, runs_of, neighbours}
 use Rattle.event_tables.specs.RunRules.{breaks, broken_in, broken_events}
-use Rattle.ptn_network.specs.Networks.{NetworkParts}
+use Rattle.walks.specs.Networks.{NetworkParts}
 use Rattle.event_activity.specs.declared.run_event.RunEvent.{RunEvent}
 use Rattle.event_activity.specs.EanStage.{rows_of}
 use Rattle.event_activity.proofs.InTurn.{InTurn, Starts, Onward, EndsRun, BeginsRun}

@@ -11,10 +11,12 @@ use Rattle.tables.proofs.Ranges.{front_none}
 use Rattle.tables.proofs.WriteFacts.{in_column}
 use Rattle.line_walks.specs.LineLengths.{IsModest}
 use Rattle.line_walks.specs.Pools.{LineParts, AreLines, concept_of, concept_faults}
-use Rattle.line_walks.proofs.SoundLines.{all_rising, pool_sound}
+use Rattle.line_walks.proofs.SoundLines.{pool_sound}
+use Rattle.walks.proofs.RisingIds.{all_rising}
 use Rattle.line_walks.proofs.WholeLines.{whole_lines}
 use Rattle.ptn_network.specs.Inputs.{stop_input, stop_row}
-use Rattle.ptn_network.specs.Networks.{NetworkParts, IsNetwork, stops_of, network_of, network_faults}
+use Rattle.walks.specs.Networks.{NetworkParts, IsNetwork}
+use Rattle.ptn_network.specs.Networks.{stops_of, network_of, network_faults}
 use Rattle.ptn_network.proofs.Sound.{network_sound}
 use Rattle.event_activity.specs.Runs.{AreServed}
 

@@ -6,7 +6,7 @@ use Rattle.std.proofs.lemmas.List.Elements.{All-get_or}
 use Rattle.std.proofs.lemmas.Option.{slice_get-get_or, same_Some}
 use Rattle.event_tables.specs.declared.direction.Direction.{Direction}
 use Rattle.line_walks.specs.Pools.{LineParts, IsLine}
-use Rattle.ptn_network.specs.Networks.{NetworkParts}
+use Rattle.walks.specs.Networks.{NetworkParts}
 use Rattle.event_activity.specs.Fitting.{IsId}
 use Rattle.event_activity.specs.Runs.{AreServed, along, no_line, line_at, stop_id}
 use Rattle.event_activity.proofs.Along.{all_along, length-along, stops_inside}

@@ -14,7 +14,8 @@ use Rattle.text_fields.specs.Rows.{rows, cleaned}
 use Rattle.giv_files.specs.Settings.{BundleParts}
 use Rattle.tables.specs.Writing.{cell_text, cell_texts, joined, table_text}
 use Rattle.plan_num.specs.Number.{spelling_of, value_of, value_at, fixed_of, whole_of}
-use Rattle.ptn_network.specs.Networks.{by_id, stops_of, network_of, network_faults}
+use Rattle.ptn_network.specs.Networks.{stops_of, network_of, network_faults}
+use Rattle.walks.specs.RisingIds.{by_id}
 use Rattle.line_walks.specs.Pools.{lines_of, line_faults, walk_from}
 use Rattle.event_activity.specs.Activities.{concept_activities}
 use Rattle.event_activity.specs.EanStage.{ean_stage, events_in, too_many}

@@ -6,8 +6,8 @@ use Rattle.event_tables.specs.declared.periodic_kind.PeriodicKind.{PeriodicKind}
 use Rattle.event_tables.specs.declared.periodic_kind.PeriodicKind.TheVariants as kind
 use Rattle.event_tables.specs.PeriodicRuns.{drives, waits, changes}
 use Rattle.event_tables.specs.Places.{AreNumbered}
-use Rattle.ptn_network.specs.declared.edge.Edge.{Edge}
-use Rattle.ptn_network.specs.Networks.{NetworkParts}
+use Rattle.walks.specs.declared.edge.Edge.{Edge}
+use Rattle.walks.specs.Networks.{NetworkParts}
 use Rattle.event_activity.specs.declared.bounds.Bounds.{Bounds}
 use Rattle.event_activity.specs.declared.run_event.RunEvent.{RunEvent}
 use Rattle.event_activity.specs.Activities.{bounds_from, keeps_headway, repeats, shares_edge, with_number}

@@ -6,8 +6,8 @@ use Rattle.event_tables.specs.declared.direction.Direction.TheVariants as direct
 use Rattle.event_tables.specs.Kinds.{event_kind_at}
 use Rattle.event_activity.specs.declared.run_event.RunEvent.{RunEvent}
 use Rattle.line_walks.specs.Pools.{LineParts, AreLines}
-use Rattle.ptn_network.specs.declared.edge.Edge.{Edge}
-use Rattle.ptn_network.specs.Networks.{NetworkParts, IsNetwork}
+use Rattle.walks.specs.declared.edge.Edge.{Edge}
+use Rattle.walks.specs.Networks.{NetworkParts, IsNetwork}
 
 -- what stands along a line, in a direction
 abbrev pub along : Direction → List ℕ → List ℕ

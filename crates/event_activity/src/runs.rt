@@ -1,7 +1,7 @@
 // The events of the lines of a concept, run by run.
 ghost use Rattle.std.specs.Prelude.{◌≡◌, ◌≤◌, ◌<◌, ◌*◌, ◌++◌, length, IfOk, OnOk, vec_len};
 ghost use Rattle.std.specs.List.{flat_map};
-ghost use Rattle.ptn_network.specs.Networks.{NetworkParts};
+ghost use Rattle.walks.specs.Networks.{NetworkParts};
 ghost use Rattle.event_activity.specs.Fitting.{IsId};
 ghost use Rattle.event_activity.specs.Runs.{AreServed, line_at, run, runs, line_events, with_ids, concept_events};
 

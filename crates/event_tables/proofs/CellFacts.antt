@@ -23,8 +23,11 @@ use Rattle.event_tables.specs.declared.periodic_kind.PeriodicKind.{PeriodicKind}
 use Rattle.event_tables.specs.declared.periodic_kind.PeriodicKind.TheVariants as periodic
 use Rattle.event_tables.specs.declared.schedule_kind.ScheduleKind.{ScheduleKind}
 use Rattle.event_tables.specs.declared.schedule_kind.ScheduleKind.TheVariants as schedule
-use Rattle.event_tables.specs.Kinds.{event_kind_at, direction_at, activity_kind_at, periodic_kind_at, schedule_kind_at, event_kind_place, direction_place, activity_kind_place, periodic_kind_place, schedule_kind_place}
+use Rattle.event_tables.specs.Kinds.{event_kind_at, direction_at, activity_kind_at, periodic_kind_at, schedule_kind_at}
+use Rattle.event_tables.specs.Kinds.{event_kind_place, direction_place, activity_kind_place, periodic_kind_place}
+use Rattle.event_tables.specs.Kinds.{schedule_kind_place}
 use Rattle.event_tables.specs.Cells.{IsSmall, AreSmall}
+use Rattle.plan_num.proofs.Tests.{number_back}
 
 -- ---- columns
 
@@ -99,11 +102,6 @@ listed kinds cells h = listed_from kinds cells (λ i. get_or cells i (pos 0)) 0 
 
 -- ---- numbers and words
 
--- a number that is not below 0 is its absolute value
-number_back : (cell : ℤ) → pos 0 ≤ℤ cell → pos (unsigned_abs cell) ≡ cell
-number_back (pos n) h = refl
-number_back (negsuc n) h = absurd (omega (arith, ints))
-
 -- the numbers of a column are not below 0
 abbrev pub is_low : ColumnKind → Bool
 is_low (kind.Whole min max) = int_le (pos 0) min
@@ -111,7 +109,8 @@ is_low _ = false
 
 low_in : (column : ColumnKind) (cell : ℤ) → is_low column ≡ true → InColumn column cell
     → pos 0 ≤ℤ cell
-low_in (kind.Whole min max) cell low h = let from : pos 0 ≤ℤ min = le_z_yes (T_from_true _ low) in omega (arith, ints, from, h.0)
+low_in (kind.Whole min max) cell low h = let from : pos 0 ≤ℤ min =
+    le_z_yes (T_from_true _ low) in omega (arith, ints, from, h.0)
 low_in (kind.Word words) cell low h = cc
 low_in (kind.Fixed min max) cell low h = cc
 low_in kind.Skip cell low h = cc
@@ -120,7 +119,8 @@ low_in kind.Skip cell low h = cc
 pub cell_back : (kinds : List ColumnKind) (cells : List ℤ) (i : ℕ) → InColumns kinds cells
     → i < length kinds → is_low (get_or kinds i kind.Skip) ≡ true
     → pos (unsigned_abs (get_or cells i (pos 0))) ≡ get_or cells i (pos 0)
-cell_back kinds cells i h within low = number_back (get_or cells i (pos 0)) (low_in (get_or kinds i kind.Skip) (get_or cells i (pos 0)) low (in_column kinds cells i h within))
+cell_back kinds cells i h within low = number_back (get_or cells i (pos 0))
+    (low_in (get_or kinds i kind.Skip) (get_or cells i (pos 0)) low (in_column kinds cells i h within))
 
 pub periodic_kind_back : (cell : ℤ) → InColumn (kind.Word table.PeriodicKind) cell
     → pos (periodic_kind_place (periodic_kind_at (unsigned_abs cell))) ≡ cell

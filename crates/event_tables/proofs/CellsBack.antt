@@ -1,6 +1,8 @@
 -- Each record is the one of its cells, and cells in the ranges of their columns are those of their record.
 use Rattle.std.proofs.Common.{◌≡◌, ℤ, pos, arith, List, get_or, refl, sym}
-use Rattle.tables.specs.Columns.{events_p_columns, activities_p_columns, times_p_columns, events_x_columns, activities_x_columns, trips_columns, schedule_columns, delays_columns, disposed_columns}
+use Rattle.tables.specs.Columns.{events_p_columns, activities_p_columns, times_p_columns, events_x_columns}
+use Rattle.tables.specs.Columns.{activities_x_columns, trips_columns, schedule_columns, delays_columns}
+use Rattle.tables.specs.Columns.{disposed_columns}
 use Rattle.tables.specs.Writing.{InColumns}
 use Rattle.event_tables.specs.declared.disposed_time.DisposedTime.{DisposedTime}
 use Rattle.event_tables.specs.declared.expanded_activity.ExpandedActivity.{ExpandedActivity}
@@ -10,8 +12,14 @@ use Rattle.event_tables.specs.declared.periodic_event.PeriodicEvent.{PeriodicEve
 use Rattle.event_tables.specs.declared.periodic_time.PeriodicTime.{PeriodicTime}
 use Rattle.event_tables.specs.declared.schedule_row.ScheduleRow.{ScheduleRow}
 use Rattle.event_tables.specs.declared.trip.Trip.{Trip}
-use Rattle.event_tables.specs.Cells.{periodic_event, periodic_activity, periodic_time, expanded_event, expanded_activity, trip, schedule_row, delay_row, disposed_time, periodic_event_cells, periodic_activity_cells, periodic_time_cells, expanded_event_cells, expanded_activity_cells, trip_cells, schedule_cells, delay_cells, disposed_time_cells}
-use Rattle.event_tables.proofs.CellFacts.{in_column, listed, cell_back, periodic_kind_back, schedule_kind_back, event_kind_same, direction_same, activity_kind_same, periodic_kind_same, schedule_kind_same}
+use Rattle.event_tables.specs.Cells.{periodic_event, periodic_activity, periodic_time, expanded_event}
+use Rattle.event_tables.specs.Cells.{expanded_activity, trip, schedule_row, delay_row, disposed_time}
+use Rattle.event_tables.specs.Cells.{periodic_event_cells, periodic_activity_cells, periodic_time_cells}
+use Rattle.event_tables.specs.Cells.{expanded_event_cells, expanded_activity_cells, trip_cells, schedule_cells}
+use Rattle.event_tables.specs.Cells.{delay_cells, disposed_time_cells}
+use Rattle.event_tables.proofs.CellFacts.{in_column, listed, cell_back, periodic_kind_back, schedule_kind_back}
+use Rattle.event_tables.proofs.CellFacts.{event_kind_same, direction_same, activity_kind_same, periodic_kind_same}
+use Rattle.event_tables.proofs.CellFacts.{schedule_kind_same}
 
 pub periodic_event_same : (row : PeriodicEvent) → periodic_event (periodic_event_cells row) ≡ row
 periodic_event_same row = rw (event_kind_same row.kind, direction_same row.direction) refl

@@ -2,7 +2,8 @@
 use Rattle.std.proofs.Common.{◌≡◌, ◌≢◌, ◌==◌, ℕ, zero, suc, ◌+◌, ◌-◌, ◌<◌, ◌≤◌, arith, Bool, true}
 use Rattle.std.proofs.Common.{false, ◌||◌, nat_eq, nat_lt, eqb, ltb, List, [], ◌∷◌, ◌++◌, length}
 use Rattle.std.proofs.Common.{map, get_or, refl, ap, sym, subst, ◌∙◌, Some}
-use Rattle.std.proofs.lemmas.Bool.{eqb-true, ltb-true, eqb-false, ltb-false, ne_eqb, eq-eqb, lt-ltb, le-ltb, false≢true, not-false}
+use Rattle.std.proofs.lemmas.Bool.{eqb-true, ltb-true, eqb-false, ltb-false, ne_eqb, eq-eqb, lt-ltb, le-ltb, false≢true}
+use Rattle.std.proofs.lemmas.Bool.{not-false}
 use Rattle.std.proofs.lemmas.List.{length_push, length-map}
 use Rattle.std.proofs.lemmas.List.Folds.{list_any_at}
 use Rattle.std.proofs.lemmas.List.FromFn.{length-range_with_len, get_or-range_with_len}
@@ -13,8 +14,9 @@ use Rattle.tables.specs.Inputs.{Input, RowRule, records_of, broken_whys, row_fau
 use Rattle.tables.specs.Reading.{table_of}
 use Rattle.tables.specs.Tables.{TableRow}
 use Rattle.tables.proofs.Inputs.{rules_sound, parts_sound, table_sound}
-use Rattle.tables.proofs.Ranges.{front_none, back_none, unmapped}
+use Rattle.tables.proofs.Ranges.{front_none, back_none}
 use Rattle.event_tables.specs.Places.{own_place, is_none_of, AreNumbered, IsOneOf}
+use Rattle.plan_num.proofs.Lists.{unmapped}
 
 -- the numbers from one on that are there
 among : (id a n : ℕ) → list_any (nat_eq id) (range_with_len a n) ≡ true → (a ≤ id) × (id < a + n)
@@ -80,7 +82,8 @@ some_missing n count =
 -- an id that is one of so many
 pub is_place : (count id : ℕ) → is_none_of (range_with_len 1 count) id ≡ false → IsOneOf count id
 is_place count id h =
-    let is = among id 1 count (not-false (list_any (nat_eq id) (range_with_len 1 count)) h) in (is.0, omega (arith, is.1))
+    let is = among id 1 count (not-false (list_any (nat_eq id) (range_with_len 1 count)) h) in
+    (is.0, omega (arith, is.1))
 
 -- rows whose first rule is that they are numbered, and that break none, are numbered
 numbered_from : {X : Type 0} (file : FileId) (id : X → ℕ) (of : TableRow
@@ -91,7 +94,8 @@ numbered_from : {X : Type 0} (file : FileId) (id : X → ℕ) (of : TableRow
 unfolding row_faults
 numbered_from file id of rules before [] none = refl
 numbered_from file id of rules before (row ∷ rows) none =
-    let kept = rules_sound (own_place id) rules before (of row) (unmapped _ (broken_whys (own_place id ∷ rules) before (of row)) (front_none _ _ none)) in
+    let kept = rules_sound (own_place id) rules before (of row)
+    (unmapped _ (broken_whys (own_place id ∷ rules) before (of row)) (front_none _ _ none)) in
     let first : id (of row) ≡ length before + 1 = eqb-true _ _ (not-false _ kept.0) in
     let rest = numbered_from file id of rules (before ++ of row
     ∷ []) rows (back_none (map

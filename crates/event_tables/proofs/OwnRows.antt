@@ -12,7 +12,8 @@ use Rattle.tables.specs.Inputs.{Input, RowRule, own_id, broken_whys, row_faults,
 use Rattle.tables.specs.Reading.{table_of}
 use Rattle.tables.specs.Tables.{TableRow}
 use Rattle.tables.proofs.Inputs.{parts_sound, table_sound}
-use Rattle.tables.proofs.Ranges.{front_none, back_none, unmapped}
+use Rattle.tables.proofs.Ranges.{front_none, back_none}
+use Rattle.plan_num.proofs.Lists.{unmapped}
 
 -- two numbers are one as whole numbers where they are
 pub same_number : (a b : ℕ) → int_eq (pos a) (pos b) ≡ nat_eq a b

@@ -98,13 +98,16 @@ rank_rises events from to are few from_there to_there before =
 
     by_kind : a.time ≡ b.time
         → (place_of (is_arrival a.kind) < place_of (is_arrival b.kind))
-        ⊎ ((place_of (is_arrival a.kind) ≡ place_of (is_arrival b.kind)) × (is_lt (slice_cmp nat_cmp (a.id ∷ []) (b.id ∷ [])) ≡ true))
+        ⊎ ((place_of (is_arrival a.kind) ≡ place_of (is_arrival b.kind))
+        × (is_lt (slice_cmp nat_cmp (a.id ∷ []) (b.id ∷ [])) ≡ true))
         → rank a.time (is_arrival a.kind) from < rank b.time (is_arrival b.kind) to
     by_kind time (inl less) =
         omega (arith, time, later_place (is_arrival a.kind) (is_arrival b.kind) less, from_there, few)
     by_kind time (inr both) = by_id time both.0 (decided a.id b.id Equal both.1)
 
-    by : (a.time < b.time) ⊎ ((a.time ≡ b.time) × (is_lt (slice_cmp nat_cmp (place_of (is_arrival a.kind) ∷ a.id ∷ []) (place_of (is_arrival b.kind) ∷ b.id ∷ [])) ≡ true))
+    by : (a.time < b.time) ⊎ ((a.time ≡ b.time)
+        × (is_lt (slice_cmp nat_cmp (place_of (is_arrival a.kind) ∷ a.id ∷ [])
+        (place_of (is_arrival b.kind) ∷ b.id ∷ [])) ≡ true))
         → rank a.time (is_arrival a.kind) from < rank b.time (is_arrival b.kind) to
     by (inl less) = omega (arith, less, most_late (is_arrival a.kind), from_there, few)
     by (inr both) =
@@ -117,7 +120,8 @@ pub planned_rises : (events : List ExpandedEvent) (from to : ℕ)
 planned_rises events from to before =
     by (decided (at events from).time (at events to).time _ before)
   where
-    by : {P : Type 0} → ((at events from).time < (at events to).time) ⊎ (((at events from).time ≡ (at events to).time) × P)
+    by : {P : Type 0} → ((at events from).time < (at events to).time)
+        ⊎ (((at events from).time ≡ (at events to).time) × P)
         → (at events from).time ≤ (at events to).time
     by (inl less) = omega (arith, less)
     by (inr same) = omega (arith, same.0)

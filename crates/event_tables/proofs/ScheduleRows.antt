@@ -10,7 +10,8 @@ use Rattle.event_tables.specs.Schedules.{is_trip_row, is_empty_row}
 
 -- each row is a trip or an empty ride
 pub both_kinds : (table : List TableRow)
-    → length (filter is_empty_row (records_by schedule_row table)) + length (filter is_trip_row (records_by schedule_row table)) ≡ length table
+    → length (filter is_empty_row (records_by schedule_row table)) + length (filter is_trip_row
+    (records_by schedule_row table)) ≡ length table
 both_kinds table = length-filter_both is_empty_row is_trip_row
     (λ row. refl) (records_by schedule_row table) ∙ length-map table (λ row. schedule_row row.cells)
 

@@ -10,11 +10,15 @@ use Rattle.tables.proofs.Inputs.{few_rows, rules_sound}
 use Rattle.event_tables.specs.declared.periodic_activity.PeriodicActivity.{PeriodicActivity}
 use Rattle.event_tables.specs.declared.expanded_activity.ExpandedActivity.{ExpandedActivity}
 use Rattle.event_tables.specs.declared.expanded_event.ExpandedEvent.{ExpandedEvent}
-use Rattle.event_tables.specs.ExpandedFiles.{expanded_event_input, expanded_activity_input, expanded_activity_rules, AreExpandedEvents, AreExpandedActivities, IsExpandedActivity}
-use Rattle.event_tables.specs.PeriodicFiles.{periodic_event_input, periodic_activity_input, periodic_activity_rules, ArePeriodicEvents, ArePeriodicActivities, IsPeriodicActivity}
-use Rattle.event_tables.specs.Cells.{periodic_event_cells, periodic_activity_cells, expanded_event_cells, expanded_activity_cells}
+use Rattle.event_tables.specs.ExpandedFiles.{expanded_event_input, expanded_activity_input, expanded_activity_rules}
+use Rattle.event_tables.specs.ExpandedFiles.{AreExpandedEvents, AreExpandedActivities, IsExpandedActivity}
+use Rattle.event_tables.specs.PeriodicFiles.{periodic_event_input, periodic_activity_input, periodic_activity_rules}
+use Rattle.event_tables.specs.PeriodicFiles.{ArePeriodicEvents, ArePeriodicActivities, IsPeriodicActivity}
+use Rattle.event_tables.specs.Cells.{periodic_event_cells, periodic_activity_cells, expanded_event_cells}
+use Rattle.event_tables.specs.Cells.{expanded_activity_cells}
 use Rattle.event_tables.specs.Places.{AreNumbered}
-use Rattle.event_tables.proofs.CellsBack.{periodic_event_back, periodic_activity_back, expanded_event_back, expanded_activity_back}
+use Rattle.event_tables.proofs.CellsBack.{periodic_event_back, periodic_activity_back, expanded_event_back}
+use Rattle.event_tables.proofs.CellsBack.{expanded_activity_back}
 use Rattle.event_tables.proofs.Fitting.{fitting_records, sound_records}
 use Rattle.event_tables.proofs.Numbering.{numbered_rows, is_place}
 
@@ -43,7 +47,8 @@ expanded_events_sound text none = record {
   fit = fitting_records expanded_event_input text none expanded_event_cells expanded_event_back;
 }
 
-module _ (count : ℕ) (text : List ℕ) (none : input_faults (periodic_activity_input (range_with_len 1 count)) text ≡ []) where
+module _ (count : ℕ) (text : List ℕ) (none : input_faults (periodic_activity_input (range_with_len 1 count)) text
+    ≡ []) where
   activity_sound : (some : List PeriodicActivity) (row : PeriodicActivity)
       → broken_whys (periodic_activity_rules (range_with_len 1 count)) some row ≡ []
       → IsPeriodicActivity count row

@@ -16,7 +16,8 @@ use Rattle.event_tables.proofs.Fitting.{fitting_records, sound_records}
 use Rattle.event_tables.proofs.Numbering.{numbered_rows, is_place}
 use Rattle.event_tables.proofs.WholeFiles.{one_each}
 
-module _ (file : FileId) (period count : ℕ) (text : List ℕ) (none : input_faults (periodic_time_input file period (range_with_len 1 count)) text ≡ []) where
+module _ (file : FileId) (period count : ℕ) (text : List ℕ) (none : input_faults
+    (periodic_time_input file period (range_with_len 1 count)) text ≡ []) where
   time_sound : (some : List PeriodicTime) (row : PeriodicTime)
       → broken_whys (periodic_time_rules period (range_with_len 1 count)) some row ≡ []
       → IsOneOf count row.event × (row.time < period)
@@ -37,7 +38,8 @@ module _ (file : FileId) (period count : ℕ) (text : List ℕ) (none : input_fa
         fit = fitting_records input text none periodic_time_cells periodic_time_back;
       }
 
-module _ (count : ℕ) (text : List ℕ) (none : input_faults (disposed_time_input (range_with_len 1 count)) text ≡ []) where
+module _ (count : ℕ) (text : List ℕ) (none : input_faults (disposed_time_input (range_with_len 1 count)) text
+    ≡ []) where
   disposed_sound : (some : List DisposedTime) (row : DisposedTime)
       → broken_whys (disposed_time_rules (range_with_len 1 count)) some row ≡ []
       → IsOneOf count row.event

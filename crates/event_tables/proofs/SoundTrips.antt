@@ -19,7 +19,9 @@ use Rattle.event_tables.specs.Delays.{delay_input, is_there, AreDelays}
 use Rattle.event_tables.specs.ExpandedFiles.{expanded_event_ids}
 use Rattle.event_tables.specs.ForwardOrder.{goes_forward}
 use Rattle.event_tables.specs.Places.{known_ends, is_none_of, AreNumbered, IsOneOf}
-use Rattle.event_tables.specs.Schedules.{schedule_input, schedule_rules, kind_limit, is_trip_row, is_empty_row, ends_early, lacks_room, goes_back, empty_forward, IsScheduleRow, AreScheduleRows}
+use Rattle.event_tables.specs.Schedules.{schedule_input, schedule_rules, kind_limit, is_trip_row, is_empty_row}
+use Rattle.event_tables.specs.Schedules.{ends_early, lacks_room, goes_back, empty_forward, IsScheduleRow}
+use Rattle.event_tables.specs.Schedules.{AreScheduleRows}
 use Rattle.event_tables.specs.Trips.{trip_input, trip_rules, own_start, known_stops, takes_time, IsTrip, AreTrips}
 use Rattle.event_tables.proofs.CellsBack.{trip_back, delay_row_back, schedule_row_back}
 use Rattle.event_tables.proofs.Fitting.{fitting_records, sound_records}
@@ -47,7 +49,8 @@ module _ (stops : Option (List ℤ)) (text : List ℕ) (none : input_faults (tri
 
 -- ---- delays
 
-module _ (file : FileId) (unknown : RowWhy) (count : ℕ) (text : List ℕ) (none : input_faults (delay_input file unknown (range_with_len 1 count)) text ≡ []) where
+module _ (file : FileId) (unknown : RowWhy) (count : ℕ) (text : List ℕ) (none : input_faults
+    (delay_input file unknown (range_with_len 1 count)) text ≡ []) where
   pub delays_sound : AreDelays count
       (records_of (delay_input file unknown (range_with_len 1 count)) text)
   delays_sound =
@@ -57,7 +60,8 @@ module _ (file : FileId) (unknown : RowWhy) (count : ℕ) (text : List ℕ) (non
       record {
         own = own_rows (λ row. row.id) input text
             (λ before row kept. own_among
-            (λ (at : DelayRow). at.id) before row (rules_sound own [] before row (rules_sound (is_there ids unknown) (own ∷ []) before row kept).1).0) none;
+            (λ (at : DelayRow). at.id) before row (rules_sound own [] before row
+            (rules_sound (is_there ids unknown) (own ∷ []) before row kept).1).0) none;
         there = sound_records input text none (λ row. IsOneOf count row.id)
             (λ some row kept. is_place count row.id (rules_sound (is_there ids unknown) (own
             ∷ []) some row kept).0);

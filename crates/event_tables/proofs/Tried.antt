@@ -17,7 +17,8 @@ use Rattle.event_tables.specs.Delays.{event_delay_input, activity_delay_input}
 use Rattle.event_tables.specs.DisposedTimes.{disposed_time_input}
 use Rattle.event_tables.specs.ExpandedFiles.{expanded_event_input, expanded_activity_input}
 use Rattle.event_tables.specs.ForwardOrder.{stands_before, goes_forward}
-use Rattle.event_tables.specs.PeriodicFiles.{periodic_event_input, periodic_event_ids, periodic_activity_input, periodic_time_input}
+use Rattle.event_tables.specs.PeriodicFiles.{periodic_event_input, periodic_event_ids, periodic_activity_input}
+use Rattle.event_tables.specs.PeriodicFiles.{periodic_time_input}
 use Rattle.event_tables.specs.PeriodicRuns.{runs_of, neighbours, joins}
 use Rattle.event_tables.specs.Schedules.{schedule_input}
 use Rattle.event_tables.specs.Trips.{trip_input}
@@ -46,7 +47,9 @@ unfolding table_of cells_from cell_of values rows cleaned spelling_of value_of v
     whole_of
 their_ids = refl
 
-gap : input_faults periodic_event_input (codes "1; departure; 1; 1; >; 1\n3; arrival; 1; 1; >; 1\n3; departure; 1; 1; >; 1\n") ≡ refusal.BadRow file.EventsP 2 why.OrderGap ∷ []
+gap : input_faults periodic_event_input
+    (codes "1; departure; 1; 1; >; 1\n3; arrival; 1; 1; >; 1\n3; departure; 1; 1; >; 1\n")
+    ≡ refusal.BadRow file.EventsP 2 why.OrderGap ∷ []
 unfolding input_faults row_faults faults table_of cells_from cell_of values errors row_whys rows
     cleaned spelling_of value_of value_at fixed_of whole_of
 gap = refl
@@ -65,7 +68,8 @@ unfolding runs_of table_of cells_from cell_of values rows cleaned spelling_of va
 their_neighbours = refl
 
 -- events that agree and stand apart are of two runs
-apart : map length (runs_of (records_of periodic_event_input (codes "1; departure; 1; 1; >; 1\n2; departure; 1; 1; >; 2\n3; arrival; 2; 1; >; 1\n"))) ≡ 1 ∷ 1 ∷ 1 ∷ []
+apart : map length (runs_of (records_of periodic_event_input
+    (codes "1; departure; 1; 1; >; 1\n2; departure; 1; 1; >; 2\n3; arrival; 2; 1; >; 1\n"))) ≡ 1 ∷ 1 ∷ 1 ∷ []
 unfolding runs_of table_of cells_from cell_of values rows cleaned spelling_of value_of value_at
     fixed_of whole_of
 apart = refl
@@ -159,7 +163,8 @@ unfolding input_faults row_faults faults table_of cells_from cell_of values erro
     cleaned spelling_of value_of value_at fixed_of whole_of
 expanded_faults = refl
 
-event_faults : input_faults expanded_event_input (codes "1; 1; departure; 0; 1\n1; 2; arrival; 10; 2\n") ≡ refusal.BadRow file.EventsX 2 why.OrderGap ∷ []
+event_faults : input_faults expanded_event_input (codes "1; 1; departure; 0; 1\n1; 2; arrival; 10; 2\n")
+    ≡ refusal.BadRow file.EventsX 2 why.OrderGap ∷ []
 unfolding input_faults row_faults faults table_of cells_from cell_of values errors row_whys rows
     cleaned spelling_of value_of value_at fixed_of whole_of
 event_faults = refl
@@ -190,46 +195,55 @@ abbrev schedule_faults : List ℕ → List Refusal
 schedule_faults text = input_faults (schedule_input day) text
 
 -- a trip between unknown events is refused, and one that goes backward is not
-trip_rows : schedule_faults (codes "1; 1; 1; TRIP; 2; 1; 1; 9; 1; 2; 2; 3; 1\n1; 1; 1; TRIP; 6; 1; 1; 9; 1; 2; 2; 3; 1\n") ≡ refusal.BadRow file.Schedule 2 why.UnknownEvent ∷ []
+trip_rows : schedule_faults
+    (codes "1; 1; 1; TRIP; 2; 1; 1; 9; 1; 2; 2; 3; 1\n1; 1; 1; TRIP; 6; 1; 1; 9; 1; 2; 2; 3; 1\n")
+    ≡ refusal.BadRow file.Schedule 2 why.UnknownEvent ∷ []
 unfolding input_faults row_faults faults table_of cells_from cell_of values errors row_whys rows
     cleaned spelling_of value_of value_at fixed_of whole_of
 trip_rows = refl
 
-ends_before_start : schedule_faults (codes "1; 1; 2; EMPTY; 2; 2; 2; 10; 3; 3; 2; 9; 0\n") ≡ refusal.BadRow file.Schedule 1 why.Backward ∷ []
+ends_before_start : schedule_faults (codes "1; 1; 2; EMPTY; 2; 2; 2; 10; 3; 3; 2; 9; 0\n")
+    ≡ refusal.BadRow file.Schedule 1 why.Backward ∷ []
 unfolding input_faults row_faults faults table_of cells_from cell_of values errors row_whys rows
     cleaned spelling_of value_of value_at fixed_of whole_of
 ends_before_start = refl
 
-no_room : schedule_faults (codes "1; 1; 2; EMPTY; 2; 2; 2; 10; 3; 3; 2; 14; 0\n") ≡ refusal.BadRow file.Schedule 1 why.Backward ∷ []
+no_room : schedule_faults (codes "1; 1; 2; EMPTY; 2; 2; 2; 10; 3; 3; 2; 14; 0\n")
+    ≡ refusal.BadRow file.Schedule 1 why.Backward ∷ []
 unfolding input_faults row_faults faults table_of cells_from cell_of values errors row_whys rows
     cleaned spelling_of value_of value_at fixed_of whole_of
 no_room = refl
 
 -- as many minutes as there are, whatever the times of the row are
-some_room : schedule_faults (codes "1; 1; 2; EMPTY; 2; 2; 2; 10; 3; 3; 2; 13; 0\n1; 1; 2; EMPTY; 2; 2; 2; 77; 3; 3; 2; 80; 0\n") ≡ []
+some_room : schedule_faults
+    (codes "1; 1; 2; EMPTY; 2; 2; 2; 10; 3; 3; 2; 13; 0\n1; 1; 2; EMPTY; 2; 2; 2; 77; 3; 3; 2; 80; 0\n") ≡ []
 unfolding input_faults row_faults faults table_of cells_from cell_of values errors row_whys rows
     cleaned spelling_of value_of value_at fixed_of whole_of
 some_room = refl
 
 -- a departure does not stand before an arrival of the same time
-not_before : schedule_faults (codes "1; 1; 2; EMPTY; 5; 2; 2; 10; 2; 3; 2; 10; 0\n") ≡ refusal.BadRow file.Schedule 1 why.Backward ∷ []
+not_before : schedule_faults (codes "1; 1; 2; EMPTY; 5; 2; 2; 10; 2; 3; 2; 10; 0\n")
+    ≡ refusal.BadRow file.Schedule 1 why.Backward ∷ []
 unfolding input_faults row_faults faults table_of cells_from cell_of values errors row_whys rows
     cleaned spelling_of value_of value_at fixed_of whole_of
 not_before = refl
 
 -- ---- delays, and disposed times
 
-delay_faults : input_faults (event_delay_input (1 ∷ 2 ∷ 3 ∷ 4 ∷ [])) (codes "1; 5\n5; 5\n1; 0\n") ≡ refusal.BadRow file.EventDelays 2 why.UnknownEvent ∷ refusal.BadRow file.EventDelays 3 why.RepeatedId ∷ []
+delay_faults : input_faults (event_delay_input (1 ∷ 2 ∷ 3 ∷ 4 ∷ [])) (codes "1; 5\n5; 5\n1; 0\n")
+    ≡ refusal.BadRow file.EventDelays 2 why.UnknownEvent ∷ refusal.BadRow file.EventDelays 3 why.RepeatedId ∷ []
 unfolding input_faults row_faults faults table_of cells_from cell_of values errors row_whys rows
     cleaned spelling_of value_of value_at fixed_of whole_of
 delay_faults = refl
 
-activity_delay_faults : input_faults (activity_delay_input (1 ∷ 2 ∷ 3 ∷ [])) (codes "4; 1\n") ≡ refusal.BadRow file.ActivityDelays 1 why.UnknownActivity ∷ []
+activity_delay_faults : input_faults (activity_delay_input (1 ∷ 2 ∷ 3 ∷ [])) (codes "4; 1\n")
+    ≡ refusal.BadRow file.ActivityDelays 1 why.UnknownActivity ∷ []
 unfolding input_faults row_faults faults table_of cells_from cell_of values errors row_whys rows
     cleaned spelling_of value_of value_at fixed_of whole_of
 activity_delay_faults = refl
 
-too_late : input_faults (event_delay_input (1 ∷ [])) (codes "1; 1000001\n") ≡ refusal.BadRow file.EventDelays 1 (why.OutOfRange 2) ∷ []
+too_late : input_faults (event_delay_input (1 ∷ [])) (codes "1; 1000001\n")
+    ≡ refusal.BadRow file.EventDelays 1 (why.OutOfRange 2) ∷ []
 unfolding input_faults row_faults faults table_of cells_from cell_of values errors row_whys rows
     cleaned spelling_of value_of value_at fixed_of whole_of
 too_late = refl

@@ -1,5 +1,6 @@
 -- Files in which each event has a row.
-use Rattle.std.proofs.Common.{◌≡◌, ℕ, ◌+◌, ◌<◌, ◌≤◌, arith, Bool, true, false, nat_lt, ltb, List, [], ◌∷◌, length, map, get_or, refl, ap, sym, subst, ◌∙◌, Result, Ok, Err, MatchResult, All}
+use Rattle.std.proofs.Common.{◌≡◌, ℕ, ◌+◌, ◌<◌, ◌≤◌, arith, Bool, true, false, nat_lt, ltb, List, [], ◌∷◌, length, map}
+use Rattle.std.proofs.Common.{get_or, refl, ap, sym, subst, ◌∙◌, Result, Ok, Err, MatchResult, All}
 use Rattle.std.proofs.lemmas.Bool.{lt-ltb, le-ltb, ltb-true, ltb-false}
 use Rattle.std.proofs.lemmas.List.{get_or-map}
 use Rattle.std.proofs.lemmas.List.FromFn.{get_or-range_with_len}
@@ -62,13 +63,17 @@ module _ {X : Type 0} (input : Input X) (text : List ℕ) (event : X
       → UnlessFault (input_faults input text) (λ all. view all ≡ records_of input text) read
   read_whole view rules rows own none is (Ok all) h =
       let many : count ≤ length (records_of input text) = subst
-      (λ some. count ≤ length some) is h.1 in
-      (sound_as_whole input text lacks why.MissingEvent whole none (lacking rules own none ∙ le-ltb (length (records_of input text)) count many), ap view h.0 ∙ is)
+      (λ some. count ≤ length some) is h.1 in (
+        sound_as_whole input text lacks why.MissingEvent whole none
+            (lacking rules own none ∙ le-ltb (length (records_of input text)) count many),
+        ap view h.0 ∙ is,
+      )
   read_whole view rules rows own none is (Err fault) h =
       let few : length (records_of input text) < count = subst
       (λ some. length some < count) is h.1 in
       subst (λ (told : StageFault). Refuses (input_faults input text) told)
-      (sym h.0) (refused_as_whole input text lacks why.MissingEvent whole none (lacking rules own none ∙ lt-ltb (length (records_of input text)) count few))
+      (sym h.0) (refused_as_whole input text lacks why.MissingEvent whole none
+      (lacking rules own none ∙ lt-ltb (length (records_of input text)) count few))
 
   -- where it has no fault, there is one row for each event
   pub one_each : input_faults input text ≡ [] → AreNumbered event (records_of input text) → All

@@ -1,5 +1,6 @@
 -- Records that are written are read back.
-use Rattle.std.proofs.Common.{◌≡◌, ℕ, ℤ, ◌<◌, List, [], ◌∷◌, length, map, refl, ap, subst, sym, ◌∙◌, Result, Ok, Err, IfOk, All}
+use Rattle.std.proofs.Common.{◌≡◌, ℕ, ℤ, ◌<◌, List, [], ◌∷◌, length, map, refl, ap, subst, sym, ◌∙◌, Result, Ok, Err}
+use Rattle.std.proofs.Common.{IfOk, All}
 use Rattle.std.proofs.lemmas.List.Elements.{All-map}
 use Rattle.std.proofs.lemmas.Simd.{map-map}
 use Rattle.tables.specs.declared.column.ColumnKind.{ColumnKind}

@@ -10,7 +10,9 @@ use Rattle.event_tables.specs.declared.periodic_time.PeriodicTime.{PeriodicTime}
 use Rattle.event_tables.specs.declared.schedule_row.ScheduleRow.{ScheduleRow}
 use Rattle.event_tables.specs.declared.trip.Trip.{Trip}
 use Rattle.event_tables.specs.declared.trip.TripEnd.{TripEnd}
-use Rattle.event_tables.specs.Kinds.{event_kind_at, direction_at, activity_kind_at, periodic_kind_at, schedule_kind_at, event_kind_place, direction_place, activity_kind_place, periodic_kind_place, schedule_kind_place}
+use Rattle.event_tables.specs.Kinds.{event_kind_at, direction_at, activity_kind_at, periodic_kind_at, schedule_kind_at}
+use Rattle.event_tables.specs.Kinds.{event_kind_place, direction_place, activity_kind_place, periodic_kind_place}
+use Rattle.event_tables.specs.Kinds.{schedule_kind_place}
 
 -- the number in a column; in these files none is below 0
 abbrev pub number_in : List ℤ → ℕ → ℕ

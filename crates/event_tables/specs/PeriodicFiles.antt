@@ -10,8 +10,10 @@ use Rattle.tables.specs.Writing.{InColumns}
 use Rattle.event_tables.specs.declared.periodic_activity.PeriodicActivity.{PeriodicActivity}
 use Rattle.event_tables.specs.declared.periodic_event.PeriodicEvent.{PeriodicEvent}
 use Rattle.event_tables.specs.declared.periodic_time.PeriodicTime.{PeriodicTime}
-use Rattle.event_tables.specs.Cells.{periodic_event, periodic_activity, periodic_time, periodic_event_cells, periodic_activity_cells, periodic_time_cells}
-use Rattle.event_tables.specs.Places.{own_place, known_event, known_ends, bounds_in_order, all_there, AreNumbered, IsOneOf}
+use Rattle.event_tables.specs.Cells.{periodic_event, periodic_activity, periodic_time, periodic_event_cells}
+use Rattle.event_tables.specs.Cells.{periodic_activity_cells, periodic_time_cells}
+use Rattle.event_tables.specs.Places.{own_place, known_event, known_ends, bounds_in_order, all_there, AreNumbered}
+use Rattle.event_tables.specs.Places.{IsOneOf}
 
 -- the file of periodic events, which are numbered in their order
 abbrev pub periodic_event_input : Input PeriodicEvent

@@ -1,5 +1,6 @@
 -- The file of trips, and its rules.
-use Rattle.std.specs.Prelude.{ℕ, ℤ, pos, ◌≡◌, ◌≤◌, ◌<◌, ◌||◌, nat_le, nat_eq, Bool, false, not, List, [], ◌∷◌, length, map, All, Option, Some, None}
+use Rattle.std.specs.Prelude.{ℕ, ℤ, pos, ◌≡◌, ◌≤◌, ◌<◌, ◌||◌, nat_le, nat_eq, Bool, false, not, List, [], ◌∷◌, length}
+use Rattle.std.specs.Prelude.{map, All, Option, Some, None}
 use Rattle.std.specs.List.{list_any, IsDistinct}
 use Rattle.std.specs.Ordering.{int_eq}
 use Rattle.tables.specs.declared.counted.Counted.TheVariants as counted

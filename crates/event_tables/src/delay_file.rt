@@ -3,7 +3,8 @@ ghost use Rattle.std.specs.Prelude.{ℕ, ◌≡◌, nat_eq, length, map, IfOk};
 ghost use Rattle.std.specs.HashSet.{contains};
 ghost use Rattle.std.specs.List.{list_any, range_with_len};
 ghost use Rattle.tables.specs.RowsOfTables.{ReadsFile};
-ghost use Rattle.event_tables.specs.Delays.{delay_input, event_delay_input, activity_delay_input, delay_rules, AreDelays};
+ghost use Rattle.event_tables.specs.Delays.{delay_input, event_delay_input, activity_delay_input, delay_rules};
+ghost use Rattle.event_tables.specs.Delays.{AreDelays};
 ghost use Rattle.event_tables.specs.ExpandedFiles.{expanded_event_ids, expanded_activity_ids};
 ghost use Rattle.event_tables.specs.Places.{AreNumbered};
 

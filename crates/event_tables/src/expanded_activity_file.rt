@@ -1,7 +1,8 @@
 // Reading expanded activities.
 ghost use Rattle.std.specs.Prelude.{◌≡◌, IfOk};
 ghost use Rattle.tables.specs.RowsOfTables.{ReadsFile};
-ghost use Rattle.event_tables.specs.ExpandedFiles.{expanded_activity_input, expanded_activity_rules, AreExpandedActivities};
+ghost use Rattle.event_tables.specs.ExpandedFiles.{expanded_activity_input, expanded_activity_rules};
+ghost use Rattle.event_tables.specs.ExpandedFiles.{AreExpandedActivities};
 ghost use Rattle.event_tables.specs.Places.{AreNumbered};
 
 use crate::expanded_activity::ExpandedActivity;

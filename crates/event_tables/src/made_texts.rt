@@ -1,9 +1,15 @@
 // The texts of the files that are made.
 ghost use Rattle.std.specs.Prelude.{◌≡◌, All, IfOk};
-ghost use Rattle.tables.specs.Columns.{events_p_columns, activities_p_columns, times_p_columns, events_x_columns, activities_x_columns, trips_columns, schedule_columns, disposed_columns};
+ghost use Rattle.tables.specs.Columns.{events_p_columns, activities_p_columns, times_p_columns, events_x_columns};
+ghost use Rattle.tables.specs.Columns.{activities_x_columns, trips_columns, schedule_columns, disposed_columns};
 ghost use Rattle.tables.specs.Writing.{InColumns};
-ghost use Rattle.event_tables.specs.Cells.{periodic_event, periodic_activity, periodic_time, expanded_event, expanded_activity, trip, schedule_row, disposed_time, periodic_event_cells, periodic_activity_cells, periodic_time_cells, expanded_event_cells, expanded_activity_cells, trip_cells, schedule_cells, disposed_time_cells};
-ghost use Rattle.event_tables.specs.Headers.{periodic_event_header, periodic_activity_header, periodic_time_header, expanded_event_header, expanded_activity_header, trip_header, schedule_header, disposed_time_header};
+ghost use Rattle.event_tables.specs.Cells.{periodic_event, periodic_activity, periodic_time, expanded_event};
+ghost use Rattle.event_tables.specs.Cells.{expanded_activity, trip, schedule_row, disposed_time, periodic_event_cells};
+ghost use Rattle.event_tables.specs.Cells.{periodic_activity_cells, periodic_time_cells, expanded_event_cells};
+ghost use Rattle.event_tables.specs.Cells.{expanded_activity_cells, trip_cells, schedule_cells, disposed_time_cells};
+ghost use Rattle.event_tables.specs.Headers.{periodic_event_header, periodic_activity_header, periodic_time_header};
+ghost use Rattle.event_tables.specs.Headers.{expanded_event_header, expanded_activity_header, trip_header};
+ghost use Rattle.event_tables.specs.Headers.{schedule_header, disposed_time_header};
 ghost use Rattle.tables.specs.RowsOfTables.{ReadsAs, file_text};
 
 use crate::disposed_time::DisposedTime;

@@ -2,7 +2,8 @@
 ghost use Rattle.std.specs.Prelude.{◌≡◌, List, length, ⊤, IfOk};
 ghost use Rattle.std.specs.List.{range_with_len};
 ghost use Rattle.tables.specs.RowsOfTables.{ReadsFile};
-ghost use Rattle.event_tables.specs.PeriodicFiles.{periodic_activity_input, periodic_activity_rules, periodic_event_ids, ArePeriodicActivities};
+ghost use Rattle.event_tables.specs.PeriodicFiles.{periodic_activity_input, periodic_activity_rules};
+ghost use Rattle.event_tables.specs.PeriodicFiles.{periodic_event_ids, ArePeriodicActivities};
 ghost use Rattle.event_tables.specs.Places.{AreNumbered};
 
 use crate::periodic_activity::PeriodicActivity;

@@ -2,7 +2,8 @@
 ghost use Rattle.std.specs.Prelude.{◌≡◌, length, ⊤, IfOk};
 ghost use Rattle.std.specs.List.{range_with_len};
 ghost use Rattle.tables.specs.RowsOfTables.{ReadsFile};
-ghost use Rattle.event_tables.specs.PeriodicFiles.{periodic_time_input, periodic_time_rules, periodic_event_ids, ArePeriodicTimes};
+ghost use Rattle.event_tables.specs.PeriodicFiles.{periodic_time_input, periodic_time_rules, periodic_event_ids};
+ghost use Rattle.event_tables.specs.PeriodicFiles.{ArePeriodicTimes};
 ghost use Rattle.event_tables.specs.Places.{AreNumbered};
 
 use crate::periodic_event::PeriodicEvent;

@@ -5,7 +5,8 @@ ghost use Rattle.tables.specs.Inputs.{limit_faults};
 ghost use Rattle.event_tables.specs.Cells.{schedule_row, AreSmall};
 ghost use Rattle.event_tables.specs.Places.{AreNumbered, is_none_of};
 ghost use Rattle.tables.specs.RowsOfTables.{ReadsFile, records_by};
-ghost use Rattle.event_tables.specs.Schedules.{schedule_input, schedule_rules, kind_limit, is_trip_row, is_empty_row, ends_early, lacks_room, goes_back, AreScheduleRows};
+ghost use Rattle.event_tables.specs.Schedules.{schedule_input, schedule_rules, kind_limit, is_trip_row, is_empty_row};
+ghost use Rattle.event_tables.specs.Schedules.{ends_early, lacks_room, goes_back, AreScheduleRows};
 
 use crate::expanded_event::ExpandedEvent;
 use crate::forward::{event_of, goes_forward};

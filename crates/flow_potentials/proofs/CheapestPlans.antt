@@ -1,6 +1,6 @@
 -- Valid potentials prove that exactly the tight plans are cheapest: a plan costs what all trips
 -- cost alone, less what it gains.
-use Rattle.std.proofs.Common.{◌≡◌, ℕ, ℤ, pos, ◌≤◌, List, Option, sym, arith}
+use Rattle.std.proofs.Common.{◌≡◌, ℕ, pos, List, Option, sym, arith}
 use Rattle.std.proofs.lemmas.Int.{ints}
 use Rattle.link_plans.specs.Plans.{plan_gain, IsPlan}
 use Rattle.link_plans.specs.Potentials.{PotentialParts, total, AreValid}

@@ -6,7 +6,7 @@ use Rattle.std.proofs.Common.{option_map, refl, ap, sym, ◌∙◌, arith, eq-eq
 use Rattle.std.specs.Int.Signed.{le_z_yes}
 use Rattle.std.specs.List.{flat_map, range_with_len}
 use Rattle.std.specs.Ordering.{int_eq}
-use Rattle.std.proofs.lemmas.Bool.{false≢true, eqb-true}
+use Rattle.std.proofs.lemmas.Bool.{false≢true, eqb-true, not-false}
 use Rattle.std.proofs.lemmas.Bool.Decides.{Decides-int_eq}
 use Rattle.std.proofs.lemmas.Float.{T_from_true}
 use Rattle.std.proofs.lemmas.Int.{ints}
@@ -21,10 +21,13 @@ use Rattle.vehicle_model.proofs.Costs.{cost_by_gain}
 use Rattle.vehicle_model.proofs.Following.{links_within}
 use Rattle.flow_potentials.specs.declared.potential_fault.PotentialFault.{PotentialFault}
 use Rattle.flow_potentials.specs.declared.potential_fault.PotentialFault.TheVariants as fault
-use Rattle.flow_potentials.specs.PotentialFaults.{is_short, is_short_pair, trip_faults, pair_faults, sum_faults, potential_faults, TightAreCheapest}
+use Rattle.flow_potentials.specs.PotentialFaults.{is_short, is_short_pair, trip_faults, pair_faults}
+use Rattle.flow_potentials.specs.PotentialFaults.{sum_faults, potential_faults, TightAreCheapest}
 use Rattle.link_plans.specs.Potentials.{PotentialParts, at, total, AreOver, AreValid}
 use Rattle.flow_potentials.proofs.CheapestPlans.{certified_cheapest, tight_cheapest}
 use Rattle.link_plans.proofs.Certified.{by_bound}
+use Rattle.plan_num.proofs.Lists.{unmapped, none_first}
+use Rattle.plan_num.proofs.Tests.{is_true}
 
 -- ---- a range, number by number
 
@@ -43,26 +46,26 @@ module _ (p : ℕ → Bool) (n i : ℕ) (so_far : filter p (range_with_len 0 n) 
 
   pub found_short : i < n → p i ≡ true → slice_get (filter p (range_with_len 0 n)) 0 ≡ Some i
   found_short within e = ap (λ some. slice_get some 0) (here within
-      ∙ ap (λ b. cond b (i ∷ filter p (range_with_len (i + 1) (n - (i + 1)))) (filter p (range_with_len (i + 1) (n - (i + 1))))) e)
+      ∙ ap (λ b. cond b (i ∷ filter p (range_with_len (i + 1) (n - (i + 1))))
+      (filter p (range_with_len (i + 1) (n - (i + 1))))) e)
 
   pub not_short : i < n → p i ≡ false
       → filter p (range_with_len 0 n) ≡ filter p (range_with_len (i + 1) (n - (i + 1)))
   not_short within e = here within
-      ∙ ap (λ b. cond b (i ∷ filter p (range_with_len (i + 1) (n - (i + 1)))) (filter p (range_with_len (i + 1) (n - (i + 1))))) e
+      ∙ ap (λ b. cond b (i ∷ filter p (range_with_len (i + 1) (n - (i + 1))))
+      (filter p (range_with_len (i + 1) (n - (i + 1))))) e
 
   pub none_short : n ≤ i → slice_get (filter p (range_with_len 0 n)) 0 ≡ None
   none_short past = ap (λ some. slice_get some 0) (so_far ∙ ap (filter p) (range_end i n past))
 
-none_first : {X : Type 0} (xs : List X) → slice_get xs 0 ≡ None → xs ≡ []
-none_first [] e = refl
-none_first (x ∷ xs) e = absurd (none-some x (sym e))
-
 -- ---- all pairs
 
 module _ (links : Links) (potentials : PotentialParts) (i : ℕ)
-    (so_far : pair_faults links potentials ≡ flat_map (trip_faults links potentials) (range_with_len i (links.count - i))) where
+    (so_far : pair_faults links potentials ≡ flat_map (trip_faults links potentials)
+    (range_with_len i (links.count - i))) where
   pairs_here : i < links.count → pair_faults links potentials
-      ≡ trip_faults links potentials i ++ flat_map (trip_faults links potentials) (range_with_len (i + 1) (links.count - (i + 1)))
+      ≡ trip_faults links potentials i ++ flat_map (trip_faults links potentials)
+      (range_with_len (i + 1) (links.count - (i + 1)))
   pairs_here within = so_far ∙ ap (flat_map (trip_faults links potentials)) (range_next i links.count within)
 
   pub pair_found : (plan : List (Option ℕ)) (j : ℕ) → i < links.count
@@ -79,7 +82,8 @@ module _ (links : Links) (potentials : PotentialParts) (i : ℕ)
 
   pub no_pair : i < links.count
       → slice_get (filter (is_short_pair links potentials i) (range_with_len 0 links.count)) 0 ≡ None
-      → pair_faults links potentials ≡ flat_map (trip_faults links potentials) (range_with_len (i + 1) (links.count - (i + 1)))
+      → pair_faults links potentials ≡ flat_map (trip_faults links potentials)
+      (range_with_len (i + 1) (links.count - (i + 1)))
   no_pair within none = grind (arith, pairs_here, none_first)
 
   pub all_pairs : links.count ≤ i → pair_faults links potentials ≡ []
@@ -92,8 +96,10 @@ filter_none : (p : ℕ → Bool) (from n : ℕ) → filter p (range_with_len fro
 filter_none p from zero none k low high = absurd (omega (arith, low, high))
 filter_none p from (suc n) none k low high = split (p from) refl none (filter_none p (from + 1) n)
   where
-    split : (b : Bool) → p from ≡ b → cond b (from ∷ filter p (range_with_len (from + 1) n)) (filter p (range_with_len (from + 1) n)) ≡ []
-        → (filter p (range_with_len (from + 1) n) ≡ [] → (k : ℕ) → from + 1 ≤ k → k < from + 1 + n → p k ≡ false) → p k ≡ false
+    split : (b : Bool) → p from ≡ b → cond b (from ∷ filter p (range_with_len (from + 1) n))
+        (filter p (range_with_len (from + 1) n)) ≡ []
+        → (filter p (range_with_len (from + 1) n) ≡ [] → (k : ℕ) → from + 1 ≤ k → k < from + 1 + n
+        → p k ≡ false) → p k ≡ false
     split true e f rest = cc
     split false e f rest = by_bound from k (λ below. rest f k (omega (arith, below)) (omega (arith, high)))
         (λ above. let same : k ≡ from = omega (arith, above, low) in ap p same ∙ e)
@@ -117,41 +123,36 @@ none_flat f from zero none = refl
 none_flat f from (suc n) none =
     ap (λ first. first ++ flat_map f (range_with_len (from + 1) n)) (none from) ∙ none_flat f (from + 1) n none
 
-unmapped : {X Y : Type 0} (f : X → Y) (xs : List X) → map f xs ≡ [] → xs ≡ []
-unmapped f [] e = refl
-unmapped f (x ∷ xs) e = cc
-
-covered_where : (number : ℕ) (gain : Option ℤ) → is_short number gain ≡ false → IfSome gain (λ value. value ≤ℤ pos number)
+covered_where : (number : ℕ) (gain : Option ℤ) → is_short number gain ≡ false
+    → IfSome gain (λ value. value ≤ℤ pos number)
 covered_where number None e = tt
-covered_where number (Some gain) e = le_z_yes (T_from_true _ (untrue (int_le gain (pos number)) e))
-  where
-    untrue : (b : Bool) → not b ≡ false → b ≡ true
-    untrue true h = refl
-    untrue false h = absurd (false≢true (sym h))
+covered_where number (Some gain) e = le_z_yes (T_from_true _ (not-false (int_le gain (pos number)) e))
 
-where_covered : (number : ℕ) (gain : Option ℤ) → IfSome gain (λ value. value ≤ℤ pos number) → is_short number gain ≡ false
+where_covered : (number : ℕ) (gain : Option ℤ) → IfSome gain (λ value. value ≤ℤ pos number)
+    → is_short number gain ≡ false
 where_covered number None e = refl
-where_covered number (Some gain) e = ap not (of_test (int_le gain (pos number)) e.le)
-  where
-    of_test : (b : Bool) → T b → b ≡ true
-    of_test true h = refl
-    of_test false h = absurd h
+where_covered number (Some gain) e = ap not (is_true (int_le gain (pos number)) e.le)
 
-module _ (trips : TripsParts) (plan : List (Option ℕ)) (potentials : PotentialParts) (over : AreOver (length trips.trips) potentials) where
+module _ (trips : TripsParts) (plan : List (Option ℕ)) (potentials : PotentialParts)
+    (over : AreOver (length trips.trips) potentials) where
   faultless_valid : potential_faults (links_of trips) plan potentials ≡ [] → AreValid (links_of trips) plan potentials
   unfolding potential_faults
   faultless_valid none =
-      let pairs = front_none (pair_faults (links_of trips) potentials) (sum_faults (links_of trips) plan potentials) none in
+      let pairs = front_none (pair_faults (links_of trips) potentials)
+      (sum_faults (links_of trips) plan potentials) none in
       record {
         over = over;
         covered = λ i j. by_bound i (length trips.trips)
             (λ i_in. by_bound j (length trips.trips)
             (λ j_in. covered_where (at potentials.u i + at potentials.v j) ((links_of trips).gain i j)
             (filter_none (is_short_pair (links_of trips) potentials i) 0 (length trips.trips)
-            (unmapped (fault.Pair i) _ (flat_none (trip_faults (links_of trips) potentials) 0 (length trips.trips) pairs i
+            (unmapped (fault.Pair i) _
+            (flat_none (trip_faults (links_of trips) potentials) 0 (length trips.trips) pairs i
             (omega arith) (omega (arith, i_in)))) j (omega arith) (omega (arith, j_in))))
-            (λ j_past. nothing i j ((links_of trips).gain i j) refl (λ there. omega (arith, j_past, (links_within trips i j there).1))))
-            (λ i_past. nothing i j ((links_of trips).gain i j) refl (λ there. omega (arith, i_past, (links_within trips i j there).0)));
+            (λ j_past. nothing i j ((links_of trips).gain i j) refl
+            (λ there. omega (arith, j_past, (links_within trips i j there).1))))
+            (λ i_past. nothing i j ((links_of trips).gain i j) refl
+            (λ there. omega (arith, i_past, (links_within trips i j there).0)));
         exact = summed (int_eq (pos (total potentials)) (plan_gain (links_of trips) plan)) refl
             (back_none (pair_faults (links_of trips) potentials) (sum_faults (links_of trips) plan potentials) none);
       }
@@ -171,9 +172,11 @@ module _ (trips : TripsParts) (plan : List (Option ℕ)) (potentials : Potential
   unfolding potential_faults
   valid_faultless valid = grind (arith, none_flat, none_filter, where_covered, Decides-int_eq)
 
-  module _ (found : Option PotentialFault) (first : found ≡ slice_get (potential_faults (links_of trips) plan potentials) 0) where
+  module _ (found : Option PotentialFault)
+      (first : found ≡ slice_get (potential_faults (links_of trips) plan potentials) 0) where
     none_valid : found ≡ None → AreValid (links_of trips) plan potentials
-    none_valid none = faultless_valid (none_first (potential_faults (links_of trips) plan potentials) (sym first ∙ none))
+    none_valid none = faultless_valid (none_first (potential_faults (links_of trips) plan potentials)
+        (sym first ∙ none))
 
     pub told_valid : (found ≡ None) ↔ AreValid (links_of trips) plan potentials
     told_valid = (none_valid, (λ valid. first ∙ ap (λ all. slice_get all 0) (valid_faultless valid)))

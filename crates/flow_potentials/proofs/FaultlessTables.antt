@@ -1,5 +1,6 @@
 -- A text without a fault as potentials is some.
-use Rattle.std.proofs.Common.{◌≡◌, ℕ, ◌+◌, ◌<◌, ◌≤◌, nat_lt, ◌&&◌, Bool, true, false, cond, List, [], ◌∷◌, ◌++◌, length, refl, arith}
+use Rattle.std.proofs.Common.{◌≡◌, ℕ, ◌+◌, ◌<◌, ◌≤◌, nat_lt, ◌&&◌, Bool, true, false, cond, List}
+use Rattle.std.proofs.Common.{[], ◌∷◌, ◌++◌, length, refl, arith}
 use Rattle.std.proofs.lemmas.Bool.{ltb-false, ltb-true}
 use Rattle.tables.specs.declared.read_fault.RowFault.{RowFault}
 use Rattle.tables.specs.declared.row_why.RowWhy.TheVariants as why
@@ -11,6 +12,7 @@ use Rattle.vehicle_model.specs.ReadSchedules.{or_others}
 use Rattle.link_plans.specs.Potentials.{AreOver, ArePotentials}
 use Rattle.flow_potentials.specs.PotentialTables.{gaps_from, is_trip_row, potentials_of, table_faults}
 use Rattle.flow_potentials.proofs.Tables.{table_over, table_potentials}
+use Rattle.plan_num.proofs.Tests.{second_true}
 
 or_none : {X : Type 0} (some others : List X) → or_others some others ≡ [] → (some ≡ []) × (others ≡ [])
 or_none [] others e = (refl, e)
@@ -21,23 +23,20 @@ no_gap_here : (b : Bool) (gap : RowFault) (others : List RowFault) → cond b []
 no_gap_here true gap others e = (refl, e)
 no_gap_here false gap others e = absurd (cc)
 
-both : (a b : Bool) → (a && b) ≡ true → b ≡ true
-both true b e = e
-both false b e = absurd (cc)
-
 -- rows without a gap are those of all trips
 all_rows : (count before : ℕ) (rows : List TableRow) → before ≤ count → gaps_from count before rows ≡ []
     → before + length rows ≡ count
 unfolding gaps_from
 all_rows count before [] few none = last (nat_lt before count) refl none
   where
-    last : (b : Bool) → nat_lt before count ≡ b → cond {A = List RowFault} b (record { row = 0; why = why.OrderGap } ∷ []) [] ≡ []
+    last : (b : Bool) → nat_lt before count ≡ b → cond {A = List RowFault} b
+        (record { row = 0; why = why.OrderGap } ∷ []) [] ≡ []
         → before + 0 ≡ count
     last true is e = absurd (cc)
     last false is e = let past : count ≤ before = ltb-false before count is in omega (arith, few, past)
 all_rows count before (row ∷ rows) few none =
     let here = no_gap_here (is_trip_row count before row) _ _ none in
-    let inside : before < count = ltb-true before count (both _ _ here.0) in
+    let inside : before < count = ltb-true before count (second_true _ _ here.0) in
     let rest = all_rows count (before + 1) rows (omega (arith, inside)) here.1 in
     omega (arith, rest)
 
@@ -48,7 +47,8 @@ unfolding table_faults potentials_of
 faultless_potentials count text none =
     let table = table_of potential_columns text in
     let parts = or_none (faults potential_columns text) _ none in
-    let counted : length table ≡ count = let all = all_rows count 0 table (omega arith) parts.1 in omega (arith, all) in (
+    let counted : length table ≡ count = let all = all_rows count 0 table (omega arith) parts.1 in omega
+    (arith, all) in (
       table_over table count _ _ refl refl counted,
       table_potentials table (table_in_columns potential_columns text parts.0) _ _ refl refl,
     )

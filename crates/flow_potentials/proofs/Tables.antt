@@ -21,15 +21,18 @@ rest_is : (table : List TableRow) (i : ℕ) → i < length table
 rest_is table i within = drop-cons table i no_row within
     ∙ ap (λ k. get_or table i no_row ∷ drop k table) (one_more i)
 
-module _ (count : ℕ) (table : List TableRow) (i : ℕ) (so_far : gaps_from count 0 table ≡ gaps_from count i (drop i table)) where
+module _ (count : ℕ) (table : List TableRow) (i : ℕ)
+    (so_far : gaps_from count 0 table ≡ gaps_from count i (drop i table)) where
   gaps_here : i < length table → gaps_from count 0 table
-      ≡ cond (is_trip_row count i (get_or table i no_row)) [] (record { row = (get_or table i no_row).number; why = why.OrderGap } ∷ [])
+      ≡ cond (is_trip_row count i (get_or table i no_row)) []
+      (record { row = (get_or table i no_row).number; why = why.OrderGap } ∷ [])
       ++ gaps_from count (i + 1) (drop (i + 1) table)
   unfolding gaps_from
   gaps_here within = so_far ∙ ap (gaps_from count i) (rest_is table i within)
 
   pub gap_found : i < length table → is_trip_row count i (get_or table i no_row) ≡ false
-      → slice_get (gaps_from count 0 table) 0 ≡ Some (record { row = (get_or table i no_row).number; why = why.OrderGap })
+      → slice_get (gaps_from count 0 table) 0 ≡ Some
+      (record { row = (get_or table i no_row).number; why = why.OrderGap })
   gap_found within e = grind (arith, slice_get, gaps_here, get_or)
 
   pub no_gap : i < length table → is_trip_row count i (get_or table i no_row) ≡ true

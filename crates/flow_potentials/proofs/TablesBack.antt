@@ -8,7 +8,6 @@ use Rattle.std.proofs.lemmas.List.Elements.{All-nil, All-cons}
 use Rattle.tables.specs.declared.read_fault.RowFault.{RowFault}
 use Rattle.tables.specs.declared.read_fault.ReadFault.{ReadFault}
 use Rattle.tables.specs.declared.read_fault.ReadFault.TheVariants as read
-use Rattle.tables.specs.declared.row_why.RowWhy.TheVariants as why
 use Rattle.tables.specs.Columns.{potential_columns}
 use Rattle.tables.specs.Reading.{faults, table_of, ReadGives}
 use Rattle.tables.specs.Tables.{TableRow}
@@ -18,7 +17,10 @@ use Rattle.tables.proofs.Ranges.{table_in_columns}
 use Rattle.tables.proofs.WrittenBack.{written_back}
 use Rattle.vehicle_model.specs.ReadSchedules.{or_others}
 use Rattle.link_plans.specs.Potentials.{PotentialParts, IsSmall, ArePotentials}
-use Rattle.flow_potentials.specs.PotentialTables.{rows_from, potential_rows, potential_header, potentials_text, gaps_from, table_faults, column_of, potentials_in, potentials_of, IsReadBack, FitsColumns, PotentialsGive}
+use Rattle.flow_potentials.specs.PotentialTables.{rows_from, potential_rows, potential_header}
+use Rattle.flow_potentials.specs.PotentialTables.{potentials_text, gaps_from, table_faults}
+use Rattle.flow_potentials.specs.PotentialTables.{column_of, potentials_in, potentials_of}
+use Rattle.flow_potentials.specs.PotentialTables.{IsReadBack, FitsColumns, PotentialsGive}
 
 -- the columns can be written
 pub columns_written : All CanWrite potential_columns
@@ -88,9 +90,11 @@ pub reads_back : (potentials : PotentialParts) → ArePotentials potentials → 
     → ReadsBack potential_columns (potential_rows potentials) text → IsReadBack potentials text
 unfolding table_faults potentials_of
 reads_back potentials are text back =
-    let is = table_is (length potentials.u) 0 (table_of potential_columns text) potentials.u potentials.v are.each (omega arith) back.1 in
+    let is = table_is (length potentials.u) 0 (table_of potential_columns text) potentials.u potentials.v
+    are.each (omega arith) back.1 in
     record {
-      faultless = ap (λ all. or_others all (gaps_from (length potentials.u) 0 (table_of potential_columns text))) back.0 ∙ is.gaps;
+      faultless = ap (λ all. or_others all
+          (gaps_from (length potentials.u) 0 (table_of potential_columns text))) back.0 ∙ is.gaps;
       same = ap (λ u. record { u = u; v = column_of 2 (table_of potential_columns text) }) is.u_is
           ∙ ap (λ v. record { u = potentials.u; v = v }) is.v_is;
     }

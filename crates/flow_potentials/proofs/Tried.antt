@@ -1,5 +1,6 @@
 -- The definitions on small plans.
-use Rattle.std.proofs.Common.{◌≡◌, ℕ, ℤ, refl, pos, negsuc, ◌==◌, ◌&&◌, if◌then◌else◌, List, [], ◌∷◌, Option, Some, None}
+use Rattle.std.proofs.Common.{◌≡◌, ℕ, ℤ, refl, pos, negsuc, ◌==◌, ◌&&◌, if◌then◌else◌, List, []}
+use Rattle.std.proofs.Common.{◌∷◌, Option, Some, None}
 use Rattle.std.specs.List.{list_any}
 use Rattle.link_plans.specs.Links.{Links}
 use Rattle.flow_potentials.specs.declared.potential_fault.PotentialFault.TheVariants as fault

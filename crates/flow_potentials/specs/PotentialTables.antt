@@ -1,5 +1,7 @@
 -- The table of potentials: how it is written, and why a text is none.
-use Rattle.std.specs.Prelude.{ℕ, pos, ◌≡◌, ◌+◌, ◌==◌, ◌&&◌, nat_lt, if◌then◌else◌, Bool, List, [], ◌∷◌, ◌++◌, length, map, get_or, slice_get, unsigned_abs, codes, Some, Result, Ok, Err, ⊤}
+use Rattle.std.specs.Prelude.{ℕ, pos, ◌≡◌, ◌+◌, ◌==◌, ◌&&◌, nat_lt, if◌then◌else◌, Bool, List, []}
+use Rattle.std.specs.Prelude.{◌∷◌, ◌++◌, length, map, get_or, slice_get, unsigned_abs, codes, Some}
+use Rattle.std.specs.Prelude.{Result, Ok, Err, ⊤}
 use Rattle.tables.specs.declared.read_fault.RowFault.{RowFault}
 use Rattle.tables.specs.declared.read_fault.ReadFault.{ReadFault}
 use Rattle.tables.specs.declared.read_fault.ReadFault.TheVariants as fault

@@ -28,7 +28,6 @@ pub fn potentials(
     ensures least { IfOk result (AreCanonical (links_of trips.now) plan.now) }
     ensures valid { IfOk result (AreValid (links_of trips.now) plan.now) }
 {
-    let _ = trips.len();
     let table = links_of_trips(alloc, trips)?;
     let made = canonical_potentials(alloc, &table, plan, valid)?;
     Ok(made)

@@ -1,7 +1,9 @@
 // Checking potentials.
-ghost use Rattle.std.specs.Prelude.{◌≡◌, ◌↔◌, ◌<◌, ◌≤◌, ◌+◌, ◌*◌, ◌==◌, length, sum, filter, slice_get, None, All};
+ghost use Rattle.std.specs.Prelude.{◌≡◌, ◌↔◌, ◌<◌, ◌≤◌, ◌+◌, ◌*◌, ◌==◌, length, sum, filter};
+ghost use Rattle.std.specs.Prelude.{slice_get, None, All};
 ghost use Rattle.std.specs.List.{range_with_len};
-ghost use Rattle.flow_potentials.specs.PotentialFaults.{is_short_pair, potential_faults, TightAreCheapest};
+ghost use Rattle.flow_potentials.specs.PotentialFaults.{is_short_pair, potential_faults};
+ghost use Rattle.flow_potentials.specs.PotentialFaults.{TightAreCheapest};
 ghost use Rattle.link_plans.specs.Potentials.{at, total, IsSmall, AreOver, AreValid};
 ghost use Rattle.vehicle_model.specs.Plans.{plan_cost, IsCheapest};
 ghost use Rattle.link_plans.specs.Plans.{IsPlan};
@@ -77,7 +79,7 @@ fn is_exact(trips: &Trips, plan: &Plan, potentials: &Potentials) -> bool
     ensures { result ≡ (total potentials.now + plan_cost trips.now plan.now
         == trips.now.vehicle * length trips.now.trips) }
 {
-    let _ = trips.len();
+    trips.are_trips();
     potentials.total() + cost_of(trips, plan) == cost_alone(trips)
 }
 

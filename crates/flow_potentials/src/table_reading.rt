@@ -1,7 +1,9 @@
 // Reading potentials.
 ghost use Rattle.std.specs.Prelude.{◌≡◌, ◌+◌, ◌<◌, length, slice_index_or, unsigned_abs, All, IfOk};
 ghost use Rattle.link_plans.specs.Potentials.{AreOver};
-ghost use Rattle.flow_potentials.specs.PotentialTables.{is_trip_row, table_faults, potentials_of, potentials_in, gaps_from, PotentialsGive, FitsColumns};
+ghost use Rattle.flow_potentials.specs.PotentialTables.{is_trip_row, table_faults, potentials_of};
+ghost use Rattle.flow_potentials.specs.PotentialTables.{potentials_in, gaps_from, PotentialsGive};
+ghost use Rattle.flow_potentials.specs.PotentialTables.{FitsColumns};
 ghost use Rattle.tables.specs.declared.read_fault.ReadFault.TheVariants as read_faults;
 ghost use Rattle.tables.specs.declared.row_why.RowWhy.TheVariants as why;
 ghost use Rattle.tables.specs.Tables.{no_row, cell_at};
@@ -46,8 +48,7 @@ fn is_trip_row(table: &Table<3>, row: usize, trips: usize) -> bool
     requires { row < length table.now }
     ensures { result ≡ is_trip_row trips row (slice_index_or table.now row no_row) }
 {
-    let _ = table.len();
-    number(table, row, 0) == row as u64 + 1 && row < trips
+    row < trips && number(table, row, 0) == row as u64 + 1
 }
 
 // The number of a row in a column.

@@ -1,7 +1,8 @@
 // Writing potentials.
 ghost use Rattle.std.specs.Prelude.{◌≡◌, ◌+◌, ◌≤◌, ◌<◌, pos, [], ◌∷◌, length, IfOk};
 ghost use Rattle.link_plans.specs.Potentials.{at, ArePotentials};
-ghost use Rattle.flow_potentials.specs.PotentialTables.{potential_rows, potentials_text, IsReadBack};
+ghost use Rattle.flow_potentials.specs.PotentialTables.{potential_rows, potentials_text};
+ghost use Rattle.flow_potentials.specs.PotentialTables.{IsReadBack};
 
 use assignment::Potentials;
 use plan_num::{NoMemory, Text};
@@ -35,9 +36,9 @@ fn table_of(alloc: Global, potentials: &Potentials) -> Result<Table<3>, NoMemory
 fn cells_of(potentials: &Potentials, trip: usize) -> [i64; 3]
     requires few { length potentials.now.u ≤ 1000000000 }
     requires trip { trip < length potentials.now.u }
+    requires each { length potentials.now.v ≡ length potentials.now.u }
     ensures { result ≡ pos (trip + 1) ∷ pos (at potentials.now.u trip)
         ∷ pos (at potentials.now.v trip) ∷ [] }
 {
-    let _ = potentials.len();
     [trip as i64 + 1, potentials.u(trip), potentials.v(trip)]
 }

@@ -2,7 +2,7 @@
 ghost use Rattle.std.specs.Prelude.{◌≡◌, ◌<◌, ◌≤◌, true, length, None, IfOk, IfSome, OnOk};
 ghost use Rattle.link_plans.specs.Links.{links_in};
 ghost use Rattle.link_plans.specs.LinkRows.{and_link, worth, worthy, IsRow};
-ghost use Rattle.vehicle_model.specs.Trips.{links_of};
+ghost use Rattle.vehicle_model.specs.Trips.{AreTrips, links_of};
 
 use assignment::{Link, LinkTable};
 use plan_num::NoMemory;
@@ -11,7 +11,8 @@ use vehicle_model::Trips;
 
 /// The links between trips that gain no less than nothing.
 pub fn links_of_trips(alloc: Global, trips: &Trips) -> Result<LinkTable, NoMemory>
-    ensures { IfOk result (λ table. links_in table ≡ worthy (links_of trips.now)) }
+    ensures links { IfOk result (λ table. links_in table ≡ worthy (links_of trips.now)) }
+    ensures trips { AreTrips trips.now }
 {
     let mut rows = Vec::new(alloc);
     for trip in 0..trips.len() {
@@ -52,7 +53,7 @@ fn worth(trips: &Trips, i: usize, j: usize) -> Option<u64>
     ensures value { result ≡ worth ((links_of trips.now).gain i j) }
     ensures small { IfSome result (λ gain. gain ≤ 1000000000000) }
 {
-    let _ = trips.len();
+    trips.are_trips();
     if is_late(trips, i, j) {
         return None;
     }

@@ -6,7 +6,7 @@ use Rattle.std.proofs.Common.{codes, Option, Some, None, IfSome, int_le, append-
 use Rattle.std.specs.List.{flat_map, list_all, list_any}
 use Rattle.std.specs.Str.{bytes_eq}
 use Rattle.std.specs.Fmt.{signed_decimal}
-use Rattle.std.proofs.lemmas.Bool.{and_parts, eq-eqb, eqb-true}
+use Rattle.std.proofs.lemmas.Bool.{and_parts, eq-eqb, eqb-true, not-true, or_parts}
 use Rattle.std.proofs.lemmas.Bool.Decides.{nat_tests}
 use Rattle.std.proofs.lemmas.Grind.{flat_map-append}
 use Rattle.std.proofs.lemmas.Int.{ints}
@@ -21,17 +21,15 @@ use Rattle.giv_files.specs.declared.key.Key.{Key}
 use Rattle.giv_files.specs.declared.key.Key.TheVariants as key
 use Rattle.giv_files.specs.declared.key_kind.KeyKind.{KeyKind}
 use Rattle.giv_files.specs.declared.key_kind.KeyKind.TheVariants as kind
-use Rattle.giv_files.specs.declared.key_words.KeyWords.{KeyWords}
-use Rattle.giv_files.specs.declared.key_words.KeyWords.TheVariants as words
 use Rattle.giv_files.specs.declared.setting.Setting.{Setting}
 use Rattle.giv_files.specs.declared.stage.Stage.{Stage}
 use Rattle.giv_files.specs.declared.stage.Stage.TheVariants as stage
-use Rattle.giv_files.specs.KeyKinds.{all_word, greatest, key_words, least, none_word, spelled_as, wait_of}
+use Rattle.giv_files.specs.KeyKinds.{all_word, greatest, least, none_word, spelled_as, wait_of}
 use Rattle.giv_files.specs.Keys.{all_keys, allows, has_key, is_key, key_kind, key_name, stage_keys}
 use Rattle.giv_files.specs.Settings.{SettingsFit, is_allowed, value_of}
 use Rattle.giv_files.specs.SettingsText.{TellsSettings, key_line, settings_text, value_text, wait_text}
 use Rattle.tables.specs.Writing.{IsSmall}
-use Rattle.tables.proofs.CellTexts.{WordsGood, number_plain, plain_word}
+use Rattle.tables.proofs.CellTexts.{number_plain}
 use Rattle.giv_files.proofs.KeyPlaces.{same_key}
 use Rattle.tables.proofs.PlainBytes.{all_weaker, is_plain, plain_is}
 use Rattle.giv_files.proofs.SettingFacts.{among_all, key_there, value_allowed}
@@ -63,11 +61,6 @@ IsInReach value = (neg_ℤ (pos 1000000000000000000) ≤ℤ value) × (value ≤
 kind_small : (k : Key) → IsSmall (least (key_kind k)) (greatest (key_kind k))
 kind_small key.LastStage = (omega (arith, ints), omega (arith, ints))
 kind_small _ = (omega (arith, ints), omega (arith, ints))
-
-words_good : (table : KeyWords) → WordsGood (key_words table) (key_words table) 0
-words_good words.Stages = (plain_word _ refl, refl, (plain_word _ refl, refl, (plain_word _ refl, refl, (plain_word _ refl, refl, (plain_word _ refl, refl, (plain_word _ refl, refl, (plain_word _ refl, refl, (plain_word _ refl, refl, (plain_word _ refl, refl, tt)))))))))
-words_good words.LoadSources = (plain_word _ refl, refl, (plain_word _ refl, refl, tt))
-words_good words.NoOrYes = (plain_word _ refl, refl, (plain_word _ refl, refl, tt))
 
 -- text of the bytes of numbers is no word
 no_word : (text word : List ℕ) → list_all is_number_byte text ≡ true
@@ -228,16 +221,12 @@ first_or : (k : Key) (first : Setting) (rest : List Setting) (b : Bool) → is_k
 first_or k first rest true is = grind arith
 first_or k first rest false is = grind arith
 
-none_of : (a b : Bool) → (a || b) ≡ false → (a ≡ false) × (b ≡ false)
-none_of true b e = absurd (true≢false e)
-none_of false b e = (refl, e)
-
 -- a key that is not among those of settings has no value
 value_none : (settings : List Setting) (k : Key) → list_any (is_key k) (keys_of settings) ≡ false
     → value_of settings k ≡ None
 value_none [] k none = refl
 value_none (first ∷ rest) k none =
-    let both = none_of (is_key k first.key) (list_any (is_key k) (keys_of rest)) none in
+    let both = or_parts (is_key k first.key) (list_any (is_key k) (keys_of rest)) none in
     first_or k first rest false both.0 ∙ value_none rest k both.1
 
 -- no key stands twice
@@ -260,16 +249,12 @@ same_settings (s ∷ ss) (o ∷ os) keys once same =
     let own : is_key s.key s.key ≡ true = eq-eqb _ _ refl in
     let its : is_key s.key o.key ≡ true = subst (λ k. is_key s.key k ≡ true) key own in
     let parts = and_parts (not (list_any (is_key s.key) (keys_of ss))) (apart (keys_of ss)) once in
-    let none = was_not (list_any (is_key s.key) (keys_of ss)) parts.0 in
+    let none = not-true (list_any (is_key s.key) (keys_of ss)) parts.0 in
     let value : s.value ≡ o.value = same_Some s.value o.value
     (sym (first_or s.key s ss true own) ∙ same s.key ∙ first_or s.key o os true its) in
     let more = same_settings ss os rest parts.1 (λ k. by k key rest none (is_key k s.key) refl (same k)) in
     λ i. record { key = key i; value = value i } ∷ more i
   where
-    was_not : (b : Bool) → not b ≡ true → b ≡ false
-    was_not true e = sym e
-    was_not false e = refl
-
     by : (k : Key) → s.key ≡ o.key → keys_of ss ≡ keys_of os
         → list_any (is_key s.key) (keys_of ss) ≡ false → (b : Bool) → is_key k s.key ≡ b
         → value_of (s ∷ ss) k ≡ value_of (o ∷ os) k → value_of ss k ≡ value_of os k

@@ -6,9 +6,8 @@ use Rattle.giv_files.specs.declared.key_kind.KeyKind.{KeyKind}
 use Rattle.giv_files.specs.declared.key_kind.KeyKind.TheVariants as kind
 use Rattle.giv_files.specs.declared.key_words.KeyWords.{KeyWords}
 use Rattle.giv_files.specs.declared.key_words.KeyWords.TheVariants as words
-use Rattle.giv_files.specs.StageNames.{stage_name}
 use Rattle.tables.specs.Reading.{place_of}
-use Rattle.giv_files.specs.Stages.{places}
+use Rattle.giv_files.specs.Stages.{places, stage_name}
 
 -- the words that a value may be, by their places from 0
 abbrev pub key_words : KeyWords → List (List ℕ)

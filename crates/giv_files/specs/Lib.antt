@@ -6,5 +6,4 @@ pub mod ReportLines
 pub mod Settings
 pub mod SettingsText
 pub mod StageCalls
-pub mod StageNames
 pub mod Stages

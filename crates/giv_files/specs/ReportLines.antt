@@ -1,7 +1,7 @@
 -- The line of a stage in a report, without its end.
 use Rattle.std.specs.Prelude.{ℕ, List, [], ◌∷◌, ◌++◌, codes, decimal}
 use Rattle.giv_files.specs.declared.stage.Stage.{Stage}
-use Rattle.giv_files.specs.StageNames.{stage_name}
+use Rattle.giv_files.specs.Stages.{stage_name}
 
 -- a number with what it counts
 abbrev pub count_text : ℕ → List ℕ → List ℕ

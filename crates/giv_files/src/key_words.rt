@@ -2,9 +2,8 @@
 ghost use Rattle.std.specs.Prelude.{◌≡◌, ◌<◌, [], length, position, slice_index_or};
 ghost use Rattle.std.specs.Str.{bytes_eq};
 ghost use Rattle.giv_files.specs.KeyKinds.{key_words};
-ghost use Rattle.giv_files.specs.StageNames.{stage_name};
 ghost use Rattle.tables.specs.Reading.{place_of};
-ghost use Rattle.giv_files.specs.Stages.{places};
+ghost use Rattle.giv_files.specs.Stages.{places, stage_name};
 
 use crate::stage::Stage;
 use tables::{is_same, place_among};

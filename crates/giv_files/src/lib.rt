@@ -15,6 +15,7 @@ mod settings;
 mod settings_fit;
 mod settings_text;
 mod stage;
+mod stage_row;
 
 pub use bundle::Bundle;
 pub use cross_rule::{Bound, CrossRule};
@@ -26,6 +27,7 @@ pub use report::{count_text, report_line};
 pub use setting::Setting;
 pub use settings::Settings;
 pub use stage::Stage;
+pub use stage_row::StageRow;
 pub use tables::{
     ColumnKind, Counted, FileId, ReadFault, Record, Refusal, RowFault, RowFold, RowLimit, RowTests,
     RowWhy, StageFault, Table, TextRow, TextRows, WordTable, cells, columns, fold_file, fold_rows,

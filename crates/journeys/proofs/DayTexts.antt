@@ -6,7 +6,8 @@ use Rattle.tables.proofs.Inputs.{refused_append}
 use Rattle.event_tables.specs.declared.expanded_activity.ExpandedActivity.{ExpandedActivity}
 use Rattle.event_tables.specs.declared.expanded_event.ExpandedEvent.{ExpandedEvent}
 use Rattle.event_tables.specs.ExpandedFiles.{expanded_activity_input, expanded_event_input}
-use Rattle.journeys.specs.JourneyNets.{activities_of, events_of, journey_faults, net_of, net_over, time_faults_over, times_of, times_over}
+use Rattle.journeys.specs.JourneyNets.{activities_of, events_of, journey_faults, net_of, net_over, time_faults_over}
+use Rattle.journeys.specs.JourneyNets.{times_of, times_over}
 
 module _ (events_text activities_text : List ℕ) (times_text : Option (List ℕ)) where
   -- a text of events that is refused

@@ -20,11 +20,12 @@ use Rattle.connections.specs.declared.timed_event.TimedEvent.{TimedEvent}
 use Rattle.connections.specs.Nets.{IsConnection, JourneyParts, time_at}
 use Rattle.journeys.specs.JourneyNets.{connection_of, index_of, is_usable, net_over, timed}
 use Rattle.connections.specs.RankedNets.{IsRanked, rank_at}
+use Rattle.connections.specs.declared.checked_net.TheConstants.{LATEST}
 
 module _ (events : List ExpandedEvent) (activities : List ExpandedActivity) (times : List ℕ)
     (are : AreExpandedEvents events) (rows : AreExpandedActivities events activities)
     (each : length times ≡ length events)
-    (soon : All (λ time. time ≤ 1000000000000000000) times) where
+    (soon : All (λ time. time ≤ LATEST) times) where
   abbrev net : JourneyParts
   net = net_over events times activities
 
@@ -114,13 +115,13 @@ module _ (events : List ExpandedEvent) (activities : List ExpandedActivity) (tim
     rows_ranked = record {
       few = (let long = count in let most = are.few in omega (arith, long, most));
       few_connections = few_connections;
-      soon = All-map (λ (event : TimedEvent). event.time ≤ 1000000000000000000) timed
+      soon = All-map (λ (event : TimedEvent). event.time ≤ LATEST) timed
           (zip events times)
           (λ k d inside.
           let long = length-zip events times in
           let low : k < length events = omega (arith, inside, long, each) in
           let here : k < length times = omega (arith, low, each) in
-          subst (λ (at : ExpandedEvent × ℕ). at.1 ≤ 1000000000000000000)
+          subst (λ (at : ExpandedEvent × ℕ). at.1 ≤ LATEST)
           (sym (get_or-zip events times k d low here)) (soon k d.1 here));
       connections = sound;
       each = ap length told

@@ -7,15 +7,16 @@ use Rattle.tables.specs.Writing.{InColumns}
 use Rattle.event_tables.specs.declared.expanded_event.ExpandedEvent.{ExpandedEvent}
 use Rattle.event_tables.specs.Cells.{expanded_event_cells}
 use Rattle.event_tables.specs.ExpandedFiles.{AreExpandedEvents}
+use Rattle.connections.specs.declared.checked_net.TheConstants.{LATEST}
 
 high_of : (event : ExpandedEvent) → InColumns events_x_columns (expanded_event_cells event)
-    → event.time ≤ 1000000000000000000
+    → event.time ≤ LATEST
 high_of event fits =
     let high : pos event.time ≤ℤ pos 1000000000 = fits.1.1.1.0.1 in omega (arith, ints, high)
 
 pub planned_soon : (events : List ExpandedEvent) → AreExpandedEvents events
-    → All (λ time. time ≤ 1000000000000000000) (map (λ event. event.time) events)
+    → All (λ time. time ≤ LATEST) (map (λ event. event.time) events)
 planned_soon events are =
-    All-map (λ time. time ≤ 1000000000000000000) (λ (event : ExpandedEvent). event.time) events
+    All-map (λ time. time ≤ LATEST) (λ (event : ExpandedEvent). event.time) events
     (All-weaker (λ event. InColumns events_x_columns (expanded_event_cells event))
-    (λ (event : ExpandedEvent). event.time ≤ 1000000000000000000) high_of events are.fit)
+    (λ (event : ExpandedEvent). event.time ≤ LATEST) high_of events are.fit)

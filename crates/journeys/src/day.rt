@@ -6,6 +6,7 @@ ghost use Rattle.event_tables.specs.ExpandedFiles.{AreExpandedActivities, AreExp
 ghost use Rattle.event_tables.specs.ForwardRanks.{forward_rank};
 ghost use Rattle.connections.specs.Nets.{IsNet};
 ghost use Rattle.journeys.specs.JourneyNets.{journey_faults, net_of, net_over};
+ghost use Rattle.connections.specs.declared.checked_net.TheConstants.{LATEST};
 
 use crate::read::{timed_events, times_of, usable_connections};
 use connections::JourneyNet;
@@ -46,7 +47,7 @@ fn net_of_rows(
     requires events { AreExpandedEvents events.now }
     requires activities { AreExpandedActivities events.now activities.now }
     requires each { length times.now ≡ length events.now }
-    requires soon { All (λ time. time ≤ 1000000000000000000) times.now }
+    requires soon { All (λ time. time ≤ LATEST) times.now }
     ensures value { IfOk result (λ net. net ≡ net_over events.now times.now activities.now) }
     ensures net { IfOk result IsNet }
 {

@@ -4,6 +4,7 @@ ghost use Rattle.tables.specs.Inputs.{UnlessFault};
 ghost use Rattle.event_tables.specs.ExpandedFiles.{AreExpandedEvents};
 ghost use Rattle.event_tables.specs.Places.{IsOneOf};
 ghost use Rattle.journeys.specs.JourneyNets.{connection_of, is_usable, kind_of, time_faults_over, timed, times_over};
+ghost use Rattle.connections.specs.declared.checked_net.TheConstants.{LATEST};
 
 use connections::{Connection, EventKind, TimedEvent};
 use event_tables::{ExpandedActivity, ExpandedEvent, disposed_times};
@@ -21,7 +22,7 @@ pub(crate) fn times_of(
     ensures read { UnlessFault (time_faults_over events.now (option_copied times.entry))
         (λ all. all.items ≡ times_over events.now (option_copied times.entry)) result }
     ensures each { IfOk result (λ all. length all.items ≡ length events.now) }
-    ensures soon { IfOk result (λ all. All (λ time. time ≤ 1000000000000000000) all.items) }
+    ensures soon { IfOk result (λ all. All (λ time. time ≤ LATEST) all.items) }
 {
     match times {
         None => Ok(planned_times(alloc, events)?),
@@ -73,7 +74,7 @@ pub(crate) fn usable_connections(
 ) -> Result<Vec<Connection>, NoMemory>
     requires ends { All (λ activity. IsOneOf (length times.now) activity.from
         × IsOneOf (length times.now) activity.to) activities.now }
-    requires soon { All (λ time. time ≤ 1000000000000000000) times.now }
+    requires soon { All (λ time. time ≤ LATEST) times.now }
     ensures { IfOk result (λ connections. connections.items
         ≡ map connection_of (filter (is_usable times.now) activities.now)) }
 {
@@ -112,7 +113,7 @@ fn kind_of(kind: event_tables::EventKind) -> EventKind
 fn is_usable(times: &[u64], activity: &ExpandedActivity) -> bool
     requires from { IsOneOf (length times.now) activity.now.from }
     requires to { IsOneOf (length times.now) activity.now.to }
-    requires soon { All (λ time. time ≤ 1000000000000000000) times.now }
+    requires soon { All (λ time. time ≤ LATEST) times.now }
     ensures { result ≡ is_usable times.now activity.now }
 {
     let tail = times[activity.from as usize - 1];

@@ -10,7 +10,8 @@ use Rattle.std.proofs.lemmas.Grind.{get_or_default_zero}
 use Rattle.std.proofs.lemmas.List.{length-set}
 use Rattle.std.proofs.lemmas.List.Folds.{list_any_more}
 use Rattle.line_cost_model.specs.RunningSums.{AreCounted}
-use Rattle.line_cost_model.proofs.Lowered.{is_new, or_false, or_true}
+use Rattle.line_cost_model.proofs.Lowered.{is_new}
+use Rattle.plan_num.proofs.Tests.{or_true, or_false}
 
 -- a line over some edges has another frequency in the sums of so many of these
 pub record AreMovedUpTo (edges : List ℕ) (k before after : ℕ) (old now : List ℕ) : Type 0 where

@@ -16,14 +16,12 @@ use Rattle.std.proofs.lemmas.Slice.Zip.{get_or-zip, length-zip}
 use Rattle.line_cost_model.specs.declared.edge.BoundedEdge.{BoundedEdge}
 use Rattle.line_cost_model.specs.Problems.{IsBoundedEdge, CostedLine, ProblemParts, IsCostedLine, IsProblem}
 use Rattle.line_cost_model.specs.Concepts.{cost_of}
+use Rattle.plan_num.proofs.Tests.{less_is}
 
 less_shown : (less greater : Bool) → cond less Less (cond greater Greater Equal) ≡ Less → T less
 less_shown true greater h = tt
 less_shown false true h = cc
 less_shown false false h = cc
-
-is_less : (x y : ℤ) → int_cmp x y ≡ Less → x <ℤ y
-is_less x y h = record { lt = less_shown (int_lt x y) (int_lt y x) h }
 
 -- an id lies between two bounds
 abbrev LiesBetween : ℕ → ℕ → ℤ → Type 0
@@ -34,7 +32,7 @@ behind : (low high : ℕ) (id : ℤ) (ids : List ℤ) → LiesBetween low high i
     → AllByRecursion (LiesBetween (low + 1) high) ids
 behind low high id [] own rise all = tt
 behind low high id (other ∷ ids) own rise all =
-    grind (arith, is_less, ints, behind low high id ids own rise.1 all.1)
+    grind (arith, less_is, ints, behind low high id ids own rise.1 all.1)
 
 -- ids that rise between two bounds are no more than there are numbers between these
 few_between : (low high : ℕ) (ids : List ℤ) → low ≤ high + 1 → IsStrictlySortedBy int_cmp ids

@@ -20,6 +20,7 @@ use Rattle.line_cost_model.specs.DualBounds.{left_of}
 use Rattle.line_cost_model.specs.Passes.{AreLowered}
 use Rattle.line_cost_model.proofs.Driven.{over_from, each_gated}
 use Rattle.line_cost_model.proofs.FewLines.{no_line}
+use Rattle.plan_num.proofs.Tests.{or_false, or_true}
 
 -- ---- the lines over an edge are different
 
@@ -98,14 +99,6 @@ is_over lines edge line d h = ap (λ n. list_any (nat_eq n) (over_from 0 lines e
     ∙ any_from 0 lines edge line d h
 
 -- ---- one line more
-
-pub or_true : (b : Bool) → (b || true) ≡ true
-or_true true = refl
-or_true false = refl
-
-pub or_false : (b : Bool) → (b || false) ≡ b
-or_false true = refl
-or_false false = refl
 
 module _ (over : List ℕ) (k : ℕ) (apart : IsDistinct nat_eq over) (h : k < length over) where
   -- a line of them was not one before

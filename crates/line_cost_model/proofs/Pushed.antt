@@ -18,6 +18,7 @@ use Rattle.line_cost_model.specs.Crossings.{lines_over}
 use Rattle.line_cost_model.specs.Multipliers.{AreMultipliers, IsAfter, IsAmount}
 use Rattle.line_cost_model.specs.Problems.{CostedLine, IsBoundedEdge, IsCostedLine, IsProblem}
 use Rattle.line_cost_model.proofs.Rising.{increasing_push, sorted_push}
+use Rattle.plan_num.proofs.Tests.{is_true}
 
 -- ---- multipliers
 
@@ -36,12 +37,8 @@ multipliers_push list edge amount are is after = record {
 
 -- ---- problems
 
-passed : (b : Bool) → T b → b ≡ true
-passed true h = refl
-passed false h = absurd h
-
 less_than : (x y : ℤ) → x <ℤ y → int_cmp x y ≡ Less
-less_than x y h = ap (λ b. cond b Less (cond (int_lt y x) Greater Equal)) (passed (int_lt x y) h.lt)
+less_than x y h = ap (λ b. cond b Less (cond (int_lt y x) Greater Equal)) (is_true (int_lt x y) h.lt)
 
 ids_push : {X : Type 0} (id : X → ℤ) (xs : List X) (x : X)
     → IsStrictlySortedBy int_cmp (map id xs) → All (λ other. id other <ℤ id x) xs

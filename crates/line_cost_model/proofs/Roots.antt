@@ -3,7 +3,7 @@ use Rattle.std.proofs.Common.{◌≡◌, ℕ, zero, suc, ◌+◌, ◌≤◌, ◌
 use Rattle.std.proofs.Common.{if◌then◌else◌, nat_eq, min, List, [], ◌∷◌, length, get_or, map, fold}
 use Rattle.std.proofs.Common.{filter_map, refl, arith, slice_get, Some, None, option_map, take}
 use Rattle.std.proofs.Common.{◌++◌, unwrap_or, All, sym, ap, ◌∙◌, Option}
-use Rattle.std.proofs.lemmas.Bool.{false≢true, eq-eqb}
+use Rattle.std.proofs.lemmas.Bool.{false≢true, eq-eqb, or_right}
 use Rattle.std.specs.List.{AllByRecursion, cons_option, list_any, reduce}
 use Rattle.line_cost_model.specs.declared.edge.BoundedEdge.{BoundedEdge}
 use Rattle.line_cost_model.specs.Problems.{CostedLine, ProblemParts, IsBoundedEdge, IsCostedLine, IsProblem}
@@ -23,10 +23,6 @@ is_there : {X : Type 0} (xs : List X) (k : ℕ) → k < length xs → (x : X) ×
 is_there [] k h = absurd (omega (arith, h))
 is_there (x ∷ xs) zero h = (x, refl)
 is_there (x ∷ xs) (suc k) h = is_there xs k (omega (arith, h))
-
-or_right : (a b : Bool) → b ≡ true → (a || b) ≡ true
-or_right true b h = refl
-or_right false b h = h
 
 goes : (es : List ℕ) (k d : ℕ) → k < length es → list_any (nat_eq (get_or es k d)) es ≡ true
 goes [] k d h = absurd (omega (arith, h))

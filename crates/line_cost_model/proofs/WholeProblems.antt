@@ -15,6 +15,8 @@ use Rattle.line_cost_model.specs.Crossings.{CrossedEdge, AreCrossed, AreLonger, 
 use Rattle.line_cost_model.specs.Crossings.{edge_at, crossed_at, lines_over}
 use Rattle.line_cost_model.specs.Problems.{CostedLine, ProblemParts, IsBoundedEdge, IsCostedLine, IsProblem}
 use Rattle.line_cost_model.proofs.Pushed.{edge_push, line_push, over_push, crossed_by_none}
+use Rattle.plan_num.proofs.Tests.{or_false, or_true}
+use Rattle.plan_num.proofs.Lists.{any_push}
 
 -- ---- a line more over its edges
 
@@ -77,18 +79,6 @@ longer_more edges line longer one are within is = All-push
     (λ (one : Longer). (one.edge < length edges) ×
     (one.lines.items ≡ (edge_at edges one.edge).lines ++ line ∷ [])) longer one are (within, is)
 
-any_push : {X : Type 0} (p : X → Bool) (xs : List X) (x : X) → list_any p (xs ++ x ∷ []) ≡ (list_any p xs || p x)
-any_push p [] x = last (p x)
-  where
-    last : (b : Bool) → (b || false) ≡ (false || b)
-    last true = refl
-    last false = refl
-any_push p (y ∷ xs) x = ap (λ b. p y || b) (any_push p xs x) ∙ leaning (p y) (list_any p xs) (p x)
-  where
-    leaning : (a b c : Bool) → (a || (b || c)) ≡ ((a || b) || c)
-    leaning true b c = refl
-    leaning false b c = refl
-
 pub taken_more : (edges : List CrossedEdge) (line : ℕ) (before : List Longer) (one : Longer)
     (now after : List CrossedEdge) → length now ≡ length edges → AreTaken edges line before now
     → one.edge < length edges → one.lines.items ≡ (edge_at edges one.edge).lines ++ line ∷ []
@@ -129,14 +119,6 @@ taken_more edges line before one now after size taken there is put edge h =
         ≡ (edge_at edges one.edge).bounds
     either true = refl
     either false = refl
-
-    or_true : (b : Bool) → (b || true) ≡ true
-    or_true true = refl
-    or_true false = refl
-
-    or_false : (b : Bool) → (b || false) ≡ b
-    or_false true = refl
-    or_false false = refl
 
 -- ---- whole problems
 

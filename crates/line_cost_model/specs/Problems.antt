@@ -4,6 +4,7 @@ use Rattle.std.specs.List.{IsDistinct}
 use Rattle.std.specs.List.Sorted.{IsStrictlySortedBy}
 use Rattle.std.specs.Ordering.{int_cmp}
 use Rattle.line_cost_model.specs.declared.edge.BoundedEdge.{BoundedEdge}
+use Rattle.plan_num.specs.declared.number.TheConstants.{NUMBER_LIMIT}
 
 -- a line: its id, its cost in millionths, and the indexes of its edges
 pub record CostedLine : Type 0 where
@@ -31,7 +32,7 @@ pub record IsBoundedEdge (edge : BoundedEdge) : Type 0 where
 -- not too great
 pub record IsCostedLine (edges : ℕ) (line : CostedLine) : Type 0 where
   pub id : IsId line.id
-  pub cheap : line.cost ≤ 1000000000000000000
+  pub cheap : line.cost ≤ NUMBER_LIMIT
   pub some : 0 < length line.edges
   pub distinct : IsDistinct nat_eq line.edges
   pub there : All (λ edge. edge < edges) line.edges

@@ -1,4 +1,5 @@
 // Multipliers of edges.
+ghost use Rattle.plan_num.specs.declared.number.TheConstants.{NUMBER_LIMIT};
 ghost use Rattle.std.specs.Prelude.{◌≡◌, ◌<◌, ◌++◌, ◌∷◌, [], ◌≤ℤ◌, pos, length, slice_get, Some};
 ghost use Rattle.std.specs.Prelude.{option_map, unsigned_abs, IfOk, OnOk, OnErr};
 ghost use Rattle.line_cost_model.specs.Multipliers.{AreMultipliers, IsAfter, IsAmount};
@@ -45,7 +46,7 @@ impl Multipliers {
     /// One multiplier more, of an edge behind those that are there.
     pub fn push(&mut self, edge: usize, millionths: i64) -> Result<(), NoMemory>
         requires some { pos 1 ≤ℤ millionths }
-        requires few { millionths ≤ℤ pos 1000000000000000000 }
+        requires few { millionths ≤ℤ pos NUMBER_LIMIT }
         requires after { IsAfter self.old edge }
         ensures ok { OnOk result
             (self.new ≡ self.old ++ record { edge = edge; amount = unsigned_abs millionths } ∷ []) }

@@ -10,7 +10,8 @@ use Rattle.giv_files.specs.StageCalls.{input_text, StageGives}
 use Rattle.tables.proofs.Inputs.{refused_append}
 use Rattle.giv_files.proofs.SettingFacts.{amount_within}
 use Rattle.giv_files.proofs.StageCalls.{stage_refused}
-use Rattle.ptn_network.specs.Networks.{NetworkParts, network_of, network_faults}
+use Rattle.walks.specs.Networks.{NetworkParts}
+use Rattle.ptn_network.specs.Networks.{network_of, network_faults}
 use Rattle.line_pool.specs.CostStage.{costs_made, cost_faults, cost_stage}
 use Rattle.line_pool.specs.LineCosts.{AreModest}
 use Rattle.line_walks.specs.Pools.{LineParts, pool_of, pool_faults}
@@ -31,20 +32,30 @@ settings_modest bundle is fits =
 
 module _ (bundle : BundleParts) where
   -- texts that give no network
-  pub network_refused : (fault : StageFault) → Refuses (network_faults (input_text bundle 0) (input_text bundle 1)) fault → StageGives (cost_stage bundle) (Err fault)
+  pub network_refused : (fault : StageFault)
+      → Refuses (network_faults (input_text bundle 0) (input_text bundle 1)) fault
+      → StageGives (cost_stage bundle) (Err fault)
   unfolding cost_stage
-  network_refused fault h = stage_refused (cost_faults bundle) _ fault (refused_append (network_faults (input_text bundle 0) (input_text bundle 1)) _ fault h)
+  network_refused fault h = stage_refused (cost_faults bundle) _ fault
+      (refused_append (network_faults (input_text bundle 0) (input_text bundle 1)) _ fault h)
 
-  module _ (network : NetworkParts) (none : network_faults (input_text bundle 0) (input_text bundle 1) ≡ []) (is : network ≡ network_of (input_text bundle 0) (input_text bundle 1)) where
+  module _ (network : NetworkParts)
+      (none : network_faults (input_text bundle 0) (input_text bundle 1) ≡ [])
+      (is : network ≡ network_of (input_text bundle 0) (input_text bundle 1)) where
     later : pool_faults network (input_text bundle 2) ≡ cost_faults bundle
     later = grind arith
 
     -- a text that gives no pool
-    pub pool_refused : (fault : StageFault) → Refuses (pool_faults network (input_text bundle 2)) fault → StageGives (cost_stage bundle) (Err fault)
+    pub pool_refused : (fault : StageFault)
+        → Refuses (pool_faults network (input_text bundle 2)) fault
+        → StageGives (cost_stage bundle) (Err fault)
     unfolding cost_stage
     pool_refused fault h = stage_refused (cost_faults bundle) _ fault (subst (λ all. Refuses all fault) later h)
 
     -- texts without a fault
-    pub costs_given : (pool : List LineParts) (made : Made) → pool_faults network (input_text bundle 2) ≡ [] → pool ≡ pool_of network (input_text bundle 2) → made ≡ costs_made bundle.settings network.edges pool → StageGives (cost_stage bundle) (Ok made)
+    pub costs_given : (pool : List LineParts) (made : Made)
+        → pool_faults network (input_text bundle 2) ≡ [] → pool
+        ≡ pool_of network (input_text bundle 2) → made
+        ≡ costs_made bundle.settings network.edges pool → StageGives (cost_stage bundle) (Ok made)
     unfolding cost_stage
     costs_given pool made faultless read given = grind arith

@@ -8,6 +8,7 @@ use Rattle.giv_files.proofs.StageCalls.{made_unless}
 use Rattle.line_pool.specs.CostStage.{cost_stage}
 
 -- they are those that the stage is to make
-pub cost_stage_makes : (bundle : BundleParts) (made : Made) → cost_stage bundle ≡ Ok made → MakesAs stage.Cost (ids_of made.files)
+pub cost_stage_makes : (bundle : BundleParts) (made : Made) → cost_stage bundle ≡ Ok made
+    → MakesAs stage.Cost (ids_of made.files)
 unfolding cost_stage
 cost_stage_makes bundle made is = (0, lit< tt, ap (λ (made : Made). ids_of made.files) (made_unless _ _ made is))

@@ -1,12 +1,10 @@
 -- The costs that are made, read again, are right.
-use Rattle.std.proofs.Common.{◌≡◌, refl, ap, sym, arith, Ok, Err, Result}
-use Rattle.std.specs.Prelude.{IfOk}
+use Rattle.std.proofs.Common.{◌≡◌, refl, ap, sym, arith, Ok}
 use Rattle.giv_files.specs.declared.made.Made.{Made}
-use Rattle.tables.specs.declared.refusal.StageFault.{StageFault}
 use Rattle.giv_files.specs.declared.stage.Stage.TheVariants as stage
 use Rattle.tables.specs.Columns.{pool_cost_columns}
 use Rattle.giv_files.specs.Settings.{BundleParts, Fits}
-use Rattle.giv_files.specs.StageCalls.{input_text, StageGives}
+use Rattle.giv_files.specs.StageCalls.{input_text}
 use Rattle.tables.specs.Writing.{table_text, ReadsBack}
 use Rattle.tables.proofs.Ranges.{front_none, back_none}
 use Rattle.giv_files.proofs.StageCalls.{made_unless, none_unless}
@@ -26,12 +24,14 @@ use Rattle.line_walks.proofs.SoundLines.{pool_sound}
 use Rattle.line_walks.proofs.WholeLines.{whole_lines}
 
 -- what the stage makes of inputs without a fault
-pub costs_are_right : (bundle : BundleParts) (made : Made) → bundle.stage ≡ stage.Cost → Fits bundle → cost_stage bundle ≡ Ok made → CostsAreRight bundle made
+pub costs_are_right : (bundle : BundleParts) (made : Made) → bundle.stage ≡ stage.Cost → Fits bundle
+    → cost_stage bundle ≡ Ok made → CostsAreRight bundle made
 unfolding cost_stage
 costs_are_right bundle made own fits is =
     let none = none_unless _ _ made is in
     let network = network_sound (input_text bundle 0) (input_text bundle 1) (front_none _ _ none) in
-    let later = back_none (network_faults (input_text bundle 0) (input_text bundle 1)) (pool_faults (network_in bundle.inputs) (input_text bundle 2)) none in
+    let later = back_none (network_faults (input_text bundle 0) (input_text bundle 1))
+    (pool_faults (network_in bundle.inputs) (input_text bundle 2)) none in
     let lines = pool_sound kind.Pool (network_in bundle.inputs) (input_text bundle 2) network later in
     let text = table_text cost_header pool_cost_columns (cost_rows bundle) in
     let reads : ReadsBack pool_cost_columns (cost_rows bundle) text =
@@ -44,10 +44,7 @@ costs_are_right bundle made own fits is =
       text = text;
       one = ap (λ (made : Made). made.files) (sym (made_unless _ _ made is));
       reads = reads;
-      accepted = costs_accepted bundle.settings (network_in bundle.inputs).edges (lines_in bundle) text (whole_lines kind.Pool (network_in bundle.inputs) (input_text bundle 2) network later).rise reads;
+      accepted = costs_accepted bundle.settings (network_in bundle.inputs).edges
+          (lines_in bundle) text (whole_lines kind.Pool (network_in bundle.inputs)
+          (input_text bundle 2) network later).rise reads;
     }
-
--- what a call gives that meets the stage
-pub right_given : (bundle : BundleParts) (result : Result Made StageFault) → bundle.stage ≡ stage.Cost → Fits bundle → StageGives (cost_stage bundle) result → IfOk result (λ made. CostsAreRight bundle made)
-right_given bundle (Ok made) own fits given = costs_are_right bundle made own fits given
-right_given bundle (Err fault) own fits given = tt

@@ -14,8 +14,10 @@ use Rattle.tables.specs.Writing.{cell_text, cell_texts, joined, table_text}
 use Rattle.plan_num.specs.Number.{spelling_of, value_of, value_at, fixed_of, whole_of}
 use Rattle.plan_num.specs.Print.{digits_at}
 use Rattle.std.specs.Fmt.{digits}
-use Rattle.ptn_network.specs.declared.edge.Edge.{Edge}
-use Rattle.ptn_network.specs.Networks.{NetworkParts, by_id, stops_of, network_of, network_faults}
+use Rattle.walks.specs.declared.edge.Edge.{Edge}
+use Rattle.walks.specs.Networks.{NetworkParts}
+use Rattle.ptn_network.specs.Networks.{stops_of, network_of, network_faults}
+use Rattle.walks.specs.RisingIds.{by_id}
 use Rattle.line_walks.specs.Pools.{walk_from, lines_of, line_faults, pool_of, pool_faults}
 use Rattle.line_pool.specs.CostStage.{cost_stage}
 
@@ -31,7 +33,8 @@ network = record {
 
 -- a line over two edges, one over parallel edges, one of one edge, and one that starts at the right
 -- stop of its first edge
-lines : pool_of network (codes "# pool\n9; 1; 2\n3; 1; 1\n3; 2; 2\n9; 2; 7\n1; 1; 3\n4; 1; 2\n4; 2; 1\n") ≡ record { id = pos 1; edges = 2 ∷ []; stops = 3 ∷ 4 ∷ []; frequency = 0 }
+lines : pool_of network
+    (codes "# pool\n9; 1; 2\n3; 1; 1\n3; 2; 2\n9; 2; 7\n1; 1; 3\n4; 1; 2\n4; 2; 1\n") ≡ record { id = pos 1; edges = 2 ∷ []; stops = 3 ∷ 4 ∷ []; frequency = 0 }
     ∷ record { id = pos 3; edges = 0 ∷ 1 ∷ []; stops = 0 ∷ 1 ∷ 2 ∷ []; frequency = 0 }
     ∷ record { id = pos 4; edges = 1 ∷ 0 ∷ []; stops = 2 ∷ 1 ∷ 0 ∷ []; frequency = 0 }
     ∷ record { id = pos 9; edges = 1 ∷ 3 ∷ []; stops = 1 ∷ 2 ∷ 1 ∷ []; frequency = 0 }

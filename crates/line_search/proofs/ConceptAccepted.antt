@@ -14,11 +14,11 @@ use Rattle.giv_files.specs.Settings.{BundleParts}
 use Rattle.giv_files.specs.StageCalls.{input_text}
 use Rattle.tables.specs.Writing.{ReadsBack}
 use Rattle.tables.proofs.Ranges.{front_none, back_none}
-use Rattle.ptn_network.specs.declared.edge.Edge.{Edge}
+use Rattle.walks.specs.declared.edge.Edge.{Edge}
 use Rattle.ptn_network.specs.declared.edge_load.EdgeLoad.{EdgeLoad}
 use Rattle.ptn_network.specs.Loads.{load_input, loads_of}
 use Rattle.ptn_network.specs.Networks.{network_faults, network_in}
-use Rattle.ptn_network.specs.Paths.{edges_at}
+use Rattle.walks.specs.Paths.{edges_at}
 use Rattle.ptn_network.proofs.Sound.{network_sound}
 use Rattle.line_walks.specs.GivenCosts.{costs_of}
 use Rattle.line_walks.specs.PoolCosts.{pool_cost_input}

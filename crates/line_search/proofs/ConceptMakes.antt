@@ -1,5 +1,5 @@
 -- Which files the stage of line concepts makes.
-use Rattle.std.proofs.Common.{arith, ◌≡◌, ℕ, List, [], ◌∷◌, Option, Some, None, Result, Ok, Err, ap}
+use Rattle.std.proofs.Common.{arith, ◌≡◌, ℕ, List, [], Option, Some, None, Result, Ok, Err, ap}
 use Rattle.std.proofs.Common.{lit<}
 use Rattle.tables.specs.declared.file_id.FileId.{FileId}
 use Rattle.giv_files.specs.declared.made.Made.{Made}
@@ -8,9 +8,9 @@ use Rattle.giv_files.specs.declared.stage.Stage.TheVariants as stage
 use Rattle.giv_files.specs.MadeLists.{MakesAs, ids_of}
 use Rattle.giv_files.specs.Settings.{BundleParts}
 use Rattle.line_cost_model.specs.Problems.{ProblemParts}
-use Rattle.branch_certificate.specs.declared.node.Node.{Node}
-use Rattle.line_search.specs.Budgets.{FoundConcept}
-use Rattle.line_search.specs.ConceptStage.{after_faults, concept_stage, search_made}
+use Rattle.line_concepts.specs.declared.node.Node.{Node}
+use Rattle.line_search.specs.ConceptResults.{FoundConcept}
+use Rattle.line_search.specs.ConceptStage.{concept_stage, search_made}
 
 -- the files that are made, where some are
 abbrev ids_in : Result Made Refusal → List FileId
@@ -30,13 +30,6 @@ search_makes : (problem : ProblemParts) (result : Result FoundConcept Refusal) (
 search_makes problem (Ok concept) made is =
     concept_makes problem concept.frequencies concept.tree concept.entries made is
 search_makes problem (Err why) made is = absurd (cc)
-
-makes_after : (faults : List Refusal) (problem : ProblemParts)
-    (result : Result FoundConcept Refusal) (made : Made)
-    → after_faults faults (search_made problem result) ≡ Ok made
-    → MakesAs stage.Concept (ids_of made.files)
-makes_after [] problem result made is = search_makes problem result made is
-makes_after (first ∷ more) problem result made is = absurd (cc)
 
 -- they are those that the stage may make: without a mark there is no Tree
 pub concept_stage_makes : (bundle : BundleParts) (made : Made) → concept_stage bundle ≡ Ok made

@@ -1,26 +1,27 @@
 -- Which files the stage of line concepts names where it refuses a row.
 use Rattle.std.proofs.Common.{arith, ◌≡◌, ℕ, Bool, true, List, [], ◌∷◌, ◌++◌, slice_get, Option}
-use Rattle.std.proofs.Common.{Some, None, Result, Err, refl, subst}
+use Rattle.std.proofs.Common.{Some, None, Err, refl, subst}
 use Rattle.std.specs.Prelude.{ok_or}
 use Rattle.tables.specs.declared.file_id.FileId.{FileId}
 use Rattle.tables.specs.declared.file_id.FileId.TheVariants as file
-use Rattle.giv_files.specs.declared.made.Made.{Made}
 use Rattle.tables.specs.declared.refusal.Refusal.{Refusal}
 use Rattle.tables.specs.Inputs.{input_faults}
 use Rattle.tables.specs.NamedFiles.{NamesInput, NamesOnly}
 use Rattle.giv_files.specs.Settings.{BundleParts}
 use Rattle.giv_files.specs.StageCalls.{input_text}
-use Rattle.tables.proofs.Named.{AllName, input_names, names_both, names_only}
+use Rattle.tables.proofs.Named.{AllName, input_names, names_both}
 use Rattle.ptn_network.specs.Loads.{load_input}
-use Rattle.ptn_network.specs.Networks.{NetworkParts, network_faults, network_in}
+use Rattle.walks.specs.Networks.{NetworkParts}
+use Rattle.ptn_network.specs.Networks.{network_faults, network_in}
 use Rattle.ptn_network.proofs.NamedFaults.{network_names}
 use Rattle.line_walks.specs.PoolCosts.{pool_cost_input}
 use Rattle.line_walks.specs.Pools.{line_faults, pool_faults}
 use Rattle.line_cost_model.specs.Problems.{ProblemParts}
-use Rattle.line_search.specs.Budgets.{FoundConcept, result_within}
-use Rattle.line_search.specs.ConceptStage.{after_faults, concept_stage, search_made}
+use Rattle.line_search.specs.ConceptResults.{FoundConcept, result_within}
+use Rattle.line_search.specs.ConceptStage.{concept_stage, search_made}
 use Rattle.line_search.specs.GivenProblems.{lines_in, problem_faults}
-use Rattle.line_search.specs.Listings.{Entry}
+use Rattle.line_concepts.specs.Listings.{Entry}
+use Rattle.giv_files.proofs.StageCalls.{names_after, fine_after}
 
 ended : (test : FileId → Bool) (problem : ProblemParts) (found : Option FoundConcept)
     (why reason : Refusal) → NamesOnly test why
@@ -35,13 +36,6 @@ search_names : (test : FileId → Bool) (problem : ProblemParts) (budget : ℕ) 
     → NamesOnly test reason
 unfolding result_within
 search_names test problem budget entries reason is = grind arith
-
-names_after : (test : FileId → Bool) (faults : List Refusal) (outcome : Result Made Refusal)
-    (reason : Refusal) → AllName test faults → (outcome ≡ Err reason → NamesOnly test reason)
-    → after_faults faults outcome ≡ Err reason → NamesOnly test reason
-names_after test [] outcome reason named so is = so is
-names_after test (first ∷ more) outcome reason named so is =
-    let same : first ≡ reason = cc in subst (NamesOnly test) same (names_only test first named.0)
 
 -- the faults of a pool name its file
 pool_names : (test : FileId → Bool) → test file.Pool ≡ true → (network : NetworkParts)
@@ -76,20 +70,11 @@ input_faults_only bundle =
     (input_names (λ _. true) (load_input file.Load (network_in bundle.inputs).edges) (input_text bundle 3) refl)
     (input_names (λ _. true) (pool_cost_input (lines_in bundle)) (input_text bundle 4) refl)
 
--- so what is refused and names no input is refused over inputs without a fault
-no_fault : (faults : List Refusal) (outcome : Result Made Refusal) (reason : Refusal)
-    → AllName (λ _. true) faults → ¬ NamesInput (λ _. true) reason
-    → after_faults faults outcome ≡ Err reason → faults ≡ []
-no_fault [] outcome reason named other is = refl
-no_fault (first ∷ more) outcome reason named other is =
-    let same : first ≡ reason = cc in
-    absurd (other (subst (NamesInput (λ _. true)) same named.0))
-
 pub inputs_fine : (bundle : BundleParts) (reason : Refusal) → ¬ NamesInput (λ _. true) reason
     → concept_stage bundle ≡ Err reason → problem_faults bundle ≡ []
 unfolding concept_stage
 inputs_fine bundle reason other is =
-    no_fault (problem_faults bundle) _ reason (input_faults_only bundle) other is
+    fine_after (problem_faults bundle) _ reason (input_faults_only bundle) other is
 
 first_named : (test : FileId → Bool) (faults : List Refusal) (first : Refusal) → AllName test faults
     → slice_get faults 0 ≡ Some first → NamesInput test first

@@ -1,9 +1,9 @@
 -- The files of a line concept are right over what the stage was given.
 use Rattle.std.proofs.Common.{◌≡◌, ℕ, zero, suc, ℤ, pos, ◌≤◌, true, false, cond, List, [], ◌∷◌}
-use Rattle.std.proofs.Common.{length, map, All, Option, Some, None, IfSome, Result, Ok, Err, refl}
+use Rattle.std.proofs.Common.{length, map, All, Option, Some, None, IfSome, Ok, refl}
 use Rattle.std.proofs.Common.{sym, subst, arith, find, get_or, option_map, take, unsigned_abs}
 use Rattle.std.proofs.Common.{unwrap_or, nat_le}
-use Rattle.std.specs.Prelude.{IfOk, ok_or, ⊤}
+use Rattle.std.specs.Prelude.{ok_or, ⊤}
 use Rattle.std.specs.List.{AllZip, flat_map}
 use Rattle.std.specs.Ordering.{int_eq}
 use Rattle.std.specs.Cmp.Rules.{signed_items}
@@ -12,12 +12,10 @@ use lib.Pointwise.{pointwise, pointwise_decides}
 use Rattle.giv_files.specs.declared.made.Made.{Made}
 use Rattle.tables.specs.declared.refusal.Refusal.{Refusal}
 use Rattle.tables.specs.declared.refusal.Refusal.TheVariants as refusal
-use Rattle.tables.specs.declared.refusal.StageFault.{StageFault}
 use Rattle.giv_files.specs.declared.stage.Stage.TheVariants as stage
 use Rattle.tables.specs.Columns.{concept_columns, tree_columns}
 use Rattle.tables.specs.Reading.{table_of}
 use Rattle.giv_files.specs.Settings.{BundleParts, Fits}
-use Rattle.giv_files.specs.StageCalls.{StageGives}
 use Rattle.tables.specs.Tables.{TableRow}
 use Rattle.tables.specs.Writing.{ReadsBack}
 use Rattle.tables.proofs.Headers.{plain_header}
@@ -29,32 +27,33 @@ use Rattle.line_cost_model.specs.Problems.{IsProblem, ProblemParts}
 use Rattle.line_cost_model.specs.Regions.{IsRange, IsWithin, root_of}
 use Rattle.line_cost_model.proofs.Feasible.{test_means}
 use Rattle.line_cost_model.proofs.Roots.{root_has_each, root_sound}
-use Rattle.branch_certificate.specs.declared.node.Node.{Node}
-use Rattle.branch_certificate.specs.Certified.{Certifies}
+use Rattle.line_concepts.specs.declared.node.Node.{Node}
+use Rattle.line_concepts.specs.Certified.{Certifies}
 use Rattle.branch_certificate.specs.TreeTexts.{ReadsBackAs, node_rows, tree_header, tree_text}
-use Rattle.branch_certificate.proofs.Certifying.{no_fault_certifies}
-use Rattle.branch_certificate.proofs.Sound.{certified_costs}
+use Rattle.line_concepts.proofs.Certifying.{no_fault_certifies}
+use Rattle.line_concepts.proofs.Sound.{certified_costs}
 use Rattle.branch_certificate.proofs.WriteInside.{rows_inside}
 use Rattle.branch_certificate.proofs.WriteTrees.{nodes_back}
-use Rattle.line_search.specs.Budgets.{nodes_in, result_within, spent_result, whole_result}
-use Rattle.line_search.specs.ConceptStage.{after_faults, concept_made, concept_stage}
-use Rattle.line_search.specs.ConceptStage.{search_made}
+use Rattle.line_concepts.specs.Budgets.{nodes_in}
+use Rattle.line_search.specs.ConceptResults.{result_within, spent_result, whole_result}
+use Rattle.line_search.specs.ConceptStage.{concept_made, concept_stage, search_made}
 use Rattle.line_search.specs.ConceptTables.{concept_header, concept_rows, concept_text}
 use Rattle.line_search.specs.ConceptTables.{frequencies_in, frequency_in}
 use Rattle.line_search.specs.GivenProblems.{problem_faults, problem_of}
 use Rattle.line_search.specs.Judged.{Marks, first_broken, same_cells, tree_rule}
-use Rattle.line_search.specs.Listings.{best_after, listing}
+use Rattle.line_concepts.specs.Listings.{best_after, listing}
 use Rattle.line_search.specs.RightConcepts.{ConceptFilesAreRight}
-use Rattle.line_search.specs.Searches.{AreWritten}
-use Rattle.line_search.proofs.ChosenFound.{best_feasible, found_is_chosen, listing_finds}
-use Rattle.line_search.proofs.ChosenFound.{nodes_certify, some_find}
+use Rattle.line_concepts.specs.Searches.{AreSound}
+use Rattle.line_concepts.proofs.ChosenFound.{best_feasible, found_is_chosen, listing_finds}
+use Rattle.line_concepts.proofs.ChosenFound.{nodes_certify, some_find}
 use Rattle.line_search.proofs.ConceptAccepted.{concept_accepted}
 use Rattle.line_search.proofs.ConceptWritten.{concept_inside}
 use Rattle.tables.proofs.WrittenColumns.{columns_written}
 use Rattle.line_search.proofs.FrequenciesBack.{frequencies_back}
 use Rattle.line_search.proofs.Judging.{by_tree}
 use Rattle.line_search.proofs.SoundProblems.{problem_sound}
-use Rattle.line_search.proofs.WrittenNodes.{listing_written}
+use Rattle.line_concepts.proofs.WrittenNodes.{listing_written}
+use Rattle.giv_files.proofs.StageCalls.{made_after}
 
 few_in : (region : List LineRange) (frequencies : List ℕ) → All IsRange region
     → AllZip IsWithin frequencies region → All (λ frequency. frequency ≤ 1000) frequencies
@@ -105,7 +104,7 @@ module _ (problem : ProblemParts) (sound : IsProblem problem) (frequencies : Lis
       → first_broken problem (concept_text problem frequencies) tree ≡ None
   passes_by tree none = grind (arith, by_tree, reads, given, same, kept)
 
-  module _ (nodes : List Node) (written : AreWritten problem nodes)
+  module _ (nodes : List Node) (written : AreSound problem nodes)
       (certified : Certifies problem (pos (cost_of problem frequencies)) nodes) where
     abbrev text : List ℕ
     text = tree_text problem nodes
@@ -113,9 +112,10 @@ module _ (problem : ProblemParts) (sound : IsProblem problem) (frequencies : Lis
     back : ReadsBackAs problem nodes (tree_text problem nodes)
     unfolding tree_text
     back =
-        nodes_back problem sound nodes written.names written.written (tree_text problem nodes)
+        nodes_back problem sound nodes written.names written.limits (tree_text problem nodes)
         (written_back tree_header tree_columns (flat_map (node_rows problem) nodes) (omega arith)
-        (columns_written tree_columns refl) (rows_inside problem sound nodes written.names written.written)
+        (columns_written tree_columns refl)
+        (rows_inside problem sound nodes written.names written.limits)
         (refl, plain_header tree_header refl))
 
     pub tree_kept : tree_rule problem (cost_of problem frequencies) (Some text) ≡ None
@@ -134,7 +134,7 @@ module _ (problem : ProblemParts) (sound : IsProblem problem) (frequencies : Lis
 abbrev marked_by : ProblemParts → List ℕ → Option (List Node) → Type 0
 marked_by problem frequencies None = ⊤
 marked_by problem frequencies (Some nodes) =
-    IsChosen problem frequencies × AreWritten problem nodes
+    IsChosen problem frequencies × AreSound problem nodes
     × Certifies problem (pos (cost_of problem frequencies)) nodes
 
 module _ (bundle : BundleParts) (none : problem_faults bundle ≡ []) where
@@ -227,20 +227,8 @@ module _ (bundle : BundleParts) (none : problem_faults bundle ≡ []) where
             (unmarked (best_after None (take budget all))) made
       ] is
 
-after : (faults : List Refusal) (outcome : Result Made Refusal) (made : Made)
-    → after_faults faults outcome ≡ Ok made → (faults ≡ []) × (outcome ≡ Ok made)
-after [] outcome made is = (refl, is)
-after (first ∷ more) outcome made is = absurd (cc)
-
 -- what the stage makes is right
 pub concept_is_right : (bundle : BundleParts) (made : Made) → bundle.stage ≡ stage.Concept
     → Fits bundle → concept_stage bundle ≡ Ok made → ConceptFilesAreRight bundle made.files
 unfolding concept_stage
-concept_is_right bundle made same fits is = grind (arith, after, result_right)
-
--- what a call gives that meets the stage
-pub files_given : (bundle : BundleParts) (result : Result Made StageFault)
-    → bundle.stage ≡ stage.Concept → Fits bundle → StageGives (concept_stage bundle) result
-    → IfOk result (λ made. ConceptFilesAreRight bundle made.files)
-files_given bundle (Ok made) own fits given = concept_is_right bundle made own fits given
-files_given bundle (Err fault) own fits given = tt
+concept_is_right bundle made same fits is = grind (arith, made_after, result_right)

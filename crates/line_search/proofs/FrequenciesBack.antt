@@ -8,10 +8,10 @@ use Rattle.std.specs.Ordering.{int_cmp, int_eq}
 use Rattle.std.specs.declared.cmp.Ordering.TheVariants.{Less}
 use Rattle.std.proofs.lemmas.List.Folds.{find-append as find_both}
 use Rattle.tables.specs.Tables.{TableRow}
-use Rattle.line_walks.proofs.WalkRows.{above_differs}
 use Rattle.line_cost_model.specs.Problems.{CostedLine, IsCostedLine, IsProblem, ProblemParts}
 use Rattle.line_search.specs.ConceptTables.{concept_rows, frequencies_in, frequency_in, line_rows}
 use Rattle.line_search.specs.ConceptTables.{frequency_of_row, row_at}
+use Rattle.plan_num.proofs.Tests.{above_differs}
 
 -- the row of a line
 abbrev is_of : ℤ → TableRow → Bool

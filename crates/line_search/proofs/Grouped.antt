@@ -16,12 +16,12 @@ use Rattle.std.proofs.lemmas.List.{length-append}
 use Rattle.std.proofs.lemmas.List.Elements.{All-map}
 use Rattle.std.proofs.lemmas.List.Sorted.{ranks_by, sorted_far}
 use Rattle.std.proofs.lemmas.Map.Lookups.{exact_signed}
-use Rattle.ptn_network.specs.Networks.{by_id, rising}
-use Rattle.ptn_network.proofs.Sound.{rising_rises}
-use Rattle.line_walks.proofs.SoundLines.{all_rising}
+use Rattle.walks.specs.RisingIds.{by_id, rising}
+use Rattle.walks.proofs.RisingIds.{rising_rises}
+use Rattle.walks.proofs.RisingIds.{all_rising}
 use Rattle.line_search.specs.Judged.{has_some}
 use Rattle.line_search.specs.PoolPlaces.{grouped}
-use Rattle.line_search.proofs.RisingIds.{apart, rising_has, same_rising, tied, units}
+use Rattle.walks.proofs.SameIds.{apart, rising_has, same_rising, tied, units}
 
 module _ {X : Type 0} (key : X → ℤ) where
   abbrev with_key : List X → ℤ → List X

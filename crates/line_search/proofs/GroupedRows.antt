@@ -8,7 +8,7 @@ use Rattle.std.proofs.lemmas.List.Elements.{All-head, All-tail}
 use Rattle.std.proofs.lemmas.Simd.{map-map}
 use Rattle.std.proofs.lemmas.Bool.{cases_Bool}
 use Rattle.tables.specs.Tables.{TableRow, Wide}
-use Rattle.ptn_network.specs.Networks.{rising}
+use Rattle.walks.specs.RisingIds.{rising}
 use Rattle.line_search.specs.declared.pool_rows.PlacedEdge.{PlacedEdge}
 use Rattle.line_search.specs.PinnedConcepts.{by_lines, line_in, places_of}
 use Rattle.line_search.specs.PoolPlaces.{cells_of, grouped, placed, plain_rows}

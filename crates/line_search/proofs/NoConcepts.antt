@@ -1,27 +1,30 @@
 -- No solution is the answer exactly where no concept is feasible and the listing is within the budget.
-use Rattle.std.proofs.Common.{arith, ◌≡◌, ℕ, ◌≤◌, ◌∙◌, ◌⊎◌, Bool, true, false, cond, nat_le, List}
-use Rattle.std.proofs.Common.{[], length, take, ap, sym, subst, refl, inr, Option, Some, None, IfSome}
-use Rattle.std.proofs.Common.{Result, Ok, Err, option_map}
+use Rattle.std.proofs.Common.{arith, ◌≡◌, ℕ, ◌≤◌, ◌∙◌, Bool, true, false, cond, nat_le, List}
+use Rattle.std.proofs.Common.{[], length, take, ap, sym, refl, Option, Some, None}
+use Rattle.std.proofs.Common.{IfSome}
+use Rattle.std.proofs.Common.{Result, Err, option_map}
 use Rattle.std.specs.Prelude.{ok_or}
 use Rattle.std.proofs.lemmas.Bool.{le-leb}
 use Rattle.giv_files.specs.declared.made.Made.{Made}
 use Rattle.tables.specs.declared.refusal.Refusal.{Refusal}
 use Rattle.tables.specs.declared.refusal.Refusal.TheVariants as refusal
 use Rattle.tables.specs.declared.refusal.StageFault.{StageFault}
-use Rattle.tables.specs.declared.refusal.StageFault.TheVariants as stage
 use Rattle.giv_files.specs.Settings.{BundleParts}
 use Rattle.giv_files.specs.StageCalls.{StageGives}
 use Rattle.line_cost_model.specs.Chosen.{IsChosen}
 use Rattle.line_cost_model.specs.Problems.{ProblemParts}
-use Rattle.branch_certificate.specs.declared.node.Node.{Node}
-use Rattle.line_search.specs.Budgets.{last_found, nodes_in, result_within}
+use Rattle.line_concepts.specs.declared.node.Node.{Node}
+use Rattle.line_concepts.specs.Budgets.{nodes_in}
+use Rattle.line_search.specs.ConceptResults.{last_found, result_within}
 use Rattle.line_search.specs.ConceptStage.{after_faults, budget_of, concept_stage, search_made}
 use Rattle.line_search.specs.GivenProblems.{problem_faults, problem_of}
-use Rattle.line_search.specs.Listings.{Entry, best_after, listing}
-use Rattle.line_search.specs.RightConcepts.{NoneIsFeasible, SaysNone, found_by}
+use Rattle.line_concepts.specs.Listings.{Entry, best_after, listing}
+use Rattle.line_search.specs.RightConcepts.{SaysNone}
+use Rattle.line_concepts.specs.RightSearches.{NoneIsFeasible, found_by}
 use Rattle.line_search.proofs.ConceptNames.{inputs_fine}
 use Rattle.line_search.proofs.SearchRight.{search_right}
 use Rattle.line_search.proofs.StageResults.{by_parts}
+use Rattle.giv_files.proofs.StageCalls.{gives_always, gives_only}
 
 abbrev no_solution : Result Made Refusal
 no_solution = Err refusal.NoSolution
@@ -67,13 +70,6 @@ module _ (problem : ProblemParts) (budget : ℕ) (all : List Entry) where
 
 -- ---- what the stage answers
 
--- where the outcome is a refusal, this is the answer, or want of memory
-refused : (why : Refusal) (result : Result Made StageFault) → StageGives (Err why) result
-    → (result ≡ Err (stage.Refused why)) ⊎ (result ≡ Err stage.NoMemory)
-refused why (Ok made) gives = absurd (cc)
-refused why (Err (stage.Refused reason)) gives = grind arith
-refused why (Err stage.NoMemory) gives = inr refl
-
 -- a chosen concept is feasible
 nothing_found : (problem : ProblemParts) (found : Option (List ℕ)) → IfSome found (IsChosen problem)
     → NoneIsFeasible problem → found ≡ None
@@ -93,8 +89,7 @@ none_told bundle result gives =
     let budget = budget_of bundle in
     record {
       only = λ is.
-          let said : concept_stage bundle ≡ no_solution =
-          subst (StageGives (concept_stage bundle)) is gives in
+          let said = gives_only (concept_stage bundle) result refusal.NoSolution gives is in
           let inputs = inputs_fine bundle refusal.NoSolution (λ h. h) said in
           let parts = only_none problem budget (listing problem) (sym (given_outcome bundle inputs) ∙ said)
           in
@@ -104,8 +99,8 @@ none_told bundle result gives =
             within = parts.1;
           };
       always = λ has.
-          refused refusal.NoSolution result (subst (λ outcome. StageGives outcome result)
+          gives_always (concept_stage bundle) result refusal.NoSolution gives
           (given_outcome bundle has.inputs ∙ always_none problem budget (listing problem)
           (nothing_found problem (found_by problem) (search_right bundle has.inputs).chosen has.none)
-          has.within) gives);
+          has.within);
     }

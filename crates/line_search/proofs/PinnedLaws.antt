@@ -1,18 +1,16 @@
 -- The laws of the stage of a planner's concept: which files it makes, that they are right, and
 -- which file a refusal names.
-use Rattle.std.proofs.Common.{arith, ◌≡◌, Bool, true, Result, Ok, Err}
-use Rattle.std.specs.Prelude.{IfOk}
+use Rattle.std.proofs.Common.{arith, ◌≡◌, Bool, true, Ok, Err}
 use Rattle.tables.specs.declared.file_id.FileId.{FileId}
 use Rattle.tables.specs.declared.file_id.FileId.TheVariants as file
 use Rattle.giv_files.specs.declared.made.Made.{Made}
 use Rattle.tables.specs.declared.refusal.Refusal.{Refusal}
-use Rattle.tables.specs.declared.refusal.StageFault.{StageFault}
 use Rattle.giv_files.specs.declared.stage.Stage.TheVariants as stage
 use Rattle.tables.specs.Inputs.{input_faults}
 use Rattle.giv_files.specs.MadeLists.{MakesAs, ids_of}
 use Rattle.tables.specs.NamedFiles.{NamesInput}
 use Rattle.giv_files.specs.Settings.{BundleParts, Fits}
-use Rattle.giv_files.specs.StageCalls.{StageGives, input_text}
+use Rattle.giv_files.specs.StageCalls.{input_text}
 use Rattle.tables.proofs.Named.{AllName, input_names, names_both}
 use Rattle.giv_files.proofs.StageCalls.{refused_names}
 use Rattle.ptn_network.specs.Loads.{load_input}
@@ -35,13 +33,6 @@ pinned_concept_makes bundle made is = grind arith
 pub pinned_concept_right : (bundle : BundleParts) (made : Made) → bundle.stage ≡ stage.PinnedConcept
     → Fits bundle → pinned_concept_stage bundle ≡ Ok made → ConceptIsRight bundle made.files
 pinned_concept_right bundle made same fits is = pinned_right bundle made is
-
--- what a call gives that meets the stage
-pub pinned_files_given : (bundle : BundleParts) (result : Result Made StageFault)
-    → StageGives (pinned_concept_stage bundle) result
-    → IfOk result (λ made. ConceptIsRight bundle made.files)
-pinned_files_given bundle (Ok made) given = pinned_right bundle made given
-pinned_files_given bundle (Err fault) given = tt
 
 -- a refusal by a row names the file of stops, of edges, of the pool or of the planner's concept, or
 -- what the faults of loads and of costs do

@@ -17,16 +17,16 @@ use Rattle.giv_files.proofs.StageCalls.{made_unless, none_unless}
 use Rattle.line_cost_model.specs.Concepts.{IsFeasible, cost_of, is_feasible}
 use Rattle.line_cost_model.specs.Problems.{IsProblem, ProblemParts}
 use Rattle.line_cost_model.proofs.Feasible.{test_means}
-use Rattle.branch_certificate.specs.declared.fault.TreeFault.{TreeFault}
-use Rattle.branch_certificate.specs.declared.node.Node.{Node}
-use Rattle.branch_certificate.specs.TreeFaults.{tree_faults}
+use Rattle.line_concepts.specs.declared.fault.TreeFault.{TreeFault}
+use Rattle.line_concepts.specs.declared.node.Node.{Node}
+use Rattle.line_concepts.specs.TreeFaults.{tree_faults}
 use Rattle.branch_certificate.specs.TreeFiles.{read_faults, tree_of}
 use Rattle.branch_certificate.specs.TreeTexts.{tree_text}
-use Rattle.branch_certificate.proofs.Certifying.{no_fault_certifies}
+use Rattle.line_concepts.proofs.Certifying.{no_fault_certifies}
 use Rattle.branch_certificate.proofs.FaultlessTrees.{faultless_tree}
 use Rattle.line_search.specs.declared.fault.ConceptFault.{ConceptFault}
 use Rattle.line_search.specs.declared.fault.ConceptFault.TheVariants as fault
-use Rattle.line_search.specs.Firsts.{first_of}
+use Rattle.line_concepts.specs.Firsts.{first_of}
 use Rattle.line_search.specs.ConceptTables.{concept_text, frequencies_in}
 use Rattle.line_search.specs.GivenProblems.{problem_faults, problem_of}
 use Rattle.line_search.specs.Judged.{broken_where, certificate_rule, frequencies_of, has_some}
@@ -35,7 +35,7 @@ use Rattle.line_search.specs.PinnedConcepts.{breaks_bounds, differs_from_pool, m
 use Rattle.line_search.specs.PinnedConcepts.{marking_tree, pinned_concept_faults}
 use Rattle.line_search.specs.PinnedConcepts.{pinned_concept_stage, pinned_input, pinned_made}
 use Rattle.line_search.specs.RightPinned.{ConceptIsRight}
-use Rattle.line_search.specs.Searches.{AreWritten}
+use Rattle.line_concepts.specs.Searches.{AreSound}
 use Rattle.line_search.proofs.ConceptAccepted.{concept_accepted}
 use Rattle.line_search.proofs.ConceptReads.{by_cells, frequency_by, marks, passes_by, reads}
 use Rattle.line_search.proofs.ConceptReads.{tree_kept}
@@ -135,7 +135,7 @@ module _ (bundle : BundleParts) (none : pinned_concept_faults bundle ≡ []) whe
       let nodes = tree_of problem text in
       let rules = no_rule problem (cost_of problem frequencies) text kept in
       let are = faultless_tree problem text sound rules.0 in
-      let written : AreWritten problem nodes = record { names = are.0; written = are.1 } in
+      let written : AreSound problem nodes = record { names = are.0; limits = are.1 } in
       let certified = (no_fault_certifies problem (pos (cost_of problem frequencies)) nodes).0
       rules.1 in
       record {

@@ -8,7 +8,7 @@ use Rattle.std.specs.Ordering.{int_cmp}
 use Rattle.std.proofs.lemmas.Int.{ints, to_z-of_z}
 use Rattle.std.proofs.lemmas.List.{length-map}
 use Rattle.std.proofs.lemmas.Option.{slice_get-map}
-use Rattle.ptn_network.specs.declared.edge.Edge.{Edge}
+use Rattle.walks.specs.declared.edge.Edge.{Edge}
 use Rattle.ptn_network.specs.declared.edge_load.EdgeLoad.{EdgeLoad}
 use Rattle.ptn_network.specs.Loads.{IsLoad}
 use Rattle.line_cost_model.specs.declared.edge.BoundedEdge.{BoundedEdge}
@@ -16,7 +16,7 @@ use Rattle.line_cost_model.specs.Problems.{IsBoundedEdge, IsId}
 use Rattle.line_cost_model.proofs.Mapped.{map_more, map_whole}
 use Rattle.line_search.specs.GivenProblems.{bounded_by}
 use Rattle.line_search.proofs.ConceptRows.{zip_length}
-use Rattle.line_search.proofs.Lists.{below, zip_at}
+use Rattle.line_concepts.proofs.Lists.{below, zip_at}
 
 -- the edges with their bounds
 abbrev pub bounded : List Edge → List EdgeLoad → List BoundedEdge

@@ -6,14 +6,14 @@ use Rattle.std.specs.List.{All}
 use Rattle.std.specs.List.Sorted.{IsStrictlySortedBy}
 use Rattle.std.specs.Ordering.{int_cmp}
 use Rattle.std.proofs.lemmas.Option.{same_Some, slice_get-map}
-use Rattle.ptn_network.specs.declared.edge.Edge.{Edge}
+use Rattle.walks.specs.declared.edge.Edge.{Edge}
 use Rattle.line_walks.specs.GivenCosts.{IsCost}
 use Rattle.line_walks.specs.Pools.{LineParts, IsLine}
 use Rattle.line_cost_model.specs.Problems.{CostedLine, IsCostedLine, IsId}
 use Rattle.line_cost_model.proofs.Mapped.{map_more, map_whole}
 use Rattle.line_search.specs.GivenProblems.{costed_by}
 use Rattle.line_search.proofs.ConceptRows.{zip_length}
-use Rattle.line_search.proofs.Lists.{below, zip_at}
+use Rattle.line_concepts.proofs.Lists.{below, zip_at}
 
 -- the lines with their costs
 abbrev pub costed : List LineParts → List ℤ → List CostedLine

@@ -9,7 +9,8 @@ use Rattle.giv_files.specs.StageCalls.{input_text}
 use Rattle.tables.proofs.Inputs.{refused_append}
 use Rattle.ptn_network.specs.declared.edge_load.EdgeLoad.{EdgeLoad}
 use Rattle.ptn_network.specs.Loads.{load_input, loads_of}
-use Rattle.ptn_network.specs.Networks.{NetworkParts, network_faults, network_of}
+use Rattle.walks.specs.Networks.{NetworkParts}
+use Rattle.ptn_network.specs.Networks.{network_faults, network_of}
 use Rattle.line_walks.specs.GivenCosts.{costs_of}
 use Rattle.line_walks.specs.PoolCosts.{pool_cost_input}
 use Rattle.line_walks.specs.Pools.{LineParts, pool_of, pool_faults}

@@ -10,7 +10,7 @@ use Rattle.tables.proofs.Ranges.{front_none, back_none}
 use Rattle.tables.specs.Inputs.{input_faults}
 use Rattle.giv_files.specs.Settings.{BundleParts}
 use Rattle.giv_files.specs.StageCalls.{input_text}
-use Rattle.ptn_network.specs.declared.edge.Edge.{Edge}
+use Rattle.walks.specs.declared.edge.Edge.{Edge}
 use Rattle.ptn_network.specs.declared.edge_load.EdgeLoad.{EdgeLoad}
 use Rattle.ptn_network.specs.Loads.{IsLoad, load_input, loads_of}
 use Rattle.ptn_network.specs.Networks.{network_faults, network_in}

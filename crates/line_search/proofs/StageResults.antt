@@ -5,7 +5,6 @@ use Rattle.std.proofs.Common.{option_map, Result, Ok, Err}
 use Rattle.std.specs.Prelude.{ok_or}
 use Rattle.std.proofs.lemmas.Bool.{le-leb, leb-true, leb-false}
 use Rattle.std.proofs.lemmas.List.{take_all, length-take-le}
-use Rattle.std.proofs.lemmas.Option.{same_Some}
 use Rattle.std.proofs.Math.Nat.{min-eq_left, min-eq_right}
 use Rattle.giv_files.specs.declared.made.Made.{Made}
 use Rattle.tables.specs.declared.refusal.Refusal.{Refusal}
@@ -16,19 +15,22 @@ use Rattle.tables.specs.Inputs.{Refuses}
 use Rattle.giv_files.specs.Settings.{BundleParts}
 use Rattle.giv_files.specs.StageCalls.{StageGives, TakesSteps}
 use Rattle.line_cost_model.specs.Problems.{ProblemParts}
-use Rattle.branch_certificate.specs.declared.node.Node.{Node}
-use Rattle.line_search.specs.declared.best.BestConcept.{BestConcept}
-use Rattle.line_search.specs.declared.search.Searched.{Searched}
-use Rattle.line_search.specs.Budgets.{FoundConcept, entries_listed, nodes_in}
-use Rattle.line_search.specs.Budgets.{result_within}
+use Rattle.line_concepts.specs.declared.node.Node.{Node}
+use Rattle.line_concepts.specs.declared.best.BestConcept.{BestConcept}
+use Rattle.line_concepts.specs.declared.search.Searched.{Searched}
+use Rattle.line_concepts.specs.Budgets.{entries_listed, nodes_in}
+use Rattle.line_search.specs.ConceptResults.{FoundConcept, result_by, result_of, result_within}
+use Rattle.line_search.specs.ConceptResults.{why_none}
 use Rattle.line_search.specs.ConceptStage.{after_faults, budget_of, concept_stage, concept_work}
-use Rattle.line_search.specs.ConceptStage.{search_made, work_after}
+use Rattle.line_search.specs.ConceptStage.{search_made}
 use Rattle.line_search.specs.GivenProblems.{problem_faults, problem_of}
-use Rattle.line_search.specs.Listings.{Entry, best_after, listing}
-use Rattle.line_search.specs.RightConcepts.{IsEnough, IsWhole}
-use Rattle.line_search.specs.Searches.{IsResult, concept_in, result_by, result_of, why_none}
+use Rattle.line_concepts.specs.Listings.{Entry, best_after, listing}
+use Rattle.line_search.specs.RightConcepts.{IsWhole}
+use Rattle.line_concepts.specs.RightSearches.{IsEnough}
+use Rattle.line_concepts.specs.Searches.{IsResult, concept_in}
 use Rattle.line_search.proofs.ConceptNames.{input_refused}
-use Rattle.line_search.proofs.Lengths.{listing_bound}
+use Rattle.line_concepts.proofs.Lengths.{listing_bound}
+use Rattle.giv_files.proofs.StageCalls.{refused_after, refused_steps}
 
 -- ---- the concept within a budget
 
@@ -56,18 +58,11 @@ result_is problem budget found is = grind (arith, in_parts, within_by, nat_le)
 
 -- ---- the outcome
 
--- a fault of the inputs is what the stage gives
-refused_first : (faults : List Refusal) (outcome : Result Made Refusal) (fault : StageFault)
-    → Refuses faults fault → StageGives (after_faults faults outcome) (Err fault)
-refused_first [] outcome (stage.Refused reason) h = absurd (cc)
-refused_first (first ∷ more) outcome (stage.Refused reason) h = ap (λ r. Err r) (same_Some _ _ h)
-refused_first faults outcome stage.NoMemory h = tt
-
 module _ (bundle : BundleParts) where
   pub stage_refused : (fault : StageFault) → Refuses (problem_faults bundle) fault
       → StageGives (concept_stage bundle) (Err fault)
   unfolding concept_stage
-  stage_refused fault h = refused_first (problem_faults bundle) _ fault h
+  stage_refused fault h = refused_after (problem_faults bundle) _ fault h
 
   pub stage_found : (problem : ProblemParts) (budget : ℕ) (found : Searched)
       (result : Result Made StageFault) → problem_faults bundle ≡ [] → problem ≡ problem_of bundle
@@ -80,15 +75,6 @@ module _ (bundle : BundleParts) where
 
 -- ---- steps
 
-some_steps : (faults : List Refusal) (entries before now : ℕ) (fault : StageFault)
-    → Refuses faults fault → now ≡ before + 1
-    → TakesSteps {T = Made} (work_after faults entries) before now (Err fault)
-some_steps [] entries before now (stage.Refused reason) h is = absurd (cc)
-some_steps (first ∷ more) entries before now (stage.Refused reason) h is = is
-some_steps [] entries before now stage.NoMemory h is = (omega (arith, is), omega (arith, is))
-some_steps (first ∷ more) entries before now stage.NoMemory h is =
-    (omega (arith, is), omega (arith, is))
-
 steps_by : (work before now : ℕ) (result : Result Made StageFault) → now ≡ before + work
     → TakesSteps work before now result
 steps_by work before now (Ok made) is = is
@@ -99,7 +85,7 @@ module _ (bundle : BundleParts) (before now : ℕ) where
   pub steps_refused : (fault : StageFault) → Refuses (problem_faults bundle) fault
       → now ≡ before + 1 → TakesSteps {T = Made} (concept_work bundle) before now (Err fault)
   unfolding concept_work
-  steps_refused fault h is = some_steps (problem_faults bundle) _ before now fault h is
+  steps_refused fault h is = refused_steps (problem_faults bundle) _ before now fault h is
 
   module _ (problem : ProblemParts) (budget : ℕ) (none : problem_faults bundle ≡ [])
       (problem_is : problem ≡ problem_of bundle) (budget_is : budget ≡ budget_of bundle) where

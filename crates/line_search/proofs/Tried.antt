@@ -14,34 +14,21 @@ use Rattle.plan_num.specs.Number.{spelling_of, value_of, value_at, fixed_of, who
 use Rattle.plan_num.specs.Print.{digits_at}
 use Rattle.std.specs.Fmt.{digits}
 use Rattle.ptn_network.specs.Loads.{loads_of}
-use Rattle.ptn_network.specs.Networks.{by_id, stops_of, network_of, network_faults}
+use Rattle.ptn_network.specs.Networks.{stops_of, network_of, network_faults}
+use Rattle.walks.specs.RisingIds.{by_id}
 use Rattle.line_walks.specs.GivenCosts.{costs_of}
 use Rattle.line_walks.specs.Pools.{walk_from, lines_of, line_faults}
-use Rattle.line_cost_model.specs.declared.edge.BoundedEdge.{BoundedEdge}
-use Rattle.line_cost_model.specs.Problems.{CostedLine, ProblemParts}
 use Rattle.line_cost_model.specs.Concepts.{is_feasible}
 use Rattle.line_cost_model.specs.DualBounds.{bound_by}
-use Rattle.branch_certificate.specs.TreeFaults.{tree_faults}
+use Rattle.line_concepts.specs.TreeFaults.{tree_faults}
 use Rattle.branch_certificate.specs.TreeFiles.{nodes_of, tree_of, read_faults}
-use Rattle.branch_certificate.specs.Trees.{first_tree, placed_over}
+use Rattle.line_concepts.specs.Trees.{first_tree, placed_over}
 use Rattle.line_search.specs.declared.fault.ConceptFault.{ConceptFault}
 use Rattle.line_search.specs.declared.fault.ConceptFault.TheVariants as fault
 use Rattle.line_search.specs.ConceptTables.{concept_text}
 use Rattle.line_search.specs.GivenProblems.{problem_of, problem_faults}
 use Rattle.line_search.specs.Judged.{first_broken}
-
-abbrev edge : ℕ → ℕ → ℕ → BoundedEdge
-edge id least most = record { id = pos id; least = least; most = most }
-
-abbrev line : ℕ → ℕ → List ℕ → CostedLine
-line id cost edges = record { id = pos id; cost = cost; edges = edges }
-
-abbrev lines : List CostedLine
-lines = line 1 15000000 (0 ∷ 1 ∷ []) ∷ line 2 12000000 (0 ∷ []) ∷ []
-
--- two edges in a row, a line over both and a line over the first
-abbrev two : ProblemParts
-two = record { edges = edge 1 2 3 ∷ edge 2 1 3 ∷ []; lines = lines }
+use Rattle.line_concepts.proofs.Tried.{two}
 
 -- ---- the line problem of a bundle
 

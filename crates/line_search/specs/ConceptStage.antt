@@ -1,5 +1,5 @@
 -- The stage of line concepts: from bounds of frequency and costs of lines to a concept and its mark.
-use Rattle.std.specs.Prelude.{ℕ, pos, ◌+◌, List, [], ◌∷◌, ◌++◌, codes, decimal, Option, Some, None}
+use Rattle.std.specs.Prelude.{ℕ, pos, List, [], ◌∷◌, ◌++◌, codes, decimal, Option, Some, None}
 use Rattle.std.specs.Prelude.{Result, Ok, Err, Bool, if◌then◌else◌, is_some, option_map}
 use Rattle.plan_num.specs.Print.{fixed_text}
 use Rattle.tables.specs.declared.file_id.FileId.TheVariants as file
@@ -7,15 +7,17 @@ use Rattle.giv_files.specs.declared.key.Key.TheVariants as key
 use Rattle.giv_files.specs.declared.made.Made.{Made}
 use Rattle.giv_files.specs.declared.made.MadeFile.{MadeFile}
 use Rattle.tables.specs.declared.refusal.Refusal.{Refusal}
+pub use Rattle.giv_files.specs.StageCalls.{after_faults, work_after}
 use Rattle.giv_files.specs.Settings.{BundleParts, amount}
 use Rattle.line_cost_model.specs.Problems.{ProblemParts}
 use Rattle.line_cost_model.specs.Concepts.{cost_of}
-use Rattle.branch_certificate.specs.declared.node.Node.{Node}
+use Rattle.line_concepts.specs.declared.node.Node.{Node}
 use Rattle.branch_certificate.specs.TreeTexts.{tree_text}
-use Rattle.line_search.specs.Budgets.{FoundConcept, result_within, entries_listed}
+use Rattle.line_concepts.specs.Budgets.{entries_listed}
+use Rattle.line_search.specs.ConceptResults.{FoundConcept, result_within}
 use Rattle.line_search.specs.ConceptTables.{concept_text}
 use Rattle.line_search.specs.GivenProblems.{problem_faults, problem_of}
-use Rattle.line_search.specs.Listings.{listing}
+use Rattle.line_concepts.specs.Listings.{listing}
 
 -- how many entries may be listed
 abbrev pub budget_of : BundleParts → ℕ
@@ -50,11 +52,6 @@ abbrev pub search_made : ProblemParts → Result FoundConcept Refusal → Result
 search_made problem (Err why) = Err why
 search_made problem (Ok concept) = Ok (concept_made problem concept)
 
--- the first of some faults, or else what a stage comes to
-abbrev pub after_faults : List Refusal → Result Made Refusal → Result Made Refusal
-after_faults [] outcome = outcome
-after_faults (first ∷ more) outcome = Err first
-
 -- the stage: from settings and input texts to what is made, or the first fault, or why the search found no
 -- concept
 unfoldable pub concept_stage : BundleParts → Result Made Refusal
@@ -63,10 +60,6 @@ concept_stage bundle =
     (search_made (problem_of bundle) (result_within (budget_of bundle) (listing (problem_of bundle))))
 
 -- how many steps it takes: one, and where the inputs have no fault one for each entry that is listed
-abbrev pub work_after : List Refusal → ℕ → ℕ
-work_after [] entries = 1 + entries
-work_after (first ∷ more) entries = 1
-
 unfoldable pub concept_work : BundleParts → ℕ
 concept_work bundle =
     work_after (problem_faults bundle) (entries_listed (budget_of bundle) (listing (problem_of bundle)))

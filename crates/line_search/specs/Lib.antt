@@ -1,12 +1,9 @@
-pub mod Budgets
+pub mod ConceptResults
 pub mod ConceptStage
 pub mod ConceptTables
-pub mod Firsts
 pub mod GivenProblems
 pub mod Judged
-pub mod Listings
 pub mod RightConcepts
-pub mod Searches
 pub mod PinnedConcepts
 pub mod RightPinned
 pub mod PoolPlaces

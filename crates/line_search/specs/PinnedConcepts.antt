@@ -17,11 +17,11 @@ use Rattle.giv_files.specs.ReportLines.{report_line}
 use Rattle.giv_files.specs.Settings.{BundleParts}
 use Rattle.giv_files.specs.StageCalls.{input_text, unless_fault}
 use Rattle.tables.specs.Tables.{TableRow}
-use Rattle.ptn_network.specs.Networks.{rising}
+use Rattle.walks.specs.RisingIds.{rising}
 use Rattle.line_walks.specs.Pools.{differs}
 use Rattle.line_cost_model.specs.Concepts.{cost_of, is_feasible}
 use Rattle.line_cost_model.specs.Problems.{ProblemParts}
-use Rattle.branch_certificate.specs.declared.node.Node.{Node}
+use Rattle.line_concepts.specs.declared.node.Node.{Node}
 use Rattle.branch_certificate.specs.TreeFiles.{tree_of}
 use Rattle.line_search.specs.ConceptStage.{mark_word, tree_files}
 use Rattle.line_search.specs.ConceptTables.{concept_rows, concept_text, frequencies_in}

@@ -3,7 +3,7 @@ use Rattle.std.specs.Prelude.{ℤ, pos, List, [], ◌∷◌, map, filter, get_or
 use Rattle.std.specs.List.{flat_map}
 use Rattle.std.specs.Ordering.{int_eq}
 use Rattle.tables.specs.Tables.{TableRow}
-use Rattle.ptn_network.specs.Networks.{rising}
+use Rattle.walks.specs.RisingIds.{rising}
 use Rattle.line_search.specs.declared.pool_rows.PlacedEdge.{PlacedEdge}
 
 -- items one group after the other, by keys rising, each group in the order that it had

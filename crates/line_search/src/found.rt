@@ -7,14 +7,13 @@ ghost use Rattle.line_cost_model.specs.Concepts.{cost_of};
 ghost use Rattle.branch_certificate.specs.TreeTexts.{tree_text};
 ghost use Rattle.line_search.specs.ConceptStage.{concept_made, mark_files, mark_word, search_made};
 ghost use Rattle.line_search.specs.ConceptTables.{concept_text};
-ghost use Rattle.line_search.specs.Searches.{ArePriced, AreWritten, IsPriced, concept_of};
-ghost use Rattle.line_search.specs.Searches.{result_of, why_none};
+ghost use Rattle.line_concepts.specs.Searches.{ArePriced, AreSound, IsPriced};
+ghost use Rattle.line_search.specs.ConceptResults.{concept_of, result_of, why_none};
 
-use crate::best::BestConcept;
 use crate::concept_table::rows_of_concept;
-use crate::search::Searched;
 use branch_certificate::{Tree, write_tree};
 use giv_files::{Made, MadeFile, MadeList, Stage, count_text, report_line};
+use line_concepts::{BestConcept, Searched};
 use line_cost_model::LineProblem;
 use plan_num::{NoMemory, Text, print_fixed};
 use std::alloc::Global;
@@ -27,7 +26,7 @@ pub(crate) fn search_made(
     found: Searched,
 ) -> Result<Made, StageFault>
     requires priced { ArePriced problem.now found.best }
-    requires written { IfSome found.tree (AreWritten problem.now) }
+    requires written { IfSome found.tree (AreSound problem.now) }
     ensures { StageGives (search_made problem.now (result_of found)) result }
 {
     let Searched {
@@ -60,7 +59,7 @@ fn concept_made(
     entries: u64,
 ) -> Result<Made, NoMemory>
     requires priced { IsPriced problem.now best.now }
-    requires written { IfSome tree.now (AreWritten problem.now) }
+    requires written { IfSome tree.now (AreSound problem.now) }
     ensures { IfOk result
         (λ made. made ≡ concept_made problem.now (concept_of best.now tree.now entries)) }
 {
@@ -120,7 +119,7 @@ fn written_tree(
     problem: &LineProblem,
     tree: &Option<Tree>,
 ) -> Result<Option<Text>, NoMemory>
-    requires { IfSome tree.now (AreWritten problem.now) }
+    requires { IfSome tree.now (AreSound problem.now) }
     ensures { IfOk result (λ text. text ≡ option_map (tree_text problem.now) tree.now) }
 {
     match tree {

@@ -43,7 +43,6 @@ fn whole_problem(
     ensures { IfOk result (λ problem. problem
         ≡ problem_over network.now.edges loads.now pool.now costs.now) }
 {
-    let _costs = costs.len();
     let mut problem = problem_of_edges(alloc, network, loads)?;
     for line in 0..pool.line_count() {
         problem.push_line(pool.line_id(line), costs.get(line), pool.edges(line))?;
@@ -64,7 +63,6 @@ fn problem_of_edges(
       lines = [];
     }) }
 {
-    let _loads = loads.len();
     let mut problem = LineProblem::new(alloc);
     for index in 0..network.edge_count() {
         let load = loads.get(index);

@@ -15,9 +15,8 @@ ghost use Rattle.line_search.specs.PinnedConcepts.{marking_tree, pinned_concept_
 ghost use Rattle.branch_certificate.specs.TreeTexts.{tree_text};
 ghost use Rattle.line_search.specs.PinnedConcepts.{pinned_input, pinned_made, pinned_report};
 ghost use Rattle.line_search.specs.RightPinned.{ConceptIsRight};
-ghost use Rattle.line_search.specs.Searches.{IsPriced};
+ghost use Rattle.line_concepts.specs.Searches.{IsPriced};
 
-use crate::best::BestConcept;
 use crate::concept_table::has_row_count;
 use crate::first_frequencies::test_frequencies;
 use crate::found::{concept_files, cost_text, mark_word};
@@ -27,6 +26,7 @@ use crate::judge::tree_fault;
 use crate::pool_rows::are_of_pool;
 use branch_certificate::copy_tree;
 use giv_files::{Bundle, Made, Stage, report_line};
+use line_concepts::BestConcept;
 use line_cost_model::LineProblem;
 use plan_num::{Ledger, NoMemory, Steps, Text};
 use std::alloc::Global;

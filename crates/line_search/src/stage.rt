@@ -5,13 +5,13 @@ ghost use Rattle.giv_files.specs.Settings.{Fits};
 ghost use Rattle.giv_files.specs.StageCalls.{StageGives, TakesSteps};
 ghost use Rattle.line_search.specs.ConceptStage.{budget_of, concept_stage, concept_work};
 ghost use Rattle.line_search.specs.GivenProblems.{problem_faults, problem_of};
-ghost use Rattle.line_search.specs.RightConcepts.{ConceptFilesAreRight, IsEnough, IsWhole};
-ghost use Rattle.line_search.specs.RightConcepts.{ListingIsWhole, SaysNone, SearchIsRight};
+ghost use Rattle.line_search.specs.RightConcepts.{ConceptFilesAreRight, IsWhole, SaysNone};
+ghost use Rattle.line_concepts.specs.RightSearches.{IsEnough, ListingIsWhole, SearchIsRight};
 
 use crate::found::search_made;
 use crate::given::read_problem;
-use crate::search::search_concept;
 use giv_files::{Bundle, Key, Made};
+use line_concepts::search_concept;
 use plan_num::{Ledger, Steps};
 use std::alloc::Global;
 use tables::StageFault;

@@ -11,7 +11,7 @@ use Rattle.tables.specs.declared.file_id.FileId.TheVariants as file
 use Rattle.tables.specs.declared.row_why.RowWhy.TheVariants as why
 use Rattle.tables.specs.declared.refusal.Refusal.TheVariants as refusal
 use Rattle.tables.specs.Inputs.{input_faults, records_of}
-use Rattle.tables.proofs.Found.{any_found}
+use Rattle.plan_num.proofs.Found.{any_found}
 use Rattle.tables.proofs.WholeRules.{without_whole, refused_as_whole, sound_as_whole}
 use Rattle.line_walks.specs.GivenCosts.{cost_for, costs_over, costs_of}
 use Rattle.line_walks.specs.PoolCosts.{CostRow, pool_cost_input}

@@ -12,10 +12,10 @@ use Rattle.tables.specs.Writing.{InColumns}
 use Rattle.tables.proofs.Inputs.{sound_rows}
 use Rattle.tables.proofs.Ranges.{back_none}
 use Rattle.tables.proofs.WriteFacts.{in_column}
-use Rattle.ptn_network.specs.declared.edge.Edge.{Edge}
+use Rattle.walks.specs.declared.edge.Edge.{Edge}
 use Rattle.ptn_network.specs.Inputs.{stop_input, edge_input, edge_row}
 use Rattle.ptn_network.specs.Networks.{edge_entry, edge_of, network_faults, network_of, stops_of}
-use Rattle.ptn_network.proofs.Sound.{all_by_id}
+use Rattle.walks.proofs.RisingIds.{all_by_id}
 
 -- an edge has an id that a row can have
 abbrev pub HasId : Edge → Type 0

@@ -16,17 +16,19 @@ use Rattle.tables.specs.Columns.{pool_columns}
 use Rattle.tables.specs.Reading.{table_of}
 use Rattle.tables.specs.Tables.{TableRow}
 use Rattle.tables.specs.Writing.{ReadsBack}
-use Rattle.ptn_network.specs.declared.edge.Edge.{Edge}
-use Rattle.ptn_network.specs.Networks.{NetworkParts, rising}
-use Rattle.ptn_network.proofs.ById.{sorted_ids}
+use Rattle.walks.specs.declared.edge.Edge.{Edge}
+use Rattle.walks.specs.Networks.{NetworkParts}
+use Rattle.walks.specs.RisingIds.{rising}
+use Rattle.walks.proofs.ById.{sorted_ids}
 use Rattle.line_walks.specs.declared.line_row.LineRow.{LineRow}
 use Rattle.line_walks.specs.Pools.{LineParts, index_of, line_of, line_row, lines_of, lines_over}
 use Rattle.line_walks.specs.Pools.{pool_of}
 use Rattle.line_walks.specs.Pools.{rows_of}
 use Rattle.line_walks.proofs.WalkLines.{AreNew, IsWalked, RowsLine, distinct, ids_for, new_more}
 use Rattle.line_walks.proofs.WalkLines.{none_yet, rows_at, rows_for, told_rows}
-use Rattle.line_walks.proofs.WalkRows.{above_differs, below_differs, id_at, later_above}
+use Rattle.line_walks.proofs.WalkRows.{below_differs, id_at, later_above}
 use Rattle.line_walks.proofs.WalkRows.{other_rows, own_rows, rows_from}
+use Rattle.plan_num.proofs.Tests.{or_false, above_differs}
 
 -- a line has an edge
 abbrev pub HasEdge : RowsLine → Type 0
@@ -131,11 +133,7 @@ module _ (edges : List Edge) (rise : IsStrictlySortedBy int_cmp (map (λ edge. e
       → list_any (int_eq q) (map (λ row. row.line) (rows_from edges id frequency n indexes))
       ≡ int_eq q id
   line_of_rows q id frequency n [] some = absurd (omega (arith, some))
-  line_of_rows q id frequency n (index ∷ []) some = or_nothing (int_eq q id)
-    where
-      or_nothing : (a : Bool) → (a || false) ≡ a
-      or_nothing true = refl
-      or_nothing false = refl
+  line_of_rows q id frequency n (index ∷ []) some = or_false (int_eq q id)
   line_of_rows q id frequency n (index ∷ other ∷ indexes) some =
       ap (λ b. int_eq q id || b)
       (line_of_rows q id frequency (n + 1) (other ∷ indexes) (omega arith))

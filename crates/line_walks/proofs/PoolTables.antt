@@ -3,31 +3,36 @@ use Rattle.std.proofs.Common.{arith, ℕ, sym, ◌≡◌, refl, ℤ, ◌≤◌, 
 use Rattle.std.proofs.Common.{◌∙◌}
 use Rattle.std.specs.List.{All}
 use Rattle.std.proofs.lemmas.List.Elements.{All-weaker}
-use Rattle.ptn_network.specs.Networks.{NetworkParts}
+use Rattle.walks.specs.Networks.{NetworkParts}
 use Rattle.std.proofs.lemmas.Simd.{map-map}
 use Rattle.tables.specs.Tables.{TableRow}
 use Rattle.tables.specs.declared.refusal.StageFault.{StageFault}
 use Rattle.tables.specs.Inputs.{Input, Refuses, cell_faults, records, limit_faults, table_row_faults, table_faults}
 use Rattle.tables.proofs.Inputs.{refused_cells, faults_of_table, limit_kept, no_faults}
-use Rattle.ptn_network.specs.declared.edge.Edge.{Edge}
-use Rattle.ptn_network.specs.Networks.{rising}
+use Rattle.walks.specs.declared.edge.Edge.{Edge}
+use Rattle.walks.specs.RisingIds.{rising}
 use Rattle.line_walks.specs.declared.line_file.LineFile.{LineFile}
 use Rattle.tables.specs.Reading.{table_of}
 use Rattle.line_walks.specs.declared.line_row.LineRow.{LineRow}
 use Rattle.line_walks.specs.Pools.{line_limit, LineParts, line_input, lines_over, lines_of, line_faults, file_of, columns_of, IsLine, AreLines}
 use Rattle.line_walks.specs.LinesSoFar.{LineEdges, line_so_far, whole_line, lines_in}
 
-module _ (kind : LineFile) (edges : List Edge) (table : List TableRow) (ids : List ℤ) (are : ids ≡ rising (lines_in table)) where
+module _ (kind : LineFile) (edges : List Edge) (table : List TableRow) (ids : List ℤ)
+    (are : ids ≡ rising (lines_in table)) where
   -- as many lines as there may be
   within : length ids ≤ 200 → limit_faults (line_input kind edges).limits (records (line_input kind edges) table) ≡ []
-  within h = limit_kept line_limit [] (records (line_input kind edges) table) (subst (λ some. length some ≤ 200) are h) refl
+  within h = limit_kept line_limit [] (records (line_input kind edges) table)
+      (subst (λ some. length some ≤ 200) are h) refl
 
   -- a table whose rows break no rule
-  pub table_kept : length ids ≤ 200 → table_row_faults (line_input kind edges) table ≡ [] → table_faults (line_input kind edges) table ≡ []
+  pub table_kept : length ids ≤ 200 → table_row_faults (line_input kind edges) table ≡ []
+      → table_faults (line_input kind edges) table ≡ []
   table_kept h by = no_faults (line_input kind edges) table (within h) by refl
 
   -- the whole lines of the ids
-  pub lines_are : (lines : List LineEdges) (whole : List LineParts) → lines ≡ map (line_so_far edges (records (line_input kind edges) table)) ids → whole ≡ map whole_line lines → whole ≡ lines_over edges (records (line_input kind edges) table)
+  pub lines_are : (lines : List LineEdges) (whole : List LineParts) → lines
+      ≡ map (line_so_far edges (records (line_input kind edges) table)) ids → whole
+      ≡ map whole_line lines → whole ≡ lines_over edges (records (line_input kind edges) table)
   lines_are lines whole told is = grind (arith, map-map)
 
 -- ---- the lines of a text
@@ -37,21 +42,35 @@ module _ (kind : LineFile) (network : NetworkParts) (text : List ℕ) where
   input = line_input kind network.edges
 
   -- a text that is refused by a cell
-  pub refused_text : (fault : StageFault) → Refuses (cell_faults (file_of kind) (columns_of kind) text) fault → Refuses (line_faults kind network text) fault
+  pub refused_text : (fault : StageFault)
+      → Refuses (cell_faults (file_of kind) (columns_of kind) text) fault
+      → Refuses (line_faults kind network text) fault
   unfolding line_faults
   refused_text fault by = refused_cells input text fault by
 
-  module _ (table : List TableRow) (none : cell_faults (file_of kind) (columns_of kind) text ≡ []) (is : table ≡ table_of (columns_of kind) text) where
+  module _ (table : List TableRow) (none : cell_faults (file_of kind) (columns_of kind) text ≡ [])
+      (is : table ≡ table_of (columns_of kind) text) where
     -- a text that is refused by its table
-    pub refused_table : (fault : StageFault) → Refuses (table_faults input table) fault → Refuses (line_faults kind network text) fault
+    pub refused_table : (fault : StageFault) → Refuses (table_faults input table) fault
+        → Refuses (line_faults kind network text) fault
     unfolding line_faults
     refused_table fault by = subst (λ all. Refuses all fault) (faults_of_table input text table none is) by
 
     -- the lines of its table are those of the text
-    pub lines_read : (lines : List LineParts) → (table_faults input table ≡ []) × (lines ≡ lines_over network.edges (records input table)) → (line_faults kind network text ≡ []) × (lines ≡ lines_of kind network text)
+    pub lines_read : (lines : List LineParts) → (table_faults input table ≡ [])
+        × (lines ≡ lines_over network.edges (records input table))
+        → (line_faults kind network text ≡ []) × (lines ≡ lines_of kind network text)
     unfolding line_faults lines_of
-    lines_read lines read = (sym (faults_of_table input text table none is) ∙ read.0, read.1 ∙ ap (λ rows. lines_over network.edges (records input rows)) is)
+    lines_read lines read = (
+      sym (faults_of_table input text table none is) ∙ read.0,
+      read.1
+          ∙ ap (λ rows. lines_over network.edges (records input rows)) is,
+    )
 
   -- their frequencies
-  pub served_lines : (lines : List LineParts) → lines ≡ lines_of kind network text → AreLines network.edges (lines_of kind network text) → All (λ line. line.frequency ≤ 1000) lines
-  served_lines lines same are = subst (All (λ (line : LineParts). line.frequency ≤ 1000)) (sym same) (All-weaker (IsLine network.edges) (λ line. line.frequency ≤ 1000) (λ line is. is.frequency) _ are.each)
+  pub served_lines : (lines : List LineParts) → lines ≡ lines_of kind network text
+      → AreLines network.edges (lines_of kind network text)
+      → All (λ line. line.frequency ≤ 1000) lines
+  served_lines lines same are = subst (All (λ (line : LineParts). line.frequency ≤ 1000)) (sym same)
+      (All-weaker (IsLine network.edges) (λ line. line.frequency ≤ 1000)
+      (λ line is. is.frequency) _ are.each)

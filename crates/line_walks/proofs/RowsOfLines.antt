@@ -18,7 +18,7 @@ use Rattle.tables.specs.declared.row_why.RowWhy.{RowWhy}
 use Rattle.tables.specs.declared.row_why.RowWhy.TheVariants as why
 use Rattle.tables.specs.Inputs.{broken_whys}
 use Rattle.tables.specs.Tables.{TableRow, no_row, cell_at}
-use Rattle.ptn_network.specs.declared.edge.Edge.{Edge}
+use Rattle.walks.specs.declared.edge.Edge.{Edge}
 use Rattle.line_walks.specs.declared.ends.Ends.{Ends}
 use Rattle.line_walks.specs.declared.line_row.LineRow.{LineRow}
 use Rattle.line_walks.specs.Pools.{line_row, edge_with, index_of, rows_of, edges_of, walk_of, line_rules, first_frequency, differs}
@@ -28,16 +28,24 @@ use Rattle.line_walks.proofs.Walks.{ends_more, has_walk}
 -- ---- the rows of a line
 
 -- a row of another line
-pub rows_other : (before : List LineRow) (row : LineRow) (id : ℤ) → int_eq id row.line ≡ false → rows_of id (before ++ row ∷ []) ≡ rows_of id before
-rows_other before row id e = filter-append (λ row. int_eq id row.line) before (row ∷ []) ∙ ap (λ b. rows_of id before ++ cond b (row ∷ []) []) e ∙ append-nil (rows_of id before)
+pub rows_other : (before : List LineRow) (row : LineRow) (id : ℤ) → int_eq id row.line ≡ false
+    → rows_of id (before ++ row ∷ []) ≡ rows_of id before
+rows_other before row id e = filter-append (λ row. int_eq id row.line) before (row ∷ [])
+    ∙ ap (λ b. rows_of id before ++ cond b (row ∷ []) []) e ∙ append-nil (rows_of id before)
 
 -- a row of the line
-pub rows_own : (before : List LineRow) (row : LineRow) (id : ℤ) → int_eq id row.line ≡ true → rows_of id (before ++ row ∷ []) ≡ rows_of id before ++ row ∷ []
-rows_own before row id e = filter-append (λ row. int_eq id row.line) before (row ∷ []) ∙ ap (λ b. rows_of id before ++ cond b (row ∷ []) []) e
+pub rows_own : (before : List LineRow) (row : LineRow) (id : ℤ) → int_eq id row.line ≡ true
+    → rows_of id (before ++ row ∷ []) ≡ rows_of id before ++ row ∷ []
+rows_own before row id e = filter-append (λ row. int_eq id row.line) before (row ∷ [])
+    ∙ ap (λ b. rows_of id before ++ cond b (row ∷ []) []) e
 
 -- the edges of a line with a row more
-edges_own : (edges : List Edge) (rows : List LineRow) (row : LineRow) (edge : Edge) → edge_with edges row.edge ≡ Some edge → filter_map (λ row. edge_with edges row.edge) (rows ++ row ∷ []) ≡ filter_map (λ row. edge_with edges row.edge) rows ++ edge ∷ []
-edges_own edges rows row edge is = filter_map-append (λ row. edge_with edges row.edge) rows (row ∷ []) ∙ ap (λ o. filter_map (λ row. edge_with edges row.edge) rows ++ cons_option o []) is
+edges_own : (edges : List Edge) (rows : List LineRow) (row : LineRow) (edge : Edge)
+    → edge_with edges row.edge ≡ Some edge
+    → filter_map (λ row. edge_with edges row.edge) (rows ++ row ∷ [])
+    ≡ filter_map (λ row. edge_with edges row.edge) rows ++ edge ∷ []
+edges_own edges rows row edge is = filter_map-append (λ row. edge_with edges row.edge) rows
+    (row ∷ []) ∙ ap (λ o. filter_map (λ row. edge_with edges row.edge) rows ++ cons_option o []) is
 
 -- a line, from its own rows
 abbrev line_from : List Edge → ℤ → List LineRow → LineEdges
@@ -50,37 +58,58 @@ line_from edges id rows = record {
 }
 
 -- the first of rows stays the first where there is one more
-frequency_more : (rows : List LineRow) (row : LineRow) → first_frequency (rows ++ row ∷ []) ≡ option_or (first_frequency rows) (Some row.frequency)
+frequency_more : (rows : List LineRow) (row : LineRow) → first_frequency (rows ++ row ∷ [])
+    ≡ option_or (first_frequency rows) (Some row.frequency)
 frequency_more [] row = refl
 frequency_more (first ∷ rows) row = refl
 
-line_more : (edges : List Edge) (id : ℤ) (rows : List LineRow) (row : LineRow) (index : ℕ) (edge : Edge) → StandsAt edges row.edge index → edge_with edges row.edge ≡ Some edge → line_from edges id (rows ++ row ∷ []) ≡ with_edge (line_from edges id rows) index edge row.frequency
+line_more : (edges : List Edge) (id : ℤ) (rows : List LineRow) (row : LineRow) (index : ℕ)
+    (edge : Edge) → StandsAt edges row.edge index → edge_with edges row.edge ≡ Some edge
+    → line_from edges id (rows ++ row ∷ [])
+    ≡ with_edge (line_from edges id rows) index edge row.frequency
 line_more edges id rows row index edge stands is =
     grind (arith, edges_own, map_push, unwrap_or, frequency_more, ends_more)
 
 module _ (edges : List Edge) (before : List LineRow) (row : LineRow) where
   -- a line without the row stays
-  pub line_stays : (id : ℤ) → int_eq id row.line ≡ false → line_so_far edges (before ++ row ∷ []) id ≡ line_so_far edges before id
+  pub line_stays : (id : ℤ) → int_eq id row.line ≡ false → line_so_far edges (before ++ row ∷ []) id
+      ≡ line_so_far edges before id
   line_stays id other = ap (line_from edges id) (rows_other before row id other)
 
   -- the line of the row has one edge more
-  pub line_gets : (line : LineEdges) (index : ℕ) (edge : Edge) → line ≡ line_so_far edges before row.line → StandsAt edges row.edge index → edge_with edges row.edge ≡ Some edge → with_edge line index edge row.frequency ≡ line_so_far edges (before ++ row ∷ []) row.line
+  pub line_gets : (line : LineEdges) (index : ℕ) (edge : Edge) → line
+      ≡ line_so_far edges before row.line → StandsAt edges row.edge index → edge_with edges row.edge
+      ≡ Some edge → with_edge line index edge row.frequency
+      ≡ line_so_far edges (before ++ row ∷ []) row.line
   line_gets line index edge told stands is =
       ap (λ some. with_edge some index edge row.frequency) told
-      ∙ sym (ap (line_from edges row.line) (rows_own before row row.line (int_eq_equiv.refl row.line)) ∙ line_more edges row.line (rows_of row.line before) row index edge stands is)
+      ∙ sym (ap (line_from edges row.line)
+      (rows_own before row row.line (int_eq_equiv.refl row.line))
+      ∙ line_more edges row.line (rows_of row.line before) row index edge stands is)
 
   -- its edges may be walked where one of its walks has an end
-  pub walk_told : (line : LineEdges) (edge : Edge) (ends : Ends) → line ≡ line_so_far edges before row.line → edge_with edges row.edge ≡ Some edge → ends ≡ next_ends line.edges line.ends edge → is_some (walk_of (edges_of edges row.line (before ++ row ∷ []))) ≡ (is_some ends.left || is_some ends.right)
+  pub walk_told : (line : LineEdges) (edge : Edge) (ends : Ends) → line
+      ≡ line_so_far edges before row.line → edge_with edges row.edge ≡ Some edge → ends
+      ≡ next_ends line.edges line.ends edge
+      → is_some (walk_of (edges_of edges row.line (before ++ row ∷ [])))
+      ≡ (is_some ends.left || is_some ends.right)
   walk_told line edge ends told is next =
       grind (arith, ends_more, is_some, rows_own, int_eq_equiv, edges_own, has_walk)
 
   -- its frequency differs from that of the line where it does from that of the line's first row
-  pub frequency_told : (line : LineEdges) (frequency : ℤ) (test answer : Bool) → line ≡ line_so_far edges before row.line → frequency ≡ row.frequency → test ≡ differs frequency line.frequency → test ≡ answer → differs row.frequency (first_frequency (rows_of row.line before)) ≡ answer
+  pub frequency_told : (line : LineEdges) (frequency : ℤ) (test answer : Bool) → line
+      ≡ line_so_far edges before row.line → frequency ≡ row.frequency → test
+      ≡ differs frequency line.frequency → test ≡ answer
+      → differs row.frequency (first_frequency (rows_of row.line before)) ≡ answer
   frequency_told line frequency test answer told own is e =
-      ap (λ f. differs f (first_frequency (rows_of row.line before))) (sym own) ∙ ap (λ some. differs frequency some.frequency) (sym told) ∙ sym is ∙ e
+      ap (λ f. differs f (first_frequency (rows_of row.line before))) (sym own)
+      ∙ ap (λ some. differs frequency some.frequency) (sym told) ∙ sym is ∙ e
 
   -- its place is told by how many edges the line has
-  pub next_told : (line : LineEdges) (order : ℤ) (count : ℕ) (test answer : Bool) → line ≡ line_so_far edges before row.line → order ≡ row.order → count ≡ length line.indexes → test ≡ int_eq order (pos (count + 1)) → test ≡ answer → int_eq row.order (pos (length (rows_of row.line before) + 1)) ≡ answer
+  pub next_told : (line : LineEdges) (order : ℤ) (count : ℕ) (test answer : Bool) → line
+      ≡ line_so_far edges before row.line → order ≡ row.order → count ≡ length line.indexes → test
+      ≡ int_eq order (pos (count + 1)) → test ≡ answer
+      → int_eq row.order (pos (length (rows_of row.line before) + 1)) ≡ answer
   next_told line order count test answer told own size is e = grind (arith, length-map)
 
 -- ---- the rules of a row
@@ -138,67 +167,113 @@ or_last true false = refl
 or_last false true = refl
 or_last false false = refl
 
-chosen : (a b old : Bool) (rows : List LineRow) (row : LineRow) (edge : ℤ) → b ≡ int_eq edge row.edge → old ≡ list_any (λ other. int_eq edge other.edge) rows → cond (a && b) true old ≡ list_any (λ other. int_eq edge other.edge) (rows ++ cond a (row ∷ []) [])
-chosen true b old rows row edge same told = ap (λ t. cond t true old) same ∙ or_last old (int_eq edge row.edge) ∙ ap (λ t. t || (int_eq edge row.edge || false)) told ∙ sym (list_any-append (λ other. int_eq edge other.edge) rows (row ∷ []))
-chosen false b old rows row edge same told = told ∙ ap (list_any (λ other. int_eq edge other.edge)) (sym (append-nil rows))
+chosen : (a b old : Bool) (rows : List LineRow) (row : LineRow) (edge : ℤ) → b
+    ≡ int_eq edge row.edge → old ≡ list_any (λ other. int_eq edge other.edge) rows
+    → cond (a && b) true old
+    ≡ list_any (λ other. int_eq edge other.edge) (rows ++ cond a (row ∷ []) [])
+chosen true b old rows row edge same told = ap (λ t. cond t true old) same
+    ∙ or_last old (int_eq edge row.edge) ∙ ap (λ t. t || (int_eq edge row.edge || false)) told
+    ∙ sym (list_any-append (λ other. int_eq edge other.edge) rows (row ∷ []))
+chosen false b old rows row edge same told = told
+    ∙ ap (list_any (λ other. int_eq edge other.edge)) (sym (append-nil rows))
 
 -- one row more
-pub pair_noted : (before : List LineRow) (row : LineRow) (id edge : ℤ) (old new : Bool) → new ≡ cond (int_eq row.line id && int_eq row.edge edge) true old → old ≡ list_any (λ other. int_eq edge other.edge) (rows_of id before) → new ≡ list_any (λ other. int_eq edge other.edge) (rows_of id (before ++ row ∷ []))
+pub pair_noted : (before : List LineRow) (row : LineRow) (id edge : ℤ) (old new : Bool) → new
+    ≡ cond (int_eq row.line id && int_eq row.edge edge) true old → old
+    ≡ list_any (λ other. int_eq edge other.edge) (rows_of id before) → new
+    ≡ list_any (λ other. int_eq edge other.edge) (rows_of id (before ++ row ∷ []))
 pair_noted before row id edge old new noted told =
     grind (arith, int_eq_equiv, chosen, filter-append)
 
 -- whether the pair of a row is new
-pub new_told : (before : List LineRow) (row : LineRow) (id edge : ℤ) (held : ℤ → ℤ → Bool) (is_new : Bool) → id ≡ row.line → edge ≡ row.edge → ((id edge : ℤ) → held id edge ≡ list_any (λ other. int_eq edge other.edge) (rows_of id before)) → is_new ≡ not (held id edge) → is_new ≡ not (list_any (λ other. int_eq row.edge other.edge) (rows_of row.line before))
+pub new_told : (before : List LineRow) (row : LineRow) (id edge : ℤ) (held : ℤ → ℤ → Bool)
+    (is_new : Bool) → id ≡ row.line → edge ≡ row.edge
+    → ((id edge : ℤ) → held id edge
+    ≡ list_any (λ other. int_eq edge other.edge) (rows_of id before)) → is_new ≡ not (held id edge)
+    → is_new ≡ not (list_any (λ other. int_eq row.edge other.edge) (rows_of row.line before))
 new_told before row id edge held is_new same_line same_edge told is =
-    is ∙ ap (λ q. not (held q edge)) same_line ∙ ap (λ q. not (held row.line q)) same_edge ∙ ap not (told row.line row.edge)
+    is ∙ ap (λ q. not (held q edge)) same_line ∙ ap (λ q. not (held row.line q)) same_edge
+    ∙ ap not (told row.line row.edge)
 
 -- ---- lines by their ids
 
 -- the line at the place of its id is changed, and the others stay
-pub line_set : {X : Type 0} (ids : List ℤ) (line : ℤ) (place : ℕ) (old new : ℤ → X) (changed : X) → IsDistinct int_eq ids → position (int_eq line) ids ≡ Some place → changed ≡ new line → ((id : ℤ) → int_eq id line ≡ false → new id ≡ old id) → set (map old ids) place changed ≡ map new ids
+pub line_set : {X : Type 0} (ids : List ℤ) (line : ℤ) (place : ℕ) (old new : ℤ → X) (changed : X)
+    → IsDistinct int_eq ids → position (int_eq line) ids ≡ Some place → changed ≡ new line
+    → ((id : ℤ) → int_eq id line ≡ false → new id ≡ old id) → set (map old ids) place changed
+    ≡ map new ids
 line_set ids line place old new changed apart at is stays =
     let p = position-Some (int_eq line) ids place (pos 0) at in
     let same : line ≡ get_or ids place (pos 0) = (Decides-int_eq line (get_or ids place (pos 0))).0 p.1 in
-    let size : length (set (map old ids) place changed) ≡ length ids = length-set (map old ids) place changed ∙ length-map ids old in
+    let size : length (set (map old ids) place changed)
+    ≡ length ids = length-set (map old ids) place changed ∙ length-map ids old in
     same_lists (set (map old ids) place changed) (map new ids) (size ∙ sym (length-map ids new)) (λ k d h.
     let within : k < length ids = omega arith in
-    let later : k ≢ place → int_eq (get_or ids k (pos 0)) line ≡ false → get_or (set (map old ids) place changed) k d ≡ get_or (map new ids) k d = λ ne other.
-    get_or-set_other (map old ids) place k changed d ne ∙ get_or-map old ids k (pos 0) d within ∙ sym (stays (get_or ids k (pos 0)) other) ∙ sym (get_or-map new ids k (pos 0) d within) in
+    let later : k ≢ place → int_eq (get_or ids k (pos 0)) line ≡ false
+    → get_or (set (map old ids) place changed) k d ≡ get_or (map new ids) k d = λ ne other.
+    get_or-set_other (map old ids) place k changed d ne ∙ get_or-map old ids k (pos 0) d within
+    ∙ sym (stays (get_or ids k (pos 0)) other) ∙ sym (get_or-map new ids k (pos 0) d within) in
     elim (cases_order k place) [
       | inl e ↦
           let here : place < length (map old ids) = omega (arith, length-map ids old) in
           subst (λ n. get_or (set (map old ids) place changed) n d ≡ get_or (map new ids) n d) (sym e)
-          (get_or-set_same (map old ids) place changed d here ∙ is ∙ ap new same ∙ sym (get_or-map new ids place (pos 0) d p.0))
+          (get_or-set_same (map old ids) place changed d here ∙ is ∙ ap new same
+          ∙ sym (get_or-map new ids place (pos 0) d p.0))
       | inr (inl lt) ↦ later (λ e. absurd (omega arith)) (int_eq_equiv.symm (get_or ids k (pos 0)) line ∙ p.2 k lt)
-      | inr (inr gt) ↦ later (λ e. absurd (omega arith)) (int_eq_equiv.symm (get_or ids k (pos 0)) line ∙ ap (λ q. int_eq q (get_or ids k (pos 0))) same ∙ apart_from_distinct int_eq ids place k (pos 0) apart gt within)
+      | inr (inr gt) ↦ later (λ e. absurd (omega arith))
+          (int_eq_equiv.symm (get_or ids k (pos 0)) line
+          ∙ ap (λ q. int_eq q (get_or ids k (pos 0))) same
+          ∙ apart_from_distinct int_eq ids place k (pos 0) apart gt within)
     ])
 
 -- the line at the place of its id
-pub line_at : {X : Type 0} (ids : List ℤ) (lines : List X) (of_id : ℤ → X) (line : ℤ) (place : ℕ) (d : X) → lines ≡ map of_id ids → position (int_eq line) ids ≡ Some place → get_or lines place d ≡ of_id line
+pub line_at : {X : Type 0} (ids : List ℤ) (lines : List X) (of_id : ℤ → X) (line : ℤ) (place : ℕ)
+    (d : X) → lines ≡ map of_id ids → position (int_eq line) ids ≡ Some place → get_or lines place d
+    ≡ of_id line
 line_at ids lines of_id line place d are at =
     let p = position-Some (int_eq line) ids place (pos 0) at in
-    ap (λ some. get_or some place d) are ∙ get_or-map of_id ids place (pos 0) d p.0 ∙ ap of_id (sym ((Decides-int_eq line (get_or ids place (pos 0))).0 p.1))
+    ap (λ some. get_or some place d) are ∙ get_or-map of_id ids place (pos 0) d p.0
+    ∙ ap of_id (sym ((Decides-int_eq line (get_or ids place (pos 0))).0 p.1))
 
 -- the lines after one row more
-pub lines_more : (edges : List Edge) (before : List LineRow) (row : LineRow) (ids : List ℤ) (place : ℕ) (lines after : List LineEdges) (index : ℕ) (edge : Edge) → IsDistinct int_eq ids → position (int_eq row.line) ids ≡ Some place → lines ≡ map (line_so_far edges before) ids → StandsAt edges row.edge index → edge_with edges row.edge ≡ Some edge → after ≡ set lines place (with_edge (get_or lines place (no_line (pos 0))) index edge row.frequency) → after ≡ map (line_so_far edges (before ++ row ∷ [])) ids
+pub lines_more : (edges : List Edge) (before : List LineRow) (row : LineRow) (ids : List ℤ)
+    (place : ℕ) (lines after : List LineEdges) (index : ℕ) (edge : Edge) → IsDistinct int_eq ids
+    → position (int_eq row.line) ids ≡ Some place → lines ≡ map (line_so_far edges before) ids
+    → StandsAt edges row.edge index → edge_with edges row.edge ≡ Some edge → after
+    ≡ set lines place (with_edge (get_or lines place (no_line (pos 0))) index edge row.frequency)
+    → after ≡ map (line_so_far edges (before ++ row ∷ [])) ids
 lines_more edges before row ids place lines after index edge apart at are stands is put =
     grind (arith, get_or, line_set, line_gets, line_at, line_stays)
 
 -- ---- the ids of lines
 
 -- the line of a row is listed
-pub line_listed : (rows : List TableRow) (i : ℕ) (row : LineRow) → i < length rows → row ≡ line_row (get_or rows i no_row).cells → list_any (int_eq row.line) (lines_in rows) ≡ true
+pub line_listed : (rows : List TableRow) (i : ℕ) (row : LineRow) → i < length rows → row
+    ≡ line_row (get_or rows i no_row).cells → list_any (int_eq row.line) (lines_in rows) ≡ true
 line_listed rows i row h is =
     let read : List LineRow = map (λ row. line_row row.cells) rows in
     let size : length read ≡ length rows = length-map rows (λ row. line_row row.cells) in
-    let here : get_or (lines_in rows) i (pos 0) ≡ row.line = get_or-map (λ row. row.line) read i row (pos 0) (omega arith) ∙ ap (λ row. row.line) (get_or-map (λ row. line_row row.cells) rows i no_row row h ∙ sym is) in
-    list_any_at (int_eq row.line) (lines_in rows) i (pos 0) (omega (arith, length-map read (λ row. row.line))) (ap (int_eq row.line) here ∙ int_eq_equiv.refl row.line)
+    let here : get_or (lines_in rows) i (pos 0)
+    ≡ row.line = get_or-map (λ row. row.line) read i row (pos 0) (omega arith)
+    ∙ ap (λ row. row.line)
+    (get_or-map (λ row. line_row row.cells) rows i no_row row h ∙ sym is) in
+    list_any_at (int_eq row.line) (lines_in rows) i (pos 0)
+    (omega (arith, length-map read (λ row. row.line)))
+    (ap (int_eq row.line) here ∙ int_eq_equiv.refl row.line)
 
 -- the ids of one row more
-pub ids_more : (rows : List TableRow) (i : ℕ) (read : ℤ) (id : ℤ) (old new : Bool) → i < length rows → read ≡ cell_at rows i 0 → new ≡ cond (int_eq read id) true old → old ≡ list_any (int_eq id) (lines_in (take i rows)) → new ≡ list_any (int_eq id) (lines_in (take (i + 1) rows))
+pub ids_more : (rows : List TableRow) (i : ℕ) (read : ℤ) (id : ℤ) (old new : Bool) → i < length rows
+    → read ≡ cell_at rows i 0 → new ≡ cond (int_eq read id) true old → old
+    ≡ list_any (int_eq id) (lines_in (take i rows)) → new
+    ≡ list_any (int_eq id) (lines_in (take (i + 1) rows))
 ids_more rows i read id old new h is noted told =
     let line : TableRow → ℤ = λ row. (line_row row.cells).line in
     let row = get_or rows i no_row in
-    let next : lines_in (take (i + 1) rows) ≡ lines_in (take i rows) ++ line row ∷ [] = ap lines_in (take_more rows i no_row h) ∙ ap (map (λ row. row.line)) (map_push (λ row. line_row row.cells) (take i rows) row) ∙ map_push (λ row. row.line) (map (λ row. line_row row.cells) (take i rows)) (line_row row.cells) in
-    noted ∙ ap (λ b. cond b true old) (ap (λ q. int_eq q id) is ∙ int_eq_equiv.symm (line row) id) ∙ or_last old (int_eq id (line row)) ∙ ap (λ b. b || (int_eq id (line row) || false)) told
+    let next : lines_in (take (i + 1) rows) ≡ lines_in (take i rows)
+    ++ line row ∷ [] = ap lines_in (take_more rows i no_row h)
+    ∙ ap (map (λ row. row.line)) (map_push (λ row. line_row row.cells) (take i rows) row)
+    ∙ map_push (λ row. row.line) (map (λ row. line_row row.cells) (take i rows))
+    (line_row row.cells) in
+    noted ∙ ap (λ b. cond b true old) (ap (λ q. int_eq q id) is ∙ int_eq_equiv.symm (line row) id)
+    ∙ or_last old (int_eq id (line row)) ∙ ap (λ b. b || (int_eq id (line row) || false)) told
     ∙ sym (list_any-append (int_eq id) (lines_in (take i rows)) (line row ∷ [])) ∙ ap (list_any (int_eq id)) (sym next)

@@ -4,16 +4,14 @@ use Rattle.std.proofs.Common.{cond, List, [], ◌∷◌, ◌++◌, length, map, 
 use Rattle.std.proofs.Common.{subst, sym, ◌∙◌, arith, append_assoc, Some, None, is_some, unwrap_or}
 use Rattle.std.proofs.Common.{option_map, unsigned_abs, lit<}
 use Rattle.std.specs.List.{All, list_any, find, position_or_len, IsDistinct}
-use Rattle.std.specs.FinMap.{put}
-use Rattle.std.specs.Map.{keys_of}
-use Rattle.std.specs.Ordering.{int_eq, int_cmp}
+use Rattle.std.specs.Ordering.{int_eq}
 use Rattle.std.specs.Set.{is_member}
 use Rattle.std.proofs.lemmas.Bool.{ltb-false}
 use Rattle.std.proofs.lemmas.Bool.Decides.{Decides-int_eq}
 use Rattle.std.proofs.lemmas.Cmp.{int_eq_equiv}
 use Rattle.std.proofs.lemmas.Int.{ints}
 use Rattle.std.proofs.lemmas.List.{append-nil, map_push, length-map}
-use Rattle.std.proofs.lemmas.List.Elements.{All-cons, All-head, All-tail, All-map, All-weaker, All-filter, All-contains, All-get_or}
+use Rattle.std.proofs.lemmas.List.Elements.{All-map, All-weaker, All-filter, All-contains, All-get_or}
 use Rattle.std.proofs.lemmas.List.Folds.{find_at, list_any_at}
 use Rattle.std.proofs.lemmas.List.Quantifiers.{position-Some}
 use Rattle.std.proofs.lemmas.List.Sums.{sum-map, sum_by-le}
@@ -26,12 +24,14 @@ use Rattle.tables.specs.Inputs.{records, records_of, numbered, broken_whys, row_
 use Rattle.tables.specs.Reading.{table_of}
 use Rattle.tables.specs.Tables.{TableRow}
 use Rattle.tables.proofs.Inputs.{parts_sound, table_sound, sound_rows}
-use Rattle.tables.proofs.Ranges.{front_none, back_none, unmapped}
+use Rattle.tables.proofs.Ranges.{front_none, back_none}
 use Rattle.tables.specs.Writing.{InColumns}
 use Rattle.tables.proofs.WriteFacts.{in_column}
-use Rattle.tables.proofs.Found.{any_mapped}
-use Rattle.ptn_network.specs.declared.edge.Edge.{Edge}
-use Rattle.ptn_network.specs.Networks.{NetworkParts, IsEdge, IsNetwork, by_id, rising}
+use Rattle.plan_num.proofs.Found.{any_mapped}
+use Rattle.walks.specs.declared.edge.Edge.{Edge}
+use Rattle.walks.specs.Networks.{NetworkParts, IsEdge, IsNetwork}
+use Rattle.walks.proofs.RisingIds.{all_rising}
+use Rattle.walks.specs.RisingIds.{rising}
 use Rattle.line_walks.specs.declared.line_file.LineFile.{LineFile}
 use Rattle.line_walks.specs.declared.line_file.LineFile.TheVariants as kinds
 use Rattle.line_walks.specs.declared.line_row.LineRow.{LineRow}
@@ -39,11 +39,13 @@ use Rattle.line_walks.specs.LineLengths.{line_length, IsModest}
 use Rattle.line_walks.specs.LineLengths.{length_at}
 use Rattle.line_walks.specs.Pools.{file_of, columns_of, line_row, line_rules, line_input, edge_with, index_of, rows_of, walk_of, edges_of, line_of, lines_over, lines_of, line_faults}
 use Rattle.line_walks.proofs.RowsOfLines.{whys, rows_own, rows_other}
-use Rattle.ptn_network.proofs.PathSteps.{no_edge as some_edge}
+use Rattle.walks.proofs.PathSteps.{no_edge as some_edge}
+use Rattle.plan_num.proofs.Lists.{unmapped}
 
 -- ---- rows that break no rule
 
-kept : (known next repeated joined other : Bool) → whys known next repeated joined other ≡ [] → (known ≡ true) × (repeated ≡ false) × (joined ≡ true)
+kept : (known next repeated joined other : Bool) → whys known next repeated joined other ≡ []
+    → (known ≡ true) × (repeated ≡ false) × (joined ≡ true)
 kept false next repeated joined other e = cc
 kept true false repeated joined other e = cc
 kept true true true joined other e = cc
@@ -51,7 +53,10 @@ kept true true false false other e = cc
 kept true true false true other e = (refl, refl, refl)
 
 -- the edge of such a row is there, and its line did not have it
-pub row_sound : (edges : List Edge) (before : List LineRow) (row : LineRow) → broken_whys (line_rules edges) before row ≡ [] → (is_some (edge_with edges row.edge) ≡ true) × (list_any (λ other. int_eq row.edge other.edge) (rows_of row.line before) ≡ false) × (is_some (walk_of (edges_of edges row.line (before ++ row ∷ []))) ≡ true)
+pub row_sound : (edges : List Edge) (before : List LineRow) (row : LineRow)
+    → broken_whys (line_rules edges) before row ≡ [] → (is_some (edge_with edges row.edge) ≡ true)
+    × (list_any (λ other. int_eq row.edge other.edge) (rows_of row.line before) ≡ false)
+    × (is_some (walk_of (edges_of edges row.line (before ++ row ∷ []))) ≡ true)
 row_sound edges before row none = grind arith
 
 -- ---- the edges of a line are different
@@ -64,59 +69,58 @@ none_apart : IsDistinct int_eq []
 unfolding IsDistinct
 none_apart = tt
 
-apart_more : (before : List LineRow) (row : LineRow) (id : ℤ) → list_any (λ other. int_eq row.edge other.edge) (rows_of row.line before) ≡ false → IsDistinct int_eq (edge_ids id before) → IsDistinct int_eq (edge_ids id (before ++ row ∷ []))
+apart_more : (before : List LineRow) (row : LineRow) (id : ℤ)
+    → list_any (λ other. int_eq row.edge other.edge) (rows_of row.line before) ≡ false
+    → IsDistinct int_eq (edge_ids id before) → IsDistinct int_eq (edge_ids id (before ++ row ∷ []))
 apart_more before row id new apart =
     elim (int_eq id row.line) as (λ b. int_eq id row.line ≡ b → IsDistinct int_eq (edge_ids id (before ++ row ∷ []))) [
       | true ↦ λ own.
           let same : id ≡ row.line = (Decides-int_eq id row.line).0 own in
           let fresh : list_any (int_eq row.edge) (edge_ids id before) ≡ false =
-          any_mapped (int_eq row.edge) (λ other. other.edge) (rows_of id before) ∙ subst (λ q. list_any (λ other. int_eq row.edge other.edge) (rows_of q before) ≡ false) (sym same) new in
-          subst (IsDistinct int_eq) (sym (ap (map (λ row. row.edge)) (rows_own before row id own) ∙ map_push (λ row. row.edge) (rows_of id before) row)) (IsDistinct-push int_eq_equiv (edge_ids id before) row.edge apart fresh)
-      | false ↦ λ other. subst (λ rows. IsDistinct int_eq (map (λ row. row.edge) rows)) (sym (rows_other before row id other)) apart
+          any_mapped (int_eq row.edge) (λ other. other.edge) (rows_of id before)
+          ∙ subst (λ q. list_any (λ other. int_eq row.edge other.edge) (rows_of q before) ≡ false)
+          (sym same) new in
+          subst (IsDistinct int_eq) (sym (ap (map (λ row. row.edge)) (rows_own before row id own)
+          ∙ map_push (λ row. row.edge) (rows_of id before) row))
+          (IsDistinct-push int_eq_equiv (edge_ids id before) row.edge apart fresh)
+      | false ↦ λ other. subst (λ rows. IsDistinct int_eq (map (λ row. row.edge) rows))
+          (sym (rows_other before row id other)) apart
     ] refl
 
-pub all_apart : (kind : LineFile) (edges : List Edge) (id : ℤ) (before : List LineRow) (rows : List TableRow) → row_faults (file_of kind) (line_rules edges) before (numbered (line_input kind edges) rows) ≡ [] → IsDistinct int_eq (edge_ids id before) → IsDistinct int_eq (edge_ids id (before ++ records (line_input kind edges) rows))
+pub all_apart : (kind : LineFile) (edges : List Edge) (id : ℤ) (before : List LineRow)
+    (rows : List TableRow)
+    → row_faults (file_of kind) (line_rules edges) before (numbered (line_input kind edges) rows)
+    ≡ [] → IsDistinct int_eq (edge_ids id before)
+    → IsDistinct int_eq (edge_ids id (before ++ records (line_input kind edges) rows))
 unfolding row_faults
-all_apart kind edges id before [] none apart = subst (λ rows. IsDistinct int_eq (edge_ids id rows)) (sym (append-nil before)) apart
+all_apart kind edges id before [] none apart = subst (λ rows. IsDistinct int_eq (edge_ids id rows))
+    (sym (append-nil before)) apart
 all_apart kind edges id before (row ∷ rows) none apart =
     let read = line_row row.cells in
     let met = row_sound edges before read (unmapped _ _ (front_none _ _ none)) in
-    subst (λ all. IsDistinct int_eq (edge_ids id all)) (append_assoc before (read ∷ []) (records (line_input kind edges) rows))
+    subst (λ all. IsDistinct int_eq (edge_ids id all))
+    (append_assoc before (read ∷ []) (records (line_input kind edges) rows))
     (all_apart kind edges id (before ++ read ∷ []) rows (back_none _ _ none) (apart_more before read id met.1 apart))
 
 -- ---- an edge that is there
 
 -- what is found stands at a place, and is one of the items
-pub known_at : {X : Type 0} (p : X → Bool) (xs : List X) (d : X) → is_some (find p xs) ≡ true → (unwrap_or (position p xs) 0 < length xs) × (list_any p xs ≡ true)
+pub known_at : {X : Type 0} (p : X → Bool) (xs : List X) (d : X) → is_some (find p xs) ≡ true
+    → (unwrap_or (position p xs) 0 < length xs) × (list_any p xs ≡ true)
 known_at p xs d known =
     let place = position_or_len p xs in
-    elim (nat_lt place (length xs)) as (λ b. nat_lt place (length xs) ≡ b → (unwrap_or (cond b (Some place) None) 0 < length xs) × (list_any p xs ≡ true)) [
+    elim (nat_lt place (length xs)) as
+    (λ b. nat_lt place (length xs) ≡ b → (unwrap_or (cond b (Some place) None) 0 < length xs)
+    × (list_any p xs ≡ true)) [
       | true ↦ λ within.
           let at : position p xs ≡ Some place = ap (λ b. cond b (Some place) None) within in
           let found = position-Some p xs place d at in
           (found.0, list_any_at p xs place d found.0 found.1)
       | false ↦ λ past.
-          let nothing : is_some (find p xs) ≡ false = ap is_some (find_at p xs ∙ slice_get_past xs place (ltb-false _ _ past)) in
+          let nothing : is_some (find p xs)
+          ≡ false = ap is_some (find_at p xs ∙ slice_get_past xs place (ltb-false _ _ past)) in
           cc
     ] refl
-
--- ---- the ids of lines
-
-all_put : {X : Type 0} (P : ℤ → Type 0) (k : ℤ) (v : X) (es : List (ℤ × X)) → P k → All P (keys_of es) → All P (keys_of (put int_cmp k v es))
-all_put P k v [] own all = All-cons P k [] own all
-all_put P k v (e ∷ es) own all =
-    grind (
-      arith,
-      All-cons,
-      All-head,
-      All-tail,
-      all_put P k v es own (All-tail P e.0 (keys_of es) all),
-    )
-
-pub all_rising : (P : ℤ → Type 0) (ids : List ℤ) → All P ids → All P (rising ids)
-unfolding by_id
-all_rising P [] all = all
-all_rising P (id ∷ ids) all = all_put P id tt (by_id (map (λ id. (id, tt {0})) ids)) (All-head P id ids all) (all_rising P ids (All-tail P id ids all))
 
 -- ---- the lengths of lines
 
@@ -125,22 +129,28 @@ pub unsigned_within : (z : ℤ) (most : ℕ) → pos 0 ≤ℤ z → z ≤ℤ pos
 unsigned_within (pos n) most low high = omega (arith, ints)
 unsigned_within (negsuc n) most low high = absurd (omega (arith, ints))
 
-short_edge : (stops : ℕ) (edges : List Edge) → All (IsEdge stops) edges → (index : ℕ) → index < length edges → length_at edges index ≤ 10000000000
+short_edge : (stops : ℕ) (edges : List Edge) → All (IsEdge stops) edges → (index : ℕ)
+    → index < length edges → length_at edges index ≤ 10000000000
 short_edge stops edges all index h =
     let edge = get_or edges index some_edge in
     let sound : IsEdge stops edge = All-get_or (IsEdge stops) edges index some_edge h all in
-    let is : length_at edges index ≡ length_at (edge ∷ []) 0 = ap (λ o. unwrap_or (option_map (λ (edge : Edge). length_at (edge ∷ []) 0) o) 0) (slice_get-get_or edges index some_edge h) in
+    let is : length_at edges index
+    ≡ length_at (edge ∷ []) 0 = ap (λ o. unwrap_or
+    (option_map (λ (edge : Edge). length_at (edge ∷ []) 0) o) 0)
+    (slice_get-get_or edges index some_edge h) in
     let some : pos 1 ≤ℤ edge.length = sound.some_length in
     subst (λ n. n ≤ 10000000000) (sym is) (unsigned_within edge.length 10000000000 (omega (arith, ints)) sound.short)
 
 -- the cell of a line's id is one
-pub id_in : (kind : LineFile) (cells : List ℤ) → InColumns (columns_of kind) cells → (pos 1 ≤ℤ (line_row cells).line) × ((line_row cells).line ≤ℤ pos 1000000000)
+pub id_in : (kind : LineFile) (cells : List ℤ) → InColumns (columns_of kind) cells
+    → (pos 1 ≤ℤ (line_row cells).line) × ((line_row cells).line ≤ℤ pos 1000000000)
 id_in kinds.Pool cells within = in_column pool_columns cells 0 column.Skip (pos 0) within (lit< tt)
 id_in kinds.Concept cells within = in_column concept_columns cells 0 column.Skip (pos 0) within (lit< tt)
 
 -- ---- lines
 
-module _ (kind : LineFile) (network : NetworkParts) (sound : IsNetwork network) (text : List ℕ) (none : input_faults (line_input kind network.edges) text ≡ []) where
+module _ (kind : LineFile) (network : NetworkParts) (sound : IsNetwork network) (text : List ℕ)
+    (none : input_faults (line_input kind network.edges) text ≡ []) where
   abbrev pub input_rows : List LineRow
   input_rows = records_of (line_input kind network.edges) text
 
@@ -166,32 +176,61 @@ module _ (kind : LineFile) (network : NetworkParts) (sound : IsNetwork network) 
     pub there : All (λ index. index < length network.edges) indexes
     there =
         All-map (λ index. index < length network.edges) (λ (row : LineRow). index_of network.edges row.edge) own
-        (All-weaker Known (λ row. index_of network.edges row.edge < length network.edges) (λ row h. (known_at (λ edge. int_eq row.edge edge.id) network.edges some_edge h).0) own known)
+        (All-weaker Known (λ row. index_of network.edges row.edge < length network.edges)
+        (λ row h. (known_at (λ edge. int_eq row.edge edge.id) network.edges some_edge h).0) own
+        known)
 
     listed : All (λ edge. is_member int_eq (map (λ edge. edge.id) network.edges) edge ≡ true) (edge_ids id input_rows)
     listed =
         let Listed : ℤ → Type 0 = λ edge. is_member int_eq (map (λ edge. edge.id) network.edges) edge ≡ true in
         All-map Listed (λ (row : LineRow). row.edge) own
-        (All-weaker Known (λ row. Listed row.edge) (λ row h. any_mapped (int_eq row.edge) (λ (edge : Edge). edge.id) network.edges ∙ (known_at (λ edge. int_eq row.edge edge.id) network.edges some_edge h).1) own known)
+        (All-weaker Known (λ row. Listed row.edge)
+        (λ row h. any_mapped (int_eq row.edge) (λ (edge : Edge). edge.id) network.edges
+        ∙ (known_at (λ edge. int_eq row.edge edge.id) network.edges some_edge h).1) own known)
 
     pub apart : IsDistinct int_eq (edge_ids id input_rows)
-    apart = all_apart kind network.edges id [] (table_of (columns_of kind) text) (table_sound (line_input kind network.edges) _ (parts_sound (line_input kind network.edges) text none).1).1 none_apart
+    apart = all_apart kind network.edges id [] (table_of (columns_of kind) text)
+        (table_sound (line_input kind network.edges) _
+        (parts_sound (line_input kind network.edges) text none).1).1 none_apart
 
     few : length indexes ≤ 1000
     few =
         let ids = map (λ (edge : Edge). edge.id) network.edges in
         let mine = edge_ids id input_rows in
-        let count = length-le_from_is_member int_eq_equiv mine ids apart (λ q h. All-contains (λ edge. is_member int_eq ids edge ≡ true) mine q listed ((is_member-Decides Decides-int_eq mine q).0 h)) in
-        omega (arith, count, length-map own (λ row. index_of network.edges row.edge), length-map own (λ row. row.edge), length-map network.edges (λ edge. edge.id), sound.few_edges)
+        let count = length-le_from_is_member int_eq_equiv mine ids apart
+        (λ q h. All-contains (λ edge. is_member int_eq ids edge ≡ true) mine q listed
+        ((is_member-Decides Decides-int_eq mine q).0 h)) in
+        omega (
+          arith,
+          count,
+          length-map own (λ row. index_of network.edges row.edge),
+          length-map own
+              (λ row. row.edge),
+          length-map network.edges (λ edge. edge.id),
+          sound.few_edges,
+        )
 
     short : line_length network.edges (line_of network.edges input_rows id) ≤ 10000000000000
     short =
         let Short : ℕ → Type 0 = λ index. length_at network.edges index ≤ 10000000000 in
-        let all = All-weaker (λ index. index < length network.edges) Short (short_edge _ network.edges sound.edges) indexes there in
-        omega (arith, sum-map (length_at network.edges) indexes, sum_by-le (length_at network.edges) 10000000000 indexes all, few)
+        let all = All-weaker (λ index. index < length network.edges) Short
+        (short_edge _ network.edges sound.edges) indexes there in
+        omega (
+          arith,
+          sum-map (length_at network.edges) indexes,
+          sum_by-le
+              (length_at network.edges) 10000000000 indexes all,
+          few,
+        )
 
     line_sound : pos 1 ≤ℤ id → id ≤ℤ pos 1000000000 → IsModest network.edges (line_of network.edges input_rows id)
-    line_sound least greatest = record { id_least = least; id_greatest = greatest; there = there; few = few; short = short }
+    line_sound least greatest = record {
+      id_least = least;
+      id_greatest = greatest;
+      there = there;
+      few = few;
+      short = short;
+    }
 
   -- each line has an id within its range, edges that are there and not too many, and is not too
   -- long
@@ -200,12 +239,19 @@ module _ (kind : LineFile) (network : NetworkParts) (sound : IsNetwork network) 
       let rows = sound_rows (line_input kind network.edges) text none in
       let IsId : ℤ → Type 0 = λ id. (pos 1 ≤ℤ id) × (id ≤ℤ pos 1000000000) in
       let line : TableRow → ℤ = λ row. (line_row row.cells).line in
-      let cells : All (λ row. IsId (line row)) (table_of (columns_of kind) text) = λ k d h. id_in kind _ (rows k d h).2 in
-      let ids : All IsId (map (λ row. row.line) input_rows) = All-map IsId (λ (row : LineRow). row.line) input_rows (All-map (λ (row : LineRow). IsId row.line) (λ (row : TableRow). line_row row.cells) (table_of (columns_of kind) text) cells) in
+      let cells : All (λ row. IsId (line row))
+      (table_of (columns_of kind) text) = λ k d h. id_in kind _ (rows k d h).2 in
+      let ids : All IsId (map (λ row. row.line) input_rows) = All-map IsId
+      (λ (row : LineRow). row.line) input_rows
+      (All-map (λ (row : LineRow). IsId row.line) (λ (row : TableRow). line_row row.cells)
+      (table_of (columns_of kind) text) cells) in
       All-map (IsModest network.edges) (line_of network.edges input_rows) (rising (map (λ row. row.line) input_rows))
-      (All-weaker IsId (λ id. IsModest network.edges (line_of network.edges input_rows id)) (λ id h. line_sound id h.0 h.1) (rising (map (λ row. row.line) input_rows)) (all_rising IsId (map (λ row. row.line) input_rows) ids))
+      (All-weaker IsId (λ id. IsModest network.edges (line_of network.edges input_rows id))
+      (λ id h. line_sound id h.0 h.1) (rising (map (λ row. row.line) input_rows))
+      (all_rising IsId (map (λ row. row.line) input_rows) ids))
 
 -- the lines of a text without a fault
-pub pool_sound : (kind : LineFile) (network : NetworkParts) (text : List ℕ) → IsNetwork network → line_faults kind network text ≡ [] → All (IsModest network.edges) (lines_of kind network text)
+pub pool_sound : (kind : LineFile) (network : NetworkParts) (text : List ℕ) → IsNetwork network
+    → line_faults kind network text ≡ [] → All (IsModest network.edges) (lines_of kind network text)
 unfolding lines_of line_faults
 pool_sound kind network text sound none = lines_sound kind network sound text none

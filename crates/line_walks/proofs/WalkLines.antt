@@ -11,7 +11,7 @@ use Rattle.std.proofs.lemmas.Bool.Decides.{Decides-int_eq}
 use Rattle.std.proofs.lemmas.Cmp.{int_eq_equiv}
 use Rattle.std.proofs.lemmas.List.{length-map, map-append}
 use Rattle.std.proofs.lemmas.List.Elements.{All-append, All-contains, All-cons}
-use Rattle.std.proofs.lemmas.List.Elements.{All-from_recursion, All-nil, filter-append}
+use Rattle.std.proofs.lemmas.List.Elements.{All-nil, filter-append}
 use Rattle.std.proofs.lemmas.Map.Made.{is_member-Decides, length-le_from_is_member}
 use Rattle.tables.specs.declared.counted.Counted.TheVariants as counted
 use Rattle.tables.specs.declared.refusal.Refusal.TheVariants as refusal
@@ -19,19 +19,20 @@ use Rattle.tables.specs.Columns.{concept_columns, pool_columns}
 use Rattle.tables.specs.Tables.{TableRow}
 use Rattle.tables.specs.Writing.{ReadsBack}
 use Rattle.tables.proofs.Accepted.{KeepRules, accepted, each_known}
-use Rattle.ptn_network.specs.declared.edge.Edge.{Edge}
-use Rattle.ptn_network.specs.Networks.{NetworkParts, rising}
-use Rattle.ptn_network.specs.Paths.{edges_at}
-use Rattle.ptn_network.proofs.Sound.{rising_rises}
+use Rattle.walks.specs.declared.edge.Edge.{Edge}
+use Rattle.walks.specs.Networks.{NetworkParts}
+use Rattle.walks.specs.Paths.{edges_at}
+use Rattle.walks.specs.RisingIds.{rising}
+use Rattle.walks.proofs.RisingIds.{all_rising, rising_rises}
 use Rattle.line_walks.specs.declared.line_file.LineFile.{LineFile}
 use Rattle.line_walks.specs.declared.line_file.LineFile.TheVariants as kinds
 use Rattle.line_walks.specs.declared.line_row.LineRow.{LineRow}
 use Rattle.line_walks.specs.Pools.{columns_of, concept_faults, line_faults, line_row}
 use Rattle.line_walks.specs.Pools.{line_rules, pool_faults}
 use Rattle.line_walks.specs.Pools.{rows_of, walk_of}
-use Rattle.line_walks.proofs.SoundLines.{all_rising}
-use Rattle.line_walks.proofs.WalkRows.{above_differs, below_differs, line_kept, other_rows}
+use Rattle.line_walks.proofs.WalkRows.{below_differs, line_kept, other_rows}
 use Rattle.line_walks.proofs.WalkRows.{rows_from}
+use Rattle.plan_num.proofs.Tests.{above_differs}
 
 -- a line of rows: its id, its frequency, and the indexes of its edges
 pub record RowsLine : Type 0 where
@@ -82,12 +83,6 @@ few_ids all ids each =
     (λ id is. All-contains (λ id. is_member int_eq all id ≡ true) (rising ids) id
     (all_rising (λ id. is_member int_eq all id ≡ true) ids each)
     ((is_member-Decides Decides-int_eq (rising ids) id).0 is))
-
--- there are not more ids after they were sorted
-pub rising_length : (ids : List ℤ) → length (rising ids) ≤ length ids
-rising_length ids =
-    few_ids ids ids (All-from_recursion (λ id. is_member int_eq ids id ≡ true) ids
-    (each_known ids ids (λ p h. h)))
 
 -- ---- the rows of all lines
 

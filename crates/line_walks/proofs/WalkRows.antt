@@ -8,7 +8,7 @@ use Rattle.std.specs.List.Sorted.{IsStrictlySortedBy}
 use Rattle.std.specs.Ordering.{int_cmp, int_eq}
 use Rattle.std.specs.Prelude.{option_and_then}
 use Rattle.std.specs.declared.cmp.Ordering.TheVariants.{Less}
-use Rattle.std.proofs.lemmas.Bool.{eqb-false, ne_eqb}
+use Rattle.std.proofs.lemmas.Bool.{eqb-false, ne_eqb, or_parts}
 use Rattle.std.proofs.lemmas.Bool.Decides.{Decides-int_eq}
 use Rattle.std.proofs.lemmas.Cmp.{int_eq_equiv}
 use Rattle.std.proofs.lemmas.List.{length_push}
@@ -17,12 +17,13 @@ use Rattle.std.proofs.lemmas.List.Folds.{list_any-append}
 use Rattle.std.proofs.lemmas.Map.Keys.{IsDistinct-head, IsDistinct-tail}
 use Rattle.tables.specs.Inputs.{broken_whys}
 use Rattle.tables.proofs.Accepted.{KeepRules}
-use Rattle.ptn_network.specs.declared.edge.Edge.{Edge}
-use Rattle.ptn_network.specs.Paths.{edges_at}
-use Rattle.ptn_network.specs.Walks.{across}
+use Rattle.walks.specs.declared.edge.Edge.{Edge}
+use Rattle.walks.specs.Paths.{edges_at}
+use Rattle.walks.specs.Walks.{across}
 use Rattle.line_walks.specs.declared.line_row.LineRow.{LineRow}
 use Rattle.line_walks.specs.Pools.{differs, edge_with, edges_of, first_frequency, line_rules}
 use Rattle.line_walks.specs.Pools.{or_walk, rows_of, walk_from, walk_of}
+use Rattle.plan_num.proofs.Tests.{above_differs}
 
 -- ---- the front of a walk is a walk
 
@@ -70,16 +71,6 @@ front_walk (edge ∷ front) back is =
 
 -- ---- edges by their ids
 
--- an id above another one is not that one
-pub above_differs : (x y : ℤ) → int_cmp x y ≡ Less → int_eq y x ≡ false
-above_differs x y less = by (int_eq y x) refl
-  where
-    by : (b : Bool) → int_eq y x ≡ b → b ≡ false
-    by true is =
-        let same : y ≡ x = (Decides-int_eq y x).0 is in
-        absurd (cc)
-    by false is = refl
-
 pub below_differs : (x y : ℤ) → int_cmp x y ≡ Less → int_eq x y ≡ false
 below_differs x y less = int_eq_equiv.symm x y ∙ above_differs x y less
 
@@ -121,10 +112,6 @@ ids_apart (edge ∷ edges) (suc index) (suc other) rise h k apart =
     (λ same. apart (ap suc same))
 
 -- ---- the rows of a line
-
-no_part : (a b : Bool) → (a || b) ≡ false → (a ≡ false) × (b ≡ false)
-no_part true b is = absurd (cc)
-no_part false b is = (refl, is)
 
 some_at : (edges : List Edge) (index : ℕ) → index < length edges
     → is_some (slice_get edges index) ≡ true
@@ -178,7 +165,7 @@ module _ (edges : List Edge) (rise : IsStrictlySortedBy int_cmp (map (λ edge. e
         (rows_from edges id frequency n done) ≡ false
     edge_new index h n [] there new = refl
     edge_new index h n (first ∷ done) there new =
-        let parts = no_part (nat_eq index first) (list_any (nat_eq index) done) new in
+        let parts = or_parts (nat_eq index first) (list_any (nat_eq index) done) new in
         ap (λ b. b || list_any (λ (other : LineRow). int_eq (id_at edges index) other.edge)
         (rows_from edges id frequency (n + 1) done))
         (ids_apart edges index first rise h (there 0 first (omega arith))

@@ -5,38 +5,54 @@ use Rattle.std.proofs.Common.{option_map, is_some, option_and_then}
 use Rattle.std.proofs.lemmas.List.{append_assoc, at_drop_more, at_drop_all}
 use Rattle.std.proofs.lemmas.List.Folds.{fold_stays}
 use Rattle.std.proofs.lemmas.List.Sums.{fold_push}
-use Rattle.ptn_network.specs.declared.edge.Edge.{Edge}
-use Rattle.ptn_network.specs.Walks.{across, end_from}
+use Rattle.walks.specs.declared.edge.Edge.{Edge}
+use Rattle.walks.specs.Walks.{across, end_from}
 use Rattle.line_walks.specs.Pools.{walk_from, or_walk, walk_of}
 use Rattle.line_walks.specs.LinesSoFar.{ends_of, next_ends}
 
 -- ---- the stops of a walk
 
-joined_onto : (front : List ℕ) (stop : ℕ) (walk : Option (List ℕ)) → option_map (λ more. front ++ more) (option_map (λ stops. stop ∷ stops) walk) ≡ option_map (λ more. (front ++ stop ∷ []) ++ more) walk
+joined_onto : (front : List ℕ) (stop : ℕ) (walk : Option (List ℕ))
+    → option_map (λ more. front ++ more) (option_map (λ stops. stop ∷ stops) walk)
+    ≡ option_map (λ more. (front ++ stop ∷ []) ++ more) walk
 joined_onto front stop None = refl
 joined_onto front stop (Some stops) = ap Some (sym (append_assoc front (stop ∷ []) stops))
 
 -- the walk goes on over an edge
-pub walk_goes_on : (edges : List Edge) (i : ℕ) (d : Edge) (front : List ℕ) (stop next : ℕ) (whole : Option (List ℕ)) → i < length edges → across (get_or edges i d) stop ≡ Some next → option_map (λ more. front ++ more) (walk_from stop (drop i edges)) ≡ whole → option_map (λ more. (front ++ stop ∷ []) ++ more) (walk_from next (drop (i + 1) edges)) ≡ whole
+pub walk_goes_on : (edges : List Edge) (i : ℕ) (d : Edge) (front : List ℕ) (stop next : ℕ)
+    (whole : Option (List ℕ)) → i < length edges → across (get_or edges i d) stop ≡ Some next
+    → option_map (λ more. front ++ more) (walk_from stop (drop i edges)) ≡ whole
+    → option_map (λ more. (front ++ stop ∷ []) ++ more) (walk_from next (drop (i + 1) edges))
+    ≡ whole
 unfolding walk_from
 walk_goes_on edges i d front stop next whole h goes so_far =
     sym (joined_onto front stop (walk_from next (drop (i + 1) edges)))
-    ∙ sym (ap (λ to. option_map (λ more. front ++ more) (option_and_then (λ next. option_map (λ stops. stop ∷ stops) (walk_from next (drop (i + 1) edges))) to)) goes)
+    ∙ sym (ap (λ to. option_map (λ more. front ++ more)
+    (option_and_then (λ next. option_map (λ stops. stop ∷ stops)
+    (walk_from next (drop (i + 1) edges))) to)) goes)
     ∙ sym (at_drop_more (λ rest. option_map (λ more. front ++ more) (walk_from stop rest)) edges i d h)
     ∙ so_far
 
 -- the walk ends before an edge
-pub walk_stops : (edges : List Edge) (i : ℕ) (d : Edge) (front : List ℕ) (stop : ℕ) (whole : Option (List ℕ)) → i < length edges → across (get_or edges i d) stop ≡ None → option_map (λ more. front ++ more) (walk_from stop (drop i edges)) ≡ whole → None ≡ whole
+pub walk_stops : (edges : List Edge) (i : ℕ) (d : Edge) (front : List ℕ) (stop : ℕ)
+    (whole : Option (List ℕ)) → i < length edges → across (get_or edges i d) stop ≡ None
+    → option_map (λ more. front ++ more) (walk_from stop (drop i edges)) ≡ whole → None ≡ whole
 unfolding walk_from
 walk_stops edges i d front stop whole h ends so_far =
-    sym (ap (λ to. option_map (λ more. front ++ more) (option_and_then (λ next. option_map (λ stops. stop ∷ stops) (walk_from next (drop (i + 1) edges))) to)) ends)
+    sym (ap (λ to. option_map (λ more. front ++ more)
+    (option_and_then (λ next. option_map (λ stops. stop ∷ stops)
+    (walk_from next (drop (i + 1) edges))) to)) ends)
     ∙ sym (at_drop_more (λ rest. option_map (λ more. front ++ more) (walk_from stop rest)) edges i d h)
     ∙ so_far
 
 -- the walk is done
-pub walk_done : (edges : List Edge) (i : ℕ) (front : List ℕ) (stop : ℕ) (whole : Option (List ℕ)) → length edges ≤ i → option_map (λ more. front ++ more) (walk_from stop (drop i edges)) ≡ whole → Some (front ++ stop ∷ []) ≡ whole
+pub walk_done : (edges : List Edge) (i : ℕ) (front : List ℕ) (stop : ℕ) (whole : Option (List ℕ))
+    → length edges ≤ i → option_map (λ more. front ++ more) (walk_from stop (drop i edges)) ≡ whole
+    → Some (front ++ stop ∷ []) ≡ whole
 unfolding walk_from
-walk_done edges i front stop whole h so_far = sym (at_drop_all (λ rest. option_map (λ more. front ++ more) (walk_from stop rest)) edges i h) ∙ so_far
+walk_done edges i front stop whole h so_far = sym
+    (at_drop_all (λ rest. option_map (λ more. front ++ more) (walk_from stop rest)) edges i h)
+    ∙ so_far
 
 -- ---- where a walk ends
 
@@ -52,7 +68,9 @@ walk_has_end : (stop : ℕ) (edges : List Edge) → is_some (walk_from stop edge
 unfolding walk_from
 walk_has_end stop [] = refl
 walk_has_end stop (edge ∷ edges) =
-    elim (across edge stop) as (λ to. is_some (option_and_then (λ next. option_map (λ stops. stop ∷ stops) (walk_from next edges)) to) ≡ is_some (fold (λ end edge. option_and_then (across edge) end) to edges)) [
+    elim (across edge stop) as (λ to. is_some
+    (option_and_then (λ next. option_map (λ stops. stop ∷ stops) (walk_from next edges)) to)
+    ≡ is_some (fold (λ end edge. option_and_then (across edge) end) to edges)) [
       | None ↦ sym (ap is_some (no_end edges))
       | Some next ↦ some_mapped stop (walk_from next edges) ∙ walk_has_end next edges
     ]
@@ -67,6 +85,9 @@ ends_more [] edge = refl
 ends_more (first ∷ edges) edge = grind (arith, option_and_then, fold_push)
 
 -- a line with an edge has a walk where one of its walks has an end
-pub has_walk : (edges : List Edge) (edge : Edge) → is_some (walk_of (edges ++ edge ∷ [])) ≡ (is_some (ends_of (edges ++ edge ∷ [])).left || is_some (ends_of (edges ++ edge ∷ [])).right)
-has_walk [] edge = some_or (walk_from edge.left (edge ∷ [])) (walk_from edge.right (edge ∷ [])) ∙ ap (λ b. b || is_some (walk_from edge.right (edge ∷ []))) (walk_has_end edge.left (edge ∷ [])) ∙ ap (λ b. is_some (end_from edge.left (edge ∷ [])) || b) (walk_has_end edge.right (edge ∷ []))
+pub has_walk : (edges : List Edge) (edge : Edge) → is_some (walk_of (edges ++ edge ∷ []))
+    ≡ (is_some (ends_of (edges ++ edge ∷ [])).left || is_some (ends_of (edges ++ edge ∷ [])).right)
+has_walk [] edge = some_or (walk_from edge.left (edge ∷ [])) (walk_from edge.right (edge ∷ []))
+    ∙ ap (λ b. b || is_some (walk_from edge.right (edge ∷ []))) (walk_has_end edge.left (edge ∷ []))
+    ∙ ap (λ b. is_some (end_from edge.left (edge ∷ [])) || b) (walk_has_end edge.right (edge ∷ []))
 has_walk (first ∷ edges) edge = grind (arith, some_or, is_some, walk_has_end)

@@ -1,7 +1,7 @@
 -- The lengths of lines.
 use Rattle.std.specs.Prelude.{ℕ, pos, ◌≤◌, ◌<◌, ◌≤ℤ◌, List, All, length, map, option_map, slice_get, sum, unwrap_or}
-use Rattle.ptn_network.specs.declared.edge.Edge.{Edge}
-use Rattle.ptn_network.specs.Walks.{edge_length}
+use Rattle.walks.specs.declared.edge.Edge.{Edge}
+use Rattle.walks.specs.Walks.{edge_length}
 use Rattle.line_walks.specs.Pools.{LineParts}
 
 -- the length of the edge at an index, in millionths

@@ -2,9 +2,9 @@
 use Rattle.std.specs.Prelude.{ℕ, ℤ, pos, ◌++◌, List, [], ◌∷◌, map, unsigned_abs, Option, Some, None, option_and_then, unwrap_or}
 use Rattle.std.specs.Option.{option_or}
 use Rattle.tables.specs.Tables.{TableRow}
-use Rattle.ptn_network.specs.declared.edge.Edge.{Edge}
+use Rattle.walks.specs.declared.edge.Edge.{Edge}
 pub use Rattle.ptn_network.specs.Ids.{StandsAt}
-use Rattle.ptn_network.specs.Walks.{across, end_from}
+use Rattle.walks.specs.Walks.{across, end_from}
 use Rattle.line_walks.specs.declared.ends.Ends.{Ends}
 use Rattle.line_walks.specs.declared.line_row.LineRow.{LineRow}
 use Rattle.line_walks.specs.Pools.{LineParts, line_row, rows_of, edges_of, first_frequency, index_of, walk_of}
@@ -17,7 +17,11 @@ ends_of (edge ∷ edges) = record { left = end_from edge.left (edge ∷ edges); 
 -- where the walks end after one edge more
 abbrev pub next_ends : List Edge → Ends → Edge → Ends
 next_ends [] ends edge = record { left = across edge edge.left; right = across edge edge.right }
-next_ends (first ∷ edges) ends edge = record { left = option_and_then (across edge) ends.left; right = option_and_then (across edge) ends.right }
+next_ends (first ∷ edges) ends edge = record {
+  left = option_and_then
+      (across edge) ends.left;
+  right = option_and_then (across edge) ends.right;
+}
 
 -- a line so far: its id, the indexes of its edges, these edges, where its walks end, and its
 -- frequency

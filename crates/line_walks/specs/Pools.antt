@@ -12,12 +12,13 @@ use Rattle.tables.specs.declared.row_why.RowWhy.TheVariants as why
 use Rattle.tables.specs.declared.refusal.Refusal.{Refusal}
 use Rattle.tables.specs.Columns.{pool_columns, concept_columns}
 use Rattle.tables.specs.Inputs.{Input, Limit, RowRule, records_of, input_faults}
-use Rattle.ptn_network.specs.declared.edge.Edge.{Edge}
+use Rattle.walks.specs.declared.edge.Edge.{Edge}
 use Rattle.ptn_network.specs.Ids.{known_edge}
 pub use Rattle.ptn_network.specs.Ids.{edge_with}
-use Rattle.ptn_network.specs.Networks.{NetworkParts, rising}
-use Rattle.ptn_network.specs.Paths.{edges_at}
-use Rattle.ptn_network.specs.Walks.{across}
+use Rattle.walks.specs.Networks.{NetworkParts}
+use Rattle.walks.specs.RisingIds.{rising}
+use Rattle.walks.specs.Paths.{edges_at}
+use Rattle.walks.specs.Walks.{across}
 use Rattle.line_walks.specs.declared.line_file.LineFile.{LineFile}
 use Rattle.line_walks.specs.declared.line_file.LineFile.TheVariants as kind
 use Rattle.line_walks.specs.declared.line_row.LineRow.{LineRow}
@@ -43,7 +44,8 @@ edges_of edges line rows = filter_map (λ row. edge_with edges row.edge) (rows_o
 -- the stops of the walk over edges from a stop, where the edges join end to end from there
 unfoldable pub walk_from : ℕ → List Edge → Option (List ℕ)
 walk_from stop [] = Some (stop ∷ [])
-walk_from stop (edge ∷ edges) = option_and_then (λ next. option_map (λ stops. stop ∷ stops) (walk_from next edges)) (across edge stop)
+walk_from stop (edge ∷ edges) = option_and_then
+    (λ next. option_map (λ stops. stop ∷ stops) (walk_from next edges)) (across edge stop)
 
 -- one walk, or else another
 abbrev pub or_walk : Option (List ℕ) → Option (List ℕ) → Option (List ℕ)
@@ -58,15 +60,27 @@ walk_of (edge ∷ edges) = or_walk (walk_from edge.left (edge ∷ edges)) (walk_
 
 -- the rule that a row's place is one more than the number of rows of its line before it
 abbrev pub next_place : RowRule LineRow
-next_place = record { is_broken = λ before row. not (int_eq row.order (pos (length (rows_of row.line before) + 1))); why = why.OrderGap }
+next_place = record {
+  is_broken = λ before row. not
+      (int_eq row.order (pos (length (rows_of row.line before) + 1)));
+  why = why.OrderGap;
+}
 
 -- the rule that a line has an edge once
 abbrev pub new_edge : RowRule LineRow
-new_edge = record { is_broken = λ before row. list_any (λ other. int_eq row.edge other.edge) (rows_of row.line before); why = why.RepeatedEdge }
+new_edge = record {
+  is_broken = λ before row. list_any (λ other. int_eq row.edge other.edge)
+      (rows_of row.line before);
+  why = why.RepeatedEdge;
+}
 
 -- the rule that a walk goes over the edges of a line so far
 abbrev pub joined_edges : List Edge → RowRule LineRow
-joined_edges edges = record { is_broken = λ before row. not (is_some (walk_of (edges_of edges row.line (before ++ row ∷ [])))); why = why.BrokenLine }
+joined_edges edges = record {
+  is_broken = λ before row. not
+      (is_some (walk_of (edges_of edges row.line (before ++ row ∷ []))));
+  why = why.BrokenLine;
+}
 
 -- the frequency of some rows: that of the first of them
 abbrev pub first_frequency : List LineRow → Option ℤ

@@ -1,6 +1,6 @@
 // Where the walks of a line end.
 ghost use Rattle.std.specs.Prelude.{◌≡◌, ◌||◌, is_some, option_and_then};
-ghost use Rattle.ptn_network.specs.Walks.{across};
+ghost use Rattle.walks.specs.Walks.{across};
 
 use ptn_network::Edge;
 

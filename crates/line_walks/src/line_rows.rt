@@ -3,7 +3,7 @@ ghost use Rattle.std.specs.Prelude.{◌≡◌, ◌+◌, ◌<◌, ◌≤◌, ℤ,
 ghost use Rattle.std.specs.List.{list_any, IsDistinct};
 ghost use Rattle.std.specs.Ordering.{int_eq};
 ghost use Rattle.tables.specs.Inputs.{records, table_row_faults, broken_whys, UnlessFault};
-ghost use Rattle.ptn_network.specs.Networks.{rising};
+ghost use Rattle.walks.specs.RisingIds.{rising};
 ghost use Rattle.line_walks.specs.declared.line_row.LineRow.{LineRow};
 ghost use Rattle.line_walks.specs.Pools.{line_input, line_rules, rows_of};
 ghost use Rattle.line_walks.specs.LinesSoFar.{no_line, with_edge, line_so_far, whole_line, lines_in, StandsAt};

@@ -1,7 +1,7 @@
 // The pool of lines.
 ghost use Rattle.std.specs.Prelude.{◌≡◌, ◌<◌, ◌≤◌, ◌^◌, length, slice_get, Some, option_map, IfOk};
 ghost use Rattle.tables.specs.Inputs.{records, table_faults, UnlessFault};
-ghost use Rattle.ptn_network.specs.Networks.{IsNetwork};
+ghost use Rattle.walks.specs.Networks.{IsNetwork};
 ghost use Rattle.line_walks.specs.Pools.{line_input, line_faults, lines_of, lines_over, columns_of, pool_of, pool_faults, concept_of, concept_faults, AreLines};
 
 use crate::line_file::LineFile;

@@ -1,8 +1,8 @@
 -- Valid potentials prove that exactly the tight plans gain the most.
-use Rattle.std.proofs.Common.{◌≡◌, ℕ, ℤ, pos, ◌+◌, ◌<◌, ◌≤◌, ◌≤ℤ◌, nat_lt, Bool, true, false, List}
-use Rattle.std.proofs.Common.{length, is_some, Option, Some, None, IfSome, unwrap_or, refl, ap, sym}
+use Rattle.std.proofs.Common.{◌≡◌, ℕ, pos, ◌+◌, ◌<◌, ◌≤◌, ◌≤ℤ◌, nat_lt, Bool, true, false, List}
+use Rattle.std.proofs.Common.{length, Option, Some, None, unwrap_or, refl, ap, sym}
 use Rattle.std.proofs.Common.{◌∙◌, arith}
-use Rattle.std.proofs.lemmas.Bool.{false≢true, ltb-true, ltb-false}
+use Rattle.std.proofs.lemmas.Bool.{ltb-true, ltb-false}
 use Rattle.std.proofs.lemmas.Int.{ints}
 use Rattle.std.proofs.Math.ListN.{get_or-eq_default}
 use Rattle.link_plans.specs.Plans.{next, plan_gain, IsPlan, IsBest}
@@ -19,12 +19,8 @@ by_bound {P} i n within past = split (nat_lt i n) refl
     split true e = within (ltb-true i n e)
     split false e = past (ltb-false i n e)
 
-module _ (links : Links) (certified plan : List (Option ℕ)) (potentials : PotentialParts) (valid : AreValid links certified potentials) (is : IsPlan links plan) where
-  covered_by : (gain : Option ℤ) (most : ℕ) → is_some gain ≡ true → IfSome gain (λ value. value ≤ℤ pos most)
-      → unwrap_or gain (pos 0) ≤ℤ pos most
-  covered_by None most there covered = absurd (false≢true there)
-  covered_by (Some value) most there covered = covered
-
+module _ (links : Links) (certified plan : List (Option ℕ)) (potentials : PotentialParts)
+    (valid : AreValid links certified potentials) (is : IsPlan links plan) where
   none_before : (k : ℕ) → k ≡ 0 + k
   none_before k = omega arith
 
@@ -49,7 +45,8 @@ module _ (links : Links) (certified plan : List (Option ℕ)) (potentials : Pote
         first = tight.first;
       }
     where
-      last_at : AreTight links.gain 0 plan potentials.u potentials.v → (i : ℕ) → next plan i ≡ None → at potentials.u i ≡ 0
+      last_at : AreTight links.gain 0 plan potentials.u potentials.v → (i : ℕ) → next plan i ≡ None
+          → at potentials.u i ≡ 0
       last_at tight i e = by_bound i (length plan) (λ within. tight.last i within e)
           (λ past. get_or-eq_default potentials.u 0 (omega (arith, past, valid.over.each_u, is.each)))
 
@@ -62,7 +59,8 @@ module _ (links : Links) (certified plan : List (Option ℕ)) (potentials : Pote
     first = tight.first;
   })
 
-module _ (links : Links) (certified : List (Option ℕ)) (potentials : PotentialParts) (valid : AreValid links certified potentials) (is : IsPlan links certified) where
+module _ (links : Links) (certified : List (Option ℕ)) (potentials : PotentialParts)
+    (valid : AreValid links certified potentials) (is : IsPlan links certified) where
   -- a plan that gains as much as all potentials gains the most
   all_best : (plan : List (Option ℕ)) → IsPlan links plan
       → plan_gain links plan ≡ pos (total potentials) → IsBest links plan

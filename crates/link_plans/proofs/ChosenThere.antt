@@ -13,7 +13,7 @@ use Rattle.link_plans.proofs.Linking.{not_next}
 use Rattle.link_plans.specs.Potentials.{PotentialParts, at, AreValid}
 use Rattle.link_plans.proofs.Certified.{by_bound}
 use Rattle.link_plans.proofs.TightGains.{tight_gains}
-use Rattle.link_plans.proofs.Hands.{HasDone}
+use Rattle.link_plans.proofs.TripInHand.{HasDone}
 use Rattle.link_plans.proofs.LeastPotentials.{all_done}
 
 -- a plan, and potentials that are valid for it

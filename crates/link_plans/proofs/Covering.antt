@@ -18,9 +18,6 @@ pub record CoversLinks (row : List Link) (potentials : PotentialParts) (most don
   pub covers : (k : ℕ) (link : Link) → k < done → slice_get row k ≡ Some link
       → link.gain ≤ most + at potentials.v link.to
 
-pub covers_none : (row : List Link) (potentials : PotentialParts) → CoversLinks row potentials 0 0
-covers_none row potentials = grind arith
-
 module _ (links : Links) (potentials : PotentialParts) (i most done : ℕ) (row : List Link)
     (is : IsRow links i links.count row) (are : CoversLinks row potentials most done) where
   -- a link more
@@ -46,7 +43,8 @@ module _ (links : Links) (potentials : PotentialParts) (i most done : ℕ) (row 
   -- the potential of the trip covers all its links, where none is to a trip that is not there
   pub covers_all : ((j : ℕ) → links.count ≤ j → worth (links.gain i j) ≡ None) → length row ≤ done
       → i < length potentials.u → Covers links (record { u = slice_set potentials.u i most; v = potentials.v }) i
-  covers_all none past inside j = subst (λ own. IfSome (worth (links.gain i j)) (λ gain. gain ≤ own + at potentials.v j))
+  covers_all none past inside j =
+      subst (λ own. IfSome (worth (links.gain i j)) (λ gain. gain ≤ own + at potentials.v j))
       (sym (get_or-set_same potentials.u i most 0 inside)) (by_bound j links.count
       (λ within. split within (worth (links.gain i j)) refl)
       (λ behind. subst (λ it. IfSome it (λ gain. gain ≤ most + at potentials.v j)) (sym (none j behind)) tt))

@@ -3,14 +3,17 @@
 use Rattle.std.proofs.Common.{◌≡◌, ◌≢◌, ℕ, ℤ, zero, suc, pos, negsuc, ◌+◌, ◌-◌, ◌<◌, ◌≤◌, ◌≤ℤ◌}
 use Rattle.std.proofs.Common.{◌==◌, ◌&&◌, not, is_some, Bool, true, false, cond, Option, Some, None}
 use Rattle.std.proofs.Common.{IfSome, refl, ap, sym, ◌∙◌, subst, arith, eqb-true, eq-eqb}
-use Rattle.std.proofs.lemmas.Bool.{false≢true}
+use Rattle.std.proofs.lemmas.Bool.{false≢true, not-true}
 use Rattle.std.proofs.lemmas.Int.{ints}
 use Rattle.std.proofs.lemmas.Option.{none-some}
 use Rattle.link_plans.specs.Plans.{is_trip}
 use Rattle.link_plans.proofs.Counting.{count_most}
 use Rattle.link_plans.proofs.Linking.{by_number, is_trip_same, same_is_trip}
-use Rattle.link_plans.proofs.Below.{IsFound, back_true, both_true, by_bool, found_below, front_true, none_below, not_both, put, put_here, put_other, some_below}
-use Rattle.link_plans.proofs.Hands.{AreAllHands, AreHands, HasDone, IsFree, IsInHand, Plan, closing, drops, is_next_reached, is_reached, links, not_reached, reached}
+use Rattle.link_plans.proofs.TestsBelow.{IsFound, by_bool, found_below}
+use Rattle.link_plans.proofs.TestsBelow.{none_below, put, put_here, put_other, some_below}
+use Rattle.link_plans.proofs.TripInHand.{AreAllHands, AreHands, HasDone, IsFree, IsInHand, Plan, closing}
+use Rattle.link_plans.proofs.TripInHand.{drops, is_next_reached, is_reached, links, not_reached, reached}
+use Rattle.plan_num.proofs.Tests.{both_true, first_true, second_true, not_both}
 
 -- a gain that is not more than a number, and not the number
 less_than : (gain : ℤ) (number : ℕ) → gain ≤ℤ pos number → (gain ≡ pos number → ⊥)
@@ -124,7 +127,7 @@ module _ (gain : ℕ → ℕ → Option ℤ) where
         is_open j = is_reached gain taken u v plan h it hands j && not (is_linked j)
 
         dropped : IsFound has_nothing taken → HasDone gain taken
-        dropped found = grind (arith, front_true, drops, eqb-true, back_true)
+        dropped found = grind (arith, first_true, drops, eqb-true, second_true)
 
         free_where : (j : ℕ) → is_linked j ≡ false → IsFree gain plan j
         free_where j none i e =
@@ -133,7 +136,7 @@ module _ (gain : ℕ → ℕ → Option ℤ) where
 
         linked : IsFound is_open n → HasDone gain taken
         linked found =
-            let at = reached gain taken u v plan h it hands found.i (front_true _ _ found.passes) in
+            let at = reached gain taken u v plan h it hands found.i (first_true _ _ found.passes) in
             let can = all.are.each at.i at.is in
             record {
               u = u;
@@ -141,12 +144,9 @@ module _ (gain : ℕ → ℕ → Option ℤ) where
               plan = put can.other at.i (Some found.i);
               done = links gain taken u v can.other at.i found.i can.holds at.tight
                   (can.free found.i (free_where found.i
-                  (was_not (is_linked found.i) (back_true (is_reached gain taken u v plan h it hands found.i) _ found.passes))));
+                  (not-true (is_linked found.i)
+                  (second_true (is_reached gain taken u v plan h it hands found.i) _ found.passes))));
             }
-          where
-            was_not : (b : Bool) → not b ≡ true → b ≡ false
-            was_not true e = absurd (false≢true e)
-            was_not false e = refl
 
         not_open : (j : ℕ) → some_below is_open n ≡ false
             → is_reached gain taken u v plan h it hands j ≡ true → IsFree gain plan j → ⊥
@@ -170,10 +170,14 @@ module _ (gain : ℕ → ℕ → Option ℤ) where
             (λ none. by_bool (some_below is_open n)
             (λ some. linked (found_below is_open n some))
             (λ closed. rest
-            (lower_u taken u v plan h it hands all (λ i is. more_than i none is) (λ j there free. not_open j closed there free))
-            (raised_v taken u v plan h it hands all (λ i is. more_than i none is) (λ j there free. not_open j closed there free))
-            (lowered taken u v plan h it hands all (λ i is. more_than i none is) (λ j there free. not_open j closed there free))
-            (lower_hand taken u v plan h it hands all (λ i is. more_than i none is) (λ j there free. not_open j closed there free))))
+            (lower_u taken u v plan h it hands all (λ i is. more_than i none is)
+            (λ j there free. not_open j closed there free))
+            (raised_v taken u v plan h it hands all (λ i is. more_than i none is)
+            (λ j there free. not_open j closed there free))
+            (lowered taken u v plan h it hands all (λ i is. more_than i none is)
+            (λ j there free. not_open j closed there free))
+            (lower_hand taken u v plan h it hands all (λ i is. more_than i none is)
+            (λ j there free. not_open j closed there free))))
 
       placed : HasDone gain taken
       placed =

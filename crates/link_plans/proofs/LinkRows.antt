@@ -10,6 +10,7 @@ use Rattle.link_plans.proofs.Linking.{by_number}
 use Rattle.link_plans.proofs.Certified.{by_bound}
 use Rattle.link_plans.specs.declared.link_table.Link.{Link}
 use Rattle.link_plans.specs.LinkRows.{worth, and_link, end_of, link_to, reached, IsLinkOf, IsRow}
+use Rattle.plan_num.proofs.Lists.{last_item, front_item}
 
 -- what a link gains that is worth something
 pub worth_is : (gain : Option ℤ) (number : ℕ) → worth gain ≡ Some number → gain ≡ Some (pos number)
@@ -18,17 +19,6 @@ worth_is (Some (pos gain)) number e = ap (λ k. Some (pos k)) (same_Some gain nu
 worth_is (Some (negsuc less)) number e = absurd (none-some number e)
 
 -- ---- one link more
-
--- the last item of a list, and those before it
-pub last_item : {X : Type 0} (xs : List X) (x : X) → slice_get (xs ++ x ∷ []) (length xs) ≡ Some x
-last_item [] x = refl
-last_item (y ∷ xs) x = last_item xs x
-
-pub front_item : {X : Type 0} (xs : List X) (x y : X) (k : ℕ) → slice_get xs k ≡ Some y
-    → slice_get (xs ++ x ∷ []) k ≡ Some y
-front_item [] x y k e = absurd (none-some y e)
-front_item (z ∷ xs) x y zero e = e
-front_item (z ∷ xs) x y (suc k) e = front_item xs x y k e
 
 pub pushed_item : {X : Type 0} {P : Type 0} (xs : List X) (x y : X) (k : ℕ)
     → slice_get (xs ++ x ∷ []) k ≡ Some y
@@ -42,10 +32,6 @@ pushed_item (z ∷ xs) x y (suc k) e front last = pushed_item xs x y k e
 -- the link at a place of a list
 pub item : (row : List Link) (k : ℕ) → k < length row → slice_get row k ≡ Some (get_or row k (link_to 0 0))
 item row k within = slice_get-get_or row k (link_to 0 0) within
-
--- no link is in the list before the first trip
-pub row_none : (links : Links) (i : ℕ) → IsRow links i 0 []
-row_none links i = grind arith
 
 module _ (links : Links) (i below : ℕ) (row : List Link) (is : IsRow links i below row) where
   link_more : (link : Link) → IsLinkOf links i below link → IsLinkOf links i (below + 1) link

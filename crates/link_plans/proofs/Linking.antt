@@ -6,6 +6,7 @@ use Rattle.std.proofs.lemmas.Bool.{false≢true, eqb-true}
 use Rattle.std.proofs.lemmas.List.{length-set}
 use Rattle.std.proofs.lemmas.Option.{none-some, same_Some}
 use Rattle.link_plans.specs.Plans.{next, is_next, is_trip, AreSuccessors}
+use Rattle.plan_num.proofs.Tests.{later_true}
 
 -- two numbers are the same, or not
 pub by_number : {P : Type 0} (a b : ℕ) → (a ≡ b → P) → (a ≢ b → P) → P
@@ -39,11 +40,7 @@ same_is_trip j at e = subst (λ x. is_trip j x ≡ true) (sym e) (eq-eqb j j ref
 pub next_found : (plan : List (Option ℕ)) (i j : ℕ) → next plan i ≡ Some j → is_next plan j ≡ true
 next_found [] i j e = absurd (none-some j e)
 next_found (at ∷ plan) zero j e = ap (λ b. b || is_next plan j) (same_is_trip j at e)
-next_found (at ∷ plan) (suc i) j e = behind (is_trip j at) (next_found plan i j e)
-  where
-    behind : (b : Bool) {c : Bool} → c ≡ true → (b || c) ≡ true
-    behind true h = refl
-    behind false h = h
+next_found (at ∷ plan) (suc i) j e = later_true (is_trip j at) (next_found plan i j e)
 
 -- a trip that is no successor comes after none
 pub not_next : (plan : List (Option ℕ)) (i j : ℕ) → is_next plan j ≡ false → next plan i ≢ Some j

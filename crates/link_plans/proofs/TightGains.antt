@@ -85,7 +85,8 @@ module _ (gain : ℕ → ℕ → Option ℤ) where
   }
 
   -- or has one, whose number is then used up
-  module _ (n j : ℕ) (plan : List (Option ℕ)) (first : ℕ) (u v : List ℕ) (are : AreCovering n (Some j ∷ plan) (first ∷ u) v) where
+  module _ (n j : ℕ) (plan : List (Option ℕ)) (first : ℕ) (u v : List ℕ)
+      (are : AreCovering n (Some j ∷ plan) (first ∷ u) v) where
     apart : (k i : ℕ) → next plan k ≡ Some i → i ≢ j
     apart k i e same = zero_suc (are.once (suc k) 0 i e (ap Some (sym same)))
       where

@@ -1,5 +1,6 @@
 -- Potentials that cover all links are valid for a plan that is tight for them.
-use Rattle.std.proofs.Common.{◌≡◌, ℕ, ℤ, pos, ◌+◌, ◌≤ℤ◌, true, List, is_some, Option, Some, None, IfSome, unwrap_or, ap, sym, ◌∙◌, subst, arith}
+use Rattle.std.proofs.Common.{◌≡◌, ℕ, ℤ, pos, ◌+◌, ◌≤ℤ◌, true, List, is_some, Option, Some, None}
+use Rattle.std.proofs.Common.{IfSome, unwrap_or, ap, sym, ◌∙◌, subst, arith}
 use Rattle.std.proofs.lemmas.Bool.{false≢true}
 use Rattle.link_plans.specs.Plans.{IsPlan}
 use Rattle.link_plans.specs.Links.{Links}
@@ -26,7 +27,8 @@ tight_valid links plan potentials over covered is tight = record {
         size = over.each_u ∙ sym is.each;
         once = is.once;
         covered = λ k j e.
-            subst (λ i. unwrap_or (links.gain i j) (pos 0) ≤ℤ pos (at potentials.u k + at potentials.v j)) (none_before k)
+            subst (λ i. unwrap_or (links.gain i j) (pos 0) ≤ℤ pos (at potentials.u k + at potentials.v j))
+            (none_before k)
             (covered_by (links.gain k j) (at potentials.u k + at potentials.v j) (is.follow k j e) (covered k j));
       })
       (record {

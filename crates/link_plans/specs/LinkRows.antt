@@ -1,5 +1,7 @@
 -- The links of a trip that gain no less than nothing, in a list.
-use Rattle.std.specs.Prelude.{ℕ, ℤ, pos, negsuc, ◌≡◌, ◌<◌, ◌≤◌, List, [], ◌∷◌, ◌++◌, length, slice_get, get_or, Option, Some, None, option_map, unwrap_or}
+use Rattle.std.specs.Prelude.{ℕ, ℤ, pos, negsuc, ◌≡◌, ◌<◌, ◌≤◌, List, [], ◌∷◌, ◌++◌, length}
+use Rattle.std.specs.Prelude.{slice_get, get_or, Option, Some, None, option_map, unwrap_or}
+use Rattle.link_plans.specs.declared.limits.TheConstants.{MOST_GAIN}
 use Rattle.link_plans.specs.Links.{Links, AreLinks, links_in}
 use Rattle.link_plans.specs.declared.link_table.Link.{Link}
 
@@ -29,7 +31,7 @@ and_link row to (Some gain) = row ++ link_to to gain ∷ []
 pub record IsLinkOf (links : Links) (i below : ℕ) (link : Link) : Type 0 where
   pub within : link.to < below
   pub is : worth (links.gain i link.to) ≡ Some link.gain
-  pub small : link.gain ≤ 1000000000000
+  pub small : link.gain ≤ MOST_GAIN
 
 -- links stand by the trips that they lead to
 abbrev pub IsRising : List Link → Type 0

@@ -1,5 +1,6 @@
 -- Places of trips: the number of a trip, and the one behind them all, which stands for no trip.
-use Rattle.std.specs.Prelude.{ℕ, ◌≡◌, ◌↔◌, ◌<◌, nat_lt, if◌then◌else◌, List, length, slice_set, Option, Some, None, unwrap_or}
+use Rattle.std.specs.Prelude.{ℕ, ◌≡◌, ◌↔◌, ◌<◌, nat_lt, if◌then◌else◌, List, length, slice_set}
+use Rattle.std.specs.Prelude.{Option, Some, None, unwrap_or}
 use Rattle.link_plans.specs.Plans.{next}
 
 -- what comes at a place, of so many trips

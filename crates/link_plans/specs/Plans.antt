@@ -1,6 +1,8 @@
 -- Plans: for each trip the one that comes next, or none; what a plan gains by its links, and which
 -- plans gain the most.
-use Rattle.std.specs.Prelude.{ℕ, ℤ, pos, ◌≡◌, ◌≤◌, ◌<◌, ◌+ℤ◌, ◌≤ℤ◌, ◌==◌, is_some, Bool, true, false, List, length, map, take, fold, filter_map, get_or, Option, Some, None, option_map, unwrap_or, ⊤}
+use Rattle.std.specs.Prelude.{ℕ, ℤ, pos, ◌≡◌, ◌≤◌, ◌<◌, ◌+ℤ◌, ◌≤ℤ◌, ◌==◌, is_some, Bool, true}
+use Rattle.std.specs.Prelude.{false, List, length, map, take, fold, filter_map, get_or, Option}
+use Rattle.std.specs.Prelude.{Some, None, option_map, unwrap_or, ⊤}
 use Rattle.std.specs.List.{list_any, enumerate_from}
 use Rattle.link_plans.specs.Links.{Links}
 

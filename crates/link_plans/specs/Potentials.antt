@@ -1,5 +1,7 @@
 -- Potentials of trips: valid ones prove that no plan gains more.
-use Rattle.std.specs.Prelude.{ℕ, pos, ◌≡◌, ◌↔◌, ◌+◌, ◌≤◌, ◌≤ℤ◌, false, List, length, sum, get_or, Option, Some, None, IfSome, All}
+use Rattle.std.specs.Prelude.{ℕ, pos, ◌≡◌, ◌↔◌, ◌+◌, ◌≤◌, ◌≤ℤ◌, false, List, length, sum, get_or}
+use Rattle.std.specs.Prelude.{Option, Some, None, IfSome, All}
+use Rattle.link_plans.specs.declared.limits.TheConstants.{MOST_POTENTIAL}
 use Rattle.link_plans.specs.Links.{Links}
 use Rattle.link_plans.specs.Plans.{next, is_next, plan_gain, IsPlan, IsBest}
 
@@ -15,7 +17,7 @@ at numbers trip = get_or numbers trip 0
 
 -- a number is in the range of potentials
 abbrev pub IsSmall : ℕ → Type 0
-IsSmall number = number ≤ 1000000000000000000
+IsSmall number = number ≤ MOST_POTENTIAL
 
 -- what holds of potentials: each trip has both, and they are in their range
 pub record ArePotentials (potentials : PotentialParts) : Type 0 where

@@ -1,5 +1,6 @@
 // Which trip comes after which, looked up from both.
-ghost use Rattle.std.specs.Prelude.{ℕ, not, ◌≡◌, ◌<◌, ◌≤◌, false, length, slice_set, replicate, None, Some, IfOk, IfSome, MatchOption};
+ghost use Rattle.std.specs.Prelude.{ℕ, not, ◌≡◌, ◌<◌, ◌≤◌, false, length, slice_set, replicate};
+ghost use Rattle.std.specs.Prelude.{None, Some, IfOk, IfSome, MatchOption};
 ghost use Rattle.link_plans.specs.Plans.{next, is_next, AreSuccessors};
 ghost use Rattle.link_plans.specs.Places.{successor_at, place_of, forgotten};
 

@@ -3,12 +3,8 @@ ghost use Rattle.std.specs.Prelude.{◌≡◌, length, map, is_some, IfSome};
 ghost use Rattle.std.specs.List.{list_all};
 ghost use Rattle.link_plans.specs.CheckedLists.{are_lists, is_list, is_next_link};
 
+use crate::limits::{MOST_GAIN, MOST_TRIPS};
 use crate::link_table::{Link, LinkTable};
-
-// The most trips, and the greatest gain.
-const MOST_TRIPS: usize = 2000;
-
-const MOST_GAIN: u64 = 1_000_000_000_000;
 
 impl LinkTable {
     /// The links of the lists of all trips, where these are such: there are at most 2,000 trips,

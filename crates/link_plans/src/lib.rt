@@ -4,6 +4,7 @@
 
 mod assignment;
 mod checked_lists;
+mod limits;
 mod link_table;
 mod numbers;
 mod plan;
@@ -11,6 +12,7 @@ mod slack;
 mod solved;
 
 pub use assignment::Assignment;
+pub use limits::{MOST_GAIN, MOST_POTENTIAL, MOST_SLACK, MOST_TRIPS};
 pub use link_table::{Link, LinkTable};
 pub use numbers::{Potentials, zeros};
 pub use plan::Plan;

@@ -1,5 +1,6 @@
 // The links of each trip that gain no less than nothing, and what they gain.
-ghost use Rattle.std.specs.Prelude.{◌≡◌, ◌<◌, ◌==◌, if◌then◌else◌, [], pos, length, map, get_or, option_map, Some, None};
+ghost use Rattle.std.specs.Prelude.{◌≡◌, ◌<◌, ◌==◌, if◌then◌else◌, [], pos, length, map, get_or};
+ghost use Rattle.std.specs.Prelude.{option_map, Some, None};
 ghost use Rattle.link_plans.specs.Links.{gain_in, links_in, AreLinks};
 ghost use Rattle.link_plans.specs.LinkRows.{AreBefore, AreFrom, AreLinkRows, IsRising, IsRow};
 
@@ -56,7 +57,8 @@ impl LinkTable {
     /// The links of a trip.
     pub fn row(&self, trip: usize) -> &[Link]
         requires { trip < length self.now }
-        ensures { IsRow (links_in self.now) trip (length self.now) result.now }
+        ensures row { IsRow (links_in self.now) trip (length self.now) result.now }
+        ensures links { AreLinks (links_in self.now) }
     {
         &self.rows[trip]
     }

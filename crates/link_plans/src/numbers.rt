@@ -1,5 +1,7 @@
 // Potentials of trips.
-ghost use Rattle.std.specs.Prelude.{◌≡◌, ◌+◌, ◌*◌, ◌<◌, ◌≤◌, ◌≤ℤ◌, pos, length, replicate, slice_set, sum, unsigned_abs, All, IfOk};
+ghost use Rattle.std.specs.Prelude.{◌≡◌, ◌+◌, ◌*◌, ◌<◌, ◌≤◌, ◌≤ℤ◌, pos, length, replicate};
+ghost use Rattle.std.specs.Prelude.{slice_set, sum, unsigned_abs, All, IfOk};
+ghost use Rattle.link_plans.specs.declared.limits.TheConstants.{MOST_POTENTIAL, MOST_TRIPS};
 ghost use Rattle.link_plans.specs.Potentials.{at, total, ArePotentials, AreOver, IsSmall};
 
 use plan_num::NoMemory;
@@ -53,7 +55,7 @@ impl Potentials {
 
     /// All numbers of few trips together.
     pub fn total(&self) -> u128
-        requires { length self.now.u ≤ 2000 }
+        requires { length self.now.u ≤ MOST_TRIPS }
         ensures total { result ≡ total self.now }
         ensures small { result ≤ 4000000000000000000000 }
     {
@@ -73,7 +75,7 @@ impl Potentials {
         requires { trip < length self.now.u }
         ensures value { result ≡ pos (at self.now.u trip) }
         ensures low { pos 0 ≤ℤ result }
-        ensures high { result ≤ℤ pos 1000000000000000000 }
+        ensures high { result ≤ℤ pos MOST_POTENTIAL }
     {
         self.u[trip] as i64
     }
@@ -83,7 +85,7 @@ impl Potentials {
         requires { trip < length self.now.v }
         ensures value { result ≡ pos (at self.now.v trip) }
         ensures low { pos 0 ≤ℤ result }
-        ensures high { result ≤ℤ pos 1000000000000000000 }
+        ensures high { result ≤ℤ pos MOST_POTENTIAL }
     {
         self.v[trip] as i64
     }
@@ -92,7 +94,7 @@ impl Potentials {
     pub fn natural_v(&self, trip: usize) -> u64
         requires { trip < length self.now.v }
         ensures value { result ≡ at self.now.v trip }
-        ensures small { result ≤ 1000000000000000000 }
+        ensures small { result ≤ MOST_POTENTIAL }
     {
         self.v[trip]
     }
@@ -110,7 +112,7 @@ impl Potentials {
     pub fn set_u(&mut self, trip: usize, value: i64)
         requires trip { trip < length self.old.u }
         requires low { pos 0 ≤ℤ value }
-        requires high { value ≤ℤ pos 1000000000000000000 }
+        requires high { value ≤ℤ pos MOST_POTENTIAL }
         ensures { self.new ≡ record { u = slice_set self.old.u trip (unsigned_abs value); v = self.old.v } }
     {
         self.u[trip] = value.unsigned_abs();
@@ -120,7 +122,7 @@ impl Potentials {
     pub fn set_v(&mut self, trip: usize, value: i64)
         requires trip { trip < length self.old.v }
         requires low { pos 0 ≤ℤ value }
-        requires high { value ≤ℤ pos 1000000000000000000 }
+        requires high { value ≤ℤ pos MOST_POTENTIAL }
         ensures { self.new ≡ record { u = self.old.u; v = slice_set self.old.v trip (unsigned_abs value) } }
     {
         self.v[trip] = value.unsigned_abs();
@@ -141,9 +143,9 @@ pub fn zeros(alloc: Global, count: usize) -> Result<Vec<u64>, NoMemory>
 // The sum of some numbers.
 fn total(numbers: &[u64]) -> u128
     requires small { All IsSmall numbers.now }
-    requires few { length numbers.now ≤ 2000 }
+    requires few { length numbers.now ≤ MOST_TRIPS }
     ensures sum { result ≡ sum numbers.now }
-    ensures small { result ≤ length numbers.now * 1000000000000000000 }
+    ensures small { result ≤ length numbers.now * MOST_POTENTIAL }
 {
     let mut sum = 0;
     for number in numbers {

@@ -1,5 +1,6 @@
 // Plans of links.
-ghost use Rattle.std.specs.Prelude.{◌≡◌, ◌<◌, false, length, slice_set, replicate, None, Some, IfOk};
+ghost use Rattle.std.specs.Prelude.{◌≡◌, ◌<◌, false, length, slice_set, replicate, None, Some};
+ghost use Rattle.std.specs.Prelude.{IfOk};
 ghost use Rattle.link_plans.specs.Plans.{next, is_next, is_trip, AreSuccessors};
 
 use plan_num::NoMemory;

@@ -1,5 +1,6 @@
 // How much the potentials of a trip and of a place are more than the gain of its link.
 ghost use Rattle.std.specs.Prelude.{ℕ, pos, max, ◌≡◌, ◌+◌, ◌-◌, ◌<◌, ◌≤◌, length, slice_set};
+ghost use Rattle.link_plans.specs.declared.limits.TheConstants.{MOST_GAIN, MOST_POTENTIAL, MOST_SLACK};
 ghost use Rattle.link_plans.specs.Potentials.{at, AreOver};
 ghost use Rattle.link_plans.specs.Links.{links_in};
 ghost use Rattle.link_plans.specs.Slacks.{Covers};
@@ -10,11 +11,11 @@ use crate::numbers::Potentials;
 /// How much the potential of a trip and that of the place to which its link leads are more than the
 /// link gains.
 pub fn link_slack(own: u64, potentials: &Potentials, link: Link) -> u64
-    requires own { own ≤ 1000000000000000000 }
+    requires own { own ≤ MOST_POTENTIAL }
     requires to { link.to < length potentials.now.v }
     requires covered { link.gain ≤ own + at potentials.now.v link.to }
     ensures value { result ≡ own + at potentials.now.v link.to - link.gain }
-    ensures small { result ≤ 2000000000000000000 }
+    ensures small { result ≤ MOST_SLACK }
 {
     own + potentials.natural_v(link.to) - link.gain
 }
@@ -23,11 +24,10 @@ pub fn link_slack(own: u64, potentials: &Potentials, link: Link) -> u64
 pub fn cover(trips: &LinkTable, potentials: &mut Potentials, trip: usize)
     requires each { AreOver (length trips.now) potentials.old }
     requires trip { trip < length trips.now }
-    ensures { (most : ℕ) × ((most ≤ 1000000000000)
+    ensures { (most : ℕ) × ((most ≤ MOST_GAIN)
         × ((potentials.new ≡ record { u = slice_set potentials.old.u trip most; v = potentials.old.v })
         × Covers (links_in trips.now) potentials.new trip)) }
 {
-    let _ = trips.len();
     let links = trips.row(trip);
     let mut most = 0;
     for link in links {
@@ -48,7 +48,7 @@ fn greater(a: u64, b: u64) -> u64
 pub fn of_trip(potentials: &Potentials, trip: usize) -> u64
     requires { trip < length potentials.now.u }
     ensures value { result ≡ at potentials.now.u trip }
-    ensures small { result ≤ 1000000000000000000 }
+    ensures small { result ≤ MOST_POTENTIAL }
 {
     potentials.u(trip).unsigned_abs()
 }
@@ -56,7 +56,7 @@ pub fn of_trip(potentials: &Potentials, trip: usize) -> u64
 /// Gives a trip a potential.
 pub fn set_trip(potentials: &mut Potentials, trip: usize, number: u64)
     requires trip { trip < length potentials.old.u }
-    requires small { number ≤ 1000000000000000000 }
+    requires small { number ≤ MOST_POTENTIAL }
     ensures { potentials.new ≡ record { u = slice_set potentials.old.u trip number; v = potentials.old.v } }
 {
     potentials.set_u(trip, as_i64(number));
@@ -65,7 +65,7 @@ pub fn set_trip(potentials: &mut Potentials, trip: usize, number: u64)
 /// Gives a place a potential.
 pub fn set_place(potentials: &mut Potentials, place: usize, number: u64)
     requires place { place < length potentials.old.v }
-    requires small { number ≤ 1000000000000000000 }
+    requires small { number ≤ MOST_POTENTIAL }
     ensures { potentials.new ≡ record { u = potentials.old.u; v = slice_set potentials.old.v place number } }
 {
     potentials.set_v(place, as_i64(number));
@@ -81,7 +81,7 @@ pub fn link_rest(potentials: &Potentials, link: Link) -> u64
 
 /// A small number as a signed one.
 pub fn as_i64(number: u64) -> i64
-    requires { number ≤ 2000000000000000000 }
+    requires { number ≤ MOST_SLACK }
     ensures { result ≡ pos number }
 {
     number as i64

@@ -21,7 +21,9 @@ no_fault query.BadInput is = cc
 no_fault query.Spent is = cc
 no_fault query.Uncertified is = cc
 
-module _ (form : Form) (folder : Folder) (answer : Answer) (old new : Option (List ℕ)) (faults_before faults_now before now : ℕ) (status : Status) (given : AnswersIn form folder answer) (steps : now ≡ before + steps_of form folder) (ends : status ≡ status_of_query answer.end) where
+module _ (form : Form) (folder : Folder) (answer : Answer) (old new : Option (List ℕ))
+    (faults_before faults_now before now : ℕ) (status : Status) (given : AnswersIn form folder answer)
+    (steps : now ≡ before + steps_of form folder) (ends : status ≡ status_of_query answer.end) where
   told_by : (result : Status)
       → Reported answer.report status old new faults_before faults_now result
       → FormTells form folder old new before now result
@@ -44,8 +46,10 @@ pub form_tells : (form : Form) (contents : Option Folder) (answer : Answer) (old
     → (text : List ℕ) → text ≡ answer.report
     → Reported text status old new faults_before faults_now result
     → IfSome contents (λ folder. FormTells form folder old new before now result)
-form_tells form None answer old new faults_before faults_now before now status result given steps ends text same reported =
+form_tells form None answer old new faults_before faults_now before now status result given steps ends text same
+    reported =
     tt
-form_tells form (Some folder) answer old new faults_before faults_now before now status result given steps ends text same reported =
+form_tells form (Some folder) answer old new faults_before faults_now before now status result given steps ends text
+    same reported =
     told_by form folder answer old new faults_before faults_now before now status given steps ends result
     (subst (λ text. Reported text status old new faults_before faults_now result) same reported)

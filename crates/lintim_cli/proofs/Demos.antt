@@ -30,17 +30,7 @@ use Rattle.lintim_cli.specs.Top.{DemoTells, FileBroke, Leaves, Seen, demo_run}
 kept_apart : (number : ℕ) (at : Stage)
     → is_among (keep_name at) (names_in (demo_writes number)) ≡ false
 kept_apart number stage.Load = refl
-kept_apart number stage.Cost = refl
-kept_apart number stage.Concept = refl
-kept_apart number stage.Ean = refl
-kept_apart number stage.Timetable = refl
-kept_apart number stage.Rollout = refl
-kept_apart number stage.Vehicles = refl
-kept_apart number stage.Disposition = refl
-kept_apart number stage.Statistic = refl
-kept_apart number stage.PinnedConcept = refl
-kept_apart number stage.PinnedTimetable = refl
-kept_apart number stage.PinnedVehicles = refl
+kept_apart number _ = refl
 
 no_keep : (number : ℕ) (at : Stage) → files.get (demo_folder number) (keep_name at) ≡ None
 no_keep number at =
@@ -73,17 +63,19 @@ module _ (number : ℕ) (folder : Folder) (is : folder ≡ demo_folder number) w
     new = seen_after.out
 
     abbrev before : ℕ
-    before = seen_before.steps
+    before = seen_before.files.steps
 
     abbrev now : ℕ
-    now = seen_after.steps
+    now = seen_after.files.steps
 
     pub steps_are : now ≡ before + (run_over folder).work → now ≡ before + (demo_run number).work
     steps_are e = e ∙ ap (λ (run : RunParts). before + run.work) run_is
 
     all : (result : Status)
-        → (result ≡ status_of (run_over folder).end) × (new ≡ option_map (λ bytes. bytes ++ (run_over folder).report) old) × (now ≡ before + (run_over folder).work)
-        → (result ≡ status_of (demo_run number).end) × (new ≡ option_map (λ bytes. bytes ++ (demo_run number).report) old) × (now ≡ before + (demo_run number).work)
+        → (result ≡ status_of (run_over folder).end)
+        × (new ≡ option_map (λ bytes. bytes ++ (run_over folder).report) old) × (now ≡ before + (run_over folder).work)
+        → (result ≡ status_of (demo_run number).end)
+        × (new ≡ option_map (λ bytes. bytes ++ (demo_run number).report) old) × (now ≡ before + (demo_run number).work)
     all result (ends, told, steps) = (
       ends ∙ ap (λ (run : RunParts). status_of run.end) run_is,
       told ∙ ap (λ (run : RunParts). option_map (λ bytes. bytes ++ run.report) old) run_is,

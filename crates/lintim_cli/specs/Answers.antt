@@ -1,13 +1,9 @@
 -- How a run ends.
-use Rattle.std.specs.Prelude.{ℕ, Option, Some, None}
+use Rattle.std.specs.Prelude.{Option, Some, None}
 use Rattle.stage_chain.specs.declared.checked.CheckEnd.{CheckEnd}
 use Rattle.stage_chain.specs.declared.checked.CheckEnd.TheVariants as check
-use Rattle.command_line.specs.declared.ends.RunEnd.{RunEnd}
-use Rattle.command_line.specs.declared.ends.RunEnd.TheVariants as end
 use Rattle.stage_chain.specs.declared.state.StatesEnd.{StatesEnd}
 use Rattle.stage_chain.specs.declared.state.StatesEnd.TheVariants as states
-use Rattle.command_line.specs.declared.ends.QueryEnd.{QueryEnd}
-use Rattle.command_line.specs.declared.ends.QueryEnd.TheVariants as query
 use Rattle.command_line.specs.declared.form.Form.{Form}
 use Rattle.command_line.specs.declared.form.Form.TheVariants as forms
 use Rattle.command_line.specs.declared.status.Status.{Status}

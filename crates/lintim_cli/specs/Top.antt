@@ -1,77 +1,43 @@
 -- What the top call answers and leaves.
-use Rattle.std.specs.Prelude.{map, ℕ, ◌≡◌, ◌≤◌, ◌⊎◌, ◌+◌, ◌-◌, ◌&&◌, nat_le, if◌then◌else◌, List, [], ◌∷◌, ◌++◌, codes, Option}
-use Rattle.std.specs.Prelude.{Some, None, IfSome, string_bytes, take, ⊤}
-use Rattle.std.specs.Str.{bytes_eq}
-use Rattle.std.specs.Option.{option_map, option_or}
-use Rattle.std.specs.declared.string.String.{String}
-use Rattle.std.specs.declared.alloc.Global.{Global}
-use Rattle.plan_files.specs.declared.write.Write.{Write}
-use Rattle.plan_files.specs.Changes.{folder_after}
+use Rattle.std.specs.Prelude.{ℕ, ◌≡◌, ◌≤◌, ◌⊎◌, ◌+◌, List}
+use Rattle.std.specs.Prelude.{◌++◌, Option}
+use Rattle.std.specs.Prelude.{IfSome, take, ⊤}
+use Rattle.std.specs.Option.{option_map}
 use Rattle.plan_files.specs.Counts.{Raised, Rose}
 use Rattle.plan_files.specs.Folder.{Folder}
 use Rattle.std.specs.FinMap as folders
 use Rattle.stage_chain.specs.declared.outcome.ChainFault.TheVariants as faults
 use Rattle.command_line.specs.declared.mode.Mode.{Mode}
-use Rattle.command_line.specs.declared.mode.Mode.TheVariants as mode
-use Rattle.command_line.specs.declared.ends.RunEnd.TheVariants as end
 use Rattle.demo_dataset.specs.Demo.{demo_folder}
 use Rattle.stage_chain.specs.Built.{RunParts}
 use Rattle.stage_chain.specs.Checks.{check_end, check_report}
 use Rattle.stage_chain.specs.Hand.{hand_of}
-use Rattle.stage_chain.specs.Runs.{kept_part, started, with_files, without_keep}
+use Rattle.stage_chain.specs.RunSays.{SeenFiles}
+use Rattle.stage_chain.specs.Runs.{started, with_files}
 use Rattle.stage_chain.specs.States.{states_end}
 use Rattle.stage_driver.specs.BestPlans.{PlansAreBest}
 use Rattle.stage_driver.specs.FeasiblePlans.{PlansAreFeasible}
 use Rattle.stage_driver.specs.PlansThere.{each_stage}
-use Rattle.stage_driver.specs.PlanningChain.{made, check_of, entries_over, IsLeftRight, IsKeptHonest, IsLeft}
-use Rattle.stage_driver.specs.PlanningChain.{IsUnfinished, Trusts, made_part, run_over, writes_of}
-use Rattle.stage_driver.specs.PlanningChain.{states_of}
+use Rattle.stage_driver.specs.PlanningChain.{Finished, IsLeftRight, IsUnfinished, check_of, made}
+use Rattle.stage_driver.specs.PlanningChain.{made_part, run_over, states_of}
 use Rattle.command_line.specs.declared.status.Status.{Status}
 use Rattle.command_line.specs.declared.status.Status.TheVariants.{Done, FileFault, SinkFault, NoMemory}
-use Rattle.command_line.specs.declared.command.Command.{Command}
-use Rattle.command_line.specs.declared.command.Command.TheVariants as command
 use Rattle.plan_queries.specs.declared.answer.Answer.{Answer}
 use Rattle.command_line.specs.declared.form.Form.{Form}
-use Rattle.command_line.specs.FormWords.{IsInRange, form_of}
 use Rattle.plan_queries.specs.Queries.{AnswersIn, IsRightIn, steps_of}
 use Rattle.command_line.specs.Statuses.{status_of, status_of_query}
 use Rattle.lintim_cli.specs.Answers.{status_of_check, status_of_states}
 use Rattle.command_line.specs.Reports.{Whole, Broken, fault_report}
 
--- What an observer sees: the files and the writes that were made, where they are told, and the count of the
--- faults of files; the bytes that are out, where they are told, and the count of the faults of the sink; the
--- count of steps.
+-- What an observer sees: of files and steps what an observer of a run sees; the bytes that are out, where
+-- they are told, and the count of the faults of the sink.
 pub record Seen : Type 0 where
-  pub contents : Option Folder
-  pub writes : Option (List Write)
-  pub faults : ℕ
+  pub files : SeenFiles
   pub out : Option (List ℕ)
   pub sink_faults : ℕ
-  pub steps : ℕ
 
-abbrev pub seen : Option Folder → Option (List Write) → ℕ → Option (List ℕ) → ℕ → ℕ → Seen
-seen contents writes faults out sink_faults steps = record {
-  contents = contents;
-  writes = writes;
-  faults = faults;
-  out = out;
-  sink_faults = sink_faults;
-  steps = steps;
-}
-
--- The folder and the writes are those that a finished run leaves, and the count of steps rose by the
--- work. Where the run trusts what is kept, each stage that was made is right in that folder, what is
--- kept there is honest, and where all stages were made the folder passes a check. After a fresh run the
--- new entries alone are kept. A further run over the folder writes nothing.
-pub record Finished (by : Mode) (read : Folder) (before after : Seen) : Type 0 where
-  pub files : IsLeft by read after.contents before.writes after.writes
-  pub right : Trusts by read → IsLeftRight read after.contents
-  pub keep : Trusts by read → IfSome after.contents IsKeptHonest
-  pub passes : Trusts by read → (run_over (started by read)).end ≡ end.Done
-      → IfSome after.contents (λ folder. check_of folder ≡ None)
-  pub fresh : by ≡ mode.Fresh → IfSome after.contents (λ folder. kept_part folder ≡ folder_after (entries_over (without_keep read)) folders.empty)
-  pub again : IfSome after.contents (λ folder. writes_of folder ≡ [])
-  pub steps : after.steps ≡ before.steps + (run_over (started by read)).work
+abbrev pub seen : SeenFiles → Option (List ℕ) → ℕ → Seen
+seen files out sink_faults = record { files = files; out = out; sink_faults = sink_faults }
 
 -- the report of a run, or a front part of it, is out
 abbrev pub AllOut : Mode → Folder → Option (List ℕ) → Option (List ℕ) → Type 0
@@ -87,15 +53,17 @@ PartOut by read old new =
 -- were made. Where memory was refused, either not all writes were made, or all of them: a write is
 -- in part only where the count of file faults rose.
 abbrev pub Leaves : Mode → Folder → Seen → Seen → Status → Type 0
-Leaves by read before after SinkFault = PartOut by read before.out after.out × Finished by read before after
+Leaves by read before after SinkFault = PartOut by read before.out after.out × Finished by before.files after.files read
 Leaves by read before after FileFault =
-    IsUnfinished by faults.FileFault read after.contents before.writes after.writes
+    IsUnfinished by faults.FileFault read after.files.contents before.files.writes after.files.writes
 Leaves by read before after NoMemory =
-    IsUnfinished by faults.NoMemory read after.contents before.writes after.writes
-    ⊎ (Rose before.faults after.faults × IsUnfinished by faults.FileFault read after.contents before.writes after.writes)
-    ⊎ Finished by read before after
+    IsUnfinished by faults.NoMemory read after.files.contents before.files.writes after.files.writes
+    ⊎ (Rose before.files.faults after.files.faults
+    × IsUnfinished by faults.FileFault read after.files.contents before.files.writes after.files.writes)
+    ⊎ Finished by before.files after.files read
 Leaves by read before after result =
-    (result ≡ status_of (run_over (started by read)).end) × AllOut by read before.out after.out × Finished by read before after
+    (result ≡ status_of (run_over (started by read)).end) × AllOut by read before.out after.out
+    × Finished by before.files after.files read
 
 -- A run leaves the made files, the report and the answer which the hand files alone determine: those of
 -- a run from scratch. In the folder that is left each stage that was made has its files, which,
@@ -103,7 +71,8 @@ Leaves by read before after result =
 -- feasible. A concept with a tree beside it, and a vehicle schedule with potentials beside it, cost no
 -- more than any feasible one; no event of a disposition can be earlier; and where no schedule is
 -- pinned, the one there has potentials.
-pub record AsFromScratch (read : Folder) (left : Option Folder) (old new : Option (List ℕ)) (result : Status) : Type 0 where
+pub record AsFromScratch (read : Folder) (left : Option Folder) (old new : Option (List ℕ)) (result : Status)
+    : Type 0 where
   pub files : IfSome left (λ folder. made_part folder ≡ with_files (made (hand_of read)).files folders.empty)
   pub report : new ≡ option_map (λ bytes. bytes ++ (made (hand_of read)).report) old
   pub answer : result ≡ status_of (made (hand_of read)).end
@@ -121,7 +90,7 @@ Headline read left old new result = AsFromScratch read left old new result
 -- done, unless memory was refused or a count of faults rose
 abbrev pub IsDone : Seen → Seen → Status → Type 0
 IsDone before after result = (result ≡ Done) ⊎ (result ≡ NoMemory)
-    ⊎ Rose before.faults after.faults ⊎ Rose before.sink_faults after.sink_faults
+    ⊎ Rose before.files.faults after.files.faults ⊎ Rose before.sink_faults after.sink_faults
 
 -- After a fault of the files their count rose, and the report of it is out, whole or, where the
 -- sink failed too, a front part.
@@ -146,12 +115,11 @@ CheckTells folder old new NoMemory = ⊤
 CheckTells folder old new result =
     (result ≡ status_of_check (check_end (check_of folder))) × CheckOut folder old new
 
--- a check changes no file, and takes no step that is counted
-pub record ChangesNothing (contents left : Option Folder) (written noted : Option (List Write))
-    (before now : ℕ) : Type 0 where
-  pub files : left ≡ contents
-  pub writes : noted ≡ written
-  pub steps : now ≡ before
+-- no file has changed, and no step was taken
+pub record ChangesNothing (before after : SeenFiles) : Type 0 where
+  pub files : after.contents ≡ before.contents
+  pub writes : after.writes ≡ before.writes
+  pub steps : after.steps ≡ before.steps
 
 -- the report of the states of stages, or a front part of it, is out
 abbrev pub StatesOut : Folder → Option (List ℕ) → Option (List ℕ) → Type 0
@@ -178,19 +146,28 @@ demo_run number = made (hand_of (demo_folder number))
 -- the demo dataset. After a fault of the sink only a front part of the report is out. Where memory was
 -- refused, the count of steps rose by at most the work.
 abbrev pub DemoTells : ℕ → Option (List ℕ) → Option (List ℕ) → ℕ → ℕ → Status → Type 0
-DemoTells number old new before now SinkFault = ((kept : ℕ) × (new ≡ option_map (λ bytes. bytes ++ take kept (demo_run number).report) old)) × (now ≡ before + (demo_run number).work)
+DemoTells number old new before now SinkFault =
+    ((kept : ℕ) × (new ≡ option_map (λ bytes. bytes ++ take kept (demo_run number).report) old))
+    × (now ≡ before + (demo_run number).work)
 DemoTells number old new before now FileFault = ⊥
 DemoTells number old new before now NoMemory = now ≤ before + (demo_run number).work
-DemoTells number old new before now result = (result ≡ status_of (demo_run number).end) × (new ≡ option_map (λ bytes. bytes ++ (demo_run number).report) old) × (now ≡ before + (demo_run number).work)
+DemoTells number old new before now result =
+    (result ≡ status_of (demo_run number).end) × (new ≡ option_map (λ bytes. bytes ++ (demo_run number).report) old)
+    × (now ≡ before + (demo_run number).work)
 
 -- What is told of a question over a folder, by the answer: without a fault the report is all of an answer
 -- of it. After a fault of the sink only a front part is out. The count of steps rises by what the question
 -- takes; by at most that where memory was refused, and not at all where a file could not be read.
 abbrev pub FormTells : Form → Folder → Option (List ℕ) → Option (List ℕ) → ℕ → ℕ → Status → Type 0
-FormTells form folder old new before now SinkFault = (answer : Answer) × AnswersIn form folder answer × ((kept : ℕ) × (new ≡ option_map (λ bytes. bytes ++ take kept answer.report) old)) × (now ≡ before + steps_of form folder)
+FormTells form folder old new before now SinkFault =
+    (answer : Answer) × AnswersIn form folder answer
+    × ((kept : ℕ) × (new ≡ option_map (λ bytes. bytes ++ take kept answer.report) old))
+    × (now ≡ before + steps_of form folder)
 FormTells form folder old new before now FileFault = now ≡ before
 FormTells form folder old new before now NoMemory = now ≤ before + steps_of form folder
-FormTells form folder old new before now result = (answer : Answer) × AnswersIn form folder answer × (result ≡ status_of_query answer.end) × (new ≡ option_map (λ bytes. bytes ++ answer.report) old) × (now ≡ before + steps_of form folder)
+FormTells form folder old new before now result =
+    (answer : Answer) × AnswersIn form folder answer × (result ≡ status_of_query answer.end)
+    × (new ≡ option_map (λ bytes. bytes ++ answer.report) old) × (now ≡ before + steps_of form folder)
 
 -- What an answered question proves: of waiting decisions, that a marked one costs no more than any other;
 -- of one that was saved, the same where it has a tree; of a journey, that none arrives earlier; of a pool,

@@ -1,11 +1,9 @@
 // The command that judges the files of a dataset.
 ghost use Rattle.std.specs.Prelude.{◌≡◌, ◌<◌, ◌⊎◌, IfSome, Some};
 ghost use Rattle.plan_files.specs.Counts.{Rose};
-ghost use Rattle.plan_files.specs.Folder.{Folder};
-ghost use Rattle.command_line.specs.declared.mode.Mode.{Mode};
 ghost use Rattle.stage_driver.specs.BestPlans.{PlansAreBest};
 ghost use Rattle.stage_driver.specs.FeasiblePlans.{PlansAreFeasible};
-ghost use Rattle.stage_driver.specs.PlanningChain.{PassesIn, RunsPass};
+ghost use Rattle.stage_driver.specs.PlanningChain.{PassesIn};
 ghost use Rattle.stage_driver.specs.PlansThere.{is_run_in};
 ghost use Rattle.command_line.specs.declared.command.Command.TheVariants as commands;
 ghost use Rattle.lintim_cli.specs.Answers.{AnswersTo, status_of_check};
@@ -27,7 +25,6 @@ pub(crate) fn check<F: Files, K: Sink>(alloc: Global, files: &mut F, out: &mut K
         result ≡ Status.Done → PlansAreFeasible (is_run_in folder) folder) }
     ensures best { IfSome (F.contents files.old) (λ folder.
         result ≡ Status.Done → PlansAreBest (is_run_in folder) folder) }
-    ensures runs_pass { (mode : Mode) (folder : Folder) → RunsPass mode folder }
     ensures contents { F.contents files.new ≡ F.contents files.old }
     ensures writes { F.writes files.new ≡ F.writes files.old }
     ensures file_fault { result ≡ Status.FileFault →

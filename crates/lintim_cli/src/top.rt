@@ -1,6 +1,7 @@
 // The top call.
 ghost use Rattle.std.specs.Prelude.{◌≡◌, ◌⊎◌, IfSome, None};
 ghost use Rattle.command_line.specs.declared.mode.Mode.{Mode};
+ghost use Rattle.stage_chain.specs.RunSays.{seen_files};
 ghost use Rattle.stage_driver.specs.PlanningChain.{Trusts};
 ghost use Rattle.command_line.specs.declared.command.Command.TheVariants as commands;
 ghost use Rattle.lintim_cli.specs.Answers.{AnswersTo};
@@ -50,17 +51,17 @@ pub fn lintim<F: Files, K: Sink, L: Ledger>(
 
     // What the command says, leaves and means.
     ensures says { Says
-        (seen (F.contents files.old) (F.writes files.old) (F.faults files.old)
-        (K.written out.old) (K.faults out.old) steps.old)
-        (seen (F.contents files.new) (F.writes files.new) (F.faults files.new)
-        (K.written out.new) (K.faults out.new) steps.new) result (command_of words.now) }
+        (seen (seen_files F.contents F.writes F.faults files.old steps.old)
+        (K.written out.old) (K.faults out.old))
+        (seen (seen_files F.contents F.writes F.faults files.new steps.new)
+        (K.written out.new) (K.faults out.new)) result (command_of words.now) }
 
     // What holds whatever the words are.
     ensures always { SaysAlways
-        (seen (F.contents files.old) (F.writes files.old) (F.faults files.old)
-        (K.written out.old) (K.faults out.old) steps.old)
-        (seen (F.contents files.new) (F.writes files.new) (F.faults files.new)
-        (K.written out.new) (K.faults out.new) steps.new) result }
+        (seen (seen_files F.contents F.writes F.faults files.old steps.old)
+        (K.written out.old) (K.faults out.old))
+        (seen (seen_files F.contents F.writes F.faults files.new steps.new)
+        (K.written out.new) (K.faults out.new)) result }
 
     // What holds over all folders.
     ensures laws { Laws }

@@ -1,7 +1,7 @@
 // Least sums over walks, and shortest paths.
 ghost use Rattle.std.specs.Prelude.{◌≡◌, ◌<◌, length};
-ghost use Rattle.ptn_network.specs.Networks.{IsNetwork};
-ghost use Rattle.ptn_network.specs.Paths.{ArePaths};
+ghost use Rattle.walks.specs.Networks.{IsNetwork};
+ghost use Rattle.walks.specs.Paths.{ArePaths};
 
 use crate::refusing::{ROUND_EDGES, ROUND_STOPS};
 use giv_files::StageFault;
@@ -184,7 +184,7 @@ fn path_of(
     requires to { to < length network.now.stops }
 {
     if paths.reaches(to) {
-        Ok(Some(paths.path_to(alloc, network, from, to)?))
+        Ok(Some(paths.path_to(alloc, network.for_walks(), from, to)?))
     } else {
         Ok(None)
     }
@@ -200,7 +200,7 @@ fn path(
     if from >= network.stop_count() || to >= network.stop_count() {
         return Ok(None);
     }
-    let paths = Paths::from_stop(alloc, network, from)?;
+    let paths = Paths::from_stop(alloc, network.for_walks(), from)?;
     path_of(alloc, &paths, network, from, to)
 }
 

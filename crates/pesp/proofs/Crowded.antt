@@ -6,9 +6,11 @@ use Rattle.std.proofs.lemmas.Bool.{and_parts, cases_Bool, false≢true, le-leb, 
 use Rattle.pesp.specs.declared.activity.PespActivity.{PespActivity}
 use Rattle.pesp.specs.Timetables.{IsActivity}
 use Rattle.pesp.specs.Marks.{AreMarks, Prunes, Tracked, is_left, times_from}
-use Rattle.pesp.specs.Revising.{IsRevised, Left, ahead, behind, is_free, keeps_second}
-use Rattle.pesp.specs.Revising.{keeps_first, width_of}
-use Rattle.pesp.proofs.Partners.{first_reached, second_reached}
+use Rattle.pesp.specs.declared.activity_end.ActivityEnd.{ActivityEnd}
+use Rattle.pesp.specs.declared.activity_end.ActivityEnd.TheVariants as at
+use Rattle.pesp.specs.Revising.{IsRevised, Left, event_at, is_free, is_partnered, keeps_partnered}
+use Rattle.pesp.specs.Revising.{opens_behind, other_end, width_of}
+use Rattle.pesp.proofs.Partners.{partner_reached}
 use Rattle.pesp.proofs.WindowSums.{crowded}
 
 -- where all times that are left stay, nothing changes
@@ -58,27 +60,19 @@ module _ (activity : PespActivity) (before : Tracked)
       || test) ≡ true
   own event test so other = grind arith
 
-  pub crowded_seconds : IsCrowded activity.to
-      → Prunes before before (keeps_first period (is_left before.sets) activity) false
-  crowded_seconds so =
-      prunes_none before (keeps_first period (is_left before.sets) activity)
-      (λ event time left. own event _
-      (second_reached period are.some before.sets.rows activity is (is_left before.sets) time
-      (low event time left)
-      ∙ crowded period (is_left before.sets activity.to) width are.some narrow (many activity.to
-      so) (ahead period activity) time)
-      activity.from)
+  -- a time has a partner where the other end is crowded
+  met : (end : ActivityEnd) (time : ℕ) → IsCrowded (event_at activity (other_end end))
+      → time < period → is_partnered period (is_left before.sets) activity end time ≡ true
+  met end time so low =
+      partner_reached period are.some before.sets.rows activity is (is_left before.sets) end time low
+      ∙ crowded period (is_left before.sets (event_at activity (other_end end))) width are.some narrow
+      (many (event_at activity (other_end end)) so) (opens_behind period activity end) time
 
-  pub crowded_firsts : IsCrowded activity.from
-      → Prunes before before (keeps_second period (is_left before.sets) activity) false
-  crowded_firsts so =
-      prunes_none before (keeps_second period (is_left before.sets) activity)
-      (λ event time left. own event _
-      (first_reached period are.some before.sets.rows activity is (is_left before.sets) time
-      (low event time left)
-      ∙ crowded period (is_left before.sets activity.from) width are.some narrow (many
-      activity.from so) (behind period activity) time)
-      activity.to)
+  pub crowded_end : (end : ActivityEnd) → IsCrowded (event_at activity (other_end end))
+      → Prunes before before (keeps_partnered period (is_left before.sets) activity end) false
+  crowded_end end so =
+      prunes_none before (keeps_partnered period (is_left before.sets) activity end)
+      (λ event time left. own event _ (met end time so (low event time left)) (event_at activity end))
 
   -- and any two times keep an activity that is free
   crowded_free : is_free period activity ≡ true → (event : ℕ)
@@ -90,16 +84,7 @@ module _ (activity : PespActivity) (before : Tracked)
       → 1 ≤ length (times_from before.sets activity.from 0)
       → 1 ≤ length (times_from before.sets activity.to 0)
       → IsRevised period (is_left before.sets) activity
-  free_revised free some_from some_to = record {
-    seconds = λ time left.
-        second_reached period are.some before.sets.rows activity is (is_left before.sets) time
-        (low activity.from time left)
-        ∙ crowded period (is_left before.sets activity.to) width are.some narrow
-        (many activity.to (crowded_free free activity.to some_to)) (ahead period activity) time;
-    firsts = λ time left.
-        first_reached period are.some before.sets.rows activity is (is_left before.sets) time
-        (low activity.to time left)
-        ∙ crowded period (is_left before.sets activity.from) width are.some narrow
-        (many activity.from (crowded_free free activity.from some_from)) (behind period activity)
-        time;
-  }
+  free_revised free some_from some_to at.First time left =
+      met at.First time (crowded_free free activity.to some_to) (low activity.from time left)
+  free_revised free some_from some_to at.Second time left =
+      met at.Second time (crowded_free free activity.from some_from) (low activity.to time left)

@@ -12,8 +12,8 @@ use Rattle.pesp.specs.Marks.{IsSettled, Marks, Prunes, Tracked, family, is_left,
 use Rattle.pesp.specs.Marks.{times_from}
 use Rattle.pesp.specs.Revising.{HasEmpty, IsFull, IsWithin, Left, StaysFull}
 use Rattle.pesp.proofs.Families.{filter_twice, sets_family}
-use Rattle.pesp.proofs.Partners.{same_tests}
 use Rattle.pesp.proofs.ShrinkingSets.{filter_short}
+use Rattle.plan_num.proofs.Tests.{same_tests}
 
 -- fewer times pass where each that passes the one test passes the other
 fewer_pass : (test other : ℕ → Bool) → ((x : ℕ) → test x ≡ true → other x ≡ true) → (xs : List ℕ)

@@ -21,7 +21,7 @@ use Rattle.pesp.specs.TimeSets.{left_to, reduced}
 use Rattle.pesp.specs.TimeSets.{reduced as all_reduced}
 use Rattle.pesp.proofs.EmptySets.{settled_within, with_time_full}
 use Rattle.pesp.proofs.NextSets.{set_at, sets_size}
-use Rattle.pesp.proofs.Revised.{carried_second, carried_first}
+use Rattle.pesp.proofs.Sweeping.{carried}
 use Rattle.pesp.proofs.Turns.{first_turn, listed, no_turn, none_behind, turns_append}
 use Rattle.pesp.proofs.Turns.{turns_map, unless_one}
 use Rattle.pesp.proofs.Unrolled.{unrolls}
@@ -157,13 +157,9 @@ module _ (problem : Problem) (before reduced : Tracked) (so : Reduces problem be
         full = ap (list_any is_empty) child.sets
             ∙ with_time_full (sets_of child.branched) event child.one parts.1;
         revised = λ i activity at low.
-            let is = parts.0 i activity at low in (
-              carried_first problem.period (is_left child.branched) (is_left next.sets)
-                  (λ _. false) (has_changed flags) activity child.within untouched (λ _.
-                  is.seconds),
-              carried_second problem.period (is_left child.branched) (is_left next.sets)
-                  (λ _. false) (has_changed flags) activity child.within untouched (λ _. is.firsts),
-            );
+            let is = parts.0 i activity at low in
+            carried problem.period (is_left child.branched) (is_left next.sets) (λ _. false)
+            (has_changed flags) activity child.within untouched (λ end _. is end);
         saved = subst (AreRevised problem) (sym child.now) (
           parts.0,
           parts.1,

@@ -5,7 +5,6 @@ use Rattle.std.proofs.Common.{refl, ap, sym, arith, Ok}
 use Rattle.std.specs.List.{range_with_len}
 use Rattle.std.proofs.lemmas.Bool.{and_from, and_parts, and_right, cases_eq, eq-eqb, ne_eqb}
 use Rattle.bit_rows.specs.Bits.{marked}
-use Rattle.bit_rows.proofs.Columns.{none_pass}
 use Rattle.pesp.specs.Listings.{times_at_first, with_time}
 use Rattle.pesp.specs.Marks.{KeepsTime, Marks, Prunes, Tracked, family, is_left, sets_of}
 use Rattle.pesp.specs.Revising.{Left, stays}
@@ -14,17 +13,9 @@ use Rattle.pesp.specs.Timetables.{Problem}
 use Rattle.pesp.proofs.Families.{sets_family}
 use Rattle.pesp.proofs.Partners.{kept_first, left_out, same_on_range, set_on_range}
 use Rattle.pesp.proofs.Pruned.{kept_by, prunes_by_bits}
+use Rattle.plan_num.proofs.Parts.{all_of_range, none_of_range}
 
 -- ---- filters of a range
-
-pub filter_all : (test : ℕ → Bool) (from n : ℕ)
-    → ((x : ℕ) → from ≤ x → x < from + n → test x ≡ true)
-    → filter test (range_with_len from n) ≡ range_with_len from n
-filter_all test from zero all = refl
-filter_all test from (suc n) all =
-    kept_first test test from (range_with_len (from + 1) n) (all from (omega arith) (omega arith))
-    ∙ ap (λ xs. from ∷ xs)
-    (filter_all test (from + 1) n (λ x low high. all x (omega (arith, low)) (omega (arith, high))))
 
 -- one number passes
 pub filter_one : (test : ℕ → Bool) (one : ℕ) (from n : ℕ) → from ≤ one → one < from + n
@@ -34,7 +25,7 @@ filter_one test one from zero low high is others = absurd (omega (arith, low, hi
 filter_one test one from (suc n) low high is others = elim (cases_eq from one) [
   | inl same ↦
       kept_first test test from (range_with_len (from + 1) n) (ap test same ∙ is)
-      ∙ (λ i. same i ∷ none_pass test (from + 1) n
+      ∙ (λ i. same i ∷ none_of_range test (from + 1) n
       (λ x above _. others x (λ own. absurd (omega (arith, own, above, same)))) i)
   | inr other ↦
       left_out test test from (range_with_len (from + 1) n) (others from other)
@@ -112,7 +103,7 @@ all_are marks all =
     sets_family marks
     ∙ same_on_range (λ event. filter (is_left marks event) (range_with_len 0 marks.columns))
     (λ _. range_with_len 0 marks.columns) 0 marks.rows
-    (λ event _ high. filter_all (is_left marks event) 0 marks.columns
+    (λ event _ high. all_of_range (is_left marks event) 0 marks.columns
     (λ time _ low. all event time (omega (arith, high)) (omega (arith, low))))
 
 -- and then time 0 alone to the first one

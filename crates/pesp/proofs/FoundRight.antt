@@ -18,6 +18,7 @@ use Rattle.pesp.specs.TimeSets.{has_partner, has_partners, has_second, left_to, 
 use Rattle.pesp.proofs.ListedTimes.{several_at}
 use Rattle.pesp.proofs.RoundsKeep.{is_in}
 use Rattle.pesp.proofs.ShrinkingSets.{reduced_each, reduced_length, reduced_partnered}
+use Rattle.plan_num.proofs.Tests.{only_true}
 
 -- times of a period
 abbrev pub are_below : ℕ → List ℕ → Bool
@@ -57,10 +58,6 @@ set_below period [] event inside each = absurd (omega (arith, inside))
 set_below period (set ∷ sets) zero inside each = each.0
 set_below period (set ∷ sets) (suc event) inside each =
     set_below period sets event (omega (arith, inside)) each.1
-
-alone : (b : Bool) → (b || false) ≡ true → b ≡ true
-alone true is = refl
-alone false is = absurd (cc)
 
 -- what is found for some is found for one of them
 turn_found : (visit : ℕ → Listing) (xs : List ℕ) (times : List ℕ) (Q : Type 0)
@@ -158,7 +155,7 @@ module _ (problem : Problem) (sound : IsProblem problem) where
           (one_time left few some activity.to to_in) second in
           (test_tells problem.period times below activity
           (subst (λ events. IsActivity events activity) (sym size) own)).0
-          (alone (keeps problem.period activity time (time_of times activity.to)) kept)
+          (only_true (keeps problem.period activity time (time_of times activity.to)) kept)
 
       is_timetable : IsTimetable problem times
       is_timetable = record { each = size; within = below; kept = activity_kept }

@@ -1,5 +1,5 @@
 -- The test of an activity tells whether it is kept.
-use Rattle.std.proofs.Common.{◌≡◌, ℕ, ℤ, ◌+◌, ◌<◌, ◌≤◌, ◌≤ℤ◌, pos, negsuc, Bool, true, false, T, int_le, List, length, Decides, All, refl, sym, subst, arith}
+use Rattle.std.proofs.Common.{ℕ, ℤ, ◌+◌, ◌<◌, ◌≤◌, ◌≤ℤ◌, pos, negsuc, int_le, List, length, Decides, All, sym, subst, arith}
 use Rattle.std.proofs.lemmas.Float.{T_from_true}
 use Rattle.std.proofs.lemmas.Int.{ints}
 use Rattle.std.proofs.lemmas.List.Elements.{All-get_or}
@@ -7,10 +7,7 @@ use Rattle.std.specs.Int.Signed.{le_z_yes}
 use Rattle.pesp.specs.declared.activity.PespActivity.{PespActivity}
 use Rattle.pesp.specs.Timetables.{IsActivity, IsKept, Leads, keeps_in, tension, time_of}
 use Rattle.pesp.proofs.LeastTensions.{rest, rest_least, tension_is}
-
-is_true : (b : Bool) → T b → b ≡ true
-is_true true t = refl
-is_true false t = absurd t
+use Rattle.plan_num.proofs.Tests.{is_true}
 
 -- minutes within bounds that lead from one time to another
 abbrev Within : ℕ → ℤ → ℤ → ℕ → ℕ → Type 0

@@ -9,10 +9,10 @@ use Rattle.std.proofs.lemmas.List.Sums.{sum_by-set}
 use Rattle.std.specs.List.{range_with_len}
 use Rattle.std.proofs.lemmas.List.Elements.{filter-append}
 use Rattle.bit_rows.specs.Bits.{IsFirstBit, has_bit, with_word, word_of, words_of}
-use Rattle.bit_rows.proofs.Columns.{none_pass, range_append}
 use Rattle.bit_rows.proofs.RowBits.{bit_there}
 use Rattle.pesp.specs.Marks.{AreMarks, IsNext, Marks, is_left, times_from}
 use Rattle.pesp.proofs.NextTimes.{next_one, no_more}
+use Rattle.plan_num.proofs.Parts.{range_parts, none_of_range}
 
 -- ---- sums
 
@@ -44,10 +44,10 @@ none_between : (sets : Marks) (event from n : ℕ)
 none_between sets event from n none few =
     let size : sets.columns - from ≡ n + (sets.columns - (from + n)) = omega (arith, few) in
     ap (λ size. filter (is_left sets event) (range_with_len from size)) size
-    ∙ ap (filter (is_left sets event)) (range_append from n (sets.columns - (from + n)))
+    ∙ ap (filter (is_left sets event)) (range_parts from n (sets.columns - (from + n)))
     ∙ filter-append (is_left sets event) (range_with_len from n) _
     ∙ ap (λ first. first ++ times_from sets event (from + n))
-    (none_pass (is_left sets event) from n none)
+    (none_of_range (is_left sets event) from n none)
 
 -- none so far
 abbrev pub NoneLeft : Marks → ℕ → ℕ → ℕ → Type 0

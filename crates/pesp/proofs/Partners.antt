@@ -13,16 +13,14 @@ use Rattle.std.proofs.lemmas.List.Elements.{All-cons, All-nil}
 use Rattle.pesp.specs.declared.activity.PespActivity.{PespActivity}
 use Rattle.pesp.specs.Timetables.{IsActivity, IsKept, keeps}
 use Rattle.pesp.proofs.Keeping.{test_tells}
-use Rattle.pesp.specs.Revising.{ahead, behind, first_left, reaches, second_left}
+use Rattle.pesp.specs.declared.activity_end.ActivityEnd.{ActivityEnd}
+use Rattle.pesp.specs.declared.activity_end.ActivityEnd.TheVariants as at
+use Rattle.pesp.specs.Revising.{ahead, behind, event_at, is_partnered, opens_behind, other_end, reaches}
 use Rattle.pesp.proofs.AnyBelow.{passes_below, some_below}
 use Rattle.pesp.specs.Revising.{width_of}
+use Rattle.plan_num.proofs.Tests.{same_tests}
 
 -- ---- tests that hold somewhere
-
-pub same_tests : (b c : Bool) → (b ≡ true → c ≡ true) → (c ≡ true → b ≡ true) → b ≡ c
-same_tests true c to from = sym (to refl)
-same_tests false true to from = absurd (false≢true (from refl))
-same_tests false false to from = refl
 
 module _ (left test : ℕ → Bool) where
   pub kept_first : (x : ℕ) (xs : List ℕ) → left x ≡ true → filter left (x ∷ xs) ≡ x ∷ filter left xs
@@ -234,12 +232,12 @@ module _ (period : ℕ) (some : 1 ≤ period) (events : ℕ) (activity : PespAct
   of_high : (n : ℕ) → n ≤ u → pos n ≤ℤ activity.upper
   of_high n h = omega (arith, ints, high_is, h)
 
-  pub second_reached : (left : ℕ → ℕ → Bool) (time : ℕ) → time < period
-      → second_left period left activity time
+  second_reached : (left : ℕ → ℕ → Bool) (time : ℕ) → time < period
+      → is_partnered period left activity at.First time
       ≡ reaches period (left activity.to) (ahead period activity) (width_of period activity) time
   second_reached left time low = same_tests _ _ to from
     where
-      to : second_left period left activity time ≡ true
+      to : is_partnered period left activity at.First time ≡ true
           → reaches period (left activity.to) (ahead period activity) (width_of period activity) time ≡ true
       to holds =
           let found = holds_in_range (left activity.to) (keeps period activity time) 0 period holds in
@@ -253,7 +251,7 @@ module _ (period : ℕ) (some : 1 ≤ period) (events : ℕ) (activity : PespAct
           ∙ found.3)
 
       from : reaches period (left activity.to) (ahead period activity) (width_of period activity) time ≡ true
-          → second_left period left activity time ≡ true
+          → is_partnered period left activity at.First time ≡ true
       from holds =
           let found = some_below _ _ holds in
           let k = found.0 in
@@ -276,15 +274,15 @@ module _ (period : ℕ) (some : 1 ≤ period) (events : ℕ) (activity : PespAct
           swap' : (k : ℕ) → time + k + l ≡ time + (l + k)
           swap' k = omega arith
 
-  pub first_reached : (left : ℕ → ℕ → Bool) (time : ℕ) → time < period
-      → first_left period left activity time
+  first_reached : (left : ℕ → ℕ → Bool) (time : ℕ) → time < period
+      → is_partnered period left activity at.Second time
       ≡ reaches period (left activity.from) (behind period activity) (width_of period activity) time
   first_reached left time low = same_tests _ _ to from
     where
       behind_is : behind period activity ≡ back period l u some order
       behind_is = ap (λ n. period - (l + n) % period) width_is
 
-      to : first_left period left activity time ≡ true
+      to : is_partnered period left activity at.Second time ≡ true
           → reaches period (left activity.from) (behind period activity) (width_of period activity) time ≡ true
       to holds =
           let found = holds_in_range (left activity.from) (λ other. keeps period activity other time) 0
@@ -301,7 +299,7 @@ module _ (period : ℕ) (some : 1 ≤ period) (events : ℕ) (activity : PespAct
           ∙ ap (left activity.from) at ∙ found.3)
 
       from : reaches period (left activity.from) (behind period activity) (width_of period activity) time ≡ true
-          → first_left period left activity time ≡ true
+          → is_partnered period left activity at.Second time ≡ true
       from holds =
           let found = some_below _ _ holds in
           let k = found.0 in
@@ -325,3 +323,11 @@ module _ (period : ℕ) (some : 1 ≤ period) (events : ℕ) (activity : PespAct
             enough = of_low (l + (w - k)) (omega arith);
             short = of_high (l + (w - k)) (omega (arith, few, order));
           }))
+
+  -- a time at an end has a partner where a time is left in its window
+  pub partner_reached : (left : ℕ → ℕ → Bool) (end : ActivityEnd) (time : ℕ) → time < period
+      → is_partnered period left activity end time
+      ≡ reaches period (left (event_at activity (other_end end))) (opens_behind period activity end)
+      (width_of period activity) time
+  partner_reached left at.First time low = second_reached left time low
+  partner_reached left at.Second time low = first_reached left time low

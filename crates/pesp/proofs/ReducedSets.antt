@@ -14,17 +14,20 @@ use Rattle.pesp.specs.Listings.{is_empty}
 use Rattle.pesp.specs.Marks.{AreMarks, Tracked, family, is_left, sets_of}
 use Rattle.pesp.specs.Revising.{AllFrom, HasEmpty, IsRevised, IsWithin, Left, Propagates}
 use Rattle.pesp.specs.Revising.{Reduces}
-use Rattle.pesp.specs.Revising.{first_left, is_free, second_left}
+use Rattle.pesp.specs.declared.activity_end.ActivityEnd.{ActivityEnd}
+use Rattle.pesp.specs.declared.activity_end.ActivityEnd.TheVariants as at_end
+use Rattle.pesp.specs.Revising.{are_partners, event_at, is_free, is_partnered, other_end}
 use Rattle.pesp.specs.TimeSets.{has_partner, has_partners, left_to, reduced, round}
 use Rattle.pesp.specs.TimeSets.{times_left}
 use Rattle.pesp.proofs.Crowded.{free_revised}
 use Rattle.pesp.proofs.EmptySets.{empty_within, some_left}
 use Rattle.pesp.proofs.Families.{both_of, left_to_family}
 use Rattle.pesp.proofs.Families.{round_family, same_family, sets_family}
-use Rattle.pesp.proofs.Partners.{all_in_range, holds_in_range, range_holds, same_tests}
+use Rattle.pesp.proofs.Partners.{all_in_range, holds_in_range, range_holds}
 use Rattle.pesp.proofs.ShrinkingSets.{reduced_length, reduced_partnered, rounds_leave}
-use Rattle.pesp.proofs.Revised.{firsts_more, seconds_more}
+use Rattle.pesp.proofs.Revised.{end_inside, partner_more}
 use Rattle.pesp.proofs.Sweeping.{held}
+use Rattle.plan_num.proofs.Tests.{same_tests}
 
 -- ---- tests of all activities
 
@@ -60,8 +63,8 @@ module _ (problem : Problem) (sound : IsProblem problem) where
   -- where an activity is there, a partner is one among the times that are left
   partner_is : (left : Left) (activity : PespActivity) → IsActivity events activity → (e t : ℕ)
       → has_partner period (sets left) e t activity
-      ≡ ((not (activity.from == e) || second_left period left activity t)
-      && (not (activity.to == e) || first_left period left activity t))
+      ≡ ((not (activity.from == e) || is_partnered period left activity at_end.First t)
+      && (not (activity.to == e) || is_partnered period left activity at_end.Second t))
   partner_is left activity is e t = λ i.
       (not (activity.from == e)
       || list_any (keeps period activity t) (left_to_family period events left activity.to is.to i))
@@ -87,10 +90,10 @@ module _ (problem : Problem) (sound : IsProblem problem) where
       let so = revised i activity at (omega arith) in
       partner_is others activity (activity_at i activity at) e t
       ∙ and_from _ _
-      (or_here activity.from e _ (λ own. seconds_more period left others activity t within
-      (so.seconds t (ap (λ e. left e t) own ∙ is))))
-      (or_here activity.to e _ (λ own. firsts_more period left others activity t within
-      (so.firsts t (ap (λ e. left e t) own ∙ is)))))
+      (or_here activity.from e _ (λ own. partner_more period left others activity at_end.First t within
+      (so at_end.First t (ap (λ e. left e t) own ∙ is))))
+      (or_here activity.to e _ (λ own. partner_more period left others activity at_end.Second t within
+      (so at_end.Second t (ap (λ e. left e t) own ∙ is)))))
 
   abbrev no_activity : PespActivity
   no_activity = record { from = 0; to = 0; lower = pos 0; upper = pos 0 }
@@ -121,39 +124,33 @@ module _ (problem : Problem) (sound : IsProblem problem) where
       told : (i : ℕ) (activity : PespActivity) → slice_get problem.activities i ≡ Some activity
           → (e t : ℕ)
           → inside left e t ≡ true
-          → ((not (activity.from == e) || second_left period left activity t) ≡ true)
-          × ((not (activity.to == e) || first_left period left activity t) ≡ true)
+          → ((not (activity.from == e) || is_partnered period left activity at_end.First t) ≡ true)
+          × ((not (activity.to == e) || is_partnered period left activity at_end.Second t) ≡ true)
       told i activity at e t is =
           let parts = inside_parts left e t is in
           and_parts _ _ (sym (partner_is left activity (activity_at i activity at) e t)
           ∙ holds_at (has_partner period (sets left) e t) problem.activities
           (stable e t parts.0 parts.1 parts.2) i activity at)
 
+      kept_inside : (activity : PespActivity) (end : ActivityEnd) (t : ℕ)
+          → IsActivity events activity → is_partnered period left activity end t ≡ true
+          → is_partnered period (inside left) activity end t ≡ true
+      kept_inside activity end t is holds =
+          let event = event_at activity (other_end end) in
+          let partners = are_partners period activity end t in
+          let found = holds_in_range (left event) partners 0 period holds in
+          range_holds (inside left event) partners 0 period found.0 found.1 found.2
+          (inside_from left event found.0 (end_inside events activity is (other_end end))
+          (omega (arith, found.2)) found.3) found.4
+
       revised : (i : ℕ) (activity : PespActivity) → slice_get problem.activities i ≡ Some activity
           → IsRevised period (inside left) activity
-      revised i activity at = record {
-        seconds = λ t is.
-            let second = here_or activity.from _ (told i activity at activity.from t is).0 in
-            let found = holds_in_range (left activity.to) (keeps period activity t) 0 period
-            second in
-            range_holds (inside left activity.to) (keeps period activity t) 0 period found.0
-            found.1 found.2
-            (inside_from left activity.to found.0 (activity_at i activity at).to (omega (
-              arith,
-              found.2,
-            )) found.3)
-            found.4;
-        firsts = λ t is.
-            let first = here_or activity.to _ (told i activity at activity.to t is).1 in
-            let found = holds_in_range (left activity.from) (λ other. keeps period activity other
-            t) 0 period first in
-            range_holds (inside left activity.from) (λ other. keeps period activity other t) 0
-            period found.0
-            found.1 found.2
-            (inside_from left activity.from found.0 (activity_at i activity at).from (omega
-            (arith, found.2)) found.3)
-            found.4;
-      }
+      revised i activity at at_end.First t is =
+          kept_inside activity at_end.First t (activity_at i activity at)
+          (here_or activity.from _ (told i activity at activity.from t is).0)
+      revised i activity at at_end.Second t is =
+          kept_inside activity at_end.Second t (activity_at i activity at)
+          (here_or activity.to _ (told i activity at activity.to t is).1)
 
   -- ---- rounds
 

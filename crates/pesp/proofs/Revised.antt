@@ -5,39 +5,42 @@ use Rattle.std.specs.List.{list_any, range_with_len}
 use Rattle.std.proofs.lemmas.Bool.{and_from, and_parts, cases_eq, eq-eqb, false≢true, ne_eqb}
 use Rattle.std.proofs.lemmas.Bool.{or_from, or_parts}
 use Rattle.pesp.specs.declared.activity.PespActivity.{PespActivity}
-use Rattle.pesp.specs.Timetables.{keeps}
+use Rattle.pesp.specs.Timetables.{IsActivity}
 use Rattle.pesp.specs.Listings.{is_empty}
 use Rattle.pesp.specs.Marks.{Prunes, Tracked, is_left, marks_left, times_from}
 use Rattle.pesp.proofs.EmptySets.{pruned_full}
-use Rattle.pesp.specs.Revising.{SecondUnless, IsRevised, IsWithin, Left, Revises}
-use Rattle.pesp.specs.Revising.{RevisesSecond, RevisesFirst, FirstUnless, StaysFull}
-use Rattle.pesp.specs.Revising.{Touches}
+use Rattle.pesp.specs.declared.activity_end.ActivityEnd.{ActivityEnd}
+use Rattle.pesp.specs.declared.activity_end.ActivityEnd.TheVariants as ends
+use Rattle.pesp.specs.Revising.{IsRevised, IsWithin, Left, PartneredUnless, RevisedUnless, Revises}
+use Rattle.pesp.specs.Revising.{RevisesEnd, StaysFull, Touches, are_partners, either, event_at}
+use Rattle.pesp.specs.Revising.{is_partnered, keeps_partnered, noted, other_end}
 use Rattle.pesp.specs.Flags.{Flags, has_changed}
-use Rattle.pesp.specs.Revising.{either, first_left}
-use Rattle.pesp.specs.Revising.{keeps_second, keeps_first, noted, second_left}
 use Rattle.std.proofs.lemmas.Grind.{get_or-set_at}
 use Rattle.std.proofs.lemmas.List.{get_or-set_other, length-set}
 use Rattle.pesp.proofs.Partners.{holds_in_range, range_holds}
 
+-- ---- the ends of an activity
+
+pub end_inside : (events : ℕ) (activity : PespActivity) → IsActivity events activity
+    → (end : ActivityEnd) → event_at activity end < events
+end_inside events activity is ends.First = is.from
+end_inside events activity is ends.Second = is.to
+
+pub ends_apart : (activity : PespActivity) → (activity.from ≡ activity.to → ⊥) → (end : ActivityEnd)
+    → event_at activity (other_end end) ≡ event_at activity end → ⊥
+ends_apart activity apart ends.First same = apart (sym same)
+ends_apart activity apart ends.Second same = apart same
+
 -- ---- partners among more times
 
-pub seconds_more : (period : ℕ) (left others : Left) (activity : PespActivity) (time : ℕ)
-    → IsWithin left others → second_left period left activity time ≡ true
-    → second_left period others activity time ≡ true
-seconds_more period left others activity time within is =
-    let found = holds_in_range (left activity.to) (keeps period activity time) 0 period is in
-    range_holds (others activity.to) (keeps period activity time) 0 period found.0 found.1 found.2
-    (within activity.to found.0 found.3) found.4
-
-pub firsts_more : (period : ℕ) (left others : Left) (activity : PespActivity) (time : ℕ)
-    → IsWithin left others → first_left period left activity time ≡ true
-    → first_left period others activity time ≡ true
-firsts_more period left others activity time within is =
-    let found = holds_in_range (left activity.from) (λ other. keeps period activity other time) 0
-    period is in
-    range_holds (others activity.from) (λ other. keeps period activity other time) 0 period
-    found.0 found.1
-    found.2 (within activity.from found.0 found.3) found.4
+pub partner_more : (period : ℕ) (left others : Left) (activity : PespActivity) (end : ActivityEnd)
+    (time : ℕ) → IsWithin left others → is_partnered period left activity end time ≡ true
+    → is_partnered period others activity end time ≡ true
+partner_more period left others activity end time within is =
+    let partners = are_partners period activity end time in
+    let found = holds_in_range (left (event_at activity (other_end end))) partners 0 period is in
+    range_holds (others (event_at activity (other_end end))) partners 0 period found.0 found.1 found.2
+    (within (event_at activity (other_end end)) found.0 found.3) found.4
 
 -- ---- a test of the times of one event
 
@@ -145,39 +148,22 @@ module _ (activity : PespActivity) (before after : Tracked) (kept : ℕ) (test :
       fewer_marks event (inl was) = inl was
       fewer_marks event (inr is) = inr (so.fewer is)
 
-pub first_revised : (activity : PespActivity) (before after : Tracked) (changes : Bool)
-    (at : ℕ) (flags : Flags) → activity.from < length flags
-    → Prunes before after (keeps_first before.sets.columns (is_left before.sets) activity) changes
-    → RevisesFirst activity at before after flags (noted flags activity.from changes)
-first_revised activity before after changes at flags inside so =
+pub end_revised : (activity : PespActivity) (end : ActivityEnd) (before after : Tracked)
+    (changes : Bool) (at : ℕ) (flags : Flags) → event_at activity end < length flags
+    → Prunes before after (keeps_partnered before.sets.columns (is_left before.sets) activity end)
+    changes → RevisesEnd activity end at before after flags (noted flags (event_at activity end) changes)
+end_revised activity end before after changes at flags inside so =
     let period = before.sets.columns in
-    let test = second_left period (is_left before.sets) activity in
-    let touched = side_touches activity before after activity.from test changes flags inside so
-    (λ left revised within t is.
-    seconds_more period left (is_left before.sets) activity t within (revised.seconds t is)) in (
+    let test = is_partnered period (is_left before.sets) activity end in
+    let touched = side_touches activity before after (event_at activity end) test changes flags inside
+    so (λ left revised within t is.
+    partner_more period left (is_left before.sets) activity end t within (revised end t is)) in (
       touched,
       λ _ none t is.
-          ap (λ (left : ℕ → Bool). list_any (keeps period activity t) (filter left (range_with_len
-          0 period)))
-          (touched.untouched activity.to none).1
-          ∙ side_passes before after activity.from test changes so t is,
-    )
-
-pub second_revised : (activity : PespActivity) (before after : Tracked) (changes : Bool)
-    (at : ℕ) (flags : Flags) → activity.to < length flags
-    → Prunes before after (keeps_second before.sets.columns (is_left before.sets) activity) changes
-    → RevisesSecond activity at before after flags (noted flags activity.to changes)
-second_revised activity before after changes at flags inside so =
-    let period = before.sets.columns in
-    let test = first_left period (is_left before.sets) activity in
-    let touched = side_touches activity before after activity.to test changes flags inside so
-    (λ left revised within t is.
-    firsts_more period left (is_left before.sets) activity t within (revised.firsts t is)) in (
-      touched,
-      λ _ none t is.
-          ap (λ (left : ℕ → Bool). list_any (λ first. keeps period activity first t)
-          (filter left (range_with_len 0 period))) (touched.untouched activity.from none).1
-          ∙ side_passes before after activity.to test changes so t is,
+          ap (λ (left : ℕ → Bool). list_any (are_partners period activity end t)
+          (filter left (range_with_len 0 period)))
+          (touched.untouched (event_at activity (other_end end)) none).1
+          ∙ side_passes before after (event_at activity end) test changes so t is,
     )
 
 -- the set of another event stays as it was
@@ -199,42 +185,61 @@ side_full before after kept test changes so some =
     some
 
 -- what is revised stays so where the set of the other event has not changed
-pub carried_first : (period : ℕ) (first last : Left) (flags more : ℕ
-    → Bool) (other : PespActivity)
-    → IsWithin last first
+pub carried_end : (period : ℕ) (first last : Left) (flags more : ℕ → Bool) (other : PespActivity)
+    (end : ActivityEnd) → IsWithin last first
     → ((event : ℕ) → more event ≡ false → (flags event ≡ false) × (last event ≡ first event))
-    → FirstUnless period first flags other → FirstUnless period last more other
-carried_first period first last flags more other within untouched so none t is = grind arith
+    → PartneredUnless period first flags other end → PartneredUnless period last more other end
+carried_end period first last flags more other end within untouched so none t is = grind arith
 
-pub carried_second : (period : ℕ) (first last : Left) (flags more : ℕ → Bool) (other : PespActivity)
-    → IsWithin last first
-    → ((event : ℕ) → more event ≡ false → (flags event ≡ false) × (last event ≡ first event))
-    → SecondUnless period first flags other → SecondUnless period last more other
-carried_second period first last flags more other within untouched so none t is = grind arith
-
--- one side behind the other
+-- one end behind the other
 module _ (activity : PespActivity) (at : ℕ) (start middle end : Tracked)
-    (flags some more : Flags) (one : RevisesFirst activity at start middle flags some)
-    (two : RevisesSecond activity at middle end some more) where
+    (flags some more : Flags) (one : RevisesEnd activity ends.First at start middle flags some)
+    (two : RevisesEnd activity ends.Second at middle end some more) where
   both_touched : Touches activity start end flags more
-  both_touched = grind arith
+  both_touched = record {
+    period = two.0.period ∙ one.0.period;
+    events = two.0.events ∙ one.0.events;
+    saved = two.0.saved ∙ one.0.saved;
+    within = λ e t is. one.0.within e t (two.0.within e t is);
+    keeps = λ left revised within. two.0.keeps left
+        (subst (λ period. IsRevised period left activity) (sym one.0.period) revised)
+        (one.0.keeps left revised within);
+    each = two.0.each ∙ one.0.each;
+    untouched = λ event none.
+        let later = two.0.untouched event none in
+        let earlier = one.0.untouched event later.0 in
+        (earlier.0, later.1 ∙ earlier.1);
+    fewer = λ event is. fewer_marks event (two.0.fewer event is);
+    no_more = omega (arith, one.0.no_more, two.0.no_more);
+  }
+    where
+      fewer_marks : (event : ℕ)
+          → (has_changed some event ≡ true) ⊎ (marks_left end.sets < marks_left middle.sets)
+          → (has_changed flags event ≡ true) ⊎ (marks_left end.sets < marks_left start.sets)
+      fewer_marks event (inr less) = inr (omega (arith, less, one.0.no_more))
+      fewer_marks event (inl was) = elim (one.0.fewer event was) [
+        | inl first ↦ inl first
+        | inr less ↦ inr (omega (arith, less, two.0.no_more))
+      ]
 
-  last_here : SecondUnless start.sets.columns (is_left middle.sets) (either at some) activity
-      → SecondUnless start.sets.columns (is_left end.sets) (has_changed more) activity
-  last_here = subst (λ period. SecondUnless period (is_left middle.sets) (either at some) activity
-      → SecondUnless period (is_left end.sets) (has_changed more) activity) one.0.period two.1
+  last_here : PartneredUnless start.sets.columns (is_left middle.sets) (either at some) activity ends.Second
+      → PartneredUnless start.sets.columns (is_left end.sets) (has_changed more) activity ends.Second
+  last_here = subst (λ period.
+      PartneredUnless period (is_left middle.sets) (either at some) activity ends.Second
+      → PartneredUnless period (is_left end.sets) (has_changed more) activity ends.Second)
+      one.0.period two.1
+
+  each_end : RevisedUnless start.sets.columns (is_left start.sets) (either at flags) activity
+      → RevisedUnless start.sets.columns (is_left end.sets) (has_changed more) activity
+  each_end so ends.First = carried_end start.sets.columns (is_left middle.sets) (is_left end.sets)
+      (has_changed some) (has_changed more) activity ends.First two.0.within two.0.untouched
+      (one.1 (so ends.First))
+  each_end so ends.Second = last_here (carried_end start.sets.columns (is_left start.sets)
+      (is_left middle.sets) (either at flags) (either at some) activity ends.Second one.0.within
+      (λ event none.
+      let parts = or_parts (event == at) _ none in
+      let same = one.0.untouched event parts.1 in
+      (or_from (event == at) _ parts.0 same.0, same.1)) (so ends.Second))
 
   pub both_revised : Revises activity at start end flags more
-  both_revised = (
-    both_touched,
-    λ so. (
-      carried_first start.sets.columns (is_left middle.sets) (is_left end.sets) (has_changed some)
-          (has_changed more) activity two.0.within two.0.untouched (one.1 so.0),
-      last_here (carried_second start.sets.columns (is_left start.sets) (is_left middle.sets)
-          (either at flags) (either at some) activity one.0.within
-          (λ event none.
-          let parts = or_parts (event == at) _ none in
-          let same = one.0.untouched event parts.1 in
-          (or_from (event == at) _ parts.0 same.0, same.1)) so.1),
-    ),
-  )
+  both_revised = (both_touched, each_end)

@@ -9,9 +9,10 @@ use Rattle.pesp.specs.Timetables.{IsActivity, IsProblem, Problem}
 use Rattle.pesp.specs.Flags.{Flags, IsLastFlag, has_changed, some_changed}
 use Rattle.pesp.specs.Marks.{Tracked, is_left, marks_left}
 use Rattle.pesp.specs.Revising.{AllFrom, AreRevised, BoundUnless, Dies, IsReady, IsRevised}
-use Rattle.pesp.specs.Revising.{IsWithin}
+use Rattle.pesp.specs.Revising.{IsWithin, event_at, other_end}
 use Rattle.pesp.specs.Revising.{Left, Propagates, RevisedUnless, Sweeps, Visits, is_free}
 use Rattle.pesp.specs.Revising.{IsFull, StaysFull}
+use Rattle.pesp.proofs.Revised.{carried_end, end_inside}
 use Rattle.pesp.proofs.AnyBelow.{none_below, some_below}
 
 -- what is known behind the events from one on: no flag is left at them unless times were taken out
@@ -47,7 +48,8 @@ pub carried : (period : ℕ) (old new : Left) (flags more : ℕ → Bool) (other
     → IsWithin new old
     → ((event : ℕ) → more event ≡ false → (flags event ≡ false) × (new event ≡ old event))
     → RevisedUnless period old flags other → RevisedUnless period new more other
-carried period old new flags more other within untouched so = grind arith
+carried period old new flags more other within untouched so end =
+    carried_end period old new flags more other end within untouched (so end)
 
 -- ---- smaller and smaller sets
 
@@ -161,10 +163,9 @@ all_ready problem sets flags sound each all none full = record {
   each = each;
   full = full;
   revised = λ i activity at _.
-      let is = held (IsActivity problem.events) problem.activities i activity sound.sound at in (
-        λ to. absurd (false≢true (sym to ∙ all activity.to is.to)),
-        λ from. absurd (false≢true (sym from ∙ all activity.from is.from)),
-      );
+      let is = held (IsActivity problem.events) problem.activities i activity sound.sound at in
+      λ end other. absurd (false≢true (sym other ∙ all (event_at activity (other_end end))
+      (end_inside problem.events activity is (other_end end))));
   saved = subst (AreRevised problem) (sym none) tt;
 }
 
@@ -189,10 +190,6 @@ pub all_bound : (problem : Problem) (before now : Tracked) (flags : Flags) → I
     → IsRevised problem.period (is_left now.sets) activity) 0
 all_bound problem before now flags sound so none i activity at low bound =
     let is = held (IsActivity problem.events) problem.activities i activity sound.sound at in
-    record {
-      seconds = (so.revised i activity at low bound).0
-          (none_below (has_changed flags) (length flags) activity.to none (omega (arith, is.to, so.each)));
-      firsts = (so.revised i activity at low bound).1
-          (none_below (has_changed flags) (length flags) activity.from none
-          (omega (arith, is.from, so.each)));
-    }
+    λ end. so.revised i activity at low bound end
+    (none_below (has_changed flags) (length flags) (event_at activity (other_end end)) none
+    (omega (arith, end_inside problem.events activity is (other_end end), so.each)))

@@ -7,9 +7,10 @@ use Rattle.pesp.specs.declared.activity.PespActivity.{PespActivity}
 use Rattle.pesp.specs.Timetables.{IsActivity, IsProblem, Problem}
 use Rattle.pesp.specs.declared.cycles.Tie.{Tie}
 use Rattle.pesp.specs.Cycles.{AreLater, IsTie, Repeats, TiesBy}
+use Rattle.pesp.specs.declared.activity_end.ActivityEnd.TheVariants as at_end
 use Rattle.pesp.specs.Revising.{IsRevised, ahead, behind, width_of}
 use Rattle.pesp.proofs.AnyBelow.{some_below}
-use Rattle.pesp.proofs.Partners.{first_reached, second_reached}
+use Rattle.pesp.proofs.Partners.{partner_reached}
 use Rattle.pesp.proofs.Sweeping.{held}
 
 -- ---- minutes after a time
@@ -103,8 +104,8 @@ module _ (problem : Problem) (sound : IsProblem problem) (index : ℕ) (activity
   exact_forth left all time low here =
       let so = held (IsRevised problem.period left) problem.activities index activity all at in
       let found = some_below _ _
-      (sym (second_reached problem.period sound.some problem.events activity is left time low)
-      ∙ so.seconds time here) in
+      (sym (partner_reached problem.period sound.some problem.events activity is left at_end.First time low)
+      ∙ so at_end.First time here) in
       let few = found.1 in
       let same : time + ahead problem.period activity + found.0
       ≡ time + ahead problem.period activity = omega (arith, few, exact) in
@@ -114,8 +115,8 @@ module _ (problem : Problem) (sound : IsProblem problem) (index : ℕ) (activity
   exact_back left all time low here =
       let so = held (IsRevised problem.period left) problem.activities index activity all at in
       let found = some_below _ _
-      (sym (first_reached problem.period sound.some problem.events activity is left time low)
-      ∙ so.firsts time here) in
+      (sym (partner_reached problem.period sound.some problem.events activity is left at_end.Second time low)
+      ∙ so at_end.Second time here) in
       let few = found.1 in
       let same : time + behind problem.period activity + found.0
       ≡ time + behind problem.period activity = omega (arith, few, exact) in

@@ -9,12 +9,14 @@ use Rattle.pesp.specs.declared.activity.PespActivity.{PespActivity}
 use Rattle.pesp.specs.Timetables.{Problem}
 use Rattle.pesp.specs.Flags.{Flags, has_changed}
 use Rattle.pesp.specs.Marks.{Tracked, is_left, marks_left}
-use Rattle.pesp.specs.Revising.{AllFrom, AreLinksAt, BoundUnless, Dies, HasEmpty}
-use Rattle.pesp.specs.Revising.{IsRevised, Propagates}
+use Rattle.pesp.specs.Revising.{AllFrom, AreLinksAt, BoundUnless, Dies, HasEmpty, event_at}
+use Rattle.pesp.specs.Revising.{IsRevised, Propagates, other_end}
 use Rattle.pesp.specs.Revising.{RevisedUnless, Revises, Visits, either, is_free}
 use Rattle.pesp.specs.Revising.{StaysFull}
 use Rattle.std.proofs.lemmas.List.{get_or-set_other, get_or-set_same, length-set}
 use Rattle.pesp.proofs.Sweeping.{carried, held, none_yet}
+use Rattle.pesp.specs.declared.activity_end.ActivityEnd.TheVariants as ends
+use Rattle.pesp.specs.declared.activity_end.ActivityEnd.{ActivityEnd}
 
 -- an index is among those from a place on
 abbrev pub Awaits : List ℕ → ℕ → ℕ → Type 0
@@ -69,6 +71,11 @@ module _ (problem : Problem) (event : ℕ) (indexes : List ℕ) (sets : Tracked)
       → has_changed old other ≡ false
   unset other apart none = sym (there other apart) ∙ none
 
+  apart_at : (activity : PespActivity) → (activity.from ≡ event → ⊥) → (activity.to ≡ event → ⊥)
+      → (end : ActivityEnd) → event_at activity end ≡ event → ⊥
+  apart_at activity from to ends.First = from
+  apart_at activity from to ends.Second = to
+
   begun_done : (index : ℕ) (activity : PespActivity)
       → slice_get problem.activities index ≡ Some activity
       → is_free problem.period activity ≡ false → Awaits indexes 0 index
@@ -79,11 +86,8 @@ module _ (problem : Problem) (event : ℕ) (indexes : List ℕ) (sets : Tracked)
       | inl own ↦ inl (awaited indexes index (links.to index activity at bound own))
       | inr to ↦
           let so = revised index activity at (omega arith) bound in
-          inr (
-            λ none. so.0 (unset activity.to to none),
-            λ none. so.1 (unset activity.from from
-                none),
-          )
+          inr (λ end none. so end (unset (event_at activity (other_end end))
+          (apart_at activity from to (other_end end)) none))
     ]
   ]
 
@@ -92,10 +96,9 @@ module _ (problem : Problem) (event : ℕ) (indexes : List ℕ) (sets : Tracked)
       → is_free problem.period activity ≡ false
       → RevisedUnless problem.period (is_left sets.sets) (either event left_out) activity
   begun_rest index activity at bound =
-      let so = revised index activity at (omega arith) bound in (
-        λ none. so.0 (neither activity.to (or_parts (activity.to == event) _ none)),
-        λ none. so.1 (neither activity.from (or_parts (activity.from == event) _ none)),
-      )
+      λ end none. revised index activity at (omega arith) bound end
+      (neither (event_at activity (other_end end))
+      (or_parts (event_at activity (other_end end) == event) _ none))
     where
       neither : (other : ℕ) → ((other == event) ≡ false) × (has_changed left_out other ≡ false)
           → has_changed old other ≡ false

@@ -8,6 +8,8 @@ use Rattle.std.specs.Prelude.{slice_set, Some, All, unsigned_abs, ◌-ℤ◌}
 use Rattle.std.specs.List.{list_any, range_with_len}
 use Rattle.bit_rows.specs.Bits.{marked}
 use Rattle.pesp.specs.declared.activity.PespActivity.{PespActivity}
+use Rattle.pesp.specs.declared.activity_end.ActivityEnd.{ActivityEnd}
+use Rattle.pesp.specs.declared.activity_end.ActivityEnd.TheVariants as at
 use Rattle.pesp.specs.Timetables.{Problem, keeps}
 use Rattle.pesp.specs.Flags.{Flags, has_changed, some_changed}
 use Rattle.pesp.specs.Listings.{is_empty}
@@ -53,33 +55,40 @@ abbrev pub behind : ℕ → PespActivity → ℕ
 behind period activity =
     period - (unsigned_abs activity.lower + width_of period activity) % period
 
--- a time is the first or the second one of two that keep an activity, where the other is left to
--- its event
-abbrev pub second_left : ℕ → Left → PespActivity → ℕ → Bool
-second_left period left activity time =
-    list_any (keeps period activity time) (filter (left activity.to) (range_with_len 0 period))
+-- the event at an end of an activity, and the end on the other side
+abbrev pub event_at : PespActivity → ActivityEnd → ℕ
+event_at activity at.First = activity.from
+event_at activity at.Second = activity.to
 
-abbrev pub first_left : ℕ → Left → PespActivity → ℕ → Bool
-first_left period left activity time =
-    list_any (λ other. keeps period activity other time)
-    (filter (left activity.from) (range_with_len 0 period))
+abbrev pub other_end : ActivityEnd → ActivityEnd
+other_end at.First = at.Second
+other_end at.Second = at.First
 
--- the times without a second one are taken out of the set of an activity's first event, and those
--- without a first one of that of its second event
-abbrev pub keeps_first : ℕ → Left → PespActivity → Left
-keeps_first period left activity event time =
-    not (event == activity.from) || second_left period left activity time
+-- where the windows of the partners of a time open behind it, by the end at which it is
+abbrev pub opens_behind : ℕ → PespActivity → ActivityEnd → ℕ
+opens_behind period activity at.First = ahead period activity
+opens_behind period activity at.Second = behind period activity
 
-abbrev pub keeps_second : ℕ → Left → PespActivity → Left
-keeps_second period left activity event time =
-    not (event == activity.to) || first_left period left activity time
+-- whether a time at an end and one at the other end keep an activity
+abbrev pub are_partners : ℕ → PespActivity → ActivityEnd → ℕ → ℕ → Bool
+are_partners period activity at.First time = λ other. keeps period activity time other
+are_partners period activity at.Second time = λ other. keeps period activity other time
+
+-- a time at an end has a partner that is left to the event at the other end
+abbrev pub is_partnered : ℕ → Left → PespActivity → ActivityEnd → ℕ → Bool
+is_partnered period left activity end time =
+    list_any (are_partners period activity end time)
+    (filter (left (event_at activity (other_end end))) (range_with_len 0 period))
+
+-- the times without a partner are taken out of the set of the event at an end
+abbrev pub keeps_partnered : ℕ → Left → PespActivity → ActivityEnd → Left
+keeps_partnered period left activity end event time =
+    not (event == event_at activity end) || is_partnered period left activity end time
 
 -- no time of either event of an activity is without a partner
-pub record IsRevised (period : ℕ) (left : Left) (activity : PespActivity) : Type 0 where
-  pub seconds : (time : ℕ) → left activity.from time ≡ true
-      → second_left period left activity time ≡ true
-  pub firsts : (time : ℕ) → left activity.to time ≡ true
-      → first_left period left activity time ≡ true
+abbrev pub IsRevised : ℕ → Left → PespActivity → Type 0
+IsRevised period left activity = (end : ActivityEnd) (time : ℕ)
+    → left (event_at activity end) time ≡ true → is_partnered period left activity end time ≡ true
 
 -- each time that is left on one side is left on the other
 abbrev pub IsWithin : Left → Left → Type 0
@@ -98,21 +107,16 @@ pub record Propagates (problem : Problem) (before after : Tracked) : Type 0 wher
 abbrev pub noted : Flags → ℕ → Bool → Flags
 noted flags event is_changed = if is_changed then slice_set flags event true else flags
 
--- the times of an activity's first event have their second ones unless the set of its second event
--- has changed, and the other way round
-abbrev pub FirstUnless : ℕ → Left → (ℕ → Bool) → PespActivity → Type 0
-FirstUnless period left changed activity =
-    changed activity.to ≡ false → (time : ℕ) → left activity.from time ≡ true
-    → second_left period left activity time ≡ true
-
-abbrev pub SecondUnless : ℕ → Left → (ℕ → Bool) → PespActivity → Type 0
-SecondUnless period left changed activity =
-    changed activity.from ≡ false → (time : ℕ) → left activity.to time ≡ true
-    → first_left period left activity time ≡ true
+-- the times of the event at an end have their partners unless the set of the event at the other end
+-- has changed
+abbrev pub PartneredUnless : ℕ → Left → (ℕ → Bool) → PespActivity → ActivityEnd → Type 0
+PartneredUnless period left changed activity end =
+    changed (event_at activity (other_end end)) ≡ false → (time : ℕ)
+    → left (event_at activity end) time ≡ true → is_partnered period left activity end time ≡ true
 
 abbrev pub RevisedUnless : ℕ → Left → (ℕ → Bool) → PespActivity → Type 0
 RevisedUnless period left changed activity =
-    FirstUnless period left changed activity × SecondUnless period left changed activity
+    (end : ActivityEnd) → PartneredUnless period left changed activity end
 
 -- the same of all activities from an index on
 abbrev pub AllFrom : List PespActivity → (PespActivity → Type 0) → ℕ → Type 0
@@ -165,20 +169,12 @@ abbrev pub KeepsOwn : PespActivity → ℕ → Tracked → Tracked → Type 0
 KeepsOwn activity at before after = (activity.from ≡ activity.to → ⊥)
     → times_from after.sets at 0 ≡ times_from before.sets at 0
 
--- it revises them on one side or on both, where one of its events is the one whose set has changed
-abbrev pub RevisesFirst : PespActivity → ℕ → Tracked → Tracked → Flags → Flags
-    → Type 0
-RevisesFirst activity at before after flags more =
+-- it revises them at one end or at both, where one of its events is the one whose set has changed
+abbrev pub RevisesEnd : PespActivity → ActivityEnd → ℕ → Tracked → Tracked → Flags → Flags → Type 0
+RevisesEnd activity end at before after flags more =
     Touches activity before after flags more
-    × (FirstUnless before.sets.columns (is_left before.sets) (either at flags) activity
-    → FirstUnless before.sets.columns (is_left after.sets) (has_changed more) activity)
-
-abbrev pub RevisesSecond : PespActivity → ℕ → Tracked → Tracked → Flags → Flags
-    → Type 0
-RevisesSecond activity at before after flags more =
-    Touches activity before after flags more
-    × (SecondUnless before.sets.columns (is_left before.sets) (either at flags) activity
-    → SecondUnless before.sets.columns (is_left after.sets) (has_changed more) activity)
+    × (PartneredUnless before.sets.columns (is_left before.sets) (either at flags) activity end
+    → PartneredUnless before.sets.columns (is_left after.sets) (has_changed more) activity end)
 
 abbrev pub Revises : PespActivity → ℕ → Tracked → Tracked → Flags → Flags → Type 0
 Revises activity at before after flags more =

@@ -3,6 +3,7 @@
 #![tactic(auto)]
 
 mod activity;
+mod activity_end;
 mod children;
 mod close;
 mod cycles;

@@ -6,12 +6,12 @@ ghost use Rattle.bit_rows.specs.Bits.{marked};
 ghost use Rattle.pesp.specs.Timetables.{IsActivity};
 ghost use Rattle.pesp.specs.Listings.{is_empty};
 ghost use Rattle.pesp.specs.Marks.{AreMarks, Prunes, is_left, times_from};
-ghost use Rattle.pesp.specs.Revising.{ahead, behind, first_left, second_left, width_of};
-ghost use Rattle.pesp.specs.Revising.{HasEmpty, KeepsOwn, StaysFull, Revises};
-ghost use Rattle.pesp.specs.Revising.{RevisesSecond, RevisesFirst};
-ghost use Rattle.pesp.specs.Revising.{keeps_second, keeps_first, noted};
+ghost use Rattle.pesp.specs.Revising.{HasEmpty, KeepsOwn, Revises, RevisesEnd, StaysFull, ahead};
+ghost use Rattle.pesp.specs.Revising.{behind, event_at, is_partnered, keeps_partnered, noted};
+ghost use Rattle.pesp.specs.Revising.{opens_behind, other_end, width_of};
 
 use crate::activity::PespActivity;
+use crate::activity_end::ActivityEnd;
 use crate::flags::EventFlags;
 use crate::marks::TimeMarks;
 use crate::prune::{any_of, prune};
@@ -41,9 +41,9 @@ pub(crate) fn revise(
     ensures full { IfOk result (λ is_empty. is_empty ≡ false → StaysFull sets.old sets.new) }
     ensures counted { OnOk result (count.new ≡ length (times_from sets.new.sets at 0)) }
 {
-    let first = revise_first(activity, at, *count, sets, changed)?;
+    let first = revise_end(activity, ActivityEnd::First, at, *count, sets, changed)?;
     recount(activity, at, count, sets.sets());
-    let second = revise_second(activity, at, *count, sets, changed)?;
+    let second = revise_end(activity, ActivityEnd::Second, at, *count, sets, changed)?;
     recount(activity, at, count, sets.sets());
     Ok(any_of(first, second))
 }
@@ -61,9 +61,10 @@ fn recount(activity: PespActivity, at: usize, count: &mut usize, sets: &TimeMark
     }
 }
 
-// Does so for the first event.
-fn revise_first(
+// Does so for the event at one end.
+fn revise_end(
     activity: PespActivity,
+    end: ActivityEnd,
     at: usize,
     count: usize,
     sets: &mut TimeSets,
@@ -73,42 +74,18 @@ fn revise_first(
     requires counted { count ≡ length (times_from sets.old.sets at 0) }
     requires each { length changed.old ≡ sets.old.sets.rows }
     ensures revises { OnOk result
-        (RevisesFirst activity at sets.old sets.new changed.old changed.new) }
+        (RevisesEnd activity end at sets.old sets.new changed.old changed.new) }
     ensures empty { IfOk result (λ is_empty. is_empty ≡ true → HasEmpty sets.new.sets) }
     ensures full { IfOk result (λ is_empty. is_empty ≡ false → StaysFull sets.old sets.new) }
     ensures own { OnOk result (KeepsOwn activity at sets.old sets.new) }
 {
-    if activity.to != at {
+    if end.other().event(activity) != at {
         return Ok(false);
     }
-    let is_changed = prune_first(activity, count, sets)?;
-    note(changed, activity.from, is_changed);
-    Ok(is_emptied(sets.sets(), activity.from, is_changed))
-}
-
-// Does so for the second event.
-fn revise_second(
-    activity: PespActivity,
-    at: usize,
-    count: usize,
-    sets: &mut TimeSets,
-    changed: &mut EventFlags,
-) -> Result<bool, NoMemory>
-    requires activity { IsActivity sets.old.sets.rows activity }
-    requires counted { count ≡ length (times_from sets.old.sets at 0) }
-    requires each { length changed.old ≡ sets.old.sets.rows }
-    ensures revises { OnOk result
-        (RevisesSecond activity at sets.old sets.new changed.old changed.new) }
-    ensures empty { IfOk result (λ is_empty. is_empty ≡ true → HasEmpty sets.new.sets) }
-    ensures full { IfOk result (λ is_empty. is_empty ≡ false → StaysFull sets.old sets.new) }
-    ensures own { OnOk result (KeepsOwn activity at sets.old sets.new) }
-{
-    if activity.from != at {
-        return Ok(false);
-    }
-    let is_changed = prune_second(activity, count, sets)?;
-    note(changed, activity.to, is_changed);
-    Ok(is_emptied(sets.sets(), activity.to, is_changed))
+    let event = end.event(activity);
+    let is_changed = prune_end(activity, end, count, sets)?;
+    note(changed, event, is_changed);
+    Ok(is_emptied(sets.sets(), event, is_changed))
 }
 
 /// Whether no time is left to an event whose set has changed.
@@ -131,34 +108,25 @@ fn note(changed: &mut EventFlags, event: usize, is_changed: bool)
     }
 }
 
-// Takes the times that have no second one out of the set of an activity's first event, and tells
+// Takes the times without a partner out of the set of the event at an end of an activity, and tells
 // whether there were any.
-fn prune_first(activity: PespActivity, count: usize, sets: &mut TimeSets) -> Result<bool, NoMemory>
+fn prune_end(
+    activity: PespActivity,
+    end: ActivityEnd,
+    count: usize,
+    sets: &mut TimeSets,
+) -> Result<bool, NoMemory>
     requires activity { IsActivity sets.old.sets.rows activity }
-    requires counted { count ≡ length (times_from sets.old.sets activity.to 0) }
+    requires counted { count
+        ≡ length (times_from sets.old.sets (event_at activity (other_end end)) 0) }
     ensures { IfOk result (Prunes sets.old sets.new
-        (keeps_first sets.old.sets.columns (is_left sets.old.sets) activity)) }
+        (keeps_partnered sets.old.sets.columns (is_left sets.old.sets) activity end)) }
 {
     if is_crowded(sets.sets(), count, activity) {
         return Ok(false);
     }
-    let times = with_second(activity, sets.sets());
-    prune(sets, activity.from, &times)
-}
-
-// Takes the times that have no first one out of the set of an activity's second event, and tells
-// whether there were any.
-fn prune_second(activity: PespActivity, count: usize, sets: &mut TimeSets) -> Result<bool, NoMemory>
-    requires activity { IsActivity sets.old.sets.rows activity }
-    requires counted { count ≡ length (times_from sets.old.sets activity.from 0) }
-    ensures { IfOk result (Prunes sets.old sets.new
-        (keeps_second sets.old.sets.columns (is_left sets.old.sets) activity)) }
-{
-    if is_crowded(sets.sets(), count, activity) {
-        return Ok(false);
-    }
-    let times = with_first(activity, sets.sets());
-    prune(sets, activity.to, &times)
+    let times = with_partner(activity, end, sets.sets());
+    prune(sets, end.event(activity), &times)
 }
 
 // Whether more times are left than lie outside of each window of an activity, so that every time
@@ -173,28 +141,34 @@ fn is_crowded(sets: &TimeMarks, count: usize, activity: PespActivity) -> bool
     period - width_of(activity, period) <= count
 }
 
-// The times of the period that are the first one of two that keep an activity.
-fn with_second(activity: PespActivity, sets: &TimeMarks) -> [u64; WORDS]
+// The times of the period that have a partner where they are at an end of an activity.
+fn with_partner(activity: PespActivity, end: ActivityEnd, sets: &TimeMarks) -> [u64; WORDS]
     requires { IsActivity sets.now.rows activity }
     ensures long { length result ≡ 13 }
     ensures each { (time : ℕ) → time < sets.now.columns → marked result time
-        ≡ second_left sets.now.columns (is_left sets.now) activity time }
+        ≡ is_partnered sets.now.columns (is_left sets.now) activity end time }
 {
     let period = sets.period();
     let width = width_of(activity, period);
-    reached(sets, activity.to, ahead(activity, period), width)
+    let opens = opens_behind(activity, end, period, width);
+    reached(sets, end.other().event(activity), opens, width)
 }
 
-// The times of the period that are the second one of two that keep an activity.
-fn with_first(activity: PespActivity, sets: &TimeMarks) -> [u64; WORDS]
-    requires { IsActivity sets.now.rows activity }
-    ensures long { length result ≡ 13 }
-    ensures each { (time : ℕ) → time < sets.now.columns → marked result time
-        ≡ first_left sets.now.columns (is_left sets.now) activity time }
+// How far behind a time at an end of an activity the window of its partners opens.
+fn opens_behind(activity: PespActivity, end: ActivityEnd, period: usize, width: usize) -> usize
+    requires some { 1 ≤ period }
+    requires low { pos 0 ≤ℤ activity.lower }
+    requires high { activity.lower ≤ℤ pos 100000 }
+    requires width { width ≡ width_of period activity }
+    requires narrow { width < period }
+    requires few { period ≤ 720 }
+    ensures opens { result ≡ opens_behind period activity end }
+    ensures within { result ≤ period }
 {
-    let period = sets.period();
-    let width = width_of(activity, period);
-    reached(sets, activity.from, behind(activity, period, width), width)
+    match end {
+        ActivityEnd::First => ahead(activity, period),
+        ActivityEnd::Second => behind(activity, period, width),
+    }
 }
 
 /// By how much an activity may take longer than its lower bound, up to a whole period.

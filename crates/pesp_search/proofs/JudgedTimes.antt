@@ -21,6 +21,7 @@ use Rattle.pesp_search.specs.declared.fault.TimetableFault.TheVariants as fault
 use Rattle.pesp_search.specs.Judged.{Passes, are_in_order, broken_rows, first_broken_rule, is_table, is_time_of}
 use Rattle.pesp_search.specs.Judged.{rows_in, times_in}
 use Rattle.pesp_search.specs.TimetableStage.{time_rows}
+use Rattle.plan_num.proofs.Lists.{none_long}
 
 abbrev times_of : List PeriodicTime → List ℕ
 times_of rows = map (λ row. row.time) rows
@@ -70,10 +71,6 @@ none_broken false true c none = absurd (cc)
 none_broken false false true none = absurd (cc)
 none_broken false false false none = (refl, refl, refl)
 
-no_fault : {X : Type 0} (list : List X) → (length list == 0) ≡ true → list ≡ []
-no_fault [] is = refl
-no_fault (x ∷ list) is = absurd (omega (arith, eqb-true (length (x ∷ list)) 0 is))
-
 not_some : {X : Type 0} (option : Option X) → is_some option ≡ false → is_none option ≡ true
 not_some None is = refl
 not_some (Some x) is = absurd (cc)
@@ -91,7 +88,7 @@ module _ (problem : Problem) (sound : IsProblem problem) (text : List ℕ) where
       let first = first_is problem times sound told.each told.within (first_broken problem times) refl in
       record {
         times = times;
-        reads = (no_fault (faults times_p_columns text) (not-false (is_table text) parts.0), rows_are problem.period 1 rows all);
+        reads = (none_long (faults times_p_columns text) (not-false (is_table text) parts.0), rows_are problem.period 1 rows all);
         timetable = (none_is problem times sound told.each told.within (first_broken problem times) first).0
             (not_some (first_broken problem times) parts.2);
       }

@@ -4,12 +4,11 @@ use Rattle.std.proofs.lemmas.List.{length-map}
 use Rattle.std.proofs.lemmas.List.Elements.{All-map}
 use Rattle.tables.specs.declared.file_id.FileId.TheVariants as file
 use Rattle.giv_files.specs.declared.made.Made.{Made}
-use Rattle.tables.specs.declared.refusal.Refusal.{Refusal}
 use Rattle.tables.specs.declared.refusal.Refusal.TheVariants as refusal
 use Rattle.tables.specs.declared.row_why.RowWhy.TheVariants as why
 use Rattle.tables.specs.Columns.{times_p_columns}
 use Rattle.tables.specs.Writing.{InColumns}
-use Rattle.tables.specs.Inputs.{input_faults, or_else}
+use Rattle.tables.specs.Inputs.{input_faults}
 use Rattle.giv_files.specs.Settings.{BundleParts}
 use Rattle.giv_files.specs.StageCalls.{input_text}
 use Rattle.tables.proofs.Ranges.{back_none, front_none}
@@ -27,10 +26,7 @@ use Rattle.pesp_search.specs.RightTimetables.{TimetableFilesAreRight}
 use Rattle.pesp_search.specs.TimetableStage.{period_in, problem_in, time_rows, timetable_faults}
 use Rattle.pesp_search.proofs.TimesAccepted.{times_fit}
 use Rattle.pesp_search.proofs.TimetableReads.{files_right, ids_are, problem_is}
-
-or_none : (some others : List Refusal) → or_else some others ≡ [] → (some ≡ []) × (others ≡ [])
-or_none [] others e = (refl, e)
-or_none (x ∷ some) others e = absurd (cc)
+use Rattle.tables.proofs.InTurn.{none_after, none_first}
 
 no_tension : (broken : Option ℕ) → cond (is_some broken) (refusal.BadRow file.PinnedTimes 0 why.NotFeasible ∷ []) [] ≡ [] → broken ≡ None
 no_tension None e = refl
@@ -73,8 +69,8 @@ no_faults : (bundle : BundleParts) → pinned_timetable_faults bundle ≡ []
     → (timetable_faults bundle ≡ []) × (input_faults (pinned_input bundle) (input_text bundle 2) ≡ [])
     × (first_broken (problem_in bundle) (times_in (input_text bundle 2)) ≡ None)
 no_faults bundle none =
-    let parts = or_none _ _ (back_none (timetable_faults bundle) _ none) in
-    (front_none (timetable_faults bundle) _ none, parts.0, no_tension _ parts.1)
+    let later = back_none (timetable_faults bundle) _ none in
+    (front_none (timetable_faults bundle) _ none, none_first _ _ later, no_tension _ (none_after _ _ later))
 
 -- the law of the stage
 pub pinned_right : (bundle : BundleParts) (made : Made) → (1 ≤ period_in bundle) × (period_in bundle ≤ 720)

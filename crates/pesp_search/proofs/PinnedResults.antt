@@ -1,7 +1,6 @@
 -- What the stage of a timetable that a person gives comes to, by what was read and tested.
-use Rattle.std.proofs.Common.{arith, ◌≡◌, ◌++◌, List, [], ◌∷◌, ℕ, Option, Some, None, Result, Ok}
+use Rattle.std.proofs.Common.{arith, ◌≡◌, ◌++◌, List, [], ℕ, Option, Some, None, Ok}
 use Rattle.std.proofs.Common.{Err, refl, ap, sym, subst, ◌∙◌}
-use Rattle.std.specs.Prelude.{IfOk}
 use Rattle.tables.specs.declared.file_id.FileId.TheVariants as file
 use Rattle.giv_files.specs.declared.made.Made.{Made}
 use Rattle.tables.specs.declared.refusal.Refusal.{Refusal}
@@ -9,9 +8,8 @@ use Rattle.tables.specs.declared.refusal.Refusal.TheVariants as refusal
 use Rattle.tables.specs.declared.refusal.StageFault.{StageFault}
 use Rattle.tables.specs.declared.refusal.StageFault.TheVariants as fault
 use Rattle.tables.specs.declared.row_why.RowWhy.TheVariants as why
-use Rattle.giv_files.specs.declared.stage.Stage.TheVariants as stage
 use Rattle.tables.specs.Inputs.{Refuses, input_faults, or_else, records_of}
-use Rattle.giv_files.specs.Settings.{BundleParts, Fits}
+use Rattle.giv_files.specs.Settings.{BundleParts}
 use Rattle.giv_files.specs.StageCalls.{StageGives, input_text}
 use Rattle.tables.proofs.Inputs.{refused_append}
 use Rattle.giv_files.proofs.StageCalls.{stage_refused}
@@ -23,15 +21,8 @@ use Rattle.pesp.specs.Timetables.{Problem, first_broken}
 use Rattle.pesp_search.specs.Judged.{times_in}
 use Rattle.pesp_search.specs.PinnedTimetables.{pinned_input, pinned_timetable_faults, pinned_timetable_stage}
 use Rattle.pesp_search.specs.PinnedTimetables.{tension_faults, times_kept}
-use Rattle.pesp_search.specs.RightTimetables.{TimetableIsRight}
 use Rattle.pesp_search.specs.TimetableStage.{period_in, problem_in, timetable_faults}
-use Rattle.pesp_search.proofs.PinnedLaws.{pinned_timetable_right}
-
-refused_before : (some others : List Refusal) (fault : StageFault) → Refuses some fault
-    → Refuses (or_else some others) fault
-refused_before [] others (fault.Refused reason) h = absurd (cc)
-refused_before (first ∷ some) others (fault.Refused reason) h = h
-refused_before some others fault.NoMemory h = tt
+use Rattle.tables.proofs.InTurn.{refused_before}
 
 module _ (bundle : BundleParts) where
   abbrev text : List ℕ
@@ -103,10 +94,3 @@ module _ (bundle : BundleParts) where
           → made ≡ times_kept times → StageGives (pinned_timetable_stage bundle) (Ok made)
       unfolding pinned_timetable_stage
       times_taken times made is read kept = grind arith
-
--- what a call gives that meets the stage is right
-pub right_given : (bundle : BundleParts) (result : Result Made StageFault)
-    → bundle.stage ≡ stage.PinnedTimetable → Fits bundle
-    → StageGives (pinned_timetable_stage bundle) result → IfOk result (TimetableIsRight bundle)
-right_given bundle (Ok made) own fits given = pinned_timetable_right bundle made own fits given
-right_given bundle (Err fault) own fits given = tt

@@ -1,8 +1,7 @@
 -- What the stage of timetables gives, by what the search found.
-use Rattle.std.proofs.Common.{◌≡◌, ◌∙◌, ℕ, ◌+◌, ◌≤◌, Bool, true, false, cond, nat_lt, List, [], ◌∷◌}
+use Rattle.std.proofs.Common.{◌≡◌, ◌∙◌, ℕ, ◌+◌, ◌≤◌, Bool, true, false, cond, nat_lt, List, []}
 use Rattle.std.proofs.Common.{length, All, Option, Some, None, Result, Ok, Err, ap, sym, subst}
 use Rattle.std.proofs.Common.{arith}
-use Rattle.std.proofs.lemmas.Option.{same_Some}
 use Rattle.giv_files.specs.declared.made.Made.{Made}
 use Rattle.tables.specs.declared.refusal.Refusal.{Refusal}
 use Rattle.tables.specs.declared.refusal.Refusal.TheVariants as refusal
@@ -18,24 +17,11 @@ use Rattle.pesp.specs.Timetables.{IsProblem, IsTimetable, Problem}
 use Rattle.pesp.specs.declared.search.FoundTimes.{FoundTimes}
 use Rattle.pesp.specs.Listings.{Tells, entries_listed, listing}
 use Rattle.pesp_search.specs.SearchResults.{SearchGives, TimesFound, result_within, whole_result}
-use Rattle.pesp_search.specs.TimetableStage.{after_faults, budget_in, problem_in, search_made, time_rows}
-use Rattle.pesp_search.specs.TimetableStage.{timetable_faults, timetable_stage, timetable_work, times_made, work_after}
+use Rattle.pesp_search.specs.TimetableStage.{budget_in, problem_in, search_made, time_rows}
+use Rattle.pesp_search.specs.TimetableStage.{timetable_faults, timetable_stage, timetable_work, times_made}
 use Rattle.pesp.proofs.ListingRight.{listing_right}
 use Rattle.pesp_search.proofs.TimesAccepted.{times_fit}
-
-refused_first : (faults : List Refusal) (outcome : Result Made Refusal) (why : StageFault)
-    → Refuses faults why → StageGives (after_faults faults outcome) (Err why)
-refused_first [] outcome (fault.Refused reason) h = absurd (cc)
-refused_first (first ∷ more) outcome (fault.Refused reason) h = ap (λ r. Err r) (same_Some _ _ h)
-refused_first faults outcome fault.NoMemory h = tt
-
-refused_steps : (faults : List Refusal) (entries before now : ℕ) (why : StageFault)
-    → Refuses faults why → now ≡ before + 1
-    → TakesSteps {T = Made} (work_after faults entries) before now (Err why)
-refused_steps [] entries before now (fault.Refused reason) h is = absurd (cc)
-refused_steps (first ∷ more) entries before now (fault.Refused reason) h is = is
-refused_steps [] entries before now fault.NoMemory h is = (omega (arith, is), omega (arith, is))
-refused_steps (first ∷ more) entries before now fault.NoMemory h is = (omega (arith, is), omega (arith, is))
+use Rattle.giv_files.proofs.StageCalls.{refused_after, refused_steps}
 
 -- the steps of an entry each, behind one
 ended_steps : (entries before tick now : ℕ) (why : StageFault) → tick ≡ before + 1
@@ -67,7 +53,7 @@ module _ (bundle : BundleParts) where
   pub stage_refused : (why : StageFault) → Refuses (timetable_faults bundle) why
       → StageGives (timetable_stage bundle) (Err why)
   unfolding timetable_stage
-  stage_refused why h = refused_first (timetable_faults bundle) _ why h
+  stage_refused why h = refused_after (timetable_faults bundle) _ why h
 
   pub steps_refused : (before now : ℕ) (why : StageFault) → Refuses (timetable_faults bundle) why
       → now ≡ before + 1 → TakesSteps {T = Made} (timetable_work bundle) before now (Err why)

@@ -1,13 +1,12 @@
 -- When a search says that there is no timetable, and when its budget is never spent.
-use Rattle.std.proofs.Common.{◌≡◌, ◌≢◌, ◌∙◌, ◌⊎◌, inr, ℕ, ◌≤◌, Bool, true, false, cond, nat_lt}
-use Rattle.std.proofs.Common.{List, [], Option, Some, None, Result, Ok, Err, refl, ap, sym, subst}
+use Rattle.std.proofs.Common.{◌≡◌, ◌≢◌, ◌∙◌, ℕ, ◌≤◌, Bool, true, false, cond, nat_lt}
+use Rattle.std.proofs.Common.{List, [], Option, Some, None, Result, Err, refl, ap, sym}
 use Rattle.std.proofs.Common.{arith}
 use Rattle.std.proofs.lemmas.Bool.{le-ltb, ltb-false}
 use Rattle.giv_files.specs.declared.made.Made.{Made}
 use Rattle.tables.specs.declared.refusal.Refusal.{Refusal}
 use Rattle.tables.specs.declared.refusal.Refusal.TheVariants as refusal
 use Rattle.tables.specs.declared.refusal.StageFault.{StageFault}
-use Rattle.tables.specs.declared.refusal.StageFault.TheVariants as fault
 use Rattle.giv_files.specs.declared.stage.Stage.TheVariants as stage
 use Rattle.giv_files.specs.Settings.{BundleParts, Fits}
 use Rattle.giv_files.specs.StageCalls.{StageGives}
@@ -20,6 +19,7 @@ use Rattle.pesp_search.specs.TimetableStage.{timetable_stage}
 use Rattle.pesp.proofs.ListingRight.{listing_right}
 use Rattle.pesp_search.proofs.TimetableMakes.{inputs_fine}
 use Rattle.pesp_search.proofs.TimetableReads.{is_problem}
+use Rattle.giv_files.proofs.StageCalls.{gives_only, gives_always}
 
 -- what a listing comes to within a budget
 abbrev outcome : ℕ → Listing → Result Made Refusal
@@ -64,17 +64,6 @@ never_spent_by : (entries : ℕ) (found : Option (List ℕ)) (spent : ℕ)
     → search_made (whole_result entries found) ≢ Err (refusal.Spent spent)
 never_spent_by entries None spent is = absurd (cc)
 never_spent_by entries (Some times) spent is = absurd (cc)
-
-gives_only : (function : Result Made Refusal) (result : Result Made StageFault) (why : Refusal)
-    → StageGives function result → result ≡ Err (fault.Refused why) → function ≡ Err why
-gives_only function result why gives is = subst (StageGives function) is gives
-
-gives_always : (function : Result Made Refusal) (result : Result Made StageFault) (why : Refusal)
-    → StageGives function result → function ≡ Err why
-    → (result ≡ Err (fault.Refused why)) ⊎ (result ≡ Err fault.NoMemory)
-gives_always function (Ok made) why gives is = absurd (let both = sym gives ∙ is in cc)
-gives_always function (Err fault.NoMemory) why gives is = inr refl
-gives_always function (Err (fault.Refused other)) why gives is = grind arith
 
 module _ (bundle : BundleParts) (own : bundle.stage ≡ stage.Timetable) (fits : Fits bundle) where
   abbrev all : Listing

@@ -1,6 +1,6 @@
 -- Which files the stage of timetables makes, and which it names where it refuses a row.
-use Rattle.std.proofs.Common.{arith, ◌≡◌, ℕ, Bool, true, List, [], ◌∷◌, Result, Ok, Err, ap, lit<}
-use Rattle.std.proofs.Common.{refl, subst}
+use Rattle.std.proofs.Common.{arith, ◌≡◌, ℕ, Bool, true, List, [], Result, Ok, Err, ap, lit<}
+use Rattle.std.proofs.Common.{refl}
 use Rattle.tables.specs.declared.file_id.FileId.{FileId}
 use Rattle.tables.specs.declared.file_id.FileId.TheVariants as file
 use Rattle.giv_files.specs.declared.made.Made.{Made}
@@ -11,13 +11,14 @@ use Rattle.giv_files.specs.MadeLists.{MakesAs, ids_of}
 use Rattle.tables.specs.NamedFiles.{NamesInput, NamesOnly}
 use Rattle.giv_files.specs.Settings.{BundleParts}
 use Rattle.giv_files.specs.StageCalls.{input_text}
-use Rattle.tables.proofs.Named.{AllName, input_names, names_both, names_only}
+use Rattle.tables.proofs.Named.{AllName, input_names, names_both}
 use Rattle.event_tables.specs.PeriodicFiles.{periodic_activity_input, periodic_event_ids, periodic_event_input}
 use Rattle.pesp_model.specs.PespTexts.{events_of, problem_faults}
 use Rattle.pesp.specs.Listings.{Listing, listing}
 use Rattle.pesp_search.specs.SearchResults.{TimesFound, result_within}
-use Rattle.pesp_search.specs.TimetableStage.{after_faults, budget_in, problem_in, search_made, timetable_faults}
+use Rattle.pesp_search.specs.TimetableStage.{budget_in, problem_in, search_made, timetable_faults}
 use Rattle.pesp_search.specs.TimetableStage.{timetable_stage}
+use Rattle.giv_files.proofs.StageCalls.{names_after, fine_after, made_after}
 
 -- the files that are made, where some are
 abbrev ids_in : Result Made Refusal → List FileId
@@ -29,29 +30,18 @@ search_makes : (result : Result TimesFound Refusal) (made : Made) → search_mad
 search_makes (Ok found) made is = (0, lit< tt, ap ids_in is)
 search_makes (Err why) made is = absurd (cc)
 
-makes_after : (faults : List Refusal) (result : Result TimesFound Refusal) (made : Made)
-    → after_faults faults (search_made result) ≡ Ok made → MakesAs stage.Timetable (ids_of made.files)
-makes_after [] result made is = search_makes result made is
-makes_after (first ∷ more) result made is = absurd (cc)
-
 -- they are those that the stage is to make
 pub timetable_stage_makes : (bundle : BundleParts) (made : Made) → timetable_stage bundle ≡ Ok made
     → MakesAs stage.Timetable (ids_of made.files)
 unfolding timetable_stage
 timetable_stage_makes bundle made is =
-    makes_after (timetable_faults bundle) (result_within (budget_in bundle) (listing (problem_in bundle))) made is
+    search_makes (result_within (budget_in bundle) (listing (problem_in bundle))) made
+    (made_after (timetable_faults bundle) _ made is).1
 
 search_names : (test : FileId → Bool) (budget : ℕ) (all : Listing) (reason : Refusal)
     → search_made (result_within budget all) ≡ Err reason → NamesOnly test reason
 unfolding result_within
 search_names test budget all reason is = grind arith
-
-names_after : (test : FileId → Bool) (faults : List Refusal) (outcome : Result Made Refusal)
-    (reason : Refusal) → AllName test faults → (outcome ≡ Err reason → NamesOnly test reason)
-    → after_faults faults outcome ≡ Err reason → NamesOnly test reason
-names_after test [] outcome reason named so is = so is
-names_after test (first ∷ more) outcome reason named so is =
-    let same : first ≡ reason = cc in subst (NamesOnly test) same (names_only test first named.0)
 
 -- the faults name the file of events or of activities
 pub timetable_faults_name : (test : FileId → Bool) → test file.EventsP ≡ true
@@ -64,19 +54,10 @@ timetable_faults_name test events activities bundle =
     (input_names test periodic_event_input (input_text bundle 0) events)
     (input_names test (periodic_activity_input ids) (input_text bundle 1) activities)
 
--- what is refused and names no input is refused over inputs without a fault
-no_fault : (faults : List Refusal) (outcome : Result Made Refusal) (reason : Refusal)
-    → AllName (λ _. true) faults → ¬ NamesInput (λ _. true) reason
-    → after_faults faults outcome ≡ Err reason → faults ≡ []
-no_fault [] outcome reason named other is = refl
-no_fault (first ∷ more) outcome reason named other is =
-    let same : first ≡ reason = cc in
-    absurd (other (subst (NamesInput (λ _. true)) same named.0))
-
 pub inputs_fine : (bundle : BundleParts) (reason : Refusal) → ¬ NamesInput (λ _. true) reason
     → timetable_stage bundle ≡ Err reason → timetable_faults bundle ≡ []
 unfolding timetable_stage
-inputs_fine bundle reason other is = no_fault (timetable_faults bundle) _ reason
+inputs_fine bundle reason other is = fine_after (timetable_faults bundle) _ reason
     (timetable_faults_name (λ _. true) refl refl bundle) other is
 
 -- a refusal names what they do

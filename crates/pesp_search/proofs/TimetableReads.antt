@@ -1,18 +1,15 @@
 -- The timetable that is made is right over what the stage was given.
 use Rattle.std.proofs.Common.{◌≡◌, ℕ, ◌<◌, ◌≤◌, true, false, cond, nat_lt, List, [], ◌∷◌, length}
-use Rattle.std.proofs.Common.{map, All, Option, Some, None, Result, Ok, Err, refl, sym, subst, arith}
-use Rattle.std.specs.Prelude.{IfOk}
+use Rattle.std.proofs.Common.{map, All, Option, Some, None, Ok, Err, refl, sym, subst, arith}
 use Rattle.std.specs.List.{range_with_len}
 use Rattle.tables.specs.declared.file_id.FileId.TheVariants as file
 use Rattle.giv_files.specs.declared.key.Key.TheVariants as key
 use Rattle.giv_files.specs.declared.made.Made.{Made}
-use Rattle.tables.specs.declared.refusal.Refusal.{Refusal}
 use Rattle.tables.specs.declared.refusal.Refusal.TheVariants as refusal
-use Rattle.tables.specs.declared.refusal.StageFault.{StageFault}
 use Rattle.giv_files.specs.declared.stage.Stage.TheVariants as stage
 use Rattle.tables.specs.Inputs.{input_faults}
 use Rattle.giv_files.specs.Settings.{BundleParts, Fits, SettingsFit}
-use Rattle.giv_files.specs.StageCalls.{StageGives, input_text}
+use Rattle.giv_files.specs.StageCalls.{input_text}
 use Rattle.tables.proofs.Ranges.{front_none, back_none}
 use Rattle.giv_files.proofs.SettingFacts.{amount_within}
 use Rattle.event_tables.specs.declared.periodic_event.PeriodicEvent.{PeriodicEvent}
@@ -25,11 +22,12 @@ use Rattle.pesp_model.proofs.Texts.{problem_sound}
 use Rattle.pesp.specs.Listings.{Tells, listing}
 use Rattle.pesp_search.specs.SearchResults.{result_within, whole_result}
 use Rattle.pesp_search.specs.RightTimetables.{TimetableFilesAreRight, TimetableIsRight, event_ids}
-use Rattle.pesp_search.specs.TimetableStage.{after_faults, budget_in, period_in, problem_in, search_made}
+use Rattle.pesp_search.specs.TimetableStage.{budget_in, period_in, problem_in, search_made}
 use Rattle.pesp_search.specs.TimetableStage.{timetable_faults, timetable_stage, times_made, times_text}
 use Rattle.pesp_search.proofs.JudgedTimes.{none_broken_by}
 use Rattle.pesp.proofs.ListingRight.{listing_right}
 use Rattle.pesp_search.proofs.TimesAccepted.{times_accepted, times_fit, times_read}
+use Rattle.giv_files.proofs.StageCalls.{made_after}
 
 -- where the period is in its range, whatever the stage
 module _ (bundle : BundleParts) (short : (1 ≤ period_in bundle) × (period_in bundle ≤ 720)) (none : timetable_faults bundle ≡ []) where
@@ -117,22 +115,10 @@ module _ (bundle : BundleParts) (own : bundle.stage ≡ stage.Timetable) (fits :
           | false ↦ by_found all.entries all.found (listing_right (problem_in bundle) is_problem).tells made
         ] is
 
-after : (faults : List Refusal) (outcome : Result Made Refusal) (made : Made)
-    → after_faults faults outcome ≡ Ok made → (faults ≡ []) × (outcome ≡ Ok made)
-after [] outcome made is = (refl, is)
-after (first ∷ more) outcome made is = absurd (cc)
-
 -- what the stage makes is right
 pub timetable_is_right : (bundle : BundleParts) (made : Made) → bundle.stage ≡ stage.Timetable
     → Fits bundle → timetable_stage bundle ≡ Ok made → TimetableIsRight bundle made
 unfolding timetable_stage
 timetable_is_right bundle made own fits is =
-    let parts = after (timetable_faults bundle) _ made is in
+    let parts = made_after (timetable_faults bundle) _ made is in
     result_right bundle own fits parts.0 made parts.1
-
--- what a call gives that meets the stage
-pub right_given : (bundle : BundleParts) (result : Result Made StageFault)
-    → bundle.stage ≡ stage.Timetable → Fits bundle → StageGives (timetable_stage bundle) result
-    → IfOk result (TimetableIsRight bundle)
-right_given bundle (Ok made) own fits given = timetable_is_right bundle made own fits given
-right_given bundle (Err fault) own fits given = tt

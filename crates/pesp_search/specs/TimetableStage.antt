@@ -1,5 +1,5 @@
 -- The stage that makes a timetable.
-use Rattle.std.specs.Prelude.{ℕ, ◌+◌, List, [], ◌∷◌, ◌++◌, length, map, codes, decimal, Result, Ok}
+use Rattle.std.specs.Prelude.{ℕ, List, [], ◌∷◌, ◌++◌, length, map, codes, decimal, Result, Ok}
 use Rattle.std.specs.Prelude.{Err}
 use Rattle.std.specs.List.{enumerate_from}
 use Rattle.tables.specs.declared.file_id.FileId.TheVariants as file
@@ -9,6 +9,7 @@ use Rattle.tables.specs.declared.refusal.Refusal.{Refusal}
 use Rattle.tables.specs.Columns.{times_p_columns}
 use Rattle.giv_files.specs.Settings.{BundleParts, amount}
 use Rattle.giv_files.specs.StageCalls.{input_text}
+pub use Rattle.giv_files.specs.StageCalls.{after_faults, work_after}
 use Rattle.event_tables.specs.declared.periodic_time.PeriodicTime.{PeriodicTime}
 use Rattle.event_tables.specs.Cells.{periodic_time_cells}
 use Rattle.event_tables.specs.Headers.{periodic_time_header}
@@ -55,11 +56,6 @@ abbrev pub search_made : Result TimesFound Refusal → Result Made Refusal
 search_made (Err why) = Err why
 search_made (Ok found) = Ok (times_made found)
 
--- the first of some faults, or else what a stage comes to
-abbrev pub after_faults : List Refusal → Result Made Refusal → Result Made Refusal
-after_faults [] outcome = outcome
-after_faults (first ∷ more) outcome = Err first
-
 -- the stage: from settings and input texts to what is made, or the first fault, or why the search
 -- found no timetable
 unfoldable pub timetable_stage : BundleParts → Result Made Refusal
@@ -69,10 +65,6 @@ timetable_stage bundle =
 
 -- how many steps it takes: one, and where the inputs have no fault one for each entry that is
 -- listed
-abbrev pub work_after : List Refusal → ℕ → ℕ
-work_after [] entries = 1 + entries
-work_after (first ∷ more) entries = 1
-
 unfoldable pub timetable_work : BundleParts → ℕ
 timetable_work bundle =
     work_after (timetable_faults bundle)

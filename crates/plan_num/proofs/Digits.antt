@@ -1,12 +1,12 @@
 -- Digits and what they are worth.
-use Rattle.std.proofs.Common.{◌≡◌, ℕ, ◌+◌, ◌-◌, ◌*◌, ◌<◌, ◌≤◌, zero, suc, Bool, true, false, List}
+use Rattle.std.proofs.Common.{◌≡◌, ℕ, ◌+◌, ◌-◌, ◌*◌, ◌<◌, ◌≤◌, zero, suc, Bool, true, List}
 use Rattle.std.proofs.Common.{[], ◌∷◌, ◌++◌, length, get_or, drop, min, refl, arith, add-one}
-use Rattle.std.proofs.Common.{drop-cons, length-append, eqb, leb, ◌&&◌, unwrap_or, position, cond}
+use Rattle.std.proofs.Common.{drop-cons, length-append, eqb, leb, unwrap_or, position, cond}
 use Rattle.std.proofs.Common.{ltb, Some, None, not}
 use Rattle.std.specs.List.{position_or_len}
 use Rattle.std.specs.Char.{is_ascii_digit}
 use Rattle.std.proofs.Math.Nat.{pow-suc, mul-le-mul_right}
-use Rattle.std.proofs.lemmas.Bool.{false≢true, eqb-true}
+use Rattle.std.proofs.lemmas.Bool.{eqb-true, and_parts}
 use Rattle.std.proofs.lemmas.List.Sums.{prefix_len-le-length}
 use Rattle.std.proofs.lemmas.Bool.Decides.{nat_tests}
 use Rattle.plan_num.specs.Print.{places}
@@ -25,22 +25,17 @@ value_of-push [] digit = omega arith
 value_of-push (d ∷ ds) digit =
     rw (length-append ds (digit ∷ []), add-one, pow-suc) (omega (arith, value_of-push ds digit))
 
--- both tests passed
-pub both_passed : (a b : Bool) → (a && b) ≡ true → (a ≡ true) × (b ≡ true)
-both_passed true b h = (refl, h)
-both_passed false b h = absurd (false≢true h)
-
 -- a digit is between 0 and 9
 pub digit_range : (digit : ℕ) → is_ascii_digit digit ≡ true → (48 ≤ digit) × (digit ≤ 57)
-digit_range digit h = grind (arith, nat_tests, both_passed (leb 48 digit) (leb digit 57) h)
+digit_range digit h = grind (arith, nat_tests, and_parts (leb 48 digit) (leb digit 57) h)
 
 -- each of the digits is one
 pub digit_in : (digits : List ℕ) (i : ℕ) → all_digits digits ≡ true → i < length digits
     → (48 ≤ get_or digits i 0) × (get_or digits i 0 ≤ 57)
 digit_in [] i h lt = absurd (omega arith)
-digit_in (d ∷ ds) zero h lt = digit_range d (both_passed (is_ascii_digit d) (all_digits ds) h).0
+digit_in (d ∷ ds) zero h lt = digit_range d (and_parts (is_ascii_digit d) (all_digits ds) h).0
 digit_in (d ∷ ds) (suc i) h lt =
-    digit_in ds i (both_passed (is_ascii_digit d) (all_digits ds) h).1 (omega arith)
+    digit_in ds i (and_parts (is_ascii_digit d) (all_digits ds) h).1 (omega arith)
 
 -- the digit at a place, and what those behind it are worth
 pub value_at-turn : (ps digits : List ℕ) (i place digit : ℕ) → i < length ps → i < length digits
@@ -71,13 +66,13 @@ unfolding value_at
 value_at-small [] ds h = omega arith
 value_at-small (p ∷ ps) [] h = omega arith
 value_at-small (p ∷ ps) (d ∷ ds) h =
-    let range = digit_range d (both_passed (is_ascii_digit d) (all_digits ds) h).0 in
+    let range = digit_range d (and_parts (is_ascii_digit d) (all_digits ds) h).0 in
     let less : d - 48 ≤ 9 = omega (arith, range) in
     omega (
       arith,
       mul-le-mul_right p less,
       value_at-small ps ds
-          (both_passed (is_ascii_digit d) (all_digits ds) h).1,
+          (and_parts (is_ascii_digit d) (all_digits ds) h).1,
     )
 
 -- zeros are worth nothing
@@ -86,8 +81,8 @@ unfolding value_at
 value_at-zero [] ds h = refl
 value_at-zero (p ∷ ps) [] h = refl
 value_at-zero (p ∷ ps) (d ∷ ds) h =
-    let zero_digit = eqb-true d 48 (both_passed (eqb d 48) (all_zero ds) h).0 in
-    rw zero_digit (omega (arith, value_at-zero ps ds (both_passed (eqb d 48) (all_zero ds) h).1))
+    let zero_digit = eqb-true d 48 (and_parts (eqb d 48) (all_zero ds) h).0 in
+    rw zero_digit (omega (arith, value_at-zero ps ds (and_parts (eqb d 48) (all_zero ds) h).1))
 
 -- a place before the end, or the end
 place_at : (n m : ℕ) → n ≤ m → unwrap_or (cond (ltb n m) (Some n) None) m ≡ n

@@ -1,5 +1,14 @@
+pub mod Added
 pub mod Digits
+pub mod Found
+pub mod Lists
+pub mod Members
+pub mod Numbered
+pub mod Parts
+pub mod Picked
 pub mod Places
 pub mod Printed
 pub mod ReadBack
 pub mod Shortest
+pub mod SortedIds
+pub mod Tests

@@ -10,13 +10,13 @@ use Rattle.std.proofs.Math.Nat.{div-lt_iff_lt-mul}
 use Rattle.std.proofs.Math.Bool.{or-true}
 use Rattle.std.proofs.Math.Seq.{take-length, take-append_seam, drop-append-add}
 use Rattle.std.proofs.Math.ListN.{drop_of_length-le}
-use Rattle.std.proofs.lemmas.Bool.{cases_lt, lt-ltb, le-ltb}
+use Rattle.std.proofs.lemmas.Bool.{cases_lt, lt-ltb, le-ltb, and_parts}
 use Rattle.std.proofs.lemmas.Bool.Decides.{nat_tests}
 use Rattle.std.specs.Cmp.Derive.{both_true}
 use Rattle.plan_num.specs.Print.{places, digits_at, fraction_text}
 use Rattle.plan_num.specs.Number.{is_point, has_point, has_minus, all_digits}
 use Rattle.plan_num.specs.Number.{is_numeral, parts_of, value_of, value_at}
-use Rattle.plan_num.proofs.Digits.{both_passed, digit_range}
+use Rattle.plan_num.proofs.Digits.{digit_range}
 use Rattle.plan_num.proofs.Places.{digits_of_zero}
 
 abbrev pub AreDigits : List ℕ → Type 0
@@ -104,7 +104,7 @@ pub no_point : (digits : List ℕ) → all_digits digits ≡ true
     → position_or_len is_point digits ≡ length digits
 no_point [] h = refl
 no_point (d ∷ ds) h =
-    let b = both_passed (is_ascii_digit d) (all_digits ds) h in
+    let b = and_parts (is_ascii_digit d) (all_digits ds) h in
     rw (not_point d b.0) (rw (no_point ds b.1) (omega arith))
 
 -- the first point stands behind the digits before it
@@ -112,7 +112,7 @@ pub point_behind : (digits rest : List ℕ) → all_digits digits ≡ true
     → position_or_len is_point (digits ++ 46 ∷ rest) ≡ length digits
 point_behind [] rest h = refl
 point_behind (d ∷ ds) rest h =
-    let b = both_passed (is_ascii_digit d) (all_digits ds) h in
+    let b = and_parts (is_ascii_digit d) (all_digits ds) h in
     rw (not_point d b.0) (rw (point_behind ds rest b.1) (omega arith))
 
 -- digits, and at least one, are a numeral

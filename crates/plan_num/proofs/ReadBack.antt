@@ -8,7 +8,7 @@ use Rattle.std.specs.Char.{is_ascii_digit}
 use Rattle.std.specs.Fmt.{signed_decimal}
 use Rattle.std.proofs.lemmas.Int.{ints}
 use Rattle.std.proofs.Math.Bool.{and-false}
-use Rattle.std.proofs.lemmas.Bool.{cases_lt, le-ltb}
+use Rattle.std.proofs.lemmas.Bool.{cases_lt, le-ltb, and_parts}
 use Rattle.std.specs.Cmp.Derive.{both_true}
 use Rattle.plan_num.specs.Print.{places, digits_at, fraction_text, magnitude_text, fixed_text}
 use Rattle.plan_num.specs.Number.{has_minus, is_number_byte, all_digits}
@@ -18,7 +18,6 @@ use Rattle.plan_num.specs.Number.{Spelling}
 use Rattle.plan_num.proofs.Printed.{tens, decimal_digits, decimal_value, decimal_some}
 use Rattle.plan_num.proofs.Printed.{digits_at-digits, value_at-digits_at, no_minus, parts_of-digits}
 use Rattle.plan_num.proofs.Printed.{parts_of-printed}
-use Rattle.plan_num.proofs.Digits.{both_passed}
 use Rattle.plan_num.proofs.Places.{digits_of_zero}
 
 -- the parts of a printed number
@@ -117,7 +116,7 @@ digits_bytes : (digits rest : List ℕ) → all_digits digits ≡ true
     → list_all is_number_byte rest ≡ true → list_all is_number_byte (digits ++ rest) ≡ true
 digits_bytes [] rest h more = more
 digits_bytes (d ∷ ds) rest h more =
-    let b = both_passed (is_ascii_digit d) (all_digits ds) h in
+    let b = and_parts (is_ascii_digit d) (all_digits ds) h in
     both_true (digit_byte d b.0) (digits_bytes ds rest b.1 more)
 
 -- a printed whole number has digits, and a minus in front

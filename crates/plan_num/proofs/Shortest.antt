@@ -9,7 +9,7 @@ use Rattle.std.proofs.lemmas.List.{length-take, length-drop}
 use Rattle.std.proofs.lemmas.List.Sums.{prefix_len-le-length}
 use Rattle.std.proofs.lemmas.Option.{cond_some}
 use Rattle.std.proofs.lemmas.Int.{ints}
-use Rattle.std.proofs.lemmas.Bool.{cases_lt, lt-ltb}
+use Rattle.std.proofs.lemmas.Bool.{cases_lt, lt-ltb, and_parts}
 use Rattle.std.proofs.Math.Nat.{mul-le-mul_right}
 use Rattle.std.proofs.lemmas.Nat.{div-mul-add, mod-mul-add}
 use Rattle.std.proofs.Math.ListN.{drop_of_length-le}
@@ -19,7 +19,7 @@ use Rattle.plan_num.specs.Print.{places, digits_at, fraction_text, magnitude_tex
 use Rattle.plan_num.specs.Number.{Spelling, is_point, has_minus, magnitude_of, all_digits}
 use Rattle.plan_num.specs.Number.{is_numeral, is_magnitude, parts_of, spelling_of, value_of}
 use Rattle.plan_num.specs.Number.{value_at, signed, worth_of, number_of}
-use Rattle.plan_num.proofs.Digits.{both_passed, digit_range}
+use Rattle.plan_num.proofs.Digits.{digit_range}
 use Rattle.plan_num.proofs.Printed.{AreTens, tens, numerals}
 use Rattle.plan_num.proofs.ReadBack.{with_sign}
 
@@ -42,7 +42,7 @@ unfolding value_at
 value_at-limit [] limit ds tens h = omega arith
 value_at-limit (p ∷ ps) limit [] tens h = omega (arith, tens.0, tens.1)
 value_at-limit (p ∷ ps) limit (d ∷ ds) tens h =
-    let b = both_passed (is_ascii_digit d) (all_digits ds) h in
+    let b = and_parts (is_ascii_digit d) (all_digits ds) h in
     let range = digit_range d b.0 in
     let less : d - 48 ≤ 9 = omega (arith, range) in
     omega (arith, tens.0, mul-le-mul_right p less, value_at-limit ps p ds tens.2 b.1)
@@ -58,7 +58,7 @@ unfolding digits_at value_at
 digits_at-short [] limit ds tens h = omega arith
 digits_at-short (p ∷ ps) limit [] tens h = omega arith
 digits_at-short (p ∷ ps) limit (d ∷ ds) tens h =
-    let b = both_passed (is_ascii_digit d) (all_digits ds) h in
+    let b = and_parts (is_ascii_digit d) (all_digits ds) h in
     one_longer ((d - 48) * p + value_at ps ds) _ _ (length ds)
     (rw (mod-mul-add (d - 48) p (value_at ps ds) (value_at-limit ps p ds tens.2 b.1))
     (digits_at-short ps p ds tens.2 b.1))
@@ -94,7 +94,7 @@ magnitude_parts bytes h =
     grind (
       arith,
       prefix_len-le-length,
-      both_passed,
+      and_parts,
       numeral_parts,
       length-take,
       length-drop,

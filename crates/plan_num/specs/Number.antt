@@ -5,6 +5,7 @@ use Rattle.std.specs.Prelude.{Option, Some, None, option_map, option_and_then}
 use Rattle.std.specs.List.{before_first, after_first, position_or_len, list_all}
 use Rattle.std.specs.Char.{is_ascii_digit}
 use Rattle.plan_num.specs.Print.{places}
+use Rattle.plan_num.specs.declared.number.TheConstants.{NUMBER_LIMIT}
 
 -- a number as it is written: its sign, the digits before the point, and those after it
 pub record Spelling : Type 0 where
@@ -79,7 +80,7 @@ abbrev pub fixed_limit : ℕ
 fixed_limit = 1000000000000
 
 abbrev pub whole_limit : ℕ
-whole_limit = 1000000000000000000
+whole_limit = NUMBER_LIMIT
 
 -- the written magnitude is more than the limit of fixed numbers
 abbrev pub is_beyond : Spelling → Bool

@@ -1,6 +1,8 @@
 // Fixed-point numbers.
-ghost use Rattle.std.specs.Prelude.{◌≡◌, ◌↔◌, ◌^◌, pos, neg_ℤ, ◌≤ℤ◌, IsSome, IfSome};
+ghost use Rattle.std.specs.Prelude.{◌≡◌, ◌↔◌, pos, neg_ℤ, ◌≤ℤ◌, IsSome, IfSome};
+ghost use Rattle.plan_num.specs.declared.number.TheConstants.{NUMBER_LIMIT};
 
+use crate::number::NUMBER_LIMIT;
 use std::marker::Model;
 
 /// A number of millionths, at most 10^18 of them in absolute value. Contracts see it as that whole
@@ -12,14 +14,14 @@ pub struct Fixed {
 
 impl Model for Fixed {
     ghost use Rattle.std.specs.Prelude.{ℤ, pos, neg_ℤ, ◌≤ℤ◌};
+    ghost use Rattle.plan_num.specs.declared.number.TheConstants.{NUMBER_LIMIT};
 
     ghost Value = { ℤ };
 
     ghost view = { λ f. f.millionths };
 
     ghost invariant = { λ f.
-        (neg_ℤ (pos 1000000000000000000) ≤ℤ f.millionths)
-        × (f.millionths ≤ℤ pos 1000000000000000000) };
+        (neg_ℤ (pos NUMBER_LIMIT) ≤ℤ f.millionths) × (f.millionths ≤ℤ pos NUMBER_LIMIT) };
 
     ghost inverse = { λ n. record { millionths = n } };
 }
@@ -30,9 +32,9 @@ impl Fixed {
     pub fn from_millionths(m: i64) -> Option<Fixed>
         ensures value { IfSome result (λ fixed. fixed ≡ m) }
         ensures within { IsSome result
-            ↔ ((neg_ℤ (pos (10 ^ 18)) ≤ℤ m) × (m ≤ℤ pos (10 ^ 18))) }
+            ↔ ((neg_ℤ (pos NUMBER_LIMIT) ≤ℤ m) × (m ≤ℤ pos NUMBER_LIMIT)) }
     {
-        if m < -1_000_000_000_000_000_000 || m > 1_000_000_000_000_000_000 {
+        if m.unsigned_abs() > NUMBER_LIMIT {
             return None;
         }
         Some(Fixed { millionths: m })
@@ -41,8 +43,8 @@ impl Fixed {
     /// How many millionths it is.
     pub fn millionths(self) -> i64
         ensures value { result ≡ self }
-        ensures low { neg_ℤ (pos (10 ^ 18)) ≤ℤ result }
-        ensures high { result ≤ℤ pos (10 ^ 18) }
+        ensures low { neg_ℤ (pos NUMBER_LIMIT) ≤ℤ result }
+        ensures high { result ≤ℤ pos NUMBER_LIMIT }
     {
         self.millionths
     }

@@ -10,7 +10,7 @@ mod text;
 
 pub use fixed::Fixed;
 pub use memory::NoMemory;
-pub use number::{parse_fixed, parse_whole};
+pub use number::{NUMBER_LIMIT, parse_fixed, parse_whole};
 pub use print::print_fixed;
 pub use steps::{Ledger, Silent, Steps, Tally};
 pub use text::Text;

@@ -12,10 +12,12 @@ ghost use Rattle.plan_num.specs.Written.{spelled};
 use crate::fixed::Fixed;
 use crate::print::PLACES;
 
-// The greatest number that may be written in a field of fixed numbers, and in one of whole numbers.
+// The greatest number that may be written in a field of fixed numbers.
 const FIXED_LIMIT: u64 = 1_000_000_000_000;
 
-const WHOLE_LIMIT: u64 = 1_000_000_000_000_000_000;
+/// The greatest whole number in a field, and the greatest number of millionths: 10^18. Twice as much
+/// fits 64 bits with a sign.
+pub const NUMBER_LIMIT: u64 = 1_000_000_000_000_000_000;
 
 // A field that has the form of a number, in its parts: digits before the point, and digits behind
 // it.
@@ -71,7 +73,7 @@ fn whole(written: Written<'_>) -> Option<i64>
     ensures high { IfSome result (λ n. n ≤ℤ pos (10 ^ 18)) }
 {
     let magnitude = capped_value(written.whole);
-    if is_all_zero(written.fraction) && magnitude <= WHOLE_LIMIT {
+    if is_all_zero(written.fraction) && magnitude <= NUMBER_LIMIT {
         Some(with_sign(written.minus, magnitude))
     } else {
         None
@@ -192,7 +194,7 @@ fn capped_value(digits: &[u8]) -> u64
 {
     let mut value = 0;
     for digit in digits {
-        value = (value * 10 + u64::from(*digit - b'0')).min(WHOLE_LIMIT + 1);
+        value = (value * 10 + u64::from(*digit - b'0')).min(NUMBER_LIMIT + 1);
     }
     value
 }

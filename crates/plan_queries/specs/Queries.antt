@@ -26,10 +26,10 @@ use Rattle.stage_chain.specs.Right.{text_in}
 use Rattle.stage_chain.specs.StandingInputs.{standing_bundle}
 use Rattle.wait_choice.specs.declared.rule.WaitRule.{WaitRule}
 use Rattle.wait_choice.specs.declared.rule.WaitRule.TheVariants as rule
-use Rattle.wait_choice.specs.declared.waits.Waits.{Waits}
+use Rattle.waiting_decisions.specs.declared.waits.Waits.{Waits}
 use Rattle.wait_choice.specs.ChoiceStage.{waits_in, waits_refusals, waits_work}
 use Rattle.wait_choice.specs.Judged.{KeepsBest, Passes, first_broken_rule}
-use Rattle.wait_choice.specs.RightChoices.{IsRight}
+use Rattle.waiting_decisions.specs.RightChoices.{IsRight}
 use Rattle.wait_choice.specs.WaitTexts.{waits_text}
 use Rattle.connections.specs.declared.found.Found.{Found}
 use Rattle.connections.specs.Earliest.{IsAnswer}

@@ -18,6 +18,14 @@ use stage_chain::{ChainEnd, standing_text};
 use std::alloc::Global;
 use tables::FileId;
 
+// The texts of a day: its events and activities, and disposed times where these are asked for.
+#[derive(Drop)]
+struct DayTexts {
+    events: Text,
+    activities: Text,
+    times: Option<Text>,
+}
+
 /// The journey from a stop to another one that starts at a time or later and arrives first, and what
 /// can be reached before it.
 pub(crate) fn journey<F: Files>(
@@ -39,7 +47,12 @@ pub(crate) fn journey<F: Files>(
     let events = standing_text(alloc, files, FileId::EventsX)?;
     let activities = standing_text(alloc, files, FileId::ActivitiesX)?;
     let times = times(alloc, files, disposed)?;
-    over(alloc, from, to, start, &events, &activities, &times)
+    let day = DayTexts {
+        events,
+        activities,
+        times,
+    };
+    over(alloc, from, to, start, &day)
 }
 
 // The disposed times, where they are asked for.
@@ -57,26 +70,20 @@ fn times<F: Files>(alloc: Global, files: &mut F, disposed: bool) -> Result<Optio
 }
 
 // The journey over the texts of a day.
-fn over(
-    alloc: Global,
-    from: i64,
-    to: i64,
-    start: i64,
-    events: &Text,
-    activities: &Text,
-    times: &Option<Text>,
-) -> Result<Answer, ChainEnd>
-    ensures tells { Tells (TellsJourney from to start events.now activities.now times.now) result }
+fn over(alloc: Global, from: i64, to: i64, start: i64, day: &DayTexts) -> Result<Answer, ChainEnd>
+    ensures tells { Tells
+        (TellsJourney from to start day.now.events day.now.activities day.now.times) result }
     ensures right { AnswersRight
-        (JourneyIsRight from to start events.now activities.now times.now) result }
+        (JourneyIsRight from to start day.now.events day.now.activities day.now.times) result }
     ensures ends { IfOk result (λ answer. answer.end ≡ ends.Done) }
     ensures fault_free { is_broken result ≡ false }
 {
-    let times = match times {
+    let times = match &day.times {
         Some(times) => Some(times.as_bytes()),
         None => None,
     };
-    match JourneyNet::from_texts(alloc, events.as_bytes(), activities.as_bytes(), times) {
+    let (events, activities) = (day.events.as_bytes(), day.activities.as_bytes());
+    match JourneyNet::from_texts(alloc, events, activities, times) {
         Ok(net) => {
             let found = net.earliest(alloc, from, to, start)?;
             Ok(Answer {

@@ -20,7 +20,7 @@ use Rattle.link_plans.specs.Places.{successor_at}
 use Rattle.link_plans.specs.LinkRows.{worth}
 use Rattle.link_plans.specs.Slacks.{Covers}
 use Rattle.link_plans.proofs.Moves.{has_next}
-use Rattle.plan_search.proofs.Shifting.{pos_worth}
+use Rattle.plan_search.proofs.ShiftedTrees.{pos_worth}
 
 -- ---- the best link
 
@@ -33,11 +33,8 @@ pub record IsOffer (row : List Link) (potentials : PotentialParts) (done : ℕ) 
   pub others : (k : ℕ) (link : Link) → k < done → slice_get row k ≡ Some link
       → (offer.best ≡ Some link) ⊎ (link.gain ≤ offer.rest + at potentials.v link.to)
 
-pub no_offer : (row : List Link) (potentials : PotentialParts)
-    → IsOffer row potentials 0 (record { best = None; most = 0; rest = 0 })
-no_offer row potentials = grind arith
-
-module _ (links : Links) (potentials : PotentialParts) (i : ℕ) (row : List Link) (is : IsRow links i links.count row) where
+module _ (links : Links) (potentials : PotentialParts) (i : ℕ) (row : List Link)
+    (is : IsRow links i links.count row) where
   module _ (done : ℕ) (offer : Offer) (are : IsOffer row potentials done offer) (link : Link)
       (here : slice_get row done ≡ Some link) (rest : ℕ) (rest_is : rest ≡ link.gain - at potentials.v link.to) where
     same_link : (k : ℕ) (other : Link) → k ≡ done → slice_get row k ≡ Some other → link ≡ other
@@ -74,7 +71,8 @@ module _ (links : Links) (potentials : PotentialParts) (i : ℕ) (row : List Lin
         → IsOffer row potentials (done + 1) new
     offer_more true new won lost new_is = subst (IsOffer row potentials (done + 1)) (sym new_is)
         (offer_won (won refl).0 (won refl).1)
-    offer_more false new won lost new_is = subst (IsOffer row potentials (done + 1)) (sym new_is) (offer_lost (lost refl))
+    offer_more false new won lost new_is = subst (IsOffer row potentials (done + 1)) (sym new_is)
+        (offer_lost (lost refl))
 
   -- all links were looked at
   pub offer_all : ((j : ℕ) → links.count ≤ j → worth (links.gain i j) ≡ None) → (done : ℕ) (offer : Offer)

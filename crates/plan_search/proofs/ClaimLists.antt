@@ -23,9 +23,6 @@ all_none [] none = refl
 all_none (x ∷ xs) none = ap (λ y. y ∷ xs) (none 0 (omega arith))
     ∙ ap (λ rest. None ∷ rest) (all_none xs (λ i h. none (suc i) (omega (arith, h))))
 
-abbrev no_claim : Option Claim
-no_claim = None
-
 -- no place is claimed
 pub no_claims : (n : ℕ) → AreClaims (record { at = replicate n None; order = [] })
 no_claims n = grind (arith, none-some, none_at, sum_by-replicate, length-replicate)

@@ -15,12 +15,16 @@ use Rattle.link_plans.proofs.Certified.{by_bound}
 use Rattle.plan_search.specs.declared.claim.Claim.{Claim}
 use Rattle.plan_search.specs.declared.near.Near.{Near}
 use Rattle.plan_search.specs.Claims.{ClaimsParts, claim_at, AreClaims}
-use Rattle.plan_search.specs.Growing.{links_from, looking, is_placed, is_claimed, in_tree, nearer, looked, IsFrom, IsNearest, IsNear, AreLooked, AreNear, IsTreeClaim, IsGrowing, IsPlaceFound}
-use Rattle.plan_search.specs.Searches.{IsTightAt, ComesFrom, IsClaim, AreClaimsBefore}
+use Rattle.plan_search.specs.Growing.{links_from, looking, is_placed, is_claimed, in_tree, nearer}
+use Rattle.plan_search.specs.Growing.{looked, IsFrom, IsNearest, IsNear, AreLooked, AreNear}
+use Rattle.plan_search.specs.Growing.{IsTreeClaim, IsGrowing}
+use Rattle.plan_search.specs.Searches.{IsTightAt, ComesFrom, IsClaim, IsFound, AreClaimsBefore}
 use Rattle.link_plans.specs.LinkRows.{worth}
 use Rattle.link_plans.specs.Slacks.{slack_of, slack_to}
 use Rattle.link_plans.proofs.Moves.{successor_within}
-use Rattle.plan_search.proofs.Shifting.{some_gain, pos_worth, slack_inside, slack_past, tree_trip, tree_linked, tree_is, claim_there, tree_placed, tree_inside, claimed_inside}
+use Rattle.plan_search.proofs.ShiftedTrees.{some_gain, pos_worth, slack_inside, slack_past}
+use Rattle.plan_search.proofs.ShiftedTrees.{tree_trip, tree_linked, tree_is, claim_there}
+use Rattle.plan_search.proofs.ShiftedTrees.{tree_placed, tree_inside, claimed_inside}
 
 -- what is nearest after one trip more was looked from
 pub nearest_more : (links : Links) (potentials : PotentialParts) (some more : ℕ → Bool) (place by : ℕ)
@@ -67,7 +71,8 @@ nearest_more links potentials some more place by from old grows near =
       where
         by_test : (b : Bool) → nat_lt slack found.slack ≡ b
             → IsNearest links potentials more place (cond b (record { slack = slack; by = by; from = from }) found)
-        by_test true less = new_one slack e (λ i old_i. lower slack found.slack (omega (arith, ltb-true slack found.slack less))
+        by_test true less = new_one slack e
+            (λ i old_i. lower slack found.slack (omega (arith, ltb-true slack found.slack less))
             (slack_to links potentials i place) (is.least i old_i))
         by_test false most = record {
           slack = is.slack;
@@ -214,28 +219,25 @@ module _ (links : Links) (potentials : PotentialParts) (trip : ℕ) (plan : List
       (λ apart. claim_old other found (sym (old_is other apart) ∙ e))
 
   -- a place without a trip is found
-  pub place_found : is_next plan place ≡ false → IsPlaceFound links potentials trip plan more place
+  pub place_found : is_next plan place ≡ false
+      → IsFound (looking links potentials plan trip) plan more place
   place_found alone = record {
-    over = is.over;
-    covered = is.covered;
-    found = record {
-      places = length-set claims.at place (Some new_claim) ∙ is.places;
-      within = is.within;
-      low = omega arith;
-      tight = record {
-        each = is.tight.each;
-        within = is.tight.within;
-        linked = is.tight.linked;
-        once = is.tight.once;
-        last = is.tight.last;
-        first = λ j there apart none. is.tight.first j there (λ same. omega (arith, there, same)) none;
-      };
-      waits = is.waits;
-      free = alone;
-      found = new_claim;
-      claimed = new_is;
-      before = claims_more;
+    places = length-set claims.at place (Some new_claim) ∙ is.places;
+    within = is.within;
+    low = omega arith;
+    tight = record {
+      each = is.tight.each;
+      within = is.tight.within;
+      linked = is.tight.linked;
+      once = is.tight.once;
+      last = is.tight.last;
+      first = λ j there apart none. is.tight.first j there (λ same. omega (arith, there, same)) none;
     };
+    waits = is.waits;
+    free = alone;
+    found = new_claim;
+    claimed = new_is;
+    before = claims_more;
   }
 
   -- or the tree grows by the trip that has it
@@ -306,7 +308,8 @@ module _ (links : Links) (potentials : PotentialParts) (trip : ℕ) (plan : List
           (nearest_more links potentials (in_tree trip plan claims) (in_tree trip plan more) other left (Some place)
           (get_or nears other None) grows (are.near other there (was_free other none)));
       from = λ other found none e. from_more trip plan more left (Some place) (slack_to links potentials left other)
-          (get_or nears other None) from_left (λ old is_old. from_old old (are.from other old (was_free other none) is_old))
+          (get_or nears other None) from_left
+          (λ old is_old. from_old old (are.from other old (was_free other none) is_old))
           found (sym (told_it other (there_of other found e) none) ∙ e);
     }
       where

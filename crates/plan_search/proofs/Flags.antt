@@ -21,9 +21,6 @@ unset_at zero i = refl
 unset_at (suc n) zero = refl
 unset_at (suc n) (suc i) = unset_at n i
 
-abbrev no_claim : Option Claim
-no_claim = None
-
 -- no place is claimed
 pub none_flagged : (n : ℕ) → AreFlagged (record { at = replicate n None; order = [] }) (replicate n false)
 none_flagged n = grind (arith, no_claims, length-replicate, unset_at, is_some, none_at)

@@ -12,8 +12,11 @@ use Rattle.link_plans.proofs.Certified.{by_bound}
 use Rattle.plan_search.specs.declared.claim.Claim.{Claim}
 use Rattle.plan_search.specs.Claims.{ClaimsParts, claim_at}
 use Rattle.link_plans.specs.Places.{successor_at}
-use Rattle.plan_search.specs.Searches.{Search, IsTightAt, IsTightBy, IsTightBut, IsLeft, ComesFrom, IsClaim, AreClaimsBefore, IsFound, IsPassedOn, IsHandedOn, given_to, step_of}
-use Rattle.link_plans.proofs.Moves.{some_successor, no_successor, successor_within, same_place, moved_is, moved_other, moved_next, moved_free, moved_from}
+use Rattle.plan_search.specs.Searches.{Search, IsTightAt, IsTightBy, IsTightBut, IsLeft, ComesFrom}
+use Rattle.plan_search.specs.Searches.{IsClaim, AreClaimsBefore, IsFound, IsPassedOn, IsHandedOn}
+use Rattle.plan_search.specs.Searches.{given_to, step_of}
+use Rattle.link_plans.proofs.Moves.{some_successor, no_successor, successor_within, same_place}
+use Rattle.link_plans.proofs.Moves.{moved_is, moved_other, moved_next, moved_free, moved_from}
 
 -- a claimed place is one of the places
 claimed_within : (claims : ClaimsParts) (place : ℕ) (found : Claim) → claim_at claims place ≡ Some found
@@ -46,7 +49,8 @@ module _ (search : Search) (plan : List (Option ℕ)) (claims : ClaimsParts) (pl
       once = is.tight.once;
       last = is.tight.last;
       first = λ j inside apart free. by_number j place
-          (λ same. ap (at search.potentials.v) same ∙ subst (IsTightBy search.links search.potentials place) alone own.tight)
+          (λ same. ap (at search.potentials.v) same ∙ subst (IsTightBy search.links search.potentials place)
+          alone own.tight)
           (λ other. is.tight.first j inside other free);
     };
     waits = is.waits;
@@ -216,7 +220,8 @@ module _ (search : Search) (plan : List (Option ℕ)) (claims : ClaimsParts) (pl
             before = comes_from.before;
             is = comes_from.is;
             sooner = comes_from.sooner;
-            left = left_after sooner.by sooner left comes_from.before less comes_from.is comes_from.sooner comes_from.left;
+            left = left_after sooner.by sooner left comes_from.before less comes_from.is comes_from.sooner
+                comes_from.left;
           }
 
       pub handed_further : IsFound search after claims from
@@ -243,10 +248,6 @@ module _ (search : Search) (plan : List (Option ℕ)) (claims : ClaimsParts) (pl
           → IfSome by (λ i. i < length plan)
       at_by None there = tt
       at_by (Some i) there = omega (arith, there.1, is.tight.each)
-
-  -- and so is the place
-  pub place_few : place ≤ length plan
-  place_few = omega (arith, claimed_within claims place is.found is.claimed, is.places, is.tight.each)
 
   sooner_step : (from : ℕ) (comes : ComesFrom search plan claims is.found from)
       → step_of (claim_at claims from) < step_of (claim_at claims place)

@@ -2,7 +2,6 @@ pub mod Bidding
 pub mod ClaimLists
 pub mod Claiming
 pub mod Flags
-pub mod Grown
 pub mod HandingOn
 pub mod Judged
 pub mod LinkLooks
@@ -10,7 +9,10 @@ pub mod MovedOne
 pub mod NearPlaces
 pub mod NearSlacks
 pub mod Parted
-pub mod Shifting
-pub mod Shifts
+pub mod ShiftedPotentials
+pub mod ShiftedTrees
 pub mod TakenIn
-pub mod Told
+pub mod TreeEnds
+pub mod TreeSteps
+pub mod TreeTurns
+pub mod WrittenLists

@@ -15,8 +15,8 @@ use Rattle.link_plans.specs.LinkRows.{end_of, link_to, reached, IsRow}
 use Rattle.link_plans.specs.Slacks.{slack_to, Covers}
 use Rattle.link_plans.proofs.LinkRows.{gap_first, gap_next, item, reached_last, reached_next, reached_within}
 use Rattle.link_plans.proofs.LinkSlacks.{gap_slack, link_covered, link_slack}
-use Rattle.plan_search.proofs.Shifting.{slack_past}
-use Rattle.plan_search.proofs.Told.{IsTold, told_at, told_start, told_up}
+use Rattle.plan_search.proofs.ShiftedTrees.{slack_past}
+use Rattle.plan_search.proofs.WrittenLists.{IsTold, told_at, told_start, told_up}
 
 module _ (links : Links) (potentials : PotentialParts) (claims : ClaimsParts) (i : ℕ) (from : Option ℕ)
     (row : List Link) (is : IsRow links i links.count row) (before : List (Option Near)) where
@@ -125,7 +125,8 @@ module _ (links : Links) (potentials : PotentialParts) (claims : ClaimsParts) (i
       → get_or after last None
       ≡ looked (claim_at claims last) (Some (at potentials.u i)) i from (get_or now last None)
       → AreLooked links potentials claims i from before after
-  looked_all now after k last are past last_is size others here place within = all.is place (omega (arith, within, size, last_is))
+  looked_all now after k last are past last_is size others here place within =
+      all.is place (omega (arith, within, size, last_is))
     where
       all : IsTold None told before after (last + 1)
       all = told_at None step before now after last

@@ -10,7 +10,7 @@ use Rattle.plan_search.specs.declared.near.Near.{Near}
 use Rattle.plan_search.specs.Claims.{ClaimsParts, claim_at}
 use Rattle.plan_search.specs.Growing.{open_near, shifted, IsNearestPlace, IsNearerOf, IsBetter}
 use Rattle.plan_search.proofs.ClaimLists.{all_none}
-use Rattle.plan_search.proofs.Told.{IsTold}
+use Rattle.plan_search.proofs.WrittenLists.{IsTold}
 
 -- nothing is near any place
 pub forgotten_all : (old now : List (Option Near)) (done : ℕ) → IsTold None (λ i. None) old now done
@@ -25,7 +25,8 @@ unmoved None slack None none = refl
 unmoved None slack (Some near) none = grind arith
 
 -- the nearest place among the first ones
-pub record IsBestBefore (claims : ClaimsParts) (nears : List (Option Near)) (place : ℕ) (at : ℕ) (near : Near) : Type 0 where
+pub record IsBestBefore (claims : ClaimsParts) (nears : List (Option Near)) (place : ℕ) (at : ℕ)
+    (near : Near) : Type 0 where
   pub within : at < place
   pub is : open_near (claim_at claims at) (get_or nears at None) ≡ Some near
   pub least : (other : ℕ) → other < place

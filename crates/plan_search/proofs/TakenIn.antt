@@ -9,30 +9,32 @@ use Rattle.std.proofs.lemmas.Int.{ints}
 use Rattle.std.proofs.lemmas.List.{length-set, length-replicate}
 use Rattle.std.proofs.lemmas.Option.{none-some, same_Some}
 use Rattle.link_plans.specs.Plans.{next, IsPlan}
-use Rattle.link_plans.specs.Links.{Links, AreLinks}
+use Rattle.link_plans.specs.Links.{Links, AreLinks, links_in}
 use Rattle.link_plans.proofs.Linking.{by_number, none_next}
 use Rattle.link_plans.specs.Potentials.{PotentialParts, at, AreOver, AreValid}
 use Rattle.link_plans.proofs.Certified.{by_bound}
-use Rattle.plan_search.specs.declared.claim.Claim.{Claim}
 use Rattle.plan_search.specs.declared.near.Near.{Near}
 use Rattle.plan_search.specs.Claims.{ClaimsParts, claim_at}
-use Rattle.plan_search.specs.Growing.{looking, is_placed, in_tree, StillCovers, looked, IsTaken, IsNear, AreLooked, AreNear, IsGrowing, IsPlaceFound}
+use Rattle.plan_search.specs.Growing.{looking, is_placed, in_tree, StillCovers, looked, IsTaken, IsNear}
+use Rattle.plan_search.specs.Growing.{AreLooked, AreNear, IsGrowing}
+use Rattle.plan_search.specs.Trees.{PlanParts, TakesIn}
 use Rattle.plan_search.specs.Searches.{IsTightBut, IsHandedOn}
 use Rattle.link_plans.specs.LinkRows.{worth}
 use Rattle.link_plans.specs.Slacks.{slack_to, Covers}
 use Rattle.plan_search.proofs.Claiming.{nearest_more, from_more}
 use Rattle.plan_search.proofs.ClaimLists.{none_at}
-use Rattle.plan_search.proofs.Shifting.{gain_of_some, some_gain, placed_next, placed_is, tree_is}
+use Rattle.plan_search.proofs.ShiftedTrees.{gain_of_some, some_gain, placed_next, placed_is, tree_is}
 use Rattle.link_plans.proofs.TightValid.{tight_valid}
-
-abbrev no_one : Option Claim
-no_one = None
 
 abbrev pub no_near : Option Near
 no_near = None
 
 abbrev no_next : Option ℕ
 no_next = None
+
+-- no claim on so many places
+abbrev no_claims_on : ℕ → ClaimsParts
+no_claims_on places = record { at = replicate places None; order = [] }
 
 -- ---- the beginning
 
@@ -85,58 +87,66 @@ module _ (links : Links) (potentials : PotentialParts) (plan : List (Option ℕ)
   covered_now : (i : ℕ) → is_placed trip plan i ≡ true → Covers links now i
   covered_now i placed = grind (arith, placed_is, kept_now)
 
-  module _ (claims : ClaimsParts) (none : claims ≡ record { at = replicate (links.count + 1) None; order = [] }) where
+  module _ (claims : ClaimsParts) (none : claims ≡ no_claims_on (links.count + 1)) where
     no_claim : (place : ℕ) → claim_at claims place ≡ None
     no_claim place = ap (λ x. claim_at x place) none ∙ none_at (links.count + 1) place
 
     pub started : IsGrowing links now trip plan claims
     started = grind (arith, over_now, length-replicate, tight_now, covered_now, none-some, no_claim)
 
-    -- the trip is the only one of the tree
-    alone : (i : ℕ) → in_tree trip plan claims i ≡ true → i ≡ trip
-    alone i e = grind (arith, tree_is, false≢true, is_some, no_claim)
+-- the first look from the root of a tree
+module _ (links : Links) (now : PotentialParts) (trip : ℕ) (plan : List (Option ℕ)) (claims : ClaimsParts)
+    (none : claims ≡ no_claims_on (links.count + 1)) where
+  unclaimed : (place : ℕ) → claim_at claims place ≡ None
+  unclaimed place = ap (λ x. claim_at x place) none ∙ none_at (links.count + 1) place
 
-    pub near_started : (before last : List (Option Near)) → before ≡ replicate (links.count + 1) None
-        → length last ≡ length before
-        → AreLooked links now claims trip None before last → AreNear links now trip plan claims last
-    near_started before last empty each told = record {
-      each = each ∙ size;
-      near = λ place there free. subst (λ it. IsNear links now (in_tree trip plan claims) place it) (sym (told_it place there))
-          (nearest_more links now (λ i. false) (in_tree trip plan claims) place trip None None
-          (λ i e. inr (alone i e)) (λ i e. absurd (false≢true e)));
-      from = λ place near free e. from_more trip plan claims trip None (slack_to links now trip place) None refl
-          (λ old f. absurd (none-some old f)) near (sym (told_it place (there_of place near e)) ∙ e);
-    }
-      where
-        size : length before ≡ links.count + 1
-        size = ap length empty ∙ length-replicate (links.count + 1) no_near
+  -- the trip is the only one of the tree
+  alone : (i : ℕ) → in_tree trip plan claims i ≡ true → i ≡ trip
+  alone i e = grind (arith, tree_is, false≢true, is_some, unclaimed)
 
-        empty_at : (place : ℕ) → get_or before place None ≡ None
-        empty_at place = ap (λ xs. get_or xs place None) empty ∙ none_near (links.count + 1) place
-          where
-            none_near : (n i : ℕ) → get_or (replicate n no_near) i no_near ≡ None
-            none_near zero i = refl
-            none_near (suc n) zero = refl
-            none_near (suc n) (suc i) = none_near n i
+  pub near_started : (before last : List (Option Near)) → before ≡ replicate (links.count + 1) None
+      → length last ≡ length before
+      → AreLooked links now claims trip None before last → AreNear links now trip plan claims last
+  near_started before last empty each told = record {
+    each = each ∙ size;
+    near = λ place there free. subst (λ it. IsNear links now (in_tree trip plan claims) place it)
+        (sym (told_it place there))
+        (nearest_more links now (λ i. false) (in_tree trip plan claims) place trip None None
+        (λ i e. inr (alone i e)) (λ i e. absurd (false≢true e)));
+    from = λ place near free e. from_more trip plan claims trip None (slack_to links now trip place) None refl
+        (λ old f. absurd (none-some old f)) near (sym (told_it place (there_of place near e)) ∙ e);
+  }
+    where
+      size : length before ≡ links.count + 1
+      size = ap length empty ∙ length-replicate (links.count + 1) no_near
 
-        told_it : (place : ℕ) → place < links.count + 1 → get_or last place None
-            ≡ looked None (slack_to links now trip place) trip None None
-        told_it place there = told place (omega (arith, there, size))
-            ∙ ap (λ claim. looked claim (slack_to links now trip place) trip None (get_or before place None)) (no_claim place)
-            ∙ ap (looked None (slack_to links now trip place) trip None) (empty_at place)
+      empty_at : (place : ℕ) → get_or before place None ≡ None
+      empty_at place = ap (λ xs. get_or xs place None) empty ∙ none_near (links.count + 1) place
+        where
+          none_near : (n i : ℕ) → get_or (replicate n no_near) i no_near ≡ None
+          none_near zero i = refl
+          none_near (suc n) zero = refl
+          none_near (suc n) (suc i) = none_near n i
 
-        there_of : (place : ℕ) (near : Near) → get_or last place None ≡ Some near → place < links.count + 1
-        there_of place near e = by_bound place (links.count + 1) (λ it. it)
-            (λ past. absurd (none-some near (sym (get_or-eq_default last None (omega (arith, past, each, size))) ∙ e)))
+      told_it : (place : ℕ) → place < links.count + 1 → get_or last place None
+          ≡ looked None (slack_to links now trip place) trip None None
+      told_it place there = told place (omega (arith, there, size))
+          ∙ ap (λ claim. looked claim (slack_to links now trip place) trip None (get_or before place None))
+          (unclaimed place)
+          ∙ ap (looked None (slack_to links now trip place) trip None) (empty_at place)
+
+      there_of : (place : ℕ) (near : Near) → get_or last place None ≡ Some near → place < links.count + 1
+      there_of place near e = by_bound place (links.count + 1) (λ it. it)
+          (λ past. absurd (none-some near (sym (get_or-eq_default last None (omega (arith, past, each, size))) ∙ e)))
 
 -- ---- the end
 
 -- where a place was handed on, the plan is one of this kind again
-pub taken_more : (links : Links) (potentials : PotentialParts) (trip : ℕ) (claims : ClaimsParts) (plan after : List (Option ℕ))
-    (place : ℕ) → IsPlaceFound links potentials trip plan claims place
-    → IsHandedOn (looking links potentials plan trip) claims plan after → IsTaken links potentials after
-taken_more links potentials trip claims plan after place found is = record {
-  over = found.over;
+pub taken_more : (links : Links) (potentials : PotentialParts) (trip : ℕ) (claims more : ClaimsParts)
+    (plan after : List (Option ℕ)) → IsGrowing links potentials trip plan claims
+    → IsHandedOn (looking links potentials plan trip) more plan after → IsTaken links potentials after
+taken_more links potentials trip claims more plan after growing is = record {
+  over = growing.over;
   tight = record {
     each = is.each;
     within = is.within;
@@ -145,7 +155,7 @@ taken_more links potentials trip claims plan after place found is = record {
     last = λ i apart e. is.last i e;
     first = λ j inside apart free. is.first j inside free;
   };
-  covered = λ i j e. found.covered i (gain_of_some links (is_placed trip plan) i j _ (is.linked i j e)).0;
+  covered = λ i j e. growing.covered i (gain_of_some links (is_placed trip plan) i j _ (is.linked i j e)).0;
 }
 
 -- no trip is taken in
@@ -207,20 +217,6 @@ module _ (links : Links) (sound : AreLinks links) (potentials : PotentialParts) 
         (λ past. get_or-eq_default potentials.v 0 (omega (arith, past, is.over.each_v)));
   })
 
--- a tree that grows, and what is near to it; what was covered still is
-pub record IsTree (links : Links) (before potentials : PotentialParts) (trip : ℕ) (plan : List (Option ℕ)) (claims : ClaimsParts) (nears : List (Option Near)) : Type 0 where
-  pub growing : IsGrowing links potentials trip plan claims
-  pub near : AreNear links potentials trip plan claims nears
-  pub kept : StillCovers links before potentials
-
--- trips are taken in, with room for each place; so are those of the first so many steps of which each
--- comes once for all trips
-pub record AreTakenIn (links : Links) (potentials : PotentialParts) (plan : List (Option ℕ)) (steps : ℕ) (claims : ClaimsParts) (near_places : List (Option Near)) : Type 0 where
-  pub is : IsTaken links potentials plan
-  pub covered : (i : ℕ) → i + links.count < steps → Covers links potentials i
-  pub places : length claims.at ≡ links.count + 1
-  pub near_each : length near_places ≡ links.count + 1
-
 -- no trip is taken in yet
 pub none_taken_in : (links : Links) (n : ℕ) (potentials : PotentialParts) (plan : List (Option ℕ))
     → n ≡ links.count → plan ≡ replicate n None
@@ -230,30 +226,24 @@ none_taken_in links n potentials plan size plan_is potentials_is =
     (subst (IsTaken links (record { u = replicate n 0; v = replicate n 0 })) (sym plan_is)
     (none_taken links n size))
 
--- no step was taken yet
-pub begun : (links : Links) (n : ℕ) (potentials : PotentialParts) (plan : List (Option ℕ)) (claims : ClaimsParts)
-    (near_places : List (Option Near)) → n ≡ links.count → IsTaken links potentials plan
-    → claims ≡ record { at = replicate (n + 1) None; order = [] } → length near_places ≡ links.count + 1
-    → AreTakenIn links potentials plan 0 claims near_places
-begun links n potentials plan claims near_places size is claims_is each =
-    grind (arith, length-replicate)
+-- the trips of the first so many steps are covered, of which each comes once after all trips came
+pub record AreTakenIn (first tight : PlanParts) (steps : ℕ) : Type 0 where
+  pub links : tight.links ≡ first.links
+  pub covered : (i : ℕ) → i + length first.links < steps
+      → Covers (links_in first.links) tight.potentials i
 
 -- a step more: one trip is taken in
-pub taken_step : (links : Links) (before potentials : PotentialParts) (plan after : List (Option ℕ)) (steps trip : ℕ)
-    (claims now : ClaimsParts) (near_places now_near : List (Option Near))
-    → AreTakenIn links before plan steps claims near_places → IsTaken links potentials after
-    → StillCovers links before potentials → Covers links potentials trip
-    → (links.count ≤ steps → trip ≡ steps - links.count)
-    → length now.at ≡ links.count + 1 → length now_near ≡ links.count + 1
-    → AreTakenIn links potentials after (steps + 1) now now_near
-taken_step links before potentials plan after steps trip claims now near_places now_near are is kept own again places each = record {
-  is = is;
-  covered = λ i early. by_number (i + links.count) steps
-      (λ same. subst (Covers links potentials) (trip_is i same) own)
-      (λ apart. kept i (are.covered i (omega (arith, early, apart))));
-  places = places;
-  near_each = each;
+pub taken_step : (first tight after : PlanParts) (steps trip : ℕ) → AreTakenIn first tight steps
+    → TakesIn tight trip after → (length first.links ≤ steps → trip ≡ steps - length first.links)
+    → AreTakenIn first after (steps + 1)
+taken_step first tight after steps trip are takes again = record {
+  links = takes.links ∙ are.links;
+  covered = λ i early. by_number (i + length first.links) steps
+      (λ same. subst (Covers (links_in first.links) after.potentials) (trip_is i same)
+      (subst (λ links. Covers (links_in links) after.potentials trip) are.links takes.own))
+      (λ apart. subst (λ links. StillCovers (links_in links) tight.potentials after.potentials) are.links
+      takes.kept i (are.covered i (omega (arith, early, apart))));
 }
   where
-    trip_is : (i : ℕ) → i + links.count ≡ steps → trip ≡ i
+    trip_is : (i : ℕ) → i + length first.links ≡ steps → trip ≡ i
     trip_is i same = omega (arith, same, again (omega (arith, same)))

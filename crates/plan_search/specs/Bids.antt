@@ -1,5 +1,7 @@
 -- Inner words of the first plan: what a trip offers for a place.
-use Rattle.std.specs.Prelude.{ℕ, ◌≡◌, ◌+◌, ◌≤◌, ◌&&◌, max, not, if◌then◌else◌, Bool, false, List, Option, Some, None, IfSome}
+use Rattle.std.specs.Prelude.{ℕ, ◌≡◌, ◌+◌, ◌≤◌, ◌&&◌, max, not, if◌then◌else◌, Bool, false, List}
+use Rattle.std.specs.Prelude.{Option, Some, None, IfSome}
+use Rattle.link_plans.specs.declared.limits.TheConstants.{MOST_GAIN}
 use Rattle.link_plans.specs.Plans.{next, is_next}
 use Rattle.link_plans.specs.Links.{Links}
 use Rattle.link_plans.specs.Potentials.{PotentialParts, at, AreOver}
@@ -37,7 +39,7 @@ AreOthersBelow links potentials i place rest = (j gain : ℕ) → worth (links.g
 -- but the best more than the rest
 pub record IsBid (links : Links) (potentials : PotentialParts) (i : ℕ) (offer : Offer) : Type 0 where
   pub low : offer.rest ≤ offer.most
-  pub small : offer.most ≤ 1000000000000
+  pub small : offer.most ≤ MOST_GAIN
   pub link : IfSome offer.best (IsLinkOf links i links.count)
   pub best : IfSome offer.best (λ link. link.gain ≡ offer.most + at potentials.v link.to)
   pub others : IfSome offer.best (λ link. AreOthersBelow links potentials i link.to offer.rest)

@@ -1,6 +1,7 @@
 -- Places that trips would take: each claim is by a trip, or by none where the place would be left, and
 -- it leaves the place from which the trip was come to.
-use Rattle.std.specs.Prelude.{ℕ, ◌≡◌, ◌+◌, ◌<◌, Bool, false, is_some, List, length, sum_by, get_or, slice_get, Option, Some, None}
+use Rattle.std.specs.Prelude.{ℕ, ◌≡◌, ◌+◌, ◌<◌, Bool, false, is_some, List, length, sum_by, get_or}
+use Rattle.std.specs.Prelude.{slice_get, Option, Some, None}
 use Rattle.plan_search.specs.declared.claim.Claim.{Claim}
 
 -- the claim on each place, and the places in the order of their claims

@@ -1,13 +1,15 @@
 -- Inner words of the search for a plan of least cost: the tree that grows from a trip that looks for a
 -- place, and how near each place is to it.
-use Rattle.std.specs.Prelude.{ℕ, ◌≡◌, ◌⊎◌, ◌+◌, ◌-◌, ◌<◌, ◌≤◌, ◌||◌, nat_eq, nat_lt, is_some, if◌then◌else◌, Bool, true, false, List, length, get_or, Option, Some, None, option_map, MatchOption, IfSome}
+use Rattle.std.specs.Prelude.{ℕ, ◌≡◌, ◌⊎◌, ◌+◌, ◌-◌, ◌<◌, ◌≤◌, ◌||◌, nat_eq, nat_lt, is_some}
+use Rattle.std.specs.Prelude.{if◌then◌else◌, Bool, true, false, List, length, get_or, Option, Some}
+use Rattle.std.specs.Prelude.{None, option_map, MatchOption, IfSome}
 use Rattle.link_plans.specs.Plans.{next, is_next}
 use Rattle.link_plans.specs.Links.{Links}
 use Rattle.link_plans.specs.Potentials.{PotentialParts, at, AreOver}
 use Rattle.plan_search.specs.declared.claim.Claim.{Claim}
 use Rattle.plan_search.specs.declared.near.Near.{Near}
 use Rattle.plan_search.specs.Claims.{ClaimsParts, claim_at}
-use Rattle.plan_search.specs.Searches.{Search, IsTightBut, AreClaimsBefore, IsFound}
+use Rattle.plan_search.specs.Searches.{Search, IsTightBut, AreClaimsBefore}
 use Rattle.link_plans.specs.Slacks.{slack_to, Covers}
 
 -- the links from some trips alone
@@ -78,7 +80,8 @@ pub record AreAsBefore (place : ℕ) (before after : List (Option Near)) : Type 
   pub others : (other : ℕ) → (other ≡ place → ⊥) → get_or after other None ≡ get_or before other None
 
 -- a place has neither a claim nor a trip, and the slack of a trip is 0 there
-pub record IsFreeAt (links : Links) (potentials : PotentialParts) (plan : List (Option ℕ)) (claims : ClaimsParts) (by place : ℕ) : Type 0 where
+pub record IsFreeAt (links : Links) (potentials : PotentialParts) (plan : List (Option ℕ))
+    (claims : ClaimsParts) (by place : ℕ) : Type 0 where
   pub within : place < links.count + 1
   pub open_place : claim_at claims place ≡ None
   pub free : is_next plan place ≡ false
@@ -91,7 +94,8 @@ looked None None by from old = old
 looked None (Some slack) by from old = Some (nearer slack by from old)
 
 -- the same at all places
-abbrev pub AreLooked : Links → PotentialParts → ClaimsParts → ℕ → Option ℕ → List (Option Near) → List (Option Near) → Type 0
+abbrev pub AreLooked : Links → PotentialParts → ClaimsParts → ℕ → Option ℕ → List (Option Near)
+    → List (Option Near) → Type 0
 AreLooked links potentials claims by from before after =
     (place : ℕ) → place < length before → get_or after place None
     ≡ looked (claim_at claims place) (slack_to links potentials by place) by from (get_or before place None)
@@ -111,7 +115,8 @@ IsFrom trip plan claims by (Some from) =
     (by ≡ trip → ⊥) × (next plan by ≡ Some from) × (is_claimed claims from ≡ true)
 
 -- a trip is nearest to a place among some
-pub record IsNearest (links : Links) (potentials : PotentialParts) (some : ℕ → Bool) (place : ℕ) (near : Near) : Type 0 where
+pub record IsNearest (links : Links) (potentials : PotentialParts) (some : ℕ → Bool) (place : ℕ)
+    (near : Near) : Type 0 where
   pub slack : slack_to links potentials near.by place ≡ Some near.slack
   pub least : (i : ℕ) → some i ≡ true
       → IfSome (slack_to links potentials i place) (λ slack. near.slack ≤ slack)
@@ -123,7 +128,8 @@ IsNear links potentials some place near = MatchOption near
     (IsNearest links potentials some place)
 
 -- each place without a claim knows the nearest trip of the tree
-pub record AreNear (links : Links) (potentials : PotentialParts) (trip : ℕ) (plan : List (Option ℕ)) (claims : ClaimsParts) (nears : List (Option Near)) : Type 0 where
+pub record AreNear (links : Links) (potentials : PotentialParts) (trip : ℕ) (plan : List (Option ℕ))
+    (claims : ClaimsParts) (nears : List (Option Near)) : Type 0 where
   pub each : length nears ≡ links.count + 1
   pub near : (place : ℕ) → place < links.count + 1 → claim_at claims place ≡ None
       → IsNear links potentials (in_tree trip plan claims) place (get_or nears place None)
@@ -131,7 +137,8 @@ pub record AreNear (links : Links) (potentials : PotentialParts) (trip : ℕ) (p
       → IsFrom trip plan claims near.by near.from
 
 -- a claim of the tree: some trip has the place, and it is by a trip of the tree
-pub record IsTreeClaim (trip : ℕ) (plan : List (Option ℕ)) (claims : ClaimsParts) (place : ℕ) (found : Claim) : Type 0 where
+pub record IsTreeClaim (trip : ℕ) (plan : List (Option ℕ)) (claims : ClaimsParts) (place : ℕ)
+    (found : Claim) : Type 0 where
   pub owner : ℕ
   pub owns : next plan owner ≡ Some place
   pub by : ℕ
@@ -139,7 +146,8 @@ pub record IsTreeClaim (trip : ℕ) (plan : List (Option ℕ)) (claims : ClaimsP
   pub inside : in_tree trip plan claims by ≡ true
 
 -- a tree that grows from a trip
-pub record IsGrowing (links : Links) (potentials : PotentialParts) (trip : ℕ) (plan : List (Option ℕ)) (claims : ClaimsParts) : Type 0 where
+pub record IsGrowing (links : Links) (potentials : PotentialParts) (trip : ℕ) (plan : List (Option ℕ))
+    (claims : ClaimsParts) : Type 0 where
   pub over : AreOver links.count potentials
   pub within : trip < links.count
   pub places : length claims.at ≡ links.count + 1
@@ -159,18 +167,13 @@ pub record IsNearestPlace (claims : ClaimsParts) (nears : List (Option Near)) (p
       → IfSome (get_or nears other None) (λ it. near.slack ≤ it.slack)
 
 -- the potentials after those of the tree were shifted
-pub record AreShifted (trip : ℕ) (plan : List (Option ℕ)) (claims : ClaimsParts) (slack count : ℕ) (before after : PotentialParts) : Type 0 where
+pub record AreShifted (trip : ℕ) (plan : List (Option ℕ)) (claims : ClaimsParts) (slack count : ℕ)
+    (before after : PotentialParts) : Type 0 where
   pub over : AreOver count after
   pub u : (i : ℕ) → i < count
       → at after.u i ≡ (if in_tree trip plan claims i then at before.u i - slack else at before.u i)
   pub v : (j : ℕ) → j < count
       → at after.v j ≡ (if is_claimed claims j then at before.v j + slack else at before.v j)
-
--- a place was found: it can be handed on, and the potentials still cover all links
-pub record IsPlaceFound (links : Links) (potentials : PotentialParts) (trip : ℕ) (plan : List (Option ℕ)) (claims : ClaimsParts) (place : ℕ) : Type 0 where
-  pub over : AreOver links.count potentials
-  pub covered : (i : ℕ) → is_placed trip plan i ≡ true → Covers links potentials i
-  pub found : IsFound (looking links potentials plan trip) plan claims place
 
 -- what is nearest to a place without a claim
 abbrev pub open_near : Option Claim → Option Near → Option Near

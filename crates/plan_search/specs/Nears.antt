@@ -1,5 +1,6 @@
 -- How near places are, and the slacks alone, which are asked most.
-use Rattle.std.specs.Prelude.{ℕ, ◌≡◌, ◌+◌, ◌-◌, ◌<◌, ◌≤◌, ◌==◌, Bool, false, List, length, get_or, slice_get, Option, Some, None}
+use Rattle.std.specs.Prelude.{ℕ, ◌≡◌, ◌+◌, ◌-◌, ◌<◌, ◌≤◌, ◌==◌, Bool, false, List, length, get_or}
+use Rattle.std.specs.Prelude.{slice_get, Option, Some, None}
 use Rattle.link_plans.specs.Potentials.{at}
 use Rattle.link_plans.specs.declared.link_table.Link.{Link}
 use Rattle.plan_search.specs.Growing.{is_nearer}

@@ -1,6 +1,7 @@
 -- Inner words of both searches: a plan that is tight for potentials but for a trip that looks for a
 -- place and for a place that was left, and claims along which places can be handed on.
-use Rattle.std.specs.Prelude.{ℕ, pos, ◌≡◌, ◌+◌, ◌<◌, ◌≤◌, false, List, length, slice_set, Option, Some, None, MatchOption, IfSome}
+use Rattle.std.specs.Prelude.{ℕ, pos, ◌≡◌, ◌+◌, ◌<◌, ◌≤◌, false, List, length, slice_set, Option}
+use Rattle.std.specs.Prelude.{Some, None, MatchOption, IfSome}
 use Rattle.link_plans.specs.Plans.{next, is_next}
 use Rattle.link_plans.specs.Links.{Links}
 use Rattle.link_plans.specs.Potentials.{PotentialParts, at}
@@ -43,7 +44,8 @@ IsLeft search plan from None = is_next plan from ≡ false
 IsLeft search plan from (Some i) = (i ≡ search.trip → ⊥) × (next plan i ≡ successor_at search.links.count from)
 
 -- a claim leaves a place that was claimed sooner
-pub record ComesFrom (search : Search) (plan : List (Option ℕ)) (claims : ClaimsParts) (found : Claim) (from : ℕ) : Type 0 where
+pub record ComesFrom (search : Search) (plan : List (Option ℕ)) (claims : ClaimsParts) (found : Claim)
+    (from : ℕ) : Type 0 where
   pub before : Claim
   pub is : claim_at claims from ≡ Some before
   pub sooner : before.step < found.step
@@ -51,7 +53,8 @@ pub record ComesFrom (search : Search) (plan : List (Option ℕ)) (claims : Clai
 
 -- a claim: a trip that may be moved would be tight at the place, and leaves one that was claimed sooner,
 -- or is the trip that looks for a place
-pub record IsClaim (search : Search) (plan : List (Option ℕ)) (claims : ClaimsParts) (place : ℕ) (found : Claim) : Type 0 where
+pub record IsClaim (search : Search) (plan : List (Option ℕ)) (claims : ClaimsParts) (place : ℕ)
+    (found : Claim) : Type 0 where
   pub tight : IsTightBy search.links search.potentials place found.by
   pub movable : IfSome found.by (λ i. (search.low ≤ i) × (i < search.links.count))
   pub from : MatchOption found.from (found.by ≡ Some search.trip)
@@ -103,7 +106,8 @@ given_to plan None place = plan
 given_to plan (Some i) place = slice_set plan i (successor_at (length plan) place)
 
 -- a place was given to the trip that claims it, and the one that this leaves can be handed on
-pub record IsPassedOn (search : Search) (claims : ClaimsParts) (before after : List (Option ℕ)) (place from : ℕ) : Type 0 where
+pub record IsPassedOn (search : Search) (claims : ClaimsParts) (before after : List (Option ℕ))
+    (place from : ℕ) : Type 0 where
   pub found : IsFound search after claims from
   pub sooner : step_of (claim_at claims from) < step_of (claim_at claims place)
   pub same : (i : ℕ) → i < search.low → next after i ≡ next before i

@@ -57,7 +57,6 @@ fn best_offer(
     requires trip { trip < length trips.now }
     ensures { IsBid (links_in trips.now) potentials.now trip result }
 {
-    let _ = trips.len();
     let links = trips.row(trip);
     let mut offer = Offer {
         best: None,
@@ -129,7 +128,6 @@ fn release(
     ensures waits { (i : ℕ) → next assignment.old i ≡ None → next assignment.new i ≡ None }
     ensures within { IfSome result (λ other. other < length trips.now) }
 {
-    let _ = trips.len();
     match assignment.trip_at(place) {
         Some(other) => {
             assignment.take_away(other);
@@ -158,7 +156,6 @@ fn engage(
     requires others { AreOthersBelow (links_in trips.now) potentials.old trip link.to rest }
     ensures { IsTaken (links_in trips.now) potentials.new assignment.new }
 {
-    let _ = trips.len();
     set_trip(potentials, trip, rest);
     set_place(potentials, link.to, link.gain - rest);
     assignment.give(trip, link.to);

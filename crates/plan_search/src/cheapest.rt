@@ -1,16 +1,14 @@
 // The search for a plan that gains the most.
-ghost use Rattle.std.specs.Prelude.{◌≡◌, ◌<◌, ◌≤◌, ◌+◌, ◌-◌, IfOk, length};
+ghost use Rattle.std.specs.Prelude.{ℕ, ◌≡◌, ◌<◌, ◌≤◌, ◌+◌, ◌-◌, IfOk, length};
 ghost use Rattle.link_plans.specs.Potentials.{AreValid};
 ghost use Rattle.plan_search.specs.Growing.{IsTaken};
 ghost use Rattle.link_plans.specs.Plans.{IsPlan, IsBest};
 ghost use Rattle.link_plans.specs.Links.{links_in};
+ghost use Rattle.link_plans.specs.Slacks.{Covers};
 
 use crate::bid::bid;
-use crate::claim::Claims;
-use crate::hints::Hints;
-use crate::near::Nears;
 use crate::parting::part;
-use crate::taking::take_in;
+use crate::tight_plan::TightPlan;
 use link_plans::{Assignment, LinkTable, Potentials, Solved};
 use plan_num::NoMemory;
 use std::alloc::Global;
@@ -31,23 +29,25 @@ pub fn best_plan(alloc: Global, trips: &LinkTable, order: &[usize]) -> Result<So
     let mut assignment = Assignment::empty(alloc, count)?;
     let mut potentials = Potentials::zeros(alloc, count)?;
     bid_all(trips, order, &mut assignment, &mut potentials);
-    let mut claims = Claims::new(alloc, count + 1)?;
-    let mut nears = Nears::new(alloc, count + 1)?;
-    let mut hints = Hints::new(alloc, trips)?;
-    for step in 0..count + count {
-        take_in(
-            trips,
-            trip_of(order, count, step),
-            &mut assignment,
-            &mut potentials,
-            &mut claims,
-            &mut nears,
-            &mut hints,
-        )?;
-    }
+    let tight = TightPlan::new(alloc, trips, assignment, potentials)?;
+    let (assignment, potentials) = take_all(order, tight)?.into_parts();
     let potentials = part(alloc, trips, &assignment, potentials)?;
     let plan = assignment.to_plan(alloc)?;
     Ok(Solved { plan, potentials })
+}
+
+// Takes all trips into a tight plan.
+fn take_all<'a>(order: &[usize], tight: TightPlan<'a>) -> Result<TightPlan<'a>, NoMemory>
+    ensures links { IfOk result (λ after. after.links ≡ tight.entry.links) }
+    ensures covered { IfOk result (λ after. (i : ℕ) → i < length tight.entry.links
+        → Covers (links_in tight.entry.links) after.potentials i) }
+{
+    let count = tight.links.len();
+    let mut tight = tight;
+    for step in 0..count + count {
+        tight = tight.take_in(trip_of(order, count, step))?;
+    }
+    Ok(tight)
 }
 
 // How many bids may come one upon the other before the next trip bids.

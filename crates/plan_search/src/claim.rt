@@ -1,5 +1,7 @@
 // Places that trips would take.
-ghost use Rattle.std.specs.Prelude.{◌≡◌, ◌<◌, ◌≤◌, ◌+◌, false, is_some, List, [], ◌∷◌, ◌++◌, length, replicate, slice_get, slice_set, None, Some, IfOk, IfNone, IfSome, OnOk};
+ghost use Rattle.std.specs.Prelude.{◌≡◌, ◌<◌, ◌≤◌, ◌+◌, false, is_some, List, [], ◌∷◌, ◌++◌};
+ghost use Rattle.std.specs.Prelude.{length, replicate, slice_get, slice_set, None, Some, IfOk};
+ghost use Rattle.std.specs.Prelude.{IfNone, IfSome, OnErr, OnOk};
 ghost use Rattle.plan_search.specs.Claims.{claim_at, AreClaims, AreFlagged};
 
 use plan_num::NoMemory;
@@ -120,6 +122,7 @@ impl Claims {
           at = slice_set self.old.at place (Some (record { by = by; from = from; step = length self.old.order }));
           order = self.old.order ++ place ∷ [];
         }) }
+        ensures kept { OnErr result (self.new ≡ self.old) }
         ensures few { length self.old.order < length self.old.at }
         ensures claims { AreClaims self.old }
     {

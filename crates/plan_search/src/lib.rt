@@ -8,14 +8,15 @@ mod cheapest;
 mod claim;
 mod components;
 mod exchange;
-mod growing;
 mod handing;
-mod hints;
+mod looks;
 mod near;
 mod nearest;
 mod parting;
 mod shift;
-mod taking;
+mod tight_places;
+mod tight_plan;
+mod tree;
 
 pub use cheapest::best_plan;
 pub use claim::{Claim, Claims};

@@ -1,16 +1,14 @@
 // How near places are to the trips of a tree.
-ghost use Rattle.std.specs.Prelude.{ℕ, ◌≡◌, ◌+◌, ◌<◌, ◌≤◌, true, false, length, get_or, replicate, slice_set, Some, None, IfOk, MatchOption};
-ghost use Rattle.link_plans.specs.Potentials.{AreOver};
+ghost use Rattle.std.specs.Prelude.{ℕ, ◌≡◌, ◌+◌, ◌<◌, ◌≤◌, length, get_or, replicate, slice_set};
+ghost use Rattle.std.specs.Prelude.{None, IfOk};
+ghost use Rattle.link_plans.specs.declared.limits.TheConstants.{MOST_SLACK};
 ghost use Rattle.plan_search.specs.Claims.{claim_at};
-ghost use Rattle.plan_search.specs.Growing.{looked, is_nearer, shifted, AreAsBefore, AreLooked, IsFreeAt};
-ghost use Rattle.plan_search.specs.Nears.{slack_or_most, is_exact, AreNearLinks, ArePassed};
-ghost use Rattle.link_plans.specs.Plans.{is_next};
-ghost use Rattle.link_plans.specs.Slacks.{Covers};
-ghost use Rattle.link_plans.specs.Links.{links_in};
+ghost use Rattle.plan_search.specs.Growing.{is_nearer, shifted};
+ghost use Rattle.plan_search.specs.Nears.{slack_or_most, is_exact};
 
 use crate::claim::Claims;
-use crate::hints::Hints;
-use link_plans::{Assignment, Link, LinkTable, Potentials, link_slack, of_trip};
+use crate::tight_places::TightPlaces;
+use link_plans::{Assignment, LinkTable};
 use plan_num::NoMemory;
 use std::alloc::Global;
 use std::marker::Model;
@@ -27,11 +25,23 @@ pub(crate) struct Near {
     pub from: Option<usize>,
 }
 
+/// A trip of a tree, and the place that it would leave for another one: none for the root, which
+/// has no place.
+#[derive(Clone, Copy)]
+pub(crate) struct Member {
+    /// The trip.
+    pub by: usize,
+    /// The place that it would leave.
+    pub from: Option<usize>,
+}
+
 /// How near each place is. Contracts see it as the list of what is nearest to each.
 pub(crate) struct Nears {
     nears: Vec<Option<Near>>,
     // The slack at each place, which is asked most; more than any where nothing is near.
     slacks: Vec<u64>,
+    // Places that may be nearest.
+    tight: TightPlaces,
 }
 
 impl Drop for Nears {
@@ -39,6 +49,7 @@ impl Drop for Nears {
         let Nears {
             nears: _,
             slacks: _,
+            tight: _,
         } = self;
     }
 }
@@ -56,18 +67,23 @@ impl Model for Nears {
 }
 
 impl Nears {
-    /// So many places to which nothing is near.
+    /// A place for each trip and one behind them all, to which nothing is near.
     #[tactic(auto, using(crate::proofs::NearSlacks::no_slacks))]
-    pub(crate) fn new(alloc: Global, places: usize) -> Result<Nears, NoMemory>
-        ensures { IfOk result (λ nears. nears ≡ replicate places None) }
+    pub(crate) fn new(alloc: Global, trips: &LinkTable) -> Result<Nears, NoMemory>
+        ensures { IfOk result (λ nears. nears ≡ replicate (length trips.now + 1) None) }
     {
+        let places = trips.len() + 1;
         let mut nears = Vec::new(alloc);
         let mut slacks = Vec::new(alloc);
         for _place in 0..places {
             nears.push(None)?;
             slacks.push(u64::MAX)?;
         }
-        Ok(Nears { nears, slacks })
+        Ok(Nears {
+            nears,
+            slacks,
+            tight: TightPlaces::new(alloc, trips)?,
+        })
     }
 
     /// How many places there are.
@@ -95,11 +111,32 @@ impl Nears {
         self.slacks[place] = slack_or_most(near);
     }
 
-    // Whether a slack is less than that of the nearest trip so far.
+    /// Keeps a place in mind that is tight and has a trip.
+    pub(crate) fn keep(&mut self, place: usize, trip: usize)
+        ensures { self.new ≡ self.old }
+    {
+        self.tight.put(place, trip);
+    }
+
+    /// The next place that was kept in mind.
+    pub(crate) fn next_kept(&mut self) -> Option<usize>
+        ensures { self.new ≡ self.old }
+    {
+        self.tight.take()
+    }
+
+    // Keeps no place in mind any more.
+    fn forget_kept(&mut self)
+        ensures { self.new ≡ self.old }
+    {
+        self.tight.clear();
+    }
+
+    /// Whether a slack is less than that of the nearest trip so far.
     #[tactic(auto, using(crate::proofs::NearSlacks::nearer_by_slack))]
-    fn is_nearer(&self, place: usize, slack: u64) -> bool
+    pub(crate) fn is_nearer(&self, place: usize, slack: u64) -> bool
         requires place { place < length self.now }
-        requires small { slack ≤ 2000000000000000000 }
+        requires small { slack ≤ MOST_SLACK }
         ensures { result ≡ is_nearer slack (get_or self.now place None) }
     {
         slack < self.slacks[place]
@@ -117,136 +154,19 @@ fn slack_or_most(near: Option<Near>) -> u64
 }
 
 /// Nothing is near any place.
-#[tactic(auto, using(crate::proofs::Told::told_start, crate::proofs::Told::told_set, crate::proofs::NearPlaces::forgotten_all))]
+#[tactic(auto, using(crate::proofs::WrittenLists::told_start, crate::proofs::WrittenLists::told_set, crate::proofs::NearPlaces::forgotten_all))]
 pub(crate) fn forget(nears: &mut Nears)
     ensures { nears.new ≡ replicate (length nears.old) None }
 {
     for place in 0..nears.len() {
         nears.set(place, None);
     }
-}
-
-/// Looks from a trip that comes to the tree, at each place without a claim, up to one without a
-/// trip at which its slack is 0.
-pub(crate) fn look(
-    trips: &LinkTable,
-    potentials: &Potentials,
-    claims: &Claims,
-    assignment: &Assignment,
-    nears: &mut Nears,
-    hints: &mut Hints,
-    by: usize,
-    from: Option<usize>,
-) -> Option<usize>
-    requires each { AreOver (length trips.now) potentials.now }
-    requires trip { by < length trips.now }
-    requires covered { Covers (links_in trips.now) potentials.now by }
-    requires places { length claims.now.at ≡ length trips.now + 1 }
-    requires nears { length nears.old ≡ length trips.now + 1 }
-    ensures each { length nears.new ≡ length nears.old }
-    ensures looked { MatchOption result
-        (AreLooked (links_in trips.now) potentials.now claims.now by from nears.old nears.new)
-        (IsFreeAt (links_in trips.now) potentials.now assignment.now claims.now by) }
-{
-    let own = of_trip(potentials, by);
-    let links = trips.row(by);
-    let mut step = next_nearer(links, own, potentials, nears, 0);
-    while step < links.len() {
-        let link = links[step];
-        let slack = link_slack(own, potentials, link);
-        let near = Near { slack, by, from };
-        if bring(claims, assignment, nears, hints, link.to, near) {
-            return Some(link.to);
-        }
-        step = next_nearer(links, own, potentials, nears, step + 1);
-    }
-    let last = trips.len();
-    let near = Near {
-        slack: own,
-        by,
-        from,
-    };
-    if bring(claims, assignment, nears, hints, last, near) {
-        return Some(last);
-    }
-    None
-}
-
-// The first of some links, from a step on, at which a trip is nearer than the nearest one so far.
-// Most links are passed over here.
-fn next_nearer(
-    links: &[Link],
-    own: u64,
-    potentials: &Potentials,
-    nears: &Nears,
-    first: usize,
-) -> usize
-    requires first { first ≤ length links.now }
-    requires own { own ≤ 1000000000000000000 }
-    requires links { AreNearLinks links.now own potentials.now.v (length nears.now) }
-    ensures low { first ≤ result }
-    ensures high { result ≤ length links.now }
-    ensures passed { ArePassed links.now own potentials.now.v nears.now first result }
-{
-    for step in first..links.len() {
-        let link = links[step];
-        if nears.is_nearer(link.to, link_slack(own, potentials, link)) {
-            return step;
-        }
-    }
-    links.len()
-}
-
-// Brings a trip to a place without a claim where it is nearer than the nearest one so far: tells
-// whether the place has no trip, and the slack is 0.
-fn bring(
-    claims: &Claims,
-    assignment: &Assignment,
-    nears: &mut Nears,
-    hints: &mut Hints,
-    place: usize,
-    near: Near,
-) -> bool
-    requires place { place < length claims.now.at }
-    requires nears { length nears.old ≡ length claims.now.at }
-    requires small { near.slack ≤ 2000000000000000000 }
-    ensures others { AreAsBefore place nears.old nears.new }
-    ensures here { get_or nears.new place None
-        ≡ looked (claim_at claims.now place) (Some near.slack) near.by near.from
-        (get_or nears.old place None) }
-    ensures open_place { result ≡ true → claim_at claims.now place ≡ None }
-    ensures exact { result ≡ true → near.slack ≡ 0 }
-    ensures free { result ≡ true → is_next assignment.now place ≡ false }
-{
-    if !nears.is_nearer(place, near.slack) || claims.is_claimed(place) {
-        return false;
-    }
-    nears.set(place, Some(near));
-    near.slack == 0 && is_free_or_hint(assignment, hints, place)
-}
-
-// Whether a place has no trip; one with a trip is kept in mind.
-fn is_free_or_hint(assignment: &Assignment, hints: &mut Hints, place: usize) -> bool
-    ensures { result ≡ true → is_next assignment.now place ≡ false }
-{
-    match assignment.trip_at(place) {
-        Some(trip) => {
-            hints.put(place, trip);
-            false
-        }
-        None => true,
-    }
+    nears.forget_kept();
 }
 
 /// Every place without a claim is nearer by a slack.
-#[tactic(auto, using(crate::proofs::Told::told_start, crate::proofs::Told::told_set, crate::proofs::NearPlaces::unmoved))]
-pub(crate) fn shift_nears(
-    claims: &Claims,
-    assignment: &Assignment,
-    nears: &mut Nears,
-    hints: &mut Hints,
-    slack: u64,
-)
+#[tactic(auto, using(crate::proofs::WrittenLists::told_start, crate::proofs::WrittenLists::told_set, crate::proofs::NearPlaces::unmoved))]
+pub(crate) fn shift_nears(claims: &Claims, assignment: &Assignment, nears: &mut Nears, slack: u64)
     requires { length claims.now.at ≡ length nears.old }
     ensures each { length nears.new ≡ length nears.old }
     ensures shifted { (place : ℕ) → place < length nears.old → get_or nears.new place None
@@ -259,8 +179,17 @@ pub(crate) fn shift_nears(
         let near = shifted(claims, place, slack, nears.at(place));
         nears.set(place, near);
         if is_exact(near) && !claims.is_claimed(place) {
-            hints.put_at(assignment, place);
+            keep_taken(assignment, nears, place);
         }
+    }
+}
+
+// Keeps a place in mind where it has a trip.
+fn keep_taken(assignment: &Assignment, nears: &mut Nears, place: usize)
+    ensures { nears.new ≡ nears.old }
+{
+    if let Some(trip) = assignment.trip_at(place) {
+        nears.keep(place, trip);
     }
 }
 

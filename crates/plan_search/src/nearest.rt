@@ -4,36 +4,38 @@ ghost use Rattle.plan_search.specs.Claims.{claim_at};
 ghost use Rattle.plan_search.specs.Growing.{open_near, IsNearestPlace, IsNearerOf, IsBetter};
 
 use crate::claim::Claims;
-use crate::hints::Hints;
 use crate::near::{Near, Nears};
 use link_plans::Assignment;
 
-/// The nearest place without a claim, and of two that are as near one without a trip. A hint spares
-/// the look at all places.
+/// The nearest place without a claim, and of two that are as near one without a trip. A place that
+/// was kept in mind spares the look at all places.
 pub(crate) fn nearest(
     claims: &Claims,
     assignment: &Assignment,
-    nears: &Nears,
-    hints: &mut Hints,
+    nears: &mut Nears,
 ) -> Option<(usize, Near)>
-    requires { length claims.now.at ≡ length nears.now }
-    ensures { MatchOption result
-        ((place : ℕ) → place < length nears.now → claim_at claims.now place ≡ None → get_or nears.now place None ≡ None)
-        (λ best. IsNearestPlace claims.now nears.now best.0 best.1) }
+    requires { length claims.now.at ≡ length nears.old }
+    ensures same { nears.new ≡ nears.old }
+    ensures nearest { MatchOption result
+        ((place : ℕ) → place < length nears.old → claim_at claims.now place ≡ None
+        → get_or nears.old place None ≡ None)
+        (λ best. IsNearestPlace claims.now nears.old best.0 best.1) }
 {
-    match hinted(claims, nears, hints) {
+    match kept_nearest(claims, nears) {
         Some(found) => Some(found),
         None => nearest_of_all(claims, assignment, nears),
     }
 }
 
-// The first place of the hints that is as near as can be.
-fn hinted(claims: &Claims, nears: &Nears, hints: &mut Hints) -> Option<(usize, Near)>
-    requires { length claims.now.at ≡ length nears.now }
-    ensures { IfSome result (λ best. IsNearestPlace claims.now nears.now best.0 best.1) }
+// The first place kept in mind that is as near as can be.
+fn kept_nearest(claims: &Claims, nears: &mut Nears) -> Option<(usize, Near)>
+    requires { length claims.now.at ≡ length nears.old }
+    ensures same { nears.new ≡ nears.old }
+    ensures nearest { IfSome result
+        (λ best. IsNearestPlace claims.now nears.old best.0 best.1) }
 {
     for _turn in 0..nears.len() {
-        match hints.take() {
+        match nears.next_kept() {
             Some(place) => if let Some(near) = exact_near(claims, nears, place) {
                 return Some((place, near));
             },
@@ -63,7 +65,8 @@ fn exact_near(claims: &Claims, nears: &Nears, place: usize) -> Option<Near>
 fn nearest_of_all(claims: &Claims, assignment: &Assignment, nears: &Nears) -> Option<(usize, Near)>
     requires { length claims.now.at ≡ length nears.now }
     ensures { MatchOption result
-        ((place : ℕ) → place < length nears.now → claim_at claims.now place ≡ None → get_or nears.now place None ≡ None)
+        ((place : ℕ) → place < length nears.now → claim_at claims.now place ≡ None
+        → get_or nears.now place None ≡ None)
         (λ best. IsNearestPlace claims.now nears.now best.0 best.1) }
 {
     let mut best: Option<(usize, Near)> = None;

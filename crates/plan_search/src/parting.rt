@@ -1,5 +1,7 @@
 // Other potentials of a plan, under which fewer pairs are tight.
-ghost use Rattle.std.specs.Prelude.{ℕ, pos, ◌≡◌, ◌+◌, ◌<◌, ◌≤◌, true, length, Some, None, IfOk, MatchOption};
+ghost use Rattle.std.specs.Prelude.{ℕ, pos, ◌≡◌, ◌+◌, ◌<◌, ◌≤◌, true, length, Some, None, IfOk};
+ghost use Rattle.std.specs.Prelude.{MatchOption};
+ghost use Rattle.link_plans.specs.declared.limits.TheConstants.{MOST_POTENTIAL};
 ghost use Rattle.link_plans.specs.Potentials.{at, AreOver};
 ghost use Rattle.plan_search.specs.Growing.{IsTaken};
 ghost use Rattle.plan_search.specs.Moved.{between, AreMoved};
@@ -10,12 +12,9 @@ ghost use Rattle.link_plans.specs.Links.{links_in};
 
 use crate::components::Components;
 use crate::exchange::{components_of, node_at};
-use link_plans::{Assignment, LinkTable, Potentials, of_trip, set_place, set_trip};
+use link_plans::{Assignment, LinkTable, MOST_POTENTIAL, Potentials, of_trip, set_place, set_trip};
 use plan_num::NoMemory;
 use std::alloc::Global;
-
-// The greatest potential.
-const MOST: u64 = 1_000_000_000_000_000_000;
 
 /// Potentials that meet a plan as some do, and under which mostly those pairs alone are tight that
 /// stand in some plan of least cost. A pair of two components stands in none, since no trip can
@@ -73,9 +72,12 @@ fn moved(
 // A number and another one without a third, within the range of potentials.
 fn between(number: u64, more: u64, less: u64) -> u64
     ensures value { result ≡ between number more less }
-    ensures small { result ≤ 1000000000000000000 }
+    ensures small { result ≤ MOST_POTENTIAL }
 {
-    number.saturating_add(more).saturating_sub(less).min(MOST)
+    number
+        .saturating_add(more)
+        .saturating_sub(less)
+        .min(MOST_POTENTIAL)
 }
 
 /// Whether potentials meet a plan.
@@ -110,7 +112,6 @@ fn covers(trips: &LinkTable, potentials: &Potentials, i: usize) -> bool
     requires within { i < length trips.now }
     ensures { result ≡ true → Covers (links_in trips.now) potentials.now i }
 {
-    let _ = trips.len();
     let own = of_trip(potentials, i);
     let links = trips.row(i);
     for link in links {

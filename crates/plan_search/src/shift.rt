@@ -1,5 +1,7 @@
 // Shifting the potentials of a tree.
-ghost use Rattle.std.specs.Prelude.{ℕ, ◌≡◌, ◌+◌, ◌-◌, ◌<◌, ◌≤◌, true, false, if◌then◌else◌, length, slice_set, IfSome};
+ghost use Rattle.std.specs.Prelude.{ℕ, ◌≡◌, ◌+◌, ◌-◌, ◌<◌, ◌≤◌, true, false, if◌then◌else◌, length};
+ghost use Rattle.std.specs.Prelude.{slice_set, IfSome};
+ghost use Rattle.link_plans.specs.declared.limits.TheConstants.{MOST_POTENTIAL};
 ghost use Rattle.link_plans.specs.Potentials.{at, AreOver};
 ghost use Rattle.plan_search.specs.Growing.{in_tree, is_claimed, is_claimed_at, AreShifted};
 
@@ -7,8 +9,8 @@ use crate::claim::Claims;
 use link_plans::{Assignment, Potentials, as_i64};
 
 /// Takes a slack from the potentials of the trips of a tree, and adds it to those of its places.
-#[tactic(auto, using(crate::proofs::Shifts::unshifted))]
-pub(crate) fn shift(
+#[tactic(auto, using(crate::proofs::ShiftedPotentials::unshifted))]
+pub(crate) fn shift_potentials(
     trip: usize,
     assignment: &Assignment,
     claims: &Claims,
@@ -18,7 +20,7 @@ pub(crate) fn shift(
     requires each { AreOver (length assignment.now) potentials.old }
     requires places { length claims.now.at ≡ length assignment.now + 1 }
     requires small { (j : ℕ) → j < length assignment.now → is_claimed claims.now j ≡ true
-        → at potentials.old.v j + slack ≤ 1000000000000000000 }
+        → at potentials.old.v j + slack ≤ MOST_POTENTIAL }
     ensures { AreShifted trip assignment.now claims.now slack (length assignment.now) potentials.old potentials.new }
 {
     if slack == 0 {
@@ -29,7 +31,7 @@ pub(crate) fn shift(
 }
 
 // Takes a slack from the potentials of the trips of a tree.
-#[tactic(auto, using(crate::proofs::Shifts::lower_start, crate::proofs::Shifts::lower_more, crate::proofs::Shifts::lowered_over))]
+#[tactic(auto, using(crate::proofs::ShiftedPotentials::lower_start, crate::proofs::ShiftedPotentials::lower_more, crate::proofs::ShiftedPotentials::lowered_over))]
 fn lower(
     trip: usize,
     assignment: &Assignment,
@@ -52,12 +54,12 @@ fn lower(
 }
 
 // Adds a slack to the potentials of the claimed places.
-#[tactic(auto, using(crate::proofs::Shifts::raise_start, crate::proofs::Shifts::raise_more, crate::proofs::Shifts::raised_over))]
+#[tactic(auto, using(crate::proofs::ShiftedPotentials::raise_start, crate::proofs::ShiftedPotentials::raise_more, crate::proofs::ShiftedPotentials::raised_over))]
 fn raise(count: usize, claims: &Claims, potentials: &mut Potentials, slack: u64)
     requires each { AreOver count potentials.old }
     requires places { length claims.now.at ≡ count + 1 }
     requires small { (j : ℕ) → j < count → is_claimed claims.now j ≡ true
-        → at potentials.old.v j + slack ≤ 1000000000000000000 }
+        → at potentials.old.v j + slack ≤ MOST_POTENTIAL }
     ensures each { AreOver count potentials.new }
     ensures u { potentials.new.u ≡ potentials.old.u }
     ensures v { (j : ℕ) → j < count → at potentials.new.v j
@@ -84,10 +86,10 @@ fn lowered(lower: bool, own: u64, slack: u64) -> u64
 
 // A number with another one, or as it is.
 fn raised(raise: bool, own: u64, slack: u64) -> u64
-    requires own { own ≤ 1000000000000000000 }
-    requires small { raise ≡ true → own + slack ≤ 1000000000000000000 }
+    requires own { own ≤ MOST_POTENTIAL }
+    requires small { raise ≡ true → own + slack ≤ MOST_POTENTIAL }
     ensures value { result ≡ (if raise then own + slack else own) }
-    ensures most { result ≤ 1000000000000000000 }
+    ensures most { result ≤ MOST_POTENTIAL }
 {
     if raise { own + slack } else { own }
 }

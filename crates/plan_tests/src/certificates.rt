@@ -1,7 +1,7 @@
 // What trees certify, and why others do not.
-use crate::problems::{one_edge, two_edges};
 use branch_certificate::{TreeFault, check_tree, read_tree};
 use line_cost_model::LineProblem;
+use sample_problems::{one_edge, two_edges};
 use std::alloc::{AllocError, Global};
 use std::process::Abort;
 use std::test::Fail;

@@ -7,11 +7,7 @@ mod canonical;
 #[cfg(test)]
 mod certificates;
 #[cfg(test)]
-mod line_bounds;
-#[cfg(test)]
 mod plans;
-#[cfg(test)]
-mod problems;
 #[cfg(test)]
 mod refusing;
 #[cfg(test)]

@@ -1,9 +1,9 @@
 // Texts of trees: what they are read as, what refuses them, and how they are written.
-use crate::problems::other_ids;
 use branch_certificate::{Node, Tree, TreeReadFault, read_tree, write_tree};
 use giv_files::{RowFault, RowWhy};
 use line_cost_model::{Multipliers, Side};
 use plan_num::Text;
+use sample_problems::other_ids;
 use std::alloc::Global;
 use std::process::Abort;
 use std::test::Fail;

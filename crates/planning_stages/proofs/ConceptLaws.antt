@@ -1,5 +1,6 @@
 -- What the stages of the line concept owe to the chain, and what later stages take of the concept.
-use Rattle.std.proofs.Common.{◌≡◌, ℕ, ℤ, Bool, true, false, cond, inl, inr, List, [], Option, None, Some, refl, subst, sym}
+use Rattle.std.proofs.Common.{◌≡◌, ℕ, ℤ, Bool, true, false, cond, inl, inr, List, [], Option, None}
+use Rattle.std.proofs.Common.{Some, refl, subst, sym}
 use Rattle.std.specs.List.{Contains}
 use Rattle.tables.specs.declared.file_id.FileId.{FileId}
 use Rattle.tables.specs.declared.file_id.FileId.TheVariants as file
@@ -47,7 +48,8 @@ concept_none bundle there right = rw (right.each, right.inputs, first_mark right
 module _ (values : List ℤ) (look : FileId → List ℕ) where
   -- whoever gives the concept, it is right over what the plain stage is given
   pub concept_right_by : (pinned : Bool) (files : List MadeFile)
-      → (stage_model (cond pinned stage.PinnedConcept stage.Concept)).IsRight (bundle_over values look (cond pinned stage.PinnedConcept stage.Concept)) files
+      → (stage_model (cond pinned stage.PinnedConcept stage.Concept)).IsRight
+      (bundle_over values look (cond pinned stage.PinnedConcept stage.Concept)) files
       → ConceptIsRight (bundle_over values look stage.Concept) files
   unfolding stage_model
   concept_right_by true files right =
@@ -72,10 +74,17 @@ unfolding planning stage_model is_hand
 concept_laws = record {
   makes = concept_stage_makes;
   right = concept_is_right;
-  refuses = λ values look reason was is. concept_stage_names is_hand_file refl refl refl (bundle_over values look stage.Concept) (fine (loads_accepted values look (was stage.Load refl))) (fine (costs_accepted values look (was stage.Cost refl))) reason is;
+  refuses =
+      λ values look reason was is. concept_stage_names is_hand_file refl refl refl
+      (bundle_over values look stage.Concept) (fine (loads_accepted values look (was stage.Load refl)))
+      (fine (costs_accepted values look (was stage.Cost refl))) reason is;
   names = λ bundle reason is. inl tt;
-  stand = λ values folder bundle lacks none. subst (λ lists. Contains lists (ids_of (standing folder stage.Concept))) (sym (concept_lists values)) (either_stand folder file.Concept file.Tree refl lacks);
-  unbroken = λ values look made own. concept_none (bundle_over values look stage.Concept) made.files (concept_right_by values look (is_pinned values key.PinConcept) made.files own.1);
+  stand =
+      λ values folder bundle lacks none. subst (λ lists. Contains lists (ids_of (standing folder stage.Concept)))
+      (sym (concept_lists values)) (either_stand folder file.Concept file.Tree refl lacks);
+  unbroken =
+      λ values look made own. concept_none (bundle_over values look stage.Concept) made.files
+      (concept_right_by values look (is_pinned values key.PinConcept) made.files own.1);
 }
 
 pub pinned_concept_laws : StageLaws stage.PinnedConcept
@@ -83,8 +92,16 @@ unfolding planning stage_model is_hand
 pinned_concept_laws = record {
   makes = pinned_concept_makes;
   right = pinned_concept_right;
-  refuses = λ values look reason was is. names_only is_hand_file reason (pinned_concept_names is_hand_file refl refl refl refl (bundle_over values look stage.PinnedConcept) (fine (loads_accepted values look (was stage.Load refl))) (fine (costs_accepted values look (was stage.Cost refl))) reason is);
-  names = λ bundle reason is. inr (pinned_concept_names any refl refl refl refl bundle (input_names any (load_input file.Load (network_in bundle.inputs).edges) (input_text bundle 3) refl) (input_names any (pool_cost_input (lines_in bundle)) (input_text bundle 4) refl) reason is);
+  refuses =
+      λ values look reason was is. names_only is_hand_file reason
+      (pinned_concept_names is_hand_file refl refl refl refl (bundle_over values look stage.PinnedConcept)
+      (fine (loads_accepted values look (was stage.Load refl)))
+      (fine (costs_accepted values look (was stage.Cost refl))) reason is);
+  names =
+      λ bundle reason is. inr
+      (pinned_concept_names any refl refl refl refl bundle
+      (input_names any (load_input file.Load (network_in bundle.inputs).edges) (input_text bundle 3) refl)
+      (input_names any (pool_cost_input (lines_in bundle)) (input_text bundle 4) refl) reason is);
   stand = λ values folder bundle lacks none. either_stand folder file.Concept file.Tree refl lacks;
   unbroken = λ values look made own. refl;
 }

@@ -97,10 +97,14 @@ module _ (folder : Folder) where
   either_stand first second needed = by (text first) (text second)
     where
       by : (one other : Option (List ℕ)) → (is_lacking first one || (is_lacking second other || false)) ≡ false
-          → Contains ((first ∷ second ∷ []) ∷ (first ∷ []) ∷ []) (ids_of (found_file first (ok_or one (cause.Missing first)) (found_file second (ok_or other (cause.Missing second)) [])))
+          → Contains ((first ∷ second ∷ []) ∷ (first ∷ []) ∷ [])
+          (ids_of
+          (found_file first (ok_or one (cause.Missing first))
+          (found_file second (ok_or other (cause.Missing second)) [])))
       by (Some bytes) (Some more) none = (0, omega arith, refl)
       by (Some bytes) None none = (1, omega arith, refl)
-      by None other none = absurd (true≢false (ap (λ b. not b || (is_lacking second other || false)) (sym needed) ∙ none))
+      by None other none =
+          absurd (true≢false (ap (λ b. not b || (is_lacking second other || false)) (sym needed) ∙ none))
 
   -- where something is found of the first one alone, and nothing of what is there, they are both
   pub both_stand : (first second : FileId) → is_certificate first ≡ false → lacks (first ∷ second ∷ []) ≡ false
@@ -111,16 +115,23 @@ module _ (folder : Folder) where
   both_stand first second needed lacking verdict alone = by (text first) (text second) lacking
     where
       by : (one other : Option (List ℕ)) → (is_lacking first one || (is_lacking second other || false)) ≡ false
-          → verdict (found_file first (ok_or one (cause.Missing first)) (found_file second (ok_or other (cause.Missing second)) [])) ≡ None
-          → Contains ((first ∷ second ∷ []) ∷ []) (ids_of (found_file first (ok_or one (cause.Missing first)) (found_file second (ok_or other (cause.Missing second)) [])))
+          → verdict
+          (found_file first (ok_or one (cause.Missing first))
+          (found_file second (ok_or other (cause.Missing second)) [])) ≡ None
+          → Contains ((first ∷ second ∷ []) ∷ [])
+          (ids_of
+          (found_file first (ok_or one (cause.Missing first))
+          (found_file second (ok_or other (cause.Missing second)) [])))
       by (Some bytes) (Some more) none found = (0, omega arith, refl)
       by (Some bytes) None none found = absurd (alone bytes found)
-      by None other none found = absurd (true≢false (ap (λ b. not b || (is_lacking second other || false)) (sym needed) ∙ none))
+      by None other none found =
+          absurd (true≢false (ap (λ b. not b || (is_lacking second other || false)) (sym needed) ∙ none))
 
 -- where files stand that a stage may make, none lacks
 all_own : (at : Stage) (folder : Folder) → MakesAs at (ids_of (standing folder at)) → lacks_file folder at ≡ false
 all_own at folder makes =
-    by at ((made_list at (ids_of (standing folder at)) makes).always (is_there folder) (found_there folder (stage_makes at)))
+    by at ((made_list at (ids_of (standing folder at)) makes).always (is_there folder)
+    (found_there folder (stage_makes at)))
   where
     by : (at : Stage) → list_all (is_there folder) (always_made at) ≡ true → lacks_file folder at ≡ false
     by stage.Concept all = first_there folder file.Concept file.Tree refl all

@@ -22,7 +22,9 @@ unfolding planning stage_model is_hand
 cost_laws = record {
   makes = cost_stage_makes;
   right = costs_are_right;
-  refuses = λ values look reason was is. names_only is_hand_file reason (cost_stage_names is_hand_file refl refl refl (bundle_over values look stage.Cost) reason is);
+  refuses =
+      λ values look reason was is. names_only is_hand_file reason
+      (cost_stage_names is_hand_file refl refl refl (bundle_over values look stage.Cost) reason is);
   names = λ bundle reason is. inr (cost_stage_names any refl refl refl bundle reason is);
   stand = λ values folder bundle lacks none. content_stands stage.Cost refl refl folder lacks;
   unbroken = λ values look made own. content_none stage.Cost _ made own.0;
@@ -30,6 +32,7 @@ cost_laws = record {
 
 module _ (values : List ℤ) (look : FileId → List ℕ) where
   pub costs_accepted : IsRightOver planning values look stage.Cost
-      → input_faults (pool_cost_input (pool_of (network_of (look file.Stop) (look file.Edge)) (look file.Pool))) (look file.PoolCost) ≡ []
+      → input_faults (pool_cost_input (pool_of (network_of (look file.Stop) (look file.Edge)) (look file.Pool)))
+      (look file.PoolCost) ≡ []
   unfolding planning stage_model
   costs_accepted costs = grind arith

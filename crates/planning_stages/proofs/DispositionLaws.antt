@@ -55,7 +55,8 @@ module _ (values : List ℤ) (look : FileId → List ℕ) where
 
   -- what it made is accepted over the events of the day
   pub disposition_accepted : IsRightOver planning values look stage.Disposition
-      → input_faults (disposed_time_input (expanded_event_ids (records_of expanded_event_input (look file.EventsX)))) (look file.Disposed) ≡ []
+      → input_faults (disposed_time_input (expanded_event_ids (records_of expanded_event_input (look file.EventsX))))
+      (look file.Disposed) ≡ []
   unfolding events_in planning stage_model
   disposition_accepted disposition = grind arith
 
@@ -64,8 +65,13 @@ unfolding planning stage_model is_hand
 disposition_laws = record {
   makes = disposition_stage_makes;
   right = disposition_is_right;
-  refuses = λ values look reason was is. names_only is_hand_file reason (disposition_names_delays is_hand_file refl refl (bundle_over values look stage.Disposition) reason (fine (plans_accepted values look (was stage.Rollout refl) (was stage.Vehicles refl))) is);
+  refuses =
+      λ values look reason was is. names_only is_hand_file reason
+      (disposition_names_delays is_hand_file refl refl (bundle_over values look stage.Disposition) reason
+      (fine (plans_accepted values look (was stage.Rollout refl) (was stage.Vehicles refl))) is);
   names = λ bundle reason is. inr (disposition_names_delays any refl refl bundle reason (made_named bundle) is);
-  stand = λ values folder bundle lacks none. both_stand folder file.Disposed file.Reasons refl lacks (disposition_verdict bundle) (λ text none. bare_times (disposition_faults bundle) _ none) none;
+  stand =
+      λ values folder bundle lacks none. both_stand folder file.Disposed file.Reasons refl lacks
+      (disposition_verdict bundle) (λ text none. bare_times (disposition_faults bundle) _ none) none;
   unbroken = λ values look made own. disposition_none (bundle_over values look stage.Disposition) made.files own.1;
 }

@@ -22,15 +22,21 @@ use Rattle.planning_stages.proofs.ConceptLaws.{concept_accepted}
 use Rattle.planning_stages.proofs.ContentFiles.{content_none, content_stands}
 use Rattle.planning_stages.proofs.OneLook.{both_own}
 use Rattle.planning_stages.proofs.StageLaws.{StageLaws, any, fine}
-use Rattle.planning_stages.proofs.StopsThere.{rows_at_stops}
+use Rattle.planning_stages.proofs.EventsAtStops.{rows_at_stops}
 
 pub ean_laws : StageLaws stage.Ean
 unfolding planning stage_model is_hand
 ean_laws = record {
   makes = ean_stage_makes;
   right = ean_is_right;
-  refuses = λ values look reason was is. names_only is_hand_file reason (ean_stage_names is_hand_file refl refl (bundle_over values look stage.Ean) reason (fine (concept_accepted values look (was stage.Concept refl))) is);
-  names = λ bundle reason is. inr (ean_stage_names any refl refl bundle reason (concept_names any refl (network_in bundle.inputs) (input_text bundle 2)) is);
+  refuses =
+      λ values look reason was is. names_only is_hand_file reason
+      (ean_stage_names is_hand_file refl refl (bundle_over values look stage.Ean) reason
+      (fine (concept_accepted values look (was stage.Concept refl))) is);
+  names =
+      λ bundle reason is. inr
+      (ean_stage_names any refl refl bundle reason
+      (concept_names any refl (network_in bundle.inputs) (input_text bundle 2)) is);
   stand = λ values folder bundle lacks none. content_stands stage.Ean refl refl folder lacks;
   unbroken = λ values look made own. content_none stage.Ean _ made own.0;
 }

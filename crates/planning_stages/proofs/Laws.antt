@@ -52,14 +52,16 @@ planning_laws = record {
   makes = λ bundle made is. (stage_laws bundle.stage).makes bundle made is;
   right = λ bundle made fits is. (stage_laws bundle.stage).right bundle made refl fits is;
   refuses = λ values look at reason right is.
-      (stage_laws at).refuses values look reason (right_before planning values look (λ place. (can_run values place).point) at right) is;
+      (stage_laws at).refuses values look reason
+      (right_before planning values look (λ place. (can_run values place).point) at right) is;
   stand = λ folder values bundle lacks none. (stage_laws bundle.stage).stand values folder bundle lacks none;
   pass = λ folder values look place made solved right found.
       let own = planning.placed values place in
       let makes : MakesAs own (ids_of (files_by (made_in folder) (stage_makes place))) =
       subst (λ files. MakesAs own (ids_of files)) (sym found) ((stage_laws own).makes _ made solved) in (
         all_there own folder (stage_makes place) (can_run values place).makes makes,
-        ap (((stage_model place).judged values).verdict _) found ∙ (stage_laws place).unbroken values look made (solved, right),
+        ap (((stage_model place).judged values).verdict _) found
+            ∙ (stage_laws place).unbroken values look made (solved, right),
       );
 }
 
@@ -80,7 +82,8 @@ content_clause bundle others fits (Ok None) found lists makes =
 pub passes_at : {E : Type 0} (values : List ℤ) (bundle : BundleParts) (others : List MadeFile) (at : Stage)
     → at ≡ bundle.stage → (result : Result (Option Finding) E)
     → (MakesAs (planning.placed values at) (ids_of others) → MakesAs at (ids_of others))
-    → (MakesAs at (ids_of others) → IfOk result (λ found. IfNone found (((stage_model at).judged values).Satisfies bundle others)))
+    → (MakesAs at (ids_of others)
+    → IfOk result (λ found. IfNone found (((stage_model at).judged values).Satisfies bundle others)))
     → MakesAs (planning.placed values bundle.stage) (ids_of others)
     → IfOk result (λ found. IfNone found (planning.Satisfies values bundle others))
 unfolding planning

@@ -3,6 +3,7 @@ pub mod ContentFiles
 pub mod CostLaws
 pub mod DispositionLaws
 pub mod EanLaws
+pub mod EventsAtStops
 pub mod Laws
 pub mod LoadLaws
 pub mod OneLook
@@ -13,6 +14,5 @@ pub mod SearchEnds
 pub mod StageLaws
 pub mod StatisticLaws
 pub mod StatisticLines
-pub mod StopsThere
 pub mod TimetableLaws
 pub mod VehicleLaws

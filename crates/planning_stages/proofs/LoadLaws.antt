@@ -21,7 +21,9 @@ unfolding planning stage_model is_hand
 load_laws = record {
   makes = load_stage_makes;
   right = loads_are_right;
-  refuses = λ values look reason was is. names_only is_hand_file reason (load_stage_names is_hand_file refl refl refl refl (bundle_over values look stage.Load) reason is);
+  refuses =
+      λ values look reason was is. names_only is_hand_file reason
+      (load_stage_names is_hand_file refl refl refl refl (bundle_over values look stage.Load) reason is);
   names = λ bundle reason is. inr (load_stage_names any refl refl refl refl bundle reason is);
   stand = λ values folder bundle lacks none. content_stands stage.Load refl refl folder lacks;
   unbroken = λ values look made own. content_none stage.Load _ made own.0;

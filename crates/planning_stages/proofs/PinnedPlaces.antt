@@ -23,14 +23,22 @@ placed_by concept times vehicles at = at
 
 list_by : (concept times vehicles : Bool) → IsStageList (map (placed_by concept times vehicles) places)
 unfolding rising is_earlier is_hand
-list_by true true true = record { rise = refl; given = refl; files_differ = refl; keeps_differ = refl; no_keep = refl; no_hand = refl }
-list_by true true false = record { rise = refl; given = refl; files_differ = refl; keeps_differ = refl; no_keep = refl; no_hand = refl }
-list_by true false true = record { rise = refl; given = refl; files_differ = refl; keeps_differ = refl; no_keep = refl; no_hand = refl }
-list_by true false false = record { rise = refl; given = refl; files_differ = refl; keeps_differ = refl; no_keep = refl; no_hand = refl }
-list_by false true true = record { rise = refl; given = refl; files_differ = refl; keeps_differ = refl; no_keep = refl; no_hand = refl }
-list_by false true false = record { rise = refl; given = refl; files_differ = refl; keeps_differ = refl; no_keep = refl; no_hand = refl }
-list_by false false true = record { rise = refl; given = refl; files_differ = refl; keeps_differ = refl; no_keep = refl; no_hand = refl }
-list_by false false false = record { rise = refl; given = refl; files_differ = refl; keeps_differ = refl; no_keep = refl; no_hand = refl }
+list_by true true true =
+    record { rise = refl; given = refl; files_differ = refl; keeps_differ = refl; no_keep = refl; no_hand = refl }
+list_by true true false =
+    record { rise = refl; given = refl; files_differ = refl; keeps_differ = refl; no_keep = refl; no_hand = refl }
+list_by true false true =
+    record { rise = refl; given = refl; files_differ = refl; keeps_differ = refl; no_keep = refl; no_hand = refl }
+list_by true false false =
+    record { rise = refl; given = refl; files_differ = refl; keeps_differ = refl; no_keep = refl; no_hand = refl }
+list_by false true true =
+    record { rise = refl; given = refl; files_differ = refl; keeps_differ = refl; no_keep = refl; no_hand = refl }
+list_by false true false =
+    record { rise = refl; given = refl; files_differ = refl; keeps_differ = refl; no_keep = refl; no_hand = refl }
+list_by false false true =
+    record { rise = refl; given = refl; files_differ = refl; keeps_differ = refl; no_keep = refl; no_hand = refl }
+list_by false false false =
+    record { rise = refl; given = refl; files_differ = refl; keeps_differ = refl; no_keep = refl; no_hand = refl }
 
 pub lists_are : (values : List ℤ) → IsStageList (staged planning values)
 unfolding planning
@@ -39,7 +47,8 @@ lists_are values =
 
 -- each stage can run in its place
 concept_runs : (pinned : Bool) → CanRunIn stage.Concept (cond pinned stage.PinnedConcept stage.Concept)
-concept_runs true = record { point = refl; makes = refl; more = file.PinnedConcept ∷ file.PinnedTree ∷ []; inputs = refl }
+concept_runs true =
+    record { point = refl; makes = refl; more = file.PinnedConcept ∷ file.PinnedTree ∷ []; inputs = refl }
 concept_runs false = record { point = refl; makes = refl; more = []; inputs = refl }
 
 times_run : (pinned : Bool) → CanRunIn stage.Timetable (cond pinned stage.PinnedTimetable stage.Timetable)
@@ -47,7 +56,8 @@ times_run true = record { point = refl; makes = refl; more = file.PinnedTimes �
 times_run false = record { point = refl; makes = refl; more = []; inputs = refl }
 
 vehicles_run : (pinned : Bool) → CanRunIn stage.Vehicles (cond pinned stage.PinnedVehicles stage.Vehicles)
-vehicles_run true = record { point = refl; makes = refl; more = file.PinnedSchedule ∷ file.PinnedPotential ∷ []; inputs = refl }
+vehicles_run true =
+    record { point = refl; makes = refl; more = file.PinnedSchedule ∷ file.PinnedPotential ∷ []; inputs = refl }
 vehicles_run false = record { point = refl; makes = refl; more = []; inputs = refl }
 
 pub can_run : (values : List ℤ) (place : Stage) → CanRunIn place (planning.placed values place)

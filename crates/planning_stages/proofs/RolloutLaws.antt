@@ -36,18 +36,23 @@ module _ (bundle : BundleParts) where
   runs_named =
       let events = (network_in bundle).events in
       let activities = (network_in bundle).activities in
-      let first = faults_at file.EventsP events_p_columns (input_text bundle 0) why.BrokenRun (map (λ event. event.id) (broken_events events)) in
-      let next = faults_at file.EventsP events_p_columns (input_text bundle 0) why.Unjoined (map (λ event. event.id) (unjoined_events events activities)) in
-      let last = faults_at file.ActivitiesP activities_p_columns (input_text bundle 1) why.StrayActivity (map (λ activity. activity.id) (stray_activities events activities)) in
+      let first = faults_at file.EventsP events_p_columns (input_text bundle 0) why.BrokenRun
+      (map (λ event. event.id) (broken_events events)) in
+      let next = faults_at file.EventsP events_p_columns (input_text bundle 0) why.Unjoined
+      (map (λ event. event.id) (unjoined_events events activities)) in
+      let last = faults_at file.ActivitiesP activities_p_columns (input_text bundle 1) why.StrayActivity
+      (map (λ activity. activity.id) (stray_activities events activities)) in
       names_both any (first ++ next) last
-      (names_both any first next (rows_name any file.EventsP refl events_p_columns (input_text bundle 0) why.BrokenRun _)
+      (names_both any first next
+      (rows_name any file.EventsP refl events_p_columns (input_text bundle 0) why.BrokenRun _)
       (rows_name any file.EventsP refl events_p_columns (input_text bundle 0) why.Unjoined _))
       (rows_name any file.ActivitiesP refl activities_p_columns (input_text bundle 1) why.StrayActivity _)
 
   rollout_named : AllName any (rollout_faults bundle)
   rollout_named =
       names_or_else any (file_faults bundle) (run_faults bundle)
-      (names_both any _ _ (timetable_faults_name any refl refl bundle) (input_names any (times_in bundle) (input_text bundle 2) refl))
+      (names_both any _ _ (timetable_faults_name any refl refl bundle)
+      (input_names any (times_in bundle) (input_text bundle 2) refl))
       runs_named
 
 module _ (values : List ℤ) (look : FileId → List ℕ) where
@@ -63,7 +68,8 @@ module _ (values : List ℤ) (look : FileId → List ℕ) where
   unfolding events_of activities_of
   given_accepted ean times =
       let runs = (network_accepted values look ean).runs_fine in
-      let read : input_faults (times_in (bundle_over values look stage.Rollout)) (look file.TimesP) ≡ [] = times_accepted values look times _ same_period in
+      let read : input_faults (times_in (bundle_over values look stage.Rollout)) (look file.TimesP) ≡ [] =
+      times_accepted values look times _ same_period in
       rw (periodic_accepted values look ean, read) (rw (runs.whole, runs.joined, runs.placed) refl)
 
 pub rollout_laws : StageLaws stage.Rollout
@@ -71,7 +77,10 @@ unfolding planning stage_model is_hand
 rollout_laws = record {
   makes = rollout_stage_makes;
   right = rollout_is_right;
-  refuses = λ values look reason was is. names_only is_hand_file reason (rollout_stage_names is_hand_file (bundle_over values look stage.Rollout) reason (fine (given_accepted values look (was stage.Ean refl) (was stage.Timetable refl))) is);
+  refuses =
+      λ values look reason was is. names_only is_hand_file reason
+      (rollout_stage_names is_hand_file (bundle_over values look stage.Rollout) reason
+      (fine (given_accepted values look (was stage.Ean refl) (was stage.Timetable refl))) is);
   names = λ bundle reason is. inr (rollout_stage_names any bundle reason (rollout_named bundle) is);
   stand = λ values folder bundle lacks none. content_stands stage.Rollout refl refl folder lacks;
   unbroken = λ values look made own. content_none stage.Rollout _ made own.0;
@@ -79,7 +88,8 @@ rollout_laws = record {
 
 module _ (values : List ℤ) (look : FileId → List ℕ) (day : IsRightOver planning values look stage.Rollout) where
   -- what it made is accepted
-  pub day_made : RolloutIsAccepted (events_of (look file.EventsP)) (look file.EventsX) (look file.ActivitiesX) (look file.Trips)
+  pub day_made : RolloutIsAccepted (events_of (look file.EventsP)) (look file.EventsX) (look file.ActivitiesX)
+      (look file.Trips)
   unfolding planning stage_model
   day_made = grind arith
 

@@ -14,16 +14,19 @@ use Rattle.giv_files.specs.declared.stage.Stage.TheVariants as stage
 use Rattle.giv_files.specs.Settings.{BundleParts, Fits}
 use Rattle.giv_files.specs.StageCalls.{StageGives}
 use Rattle.line_cost_model.specs.Problems.{ProblemParts}
-use Rattle.line_search.specs.Budgets.{nodes_in, result_within, spent_result, whole_result}
+use Rattle.line_concepts.specs.Budgets.{nodes_in}
+use Rattle.line_search.specs.ConceptResults.{result_within, spent_result, whole_result}
 use Rattle.line_search.specs.ConceptStage.{after_faults, budget_of, concept_stage, search_made}
 use Rattle.line_search.specs.GivenProblems.{problem_faults, problem_of}
-use Rattle.line_search.specs.Listings.{Entry, best_after, listing}
+use Rattle.line_concepts.specs.Listings.{Entry, best_after, listing}
 use Rattle.line_search.proofs.ConceptNames.{inputs_fine as concept_fine}
-use Rattle.line_search.proofs.Lengths.{listing_bound}
+use Rattle.line_concepts.proofs.Lengths.{listing_bound}
 use Rattle.line_search.proofs.NoConcepts.{none_told as no_concept}
 use Rattle.pesp.specs.Listings.{Listing, listing as times_listed}
 use Rattle.pesp_search.specs.SearchResults.{result_within as times_within, whole_result as whole_times}
-use Rattle.pesp_search.specs.TimetableStage.{after_faults as after_times, budget_in, problem_in, search_made as times_made, timetable_faults, timetable_stage}
+use Rattle.pesp_search.specs.TimetableStage.{after_faults as after_times, budget_in, problem_in}
+use Rattle.pesp_search.specs.TimetableStage.{search_made as times_made, timetable_faults}
+use Rattle.pesp_search.specs.TimetableStage.{timetable_stage}
 use Rattle.pesp.proofs.ListingRight.{listing_right}
 use Rattle.pesp_search.proofs.TimetableEnds.{none_told as no_timetable}
 use Rattle.pesp_search.proofs.TimetableMakes.{inputs_fine as times_fine}
@@ -57,13 +60,19 @@ module _ (problem : ProblemParts) (budget : ℕ) (all : List Entry) where
   Ends reason = search_made problem (result_within budget all) ≡ Err reason
 
   by_found : (found : Option (List ℕ)) (why reason : Refusal)
-      → search_made problem (ok_or (option_map (λ frequencies. record { frequencies = frequencies; tree = None; entries = length (take budget all) }) found) why) ≡ Err reason
+      → search_made problem
+      (ok_or (option_map
+      (λ frequencies. record { frequencies = frequencies; tree = None; entries = length (take budget all) })
+      found) why) ≡ Err reason
       → (found ≡ None) × (why ≡ reason)
   by_found None why reason is = (refl, cc)
   by_found (Some found) why reason is = absurd (cc)
 
   whole_unspent : (found : Option (List ℕ)) (spent : ℕ)
-      → ¬ (search_made problem (ok_or (option_map (λ frequencies. record { frequencies = frequencies; tree = Some (nodes_in all); entries = length all }) found) refusal.NoSolution) ≡ Err (refusal.Spent spent))
+      → ¬ (search_made problem
+      (ok_or (option_map
+      (λ frequencies. record { frequencies = frequencies; tree = Some (nodes_in all); entries = length all })
+      found) refusal.NoSolution) ≡ Err (refusal.Spent spent))
   whole_unspent None spent is = absurd (cc)
   whole_unspent (Some found) spent is = absurd (cc)
 
@@ -76,14 +85,20 @@ module _ (problem : ProblemParts) (budget : ℕ) (all : List Entry) where
           → search_made problem (cond within (whole_result all) (spent_result budget all)) ≡ Err (refusal.Spent spent)
           → (budget < length all) × (best_after None (take budget all) ≡ None)
       by true within is = absurd (whole_unspent (best_after None all) spent is)
-      by false within is =
-          (leb-false (length all) budget within, (by_found (best_after None (take budget all)) (refusal.Spent budget) (refusal.Spent spent) is).0)
+      by false within is = (
+        leb-false (length all) budget within,
+        (by_found (best_after None (take budget all)) (refusal.Spent budget) (refusal.Spent spent) is).0,
+      )
 
   spent_ends : budget < length all → best_after None (take budget all) ≡ None → Ends (refusal.Spent budget)
   unfolding result_within
   spent_ends over none =
-      ap (λ b. search_made problem (cond b (whole_result all) (spent_result budget all))) (beyond (nat_le (length all) budget) refl)
-      ∙ ap (λ found. search_made problem (ok_or (option_map (λ frequencies. record { frequencies = frequencies; tree = None; entries = length (take budget all) }) found) (refusal.Spent budget))) none
+      ap (λ b. search_made problem (cond b (whole_result all) (spent_result budget all)))
+      (beyond (nat_le (length all) budget) refl)
+      ∙ ap (λ found. search_made problem
+      (ok_or (option_map
+      (λ frequencies. record { frequencies = frequencies; tree = None; entries = length (take budget all) })
+      found) (refusal.Spent budget))) none
     where
       beyond : (b : Bool) → nat_le (length all) budget ≡ b → b ≡ false
       beyond false is = refl
@@ -102,7 +117,8 @@ module _ (budget : ℕ) (all : Listing) where
   times_spent_by spent is = by (nat_lt budget all.entries) refl is
     where
       by : (over : Bool) → nat_lt budget all.entries ≡ over
-          → times_made (cond over (Err (refusal.Spent budget)) (whole_times all.entries all.found)) ≡ Err (refusal.Spent spent)
+          → times_made (cond over (Err (refusal.Spent budget)) (whole_times all.entries all.found))
+          ≡ Err (refusal.Spent spent)
           → budget < all.entries
       by true over is = ltb-true budget all.entries over
       by false over is = absurd (times_unspent all.found spent is)
@@ -110,7 +126,8 @@ module _ (budget : ℕ) (all : Listing) where
   times_spent : budget < all.entries → times_made (times_within budget all) ≡ Err (refusal.Spent budget)
   unfolding times_within
   times_spent over =
-      ap (λ b. times_made (cond b (Err (refusal.Spent budget)) (whole_times all.entries all.found))) (lt-ltb budget all.entries over)
+      ap (λ b. times_made (cond b (Err (refusal.Spent budget)) (whole_times all.entries all.found)))
+      (lt-ltb budget all.entries over)
 
 -- ---- what the stages refuse
 
@@ -121,12 +138,16 @@ module _ (bundle : BundleParts) where
   concept_outcome : problem_faults bundle ≡ [] → concept_stage bundle
       ≡ search_made (problem_of bundle) (result_within (budget_of bundle) (listing (problem_of bundle)))
   unfolding concept_stage
-  concept_outcome fine = ap (λ faults. after_faults faults (search_made (problem_of bundle) (result_within (budget_of bundle) (listing (problem_of bundle))))) fine
+  concept_outcome fine =
+      ap (λ faults. after_faults faults
+      (search_made (problem_of bundle) (result_within (budget_of bundle) (listing (problem_of bundle))))) fine
 
   times_outcome : timetable_faults bundle ≡ [] → timetable_stage bundle
       ≡ times_made (times_within (budget_in bundle) (times_listed (problem_in bundle)))
   unfolding timetable_stage
-  times_outcome fine = ap (λ faults. after_times faults (times_made (times_within (budget_in bundle) (times_listed (problem_in bundle))))) fine
+  times_outcome fine =
+      ap (λ faults. after_times faults
+      (times_made (times_within (budget_in bundle) (times_listed (problem_in bundle))))) fine
 
   module _ (fits : Fits bundle) where
     -- a search says that there is no solution only where there is none, within its budget
@@ -137,7 +158,9 @@ module _ (bundle : BundleParts) where
         (no_concept bundle (Err (fault.Refused refusal.NoSolution)) is).only refl
     ends_none stage.Timetable own is =
         (no_timetable bundle own fits (Err (fault.Refused refusal.NoSolution)) is).only refl
-    ends_none at own is = ⊎_elim (λ searches. absurd searches) (λ input. absurd input) ((stage_laws at).names bundle refusal.NoSolution is)
+    ends_none at own is =
+        ⊎_elim (λ searches. absurd searches) (λ input. absurd input)
+        ((stage_laws at).names bundle refusal.NoSolution is)
 
     -- and where there is none it says so
     pub none_ends : (at : Stage) → bundle.stage ≡ at → HasNoSolution at bundle
@@ -148,7 +171,8 @@ module _ (bundle : BundleParts) where
         ((no_concept bundle (as_result (concept_stage bundle)) (as_gives (concept_stage bundle))).always has)
     none_ends stage.Timetable own has =
         only_refused (timetable_stage bundle) refusal.NoSolution
-        ((no_timetable bundle own fits (as_result (timetable_stage bundle)) (as_gives (timetable_stage bundle))).always has)
+        ((no_timetable bundle own fits (as_result (timetable_stage bundle))
+        (as_gives (timetable_stage bundle))).always has)
     none_ends at own has = absurd has
 
     -- the same of a budget that is spent
@@ -157,20 +181,32 @@ module _ (bundle : BundleParts) where
     unfolding stage_model
     ends_spent stage.Concept own entries is =
         let fine = concept_fine bundle (refusal.Spent entries) (λ h. h) is in
-        let both = spent_by (problem_of bundle) (budget_of bundle) (listing (problem_of bundle)) entries (sym (concept_outcome fine) ∙ is) in
+        let both = spent_by (problem_of bundle) (budget_of bundle) (listing (problem_of bundle)) entries
+        (sym (concept_outcome fine) ∙ is) in
         (fine, both.0, both.1)
     ends_spent stage.Timetable own entries is =
-        let fine = times_fine bundle (refusal.Spent entries) (λ h. h) is in
-        (fine, times_spent_by (budget_in bundle) (times_listed (problem_in bundle)) entries (sym (times_outcome fine) ∙ is))
-    ends_spent at own entries is = ⊎_elim (λ searches. absurd searches) (λ input. absurd input) ((stage_laws at).names bundle (refusal.Spent entries) is)
+        let fine = times_fine bundle (refusal.Spent entries) (λ h. h) is in (
+          fine,
+          times_spent_by (budget_in bundle) (times_listed (problem_in bundle)) entries
+              (sym (times_outcome fine) ∙ is),
+        )
+    ends_spent at own entries is =
+        ⊎_elim (λ searches. absurd searches) (λ input. absurd input)
+        ((stage_laws at).names bundle (refusal.Spent entries) is)
 
     pub spent_ends_so : (at : Stage) → bundle.stage ≡ at → IsSpent at bundle
         → (entries : ℕ) × (told at ≡ Err (refusal.Spent entries))
     unfolding stage_model
-    spent_ends_so stage.Concept own spent =
-        (budget_of bundle, concept_outcome spent.0 ∙ spent_ends (problem_of bundle) (budget_of bundle) (listing (problem_of bundle)) spent.1 spent.2)
-    spent_ends_so stage.Timetable own spent =
-        (budget_in bundle, times_outcome spent.0 ∙ times_spent (budget_in bundle) (times_listed (problem_in bundle)) spent.1)
+    spent_ends_so stage.Concept own spent = (
+      budget_of bundle,
+      concept_outcome spent.0
+          ∙ spent_ends (problem_of bundle) (budget_of bundle) (listing (problem_of bundle)) spent.1 spent.2,
+    )
+    spent_ends_so stage.Timetable own spent = (
+      budget_in bundle,
+      times_outcome spent.0
+          ∙ times_spent (budget_in bundle) (times_listed (problem_in bundle)) spent.1,
+    )
     spent_ends_so at own spent = absurd spent
 
     -- neither is so where a solution exists and the budget suffices

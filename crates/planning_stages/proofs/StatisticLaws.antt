@@ -14,7 +14,8 @@ use Rattle.tables.specs.Writing.{ReadsBack}
 use Rattle.tables.proofs.Named.{AllName, input_names, names_both, names_only}
 use Rattle.tables.proofs.Ranges.{back_none, front_none}
 use Rattle.config_keys.specs.Config.{part_of}
-use Rattle.ptn_network.specs.Networks.{NetworkParts, network_faults, network_of}
+use Rattle.walks.specs.Networks.{NetworkParts}
+use Rattle.ptn_network.specs.Networks.{network_faults, network_of}
 use Rattle.ptn_network.proofs.Sound.{network_sound}
 use Rattle.line_walks.specs.GivenCosts.{costs_of as pool_costs}
 use Rattle.line_walks.specs.Pools.{line_faults, pool_faults, pool_of}
@@ -71,7 +72,8 @@ module _ (values : List ℤ) (look : FileId → List ℕ) where
 
   -- the costs and the line concept
   lines_accepted : IsRightOver planning values look stage.Cost
-      → IsRightOver planning values look (in_place values stage.Concept) → line_part (bundle_over values look stage.Statistic) ≡ []
+      → IsRightOver planning values look (in_place values stage.Concept)
+      → line_part (bundle_over values look stage.Statistic) ≡ []
   unfolding problem_of line_faults planning stage_model
   lines_accepted costs concept =
       let right : CostFilesAreRight (bundle_over values look stage.Cost) (files_over look costs.ids) = costs.right in
@@ -80,7 +82,8 @@ module _ (values : List ℤ) (look : FileId → List ℕ) where
       let pool = pool_of network (look file.Pool) in
       let no_fault : networks ≡ [] = front_none networks (pool_faults network (look file.Pool)) right.inputs in
       let pools = back_none networks (pool_faults network (look file.Pool)) right.inputs in
-      let lines = whole_lines _ network (look file.Pool) (network_sound (look file.Stop) (look file.Edge) no_fault) pools in
+      let lines =
+      whole_lines _ network (look file.Pool) (network_sound (look file.Stop) (look file.Edge) no_fault) pools in
       let accepted = costs_accepted values look costs in
       let problem = problem_of (bundle_over values look stage.Concept) in
       let reads : ReadsBack concept_columns (concept_rows problem found.frequencies) (look file.Concept) =
@@ -137,7 +140,10 @@ unfolding planning stage_model is_hand
 statistic_laws = record {
   makes = statistic_stage_makes;
   right = statistic_is_right;
-  refuses = λ values look reason was is. names_only is_hand_file reason (statistic_stage_names is_hand_file (bundle_over values look stage.Statistic) reason (fine (all_accepted values look was)) is);
+  refuses =
+      λ values look reason was is. names_only is_hand_file reason
+      (statistic_stage_names is_hand_file (bundle_over values look stage.Statistic) reason
+      (fine (all_accepted values look was)) is);
   names = λ bundle reason is. inr (statistic_stage_names any bundle reason (statistic_named bundle) is);
   stand = λ values folder bundle lacks none. content_stands stage.Statistic refl refl folder lacks;
   unbroken = λ values look made own. content_none stage.Statistic _ made own.0;

@@ -5,11 +5,12 @@ use Rattle.std.proofs.Common.{unsigned_abs, Some, refl, ap, subst, sym, ◌∙�
 use Rattle.std.specs.List.{All, AllByRecursion, AllPairs, find, flat_map, list_any}
 use Rattle.std.specs.Ordering.{int_eq}
 use Rattle.std.specs.Set.{is_member}
-use Rattle.std.proofs.lemmas.Bool.{eq-eqb, true≢false}
+use Rattle.std.proofs.lemmas.Bool.{eq-eqb, true≢false, not-false}
 use Rattle.std.proofs.lemmas.Bool.Decides.{Decides-int_eq}
 use Rattle.std.proofs.lemmas.Cmp.{int_eq_equiv}
 use Rattle.std.proofs.lemmas.List.{length-map, map_push}
-use Rattle.std.proofs.lemmas.List.Elements.{All-cons, All-contains, All-filter, All-map, All-nil, All-weaker, filter_passes}
+use Rattle.std.proofs.lemmas.List.Elements.{All-cons, All-contains, All-filter, All-map, All-nil}
+use Rattle.std.proofs.lemmas.List.Elements.{All-weaker, filter_passes}
 use Rattle.std.proofs.lemmas.List.Kept.{AllPairs-cons, AllPairs-filter}
 use Rattle.std.proofs.lemmas.Map.Made.{IsDistinct-from_AllPairs, is_member-Decides, length-le_from_is_member}
 use Rattle.tables.specs.declared.file_id.FileId.{FileId}
@@ -21,18 +22,23 @@ use Rattle.tables.specs.Reading.{table_of}
 use Rattle.tables.specs.Tables.{TableRow}
 use Rattle.tables.specs.Writing.{ReadsBack}
 use Rattle.tables.proofs.Accepted.{each_known}
-use Rattle.tables.proofs.Found.{any_mapped}
-use Rattle.tables.proofs.Inputs.{faults_of_table, limit_kept, no_faults, parts_sound, rule_kept, rules_sound, table_sound, whole_rule_sound}
-use Rattle.tables.proofs.Ranges.{back_none, front_none, unmapped}
-use Rattle.ptn_network.specs.declared.edge.Edge.{Edge}
+use Rattle.plan_num.proofs.Found.{any_mapped}
+use Rattle.tables.proofs.Inputs.{faults_of_table, limit_kept, no_faults, parts_sound, rule_kept}
+use Rattle.tables.proofs.Inputs.{rules_sound, table_sound, whole_rule_sound}
+use Rattle.tables.proofs.Ranges.{back_none, front_none}
+use Rattle.walks.specs.declared.edge.Edge.{Edge}
 use Rattle.line_walks.specs.PoolCosts.{cost_row_of, pool_cost_input}
-use Rattle.line_walks.specs.Pools.{LineParts, differs as differs_first, first_frequency, line_limit as pool_limit, line_row as pool_row, line_rules, rows_of}
+use Rattle.line_walks.specs.Pools.{LineParts, differs as differs_first, first_frequency}
+use Rattle.line_walks.specs.Pools.{line_limit as pool_limit, line_row as pool_row, line_rules}
+use Rattle.line_walks.specs.Pools.{rows_of}
 use Rattle.line_search.specs.ConceptTables.{concept_rows, line_rows, row_at}
 use Rattle.line_search.specs.GivenProblems.{costed_by, problem_of}
 use Rattle.evaluators.specs.declared.rows.LineRow.{LineRow}
 use Rattle.evaluators.specs.FirstRows.{firsts}
-use Rattle.evaluators.specs.StatisticInputs.{concept_input, cost_input, cost_row, cost_with, differs, first_row, line_limit, line_row}
+use Rattle.evaluators.specs.StatisticInputs.{concept_input, cost_input, cost_row, cost_with}
+use Rattle.evaluators.specs.StatisticInputs.{differs, first_row, line_limit, line_row}
 use Rattle.evaluators.specs.StatisticStage.{costs_of}
+use Rattle.plan_num.proofs.Lists.{unmapped}
 
 -- what a function gives: a line with its cost, and a line problem
 abbrev given_by : {X Y : Type 0} → (X → Y) → Type 0
@@ -86,7 +92,8 @@ module _ {X Y : Type 0} (file : FileId) (rules : List (RowRule X)) (others : Lis
   unfolding row_faults
   rows_kept before [] good none = refl
   rows_kept before (row ∷ rows) good none =
-      let first = unmapped _ (broken_whys rules (map (λ row. read row.cells) before) (read row.cells)) (front_none _ _ none) in
+      let first =
+      unmapped _ (broken_whys rules (map (λ row. read row.cells) before) (read row.cells)) (front_none _ _ none) in
       let later = subst (λ some. row_faults file rules some (with_numbers read rows) ≡ [])
       (sym (map_push (λ (row : TableRow). read row.cells) before row)) (back_none _ _ none) in
       let rest = subst (λ some. row_faults file others some (with_numbers other rows) ≡ [])
@@ -109,7 +116,9 @@ module _ {X : Type 0} (key : X → ℤ) where
   firsts_apart (row ∷ rows) =
       let more = firsts key rows in
       AllPairs-cons Differ row (filter (others row) more)
-      (All-weaker (λ x. others row x ≡ true) (Differ row) (λ x passes same. true≢false (sym passes ∙ ap not ((Decides-int_eq (key row) (key x)).1 same))) (filter (others row) more) (filter_passes (others row) more))
+      (All-weaker (λ x. others row x ≡ true) (Differ row)
+      (λ x passes same. true≢false (sym passes ∙ ap not ((Decides-int_eq (key row) (key x)).1 same)))
+      (filter (others row) more) (filter_passes (others row) more))
       (AllPairs-filter Differ (others row) more (firsts_apart rows))
 
   firsts_kept : (P : X → Type 0) (rows : List X) → All P rows → All P (firsts key rows)
@@ -132,10 +141,12 @@ module _ {X : Type 0} (key : X → ℤ) where
       → length (firsts key rows) ≤ length ids
   few_firsts ids rows each =
       let some = map key (firsts key rows) in
-      let known = All-map (λ id. is_member int_eq ids id ≡ true) key (firsts key rows) (firsts_kept (λ row. is_member int_eq ids (key row) ≡ true) rows each) in
+      let known = All-map (λ id. is_member int_eq ids id ≡ true) key (firsts key rows)
+      (firsts_kept (λ row. is_member int_eq ids (key row) ≡ true) rows each) in
       let few = length-le_from_is_member int_eq_equiv some ids
       (IsDistinct-from_AllPairs Decides-int_eq some (keys_apart (firsts key rows) (firsts_apart rows)))
-      (λ id is. All-contains (λ id. is_member int_eq ids id ≡ true) some id known ((is_member-Decides Decides-int_eq some id).0 is)) in
+      (λ id is. All-contains (λ id. is_member int_eq ids id ≡ true) some id known
+      ((is_member-Decides Decides-int_eq some id).0 is)) in
       omega (arith, few, length-map (firsts key rows) key)
 
 -- ---- what holds of the ids of lines holds of the rows of a concept
@@ -173,7 +184,8 @@ module _ (P : ℤ → Type 0) where
       → All (λ (row : LineRow). P row.line) (map (λ row. line_row row.cells) rows)
   each_row [] good = All-nil (λ (row : LineRow). P row.line)
   each_row (row ∷ rows) good =
-      All-cons (λ (row : LineRow). P row.line) (line_row row.cells) (map (λ row. line_row row.cells) rows) good.0 (each_row rows good.1)
+      All-cons (λ (row : LineRow). P row.line) (line_row row.cells) (map (λ row. line_row row.cells) rows) good.0
+      (each_row rows good.1)
 
   read_good : (problem : ProblemParts) (lines : List LineParts) (costs : List ℤ) (frequencies text : List ℕ)
       → problem.lines ≡ map (λ at. costed_by at.0 at.1) (zip lines costs)
@@ -183,29 +195,33 @@ module _ (P : ℤ → Type 0) where
   read_good problem lines costs frequencies text same reads good =
       subst (AllByRecursion Good) (sym reads.1)
       (lines_good problem problem.lines frequencies
-      (subst (λ (some : List CostedLine). AllByRecursion P (map (λ line. line.id) some)) (sym same) (costed_good lines costs good)))
+      (subst (λ (some : List CostedLine). AllByRecursion P (map (λ line. line.id) some)) (sym same)
+      (costed_good lines costs good)))
 
 -- ---- rules of rows
 
-not_false : (b : Bool) → not b ≡ false → b ≡ true
-not_false true is = refl
-not_false false is = absurd (cc)
-
 -- a row has the frequency of the first row of its line, if its cells have
 same_first : (before : List TableRow) (line : ℤ) (cells : List ℤ)
-    → differs_first (get_or cells 3 (pos 0)) (first_frequency (rows_of line (map (λ row. pool_row row.cells) before))) ≡ false
+    → differs_first (get_or cells 3 (pos 0)) (first_frequency (rows_of line (map (λ row. pool_row row.cells) before)))
+    ≡ false
     → differs (line_row cells) (first_row (map (λ row. line_row row.cells) before) line) ≡ false
 same_first [] line cells is = refl
 same_first (row ∷ before) line cells is = by (int_eq line (line_in row.cells)) is (same_first before line cells)
   where
     by : (b : Bool)
-        → differs_first (get_or cells 3 (pos 0)) (first_frequency (cond b (pool_row row.cells ∷ rows_of line (map (λ row. pool_row row.cells) before)) (rows_of line (map (λ row. pool_row row.cells) before)))) ≡ false
-        → (differs_first (get_or cells 3 (pos 0)) (first_frequency (rows_of line (map (λ row. pool_row row.cells) before))) ≡ false
+        → differs_first (get_or cells 3 (pos 0))
+        (first_frequency
+        (cond b (pool_row row.cells ∷ rows_of line (map (λ row. pool_row row.cells) before))
+        (rows_of line (map (λ row. pool_row row.cells) before)))) ≡ false
+        → (differs_first (get_or cells 3 (pos 0))
+        (first_frequency (rows_of line (map (λ row. pool_row row.cells) before))) ≡ false
         → differs (line_row cells) (first_row (map (λ row. line_row row.cells) before) line) ≡ false)
-        → differs (line_row cells) (cond b (Some (line_row row.cells)) (first_row (map (λ row. line_row row.cells) before) line)) ≡ false
+        → differs (line_row cells)
+        (cond b (Some (line_row row.cells)) (first_row (map (λ row. line_row row.cells) before) line)) ≡ false
     by true is rest =
-        let same = (Decides-int_eq (get_or cells 3 (pos 0)) (get_or row.cells 3 (pos 0))).0 (not_false _ is) in
-        ap not (eq-eqb (unsigned_abs (get_or cells 3 (pos 0))) (unsigned_abs (get_or row.cells 3 (pos 0))) (ap unsigned_abs same))
+        let same = (Decides-int_eq (get_or cells 3 (pos 0)) (get_or row.cells 3 (pos 0))).0 (not-false _ is) in
+        ap not (eq-eqb (unsigned_abs (get_or cells 3 (pos 0))) (unsigned_abs (get_or row.cells 3 (pos 0)))
+        (ap unsigned_abs same))
     by false is rest = rest is
 
 found_is : {X : Type 0} (p : X → Bool) (xs : List X) → is_some (find p xs) ≡ list_any p xs
@@ -245,7 +261,8 @@ module _ (lines : List LineParts) (costs : List ℕ)
   table = table_of pool_cost_columns costs
 
   costs_keep : (before : List TableRow) (row : TableRow) → Unit {0}
-      → broken_whys (pool_cost_input lines).row_rules (map (λ row. cost_row_of row.cells) before) (cost_row_of row.cells) ≡ []
+      → broken_whys (pool_cost_input lines).row_rules (map (λ row. cost_row_of row.cells) before)
+      (cost_row_of row.cells) ≡ []
       → broken_whys cost_input.row_rules (map (λ row. cost_row row.cells) before) (cost_row row.cells) ≡ []
   costs_keep before row good none = grind (arith, rules_sound, rule_kept, any_mapped)
 
@@ -259,7 +276,8 @@ module _ (lines : List LineParts) (costs : List ℕ)
       let rows = (table_sound (pool_cost_input lines) table parts.1).1 in
       sym (faults_of_table cost_input costs table parts.0 refl)
       ∙ no_faults cost_input table refl
-      (rows_kept file.PoolCost (pool_cost_input lines).row_rules cost_input.row_rules cost_row_of cost_row (λ cells. Unit {0}) costs_keep [] table (each_unit (cells_of table)) rows)
+      (rows_kept file.PoolCost (pool_cost_input lines).row_rules cost_input.row_rules cost_row_of cost_row
+      (λ cells. Unit {0}) costs_keep [] table (each_unit (cells_of table)) rows)
       refl
 
   -- each line has a cost
@@ -285,7 +303,8 @@ module _ (lines : List LineParts) (costs : List ℕ)
   module _ (edges : List Edge) (few : length lines ≤ 200) where
     concept_keep : (before : List TableRow) (row : TableRow) → HasCost (line_in row.cells)
         → broken_whys (line_rules edges) (map (λ row. pool_row row.cells) before) (pool_row row.cells) ≡ []
-        → broken_whys (concept_input (costs_of costs)).row_rules (map (λ row. line_row row.cells) before) (line_row row.cells) ≡ []
+        → broken_whys (concept_input (costs_of costs)).row_rules (map (λ row. line_row row.cells) before)
+        (line_row row.cells) ≡ []
     concept_keep before row good none = grind (arith, rules_sound, rule_kept, same_first)
 
     pub concept_read : (problem : ProblemParts) (given : List ℤ) (frequencies text : List ℕ)
@@ -298,11 +317,15 @@ module _ (lines : List LineParts) (costs : List ℕ)
         let parts = parts_sound (concept_lines edges) text fine in
         let kept = (table_sound (concept_lines edges) rows parts.1).1 in
         let ids = map (λ (line : LineParts). line.id) lines in
-        let known = read_good (λ id. is_member int_eq ids id ≡ true) problem lines given frequencies text is reads (each_known ids ids (λ p h. h)) in
-        let some = few_firsts (λ (row : LineRow). row.line) ids (map (λ row. line_row row.cells) rows) (each_row (λ id. is_member int_eq ids id ≡ true) rows known) in
+        let known = read_good (λ id. is_member int_eq ids id ≡ true) problem lines given frequencies text is reads
+        (each_known ids ids (λ p h. h)) in
+        let some = few_firsts (λ (row : LineRow). row.line) ids (map (λ row. line_row row.cells) rows)
+        (each_row (λ id. is_member int_eq ids id ≡ true) rows known) in
         sym (faults_of_table (concept_input (costs_of costs)) text rows parts.0 refl)
         ∙ no_faults (concept_input (costs_of costs)) rows
-        (limit_kept line_limit [] (map (λ row. line_row row.cells) rows) (omega (arith, some, few, length-map lines (λ (line : LineParts). line.id))) refl)
-        (rows_kept file.Concept (line_rules edges) (concept_input (costs_of costs)).row_rules pool_row line_row (λ cells. HasCost (line_in cells)) concept_keep [] rows
+        (limit_kept line_limit [] (map (λ row. line_row row.cells) rows)
+        (omega (arith, some, few, length-map lines (λ (line : LineParts). line.id))) refl)
+        (rows_kept file.Concept (line_rules edges) (concept_input (costs_of costs)).row_rules pool_row line_row
+        (λ cells. HasCost (line_in cells)) concept_keep [] rows
         (read_good HasCost problem lines given frequencies text is reads all_cost) kept)
         refl

@@ -15,7 +15,8 @@ use Rattle.config_keys.specs.Config.{part_of}
 use Rattle.event_tables.specs.PeriodicFiles.{periodic_event_ids, periodic_time_input}
 use Rattle.pesp_model.specs.PespTexts.{events_of}
 use Rattle.pesp_search.specs.RightTimetables.{TimetableFilesAreRight}
-use Rattle.pesp_search.proofs.PinnedLaws.{pinned_timetable_makes, pinned_timetable_names, pinned_timetable_right, right_where_same}
+use Rattle.pesp_search.proofs.PinnedLaws.{pinned_timetable_makes, pinned_timetable_names}
+use Rattle.pesp_search.proofs.PinnedLaws.{pinned_timetable_right, right_where_same}
 use Rattle.pesp_search.proofs.TimetableMakes.{timetable_faults_name, timetable_stage_makes, timetable_stage_names}
 use Rattle.pesp_search.proofs.TimetableReads.{timetable_is_right}
 use Rattle.stage_chain.specs.Checks.{standing}
@@ -43,11 +44,13 @@ module _ (values : List ℤ) (look : FileId → List ℕ) where
 
   -- whoever gives the timetable, it is right over what the plain stage is given
   pub times_right_by : (pinned : Bool) (files : List MadeFile)
-      → (stage_model (cond pinned stage.PinnedTimetable stage.Timetable)).IsRight (bundle_over values look (cond pinned stage.PinnedTimetable stage.Timetable)) files
+      → (stage_model (cond pinned stage.PinnedTimetable stage.Timetable)).IsRight
+      (bundle_over values look (cond pinned stage.PinnedTimetable stage.Timetable)) files
       → TimetableFilesAreRight (bundle_over values look stage.Timetable) files
   unfolding stage_model
   times_right_by true files right =
-      right_where_same (bundle_over values look stage.PinnedTimetable) (bundle_over values look stage.Timetable) files same_period refl refl right
+      right_where_same (bundle_over values look stage.PinnedTimetable) (bundle_over values look stage.Timetable) files
+      same_period refl refl right
   times_right_by false files right = right
 
   pub times_right : (times : IsRightOver planning values look (in_place values stage.Timetable))
@@ -57,12 +60,15 @@ module _ (values : List ℤ) (look : FileId → List ℕ) where
 
   pub times_accepted : IsRightOver planning values look (in_place values stage.Timetable) → (period : ℕ)
       → amount (part_of values stage.Timetable) key.PeriodLength ≡ period
-      → input_faults (periodic_time_input file.TimesP period (periodic_event_ids (events_of (look file.EventsP)))) (look file.TimesP) ≡ []
+      → input_faults (periodic_time_input file.TimesP period (periodic_event_ids (events_of (look file.EventsP))))
+      (look file.TimesP) ≡ []
   times_accepted times period same =
       let right = times_right times in
-      subst (λ text. input_faults (periodic_time_input file.TimesP period (periodic_event_ids (events_of (look file.EventsP)))) text ≡ [])
+      subst (λ text. input_faults
+      (periodic_time_input file.TimesP period (periodic_event_ids (events_of (look file.EventsP)))) text ≡ [])
       (first_own look file.TimesP times.ids right.text [] right.one)
-      (subst (λ period. input_faults (periodic_time_input file.TimesP period (periodic_event_ids (events_of (look file.EventsP)))) right.text ≡ [])
+      (subst (λ period. input_faults
+      (periodic_time_input file.TimesP period (periodic_event_ids (events_of (look file.EventsP)))) right.text ≡ [])
       same right.accepted)
 
 pub timetable_laws : StageLaws stage.Timetable
@@ -70,10 +76,16 @@ unfolding planning stage_model is_hand
 timetable_laws = record {
   makes = timetable_stage_makes;
   right = timetable_is_right;
-  refuses = λ values look reason was is. timetable_stage_names is_hand_file (bundle_over values look stage.Timetable) reason (fine (periodic_accepted values look (was stage.Ean refl))) is;
+  refuses =
+      λ values look reason was is. timetable_stage_names is_hand_file (bundle_over values look stage.Timetable) reason
+      (fine (periodic_accepted values look (was stage.Ean refl))) is;
   names = λ bundle reason is. inl tt;
-  stand = λ values folder bundle lacks none. subst (λ lists. Contains lists (ids_of (standing folder stage.Timetable))) (sym (times_lists values)) (content_stands stage.Timetable refl refl folder lacks);
-  unbroken = λ values look made own. timetable_none (bundle_over values look stage.Timetable) made.files (times_right_by values look (is_pinned values key.PinTimetable) made.files own.1);
+  stand =
+      λ values folder bundle lacks none. subst (λ lists. Contains lists (ids_of (standing folder stage.Timetable)))
+      (sym (times_lists values)) (content_stands stage.Timetable refl refl folder lacks);
+  unbroken =
+      λ values look made own. timetable_none (bundle_over values look stage.Timetable) made.files
+      (times_right_by values look (is_pinned values key.PinTimetable) made.files own.1);
 }
 
 pub pinned_timetable_laws : StageLaws stage.PinnedTimetable
@@ -81,8 +93,13 @@ unfolding planning stage_model is_hand
 pinned_timetable_laws = record {
   makes = pinned_timetable_makes;
   right = pinned_timetable_right;
-  refuses = λ values look reason was is. names_only is_hand_file reason (pinned_timetable_names is_hand_file refl (bundle_over values look stage.PinnedTimetable) reason (fine (periodic_accepted values look (was stage.Ean refl))) is);
-  names = λ bundle reason is. inr (pinned_timetable_names any refl bundle reason (timetable_faults_name any refl refl bundle) is);
+  refuses =
+      λ values look reason was is. names_only is_hand_file reason
+      (pinned_timetable_names is_hand_file refl (bundle_over values look stage.PinnedTimetable) reason
+      (fine (periodic_accepted values look (was stage.Ean refl))) is);
+  names =
+      λ bundle reason is. inr
+      (pinned_timetable_names any refl bundle reason (timetable_faults_name any refl refl bundle) is);
   stand = λ values folder bundle lacks none. content_stands stage.PinnedTimetable refl refl folder lacks;
   unbroken = λ values look made own. refl;
 }

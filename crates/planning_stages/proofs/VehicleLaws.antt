@@ -102,23 +102,28 @@ module _ (values : List ℤ) (look : FileId → List ℕ) where
 
   -- whoever gives the schedule, it is right over what the plain stage is given
   pub schedule_right_by : (pinned : Bool) (files : List MadeFile)
-      → (stage_model (cond pinned stage.PinnedVehicles stage.Vehicles)).IsRight (bundle_over values look (cond pinned stage.PinnedVehicles stage.Vehicles)) files
+      → (stage_model (cond pinned stage.PinnedVehicles stage.Vehicles)).IsRight
+      (bundle_over values look (cond pinned stage.PinnedVehicles stage.Vehicles)) files
       → PinnedScheduleIsRight (bundle_over values look stage.Vehicles) files
   unfolding stage_model
   schedule_right_by true files right =
-      pinned_over (bundle_over values look stage.PinnedVehicles) (bundle_over values look stage.Vehicles) same_given files right
+      pinned_over (bundle_over values look stage.PinnedVehicles) (bundle_over values look stage.Vehicles) same_given
+      files right
   schedule_right_by false files right = plain_pinned (bundle_over values look stage.Vehicles) files right
 
   vehicles_right : (vehicles : IsRightOver planning values look (in_place values stage.Vehicles))
       → PinnedScheduleIsRight (bundle_over values look stage.Vehicles) (files_over look vehicles.ids)
   unfolding planning
-  vehicles_right vehicles = schedule_right_by (is_pinned values key.PinVehicles) (files_over look vehicles.ids) vehicles.right
+  vehicles_right vehicles =
+      schedule_right_by (is_pinned values key.PinVehicles) (files_over look vehicles.ids) vehicles.right
 
   vehicles_unbroken : (pinned : Bool) (files : List MadeFile)
-      → (stage_model (cond pinned stage.PinnedVehicles stage.Vehicles)).IsRight (bundle_over values look (cond pinned stage.PinnedVehicles stage.Vehicles)) files
+      → (stage_model (cond pinned stage.PinnedVehicles stage.Vehicles)).IsRight
+      (bundle_over values look (cond pinned stage.PinnedVehicles stage.Vehicles)) files
       → (schedule_judged pinned).verdict (bundle_over values look stage.Vehicles) files ≡ None
   unfolding stage_model
-  vehicles_unbroken true files right = bare_none (bundle_over values look stage.Vehicles) files (schedule_right_by true files right)
+  vehicles_unbroken true files right =
+      bare_none (bundle_over values look stage.Vehicles) files (schedule_right_by true files right)
   vehicles_unbroken false files right = schedule_none (bundle_over values look stage.Vehicles) files right
 
   -- the schedule there is accepted over the events of the day
@@ -129,7 +134,8 @@ module _ (values : List ℤ) (look : FileId → List ℕ) where
   schedule_accepted day vehicles =
       let right = vehicles_right vehicles in
       let events = records_of expanded_event_input (look file.EventsX) in
-      let own = first_own look file.Schedule vehicles.ids right.right.schedule (potential_files right.right.potentials) right.right.each in
+      let own = first_own look file.Schedule vehicles.ids right.right.schedule (potential_files right.right.potentials)
+      right.right.each in
       subst (λ text. input_faults (schedule_input events) text ≡ []) own
       (right.accepted events (All-weaker (IsTripOver events) (IsRolledOut events) (rolled_out events)
       (records_of (trip_input None) (look file.Trips)) (day_made values look day).ends_fine))
@@ -145,7 +151,10 @@ unfolding planning stage_model is_hand
 vehicles_laws = record {
   makes = vehicles_stage_makes;
   right = λ bundle made own fits is. vehicles_are_right bundle own fits made is;
-  refuses = λ values look reason was is. names_only is_hand_file reason (vehicles_stage_names is_hand_file refl refl (bundle_over values look stage.Vehicles) reason (fine (trips_accepted values look (was stage.Rollout refl) (was stage.Ean refl))) is);
+  refuses =
+      λ values look reason was is. names_only is_hand_file reason
+      (vehicles_stage_names is_hand_file refl refl (bundle_over values look stage.Vehicles) reason
+      (fine (trips_accepted values look (was stage.Rollout refl) (was stage.Ean refl))) is);
   names = λ bundle reason is. inr (vehicles_stage_names any refl refl bundle reason (trips_named bundle) is);
   stand = λ values folder bundle lacks none. vehicles_stand folder bundle lacks (is_pinned values key.PinVehicles) none;
   unbroken = λ values look made own. vehicles_unbroken values look (is_pinned values key.PinVehicles) made.files own.1;
@@ -156,7 +165,10 @@ unfolding planning stage_model is_hand
 pinned_vehicles_laws = record {
   makes = pinned_vehicles_makes;
   right = λ bundle made own fits is. pinned_vehicles_right bundle own fits made is;
-  refuses = λ values look reason was is. names_only is_hand_file reason (pinned_vehicles_names is_hand_file refl refl refl (bundle_over values look stage.PinnedVehicles) reason (fine (trips_accepted values look (was stage.Rollout refl) (was stage.Ean refl))) is);
+  refuses =
+      λ values look reason was is. names_only is_hand_file reason
+      (pinned_vehicles_names is_hand_file refl refl refl (bundle_over values look stage.PinnedVehicles) reason
+      (fine (trips_accepted values look (was stage.Rollout refl) (was stage.Ean refl))) is);
   names = λ bundle reason is. inr (pinned_vehicles_names any refl refl refl bundle reason (trips_named bundle) is);
   stand = λ values folder bundle lacks none. either_stand folder file.Schedule file.Potential refl lacks;
   unbroken = λ values look made own. refl;

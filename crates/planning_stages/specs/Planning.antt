@@ -35,7 +35,8 @@ use Rattle.stage_chain.specs.declared.finding.Finding.{Finding}
 use Rattle.stage_chain.specs.StageParts.{StageParts}
 use Rattle.planning_stages.specs.Models.{ConceptPasses, DispositionPasses, TimetablePasses}
 use Rattle.planning_stages.specs.Places.{in_place, is_pinned}
-use Rattle.planning_stages.specs.Verdicts.{bare_verdict, concept_verdict, content_found, disposition_verdict, schedule_verdict, timetable_verdict}
+use Rattle.planning_stages.specs.Verdicts.{bare_verdict, concept_verdict, content_found}
+use Rattle.planning_stages.specs.Verdicts.{disposition_verdict, schedule_verdict, timetable_verdict}
 
 -- What is found of files from any hand in a place, and when such files satisfy its model.
 pub record PlaceModel : Type 1 where

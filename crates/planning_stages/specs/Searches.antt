@@ -6,8 +6,9 @@ use Rattle.giv_files.specs.Settings.{BundleParts}
 use Rattle.line_cost_model.specs.Concepts.{IsFeasible}
 use Rattle.line_search.specs.ConceptStage.{budget_of}
 use Rattle.line_search.specs.GivenProblems.{problem_faults, problem_of}
-use Rattle.line_search.specs.Listings.{best_after, listing}
-use Rattle.line_search.specs.RightConcepts.{HasNone, IsEnough}
+use Rattle.line_concepts.specs.Listings.{best_after, listing}
+use Rattle.line_search.specs.RightConcepts.{HasNone}
+use Rattle.line_concepts.specs.RightSearches.{IsEnough}
 use Rattle.pesp.specs.Timetables.{IsTimetable}
 use Rattle.pesp.specs.Listings.{listing as times_listed, most_entries}
 use Rattle.pesp_search.specs.RightTimetables.{HasNone as HasNoTimetable}

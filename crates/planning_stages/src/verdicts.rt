@@ -29,6 +29,21 @@ use std::alloc::Global;
 use tables::StageFault;
 use vehicle_flow::{ScheduleFault, check_schedule};
 
+// What is found of the files of a stage, by the answer of their judge: the arms say what that is
+// where the inputs of the stage are not refused.
+macro_rules! finding {
+    ($stage:expr, $answer:expr, { $($arms:tt)* }) => {
+        match $answer {
+            $($arms)*
+            Err(StageFault::Refused(refusal)) => Ok(Some(Finding::of(
+                $stage,
+                Cause::Refused($stage, refusal),
+            ))),
+            Err(StageFault::NoMemory) => Err(NoMemory),
+        }
+    };
+}
+
 /// What is found of a concept, with the tree that may stand behind it.
 pub(crate) fn judge_concept(
     alloc: Global,
@@ -45,15 +60,14 @@ pub(crate) fn judge_concept(
     let [concept, more @ ..] = there else {
         return Ok(None);
     };
-    match check_concept(alloc, bundle, concept.text.as_bytes(), first_text(more)) {
-        Ok(None) => Ok(None),
-        Ok(Some(fault)) => Ok(Some(Finding::Broken(Stage::Concept, concept_rule(fault)))),
-        Err(StageFault::Refused(refusal)) => Ok(Some(Finding::of(
-            Stage::Concept,
-            Cause::Refused(Stage::Concept, refusal),
-        ))),
-        Err(StageFault::NoMemory) => Err(NoMemory),
-    }
+    finding!(
+        Stage::Concept,
+        check_concept(alloc, bundle, concept.text.as_bytes(), first_text(more)),
+        {
+            Ok(None) => Ok(None),
+            Ok(Some(fault)) => Ok(Some(Finding::Broken(Stage::Concept, concept_rule(fault)))),
+        }
+    )
 }
 
 /// What is found of a timetable.
@@ -72,15 +86,10 @@ pub(crate) fn judge_timetable(
     let [times, ..] = there else {
         return Ok(None);
     };
-    match check_timetable(alloc, bundle, times.text.as_bytes()) {
+    finding!(Stage::Timetable, check_timetable(alloc, bundle, times.text.as_bytes()), {
         Ok(None) => Ok(None),
         Ok(Some(fault)) => Ok(Some(Finding::Broken(Stage::Timetable, timetable_rule(fault)))),
-        Err(StageFault::Refused(refusal)) => Ok(Some(Finding::of(
-            Stage::Timetable,
-            Cause::Refused(Stage::Timetable, refusal),
-        ))),
-        Err(StageFault::NoMemory) => Err(NoMemory),
-    }
+    })
 }
 
 /// What is found of a vehicle schedule: one that people give needs no potentials.
@@ -121,15 +130,14 @@ fn schedule_verdict(
     let [schedule, more @ ..] = there else {
         return Ok(None);
     };
-    match check_schedule(alloc, bundle, schedule.text.as_bytes(), first_text(more)) {
-        Ok(None) => Ok(None),
-        Ok(Some(fault)) => Ok(Some(Finding::Broken(Stage::Vehicles, schedule_rule(fault)))),
-        Err(StageFault::Refused(refusal)) => Ok(Some(Finding::of(
-            Stage::Vehicles,
-            Cause::Refused(Stage::Vehicles, refusal),
-        ))),
-        Err(StageFault::NoMemory) => Err(NoMemory),
-    }
+    finding!(
+        Stage::Vehicles,
+        check_schedule(alloc, bundle, schedule.text.as_bytes(), first_text(more)),
+        {
+            Ok(None) => Ok(None),
+            Ok(Some(fault)) => Ok(Some(Finding::Broken(Stage::Vehicles, schedule_rule(fault)))),
+        }
+    )
 }
 
 // What is found of a vehicle schedule that needs no potentials beside it.
@@ -147,15 +155,14 @@ fn bare_verdict(
     let [schedule, more @ ..] = there else {
         return Ok(None);
     };
-    match check_schedule(alloc, bundle, schedule.text.as_bytes(), first_text(more)) {
-        Ok(None) | Ok(Some(ScheduleFault::Certificate)) => Ok(None),
-        Ok(Some(fault)) => Ok(Some(Finding::Broken(Stage::Vehicles, schedule_rule(fault)))),
-        Err(StageFault::Refused(refusal)) => Ok(Some(Finding::of(
-            Stage::Vehicles,
-            Cause::Refused(Stage::Vehicles, refusal),
-        ))),
-        Err(StageFault::NoMemory) => Err(NoMemory),
-    }
+    finding!(
+        Stage::Vehicles,
+        check_schedule(alloc, bundle, schedule.text.as_bytes(), first_text(more)),
+        {
+            Ok(None) | Ok(Some(ScheduleFault::Certificate)) => Ok(None),
+            Ok(Some(fault)) => Ok(Some(Finding::Broken(Stage::Vehicles, schedule_rule(fault)))),
+        }
+    )
 }
 
 /// What is found of a disposition, with the reasons that may stand behind it.
@@ -196,15 +203,10 @@ fn reasons_found(
     ensures passes { IfOk result
         (λ found. IfNone found (Passes bundle.now times.now reasons.now)) }
 {
-    match check_reasons(alloc, bundle, times, reasons) {
+    finding!(Stage::Disposition, check_reasons(alloc, bundle, times, reasons), {
         Ok(None) => Ok(None),
         Ok(Some(fault)) => Ok(Some(Finding::Broken(Stage::Disposition, reason_rule(fault)))),
-        Err(StageFault::Refused(refusal)) => Ok(Some(Finding::of(
-            Stage::Disposition,
-            Cause::Refused(Stage::Disposition, refusal),
-        ))),
-        Err(StageFault::NoMemory) => Err(NoMemory),
-    }
+    })
 }
 
 // What is found of times without reasons beside them: these are wanted.
@@ -213,14 +215,9 @@ fn bare_found(alloc: Global, bundle: &Bundle, times: &[u8]) -> Result<Option<Fin
     requires stage { bundle.now.stage ≡ stages.Disposition }
     ensures { IfOk result (λ found. found ≡ bare_found bundle.now times.now) }
 {
-    match check_reasons(alloc, bundle, times, b"") {
+    finding!(Stage::Disposition, check_reasons(alloc, bundle, times, b""), {
         Ok(found) => Ok(Some(Finding::Broken(Stage::Disposition, bare_rule(found)))),
-        Err(StageFault::Refused(refusal)) => Ok(Some(Finding::of(
-            Stage::Disposition,
-            Cause::Refused(Stage::Disposition, refusal),
-        ))),
-        Err(StageFault::NoMemory) => Err(NoMemory),
-    }
+    })
 }
 
 // The text of the first of some files.

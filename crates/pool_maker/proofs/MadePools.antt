@@ -4,14 +4,17 @@ use Rattle.tables.specs.declared.refusal.StageFault.{StageFault}
 use Rattle.tables.specs.declared.refusal.StageFault.TheVariants as stage
 use Rattle.tables.specs.Inputs.{Refuses}
 use Rattle.tables.proofs.FirstFaults.{first_stays}
-use Rattle.ptn_network.specs.Networks.{NetworkParts, network_faults, network_of, rising}
-use Rattle.pool_maker.specs.declared.terminals.Terminal.{Terminal}
+use Rattle.walks.specs.Networks.{NetworkParts}
+use Rattle.ptn_network.specs.Networks.{network_faults, network_of}
+use Rattle.walks.specs.RisingIds.{rising}
+use Rattle.terminal_lines.specs.declared.terminal.Terminal.{Terminal}
 use Rattle.pool_maker.specs.PoolTexts.{pool_text, terminal_faults, text_of, unknown_terminals}
 use Rattle.plan_num.specs.Terminals.{AreTerminals}
 use Rattle.pool_maker.specs.Tellable.{AreTellable}
-use Rattle.pool_maker.specs.TerminalPaths.{lines_between, paths_of, uncontained}
-use Rattle.pool_maker.specs.Terminals.{AreStops, paths_over, terminal_of}
-use Rattle.pool_maker.proofs.PathsOver.{paths_are, stops_there}
+use Rattle.terminal_lines.specs.TerminalPaths.{lines_between, paths_of, uncontained}
+use Rattle.terminal_lines.specs.Terminals.{AreStops, paths_over, terminal_of}
+use Rattle.terminal_lines.proofs.PathsOver.{paths_are, stops_there}
+use Rattle.pool_maker.proofs.SortedIds.{all_stops}
 use Rattle.pool_maker.proofs.PoolsAreRight.{tellable}
 
 module _ (stops edges : List ℕ) (terminals : List ℤ) where
@@ -37,7 +40,8 @@ module _ (stops edges : List ℕ) (terminals : List ℤ) where
     module _ (all : List Terminal) (known : unknown_terminals network.stops terminals ≡ [])
         (are : all ≡ map (terminal_of network.stops) (rising terminals)) where
       pub stops_of_terminals : AreStops network all
-      stops_of_terminals = subst (AreStops network) (sym are) (stops_there network terminals known)
+      stops_of_terminals = subst (AreStops network) (sym are)
+          (stops_there network terminals (all_stops network.stops terminals known))
 
       pub no_faults : terminal_faults stops edges terminals ≡ []
       no_faults = sym faults_are ∙ known

@@ -16,24 +16,27 @@ use Rattle.tables.specs.Writing.{ReadsBack}
 use Rattle.tables.proofs.Headers.{plain_header}
 use Rattle.tables.proofs.Ranges.{back_none, front_none}
 use Rattle.tables.proofs.WrittenBack.{written_back}
-use Rattle.ptn_network.specs.Networks.{IsNetwork, NetworkParts, network_faults, network_of}
+use Rattle.walks.specs.Networks.{IsNetwork, NetworkParts}
+use Rattle.ptn_network.specs.Networks.{network_faults, network_of}
 use Rattle.ptn_network.proofs.Sound.{network_sound}
 use Rattle.line_walks.specs.Pools.{LineParts, pool_of}
 use Rattle.line_walks.proofs.EdgesOfTexts.{HasId, edge_ids}
 use Rattle.pool_maker.specs.PoolTexts.{edge_id, pool_header, pool_rows, pool_text, terminal_faults}
 use Rattle.pool_maker.specs.PoolTexts.{text_of, uncovered_line, unknown_terminals}
 use Rattle.plan_num.specs.Terminals.{AreTerminals}
-use Rattle.pool_maker.specs.RightPools.{IsRightPool, IsShortestLine}
-use Rattle.pool_maker.specs.Tellable.{AreTellable, IsRowId, IsShort}
-use Rattle.pool_maker.specs.TerminalPaths.{is_covered, lies_in, lines_between, paths_of}
-use Rattle.pool_maker.specs.TerminalPaths.{uncontained, uncovered}
+use Rattle.pool_maker.specs.RightPools.{IsRightPool}
+use Rattle.pool_maker.specs.Tellable.{AreTellable, IsRowId}
+use Rattle.terminal_lines.specs.TerminalPaths.{IsShort, IsShortestLine}
+use Rattle.terminal_lines.specs.TerminalPaths.{is_covered, lies_in, lines_between, paths_of}
+use Rattle.terminal_lines.specs.TerminalPaths.{uncontained, uncovered}
 use Rattle.pool_maker.proofs.Comments.{AreComments, back_with_comments, comment_more, no_comments}
 use Rattle.pool_maker.proofs.PoolsRead.{lines_are, no_pool_faults, numbers_back}
 use Rattle.pool_maker.proofs.RowsInside.{header_plain, own_id, rows_inside}
 use Rattle.tables.proofs.WrittenColumns.{columns_written}
-use Rattle.pool_maker.proofs.TerminalWays.{IsTerminalPath, all_stops, few_lines, few_paths}
-use Rattle.pool_maker.proofs.TerminalWays.{lines_too, path_short, paths_right}
-use Rattle.pool_maker.proofs.ServedPaths.{each_path_is_served}
+use Rattle.pool_maker.proofs.SortedIds.{all_stops}
+use Rattle.terminal_lines.proofs.TerminalWays.{IsTerminalPath, few_lines, few_paths}
+use Rattle.terminal_lines.proofs.TerminalWays.{lines_too, path_short, paths_right}
+use Rattle.terminal_lines.proofs.ServedPaths.{each_path_is_served}
 
 -- ---- the comments are comments
 
@@ -185,7 +188,8 @@ module _ (stops edges : List ℕ) (terminals : List ℤ) (none : terminal_faults
         served = served_back (paths_of network terminals) (pool_of network text)
             (subst (λ lines. All (λ path. Any (λ line. lies_in path line ≡ true) lines)
             (paths_of network terminals)) (sym same)
-            (each_path_is_served network terminals sound none_unknown));
+            (each_path_is_served network terminals sound
+            (all_stops network.stops terminals none_unknown)));
         told = ap (text_of network) (sym same);
       }
     where

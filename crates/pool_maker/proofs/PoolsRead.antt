@@ -11,12 +11,12 @@ use Rattle.std.proofs.lemmas.List.{map-append}
 use Rattle.std.proofs.lemmas.List.Elements.{All-head, All-tail}
 use Rattle.tables.specs.Columns.{pool_columns}
 use Rattle.tables.specs.Writing.{ReadsBack}
-use Rattle.ptn_network.specs.declared.edge.Edge.{Edge}
-use Rattle.ptn_network.specs.Networks.{NetworkParts}
-use Rattle.ptn_network.specs.Paths.{edges_at}
-use Rattle.ptn_network.specs.Walks.{IsWalk}
-use Rattle.ptn_network.proofs.PathEdges.{ends_are}
-use Rattle.ptn_network.proofs.Walks.{begins}
+use Rattle.walks.specs.declared.edge.Edge.{Edge}
+use Rattle.walks.specs.Networks.{NetworkParts}
+use Rattle.walks.specs.Paths.{edges_at}
+use Rattle.walks.specs.Walks.{IsWalk}
+use Rattle.walks.proofs.PathEdges.{ends_are}
+use Rattle.walks.proofs.Walks.{begins}
 use Rattle.line_walks.specs.Pools.{lines_over, or_walk, pool_faults, pool_of, walk_from}
 use Rattle.line_walks.specs.Pools.{walk_of}
 use Rattle.line_walks.proofs.LinesBack.{HasEdge, edges_back, ids_back, pool_back}
@@ -24,7 +24,7 @@ use Rattle.line_walks.proofs.WalkLines.{IsWalked, RowsLine, ids_for, pool_accept
 use Rattle.line_walks.proofs.WalkLines.{rows_for, told_row}
 use Rattle.line_walks.proofs.WalkRows.{row_to, rows_from}
 use Rattle.pool_maker.specs.PoolTexts.{line_rows, pool_rows, row_at}
-use Rattle.pool_maker.proofs.TerminalWays.{IsTerminalPath}
+use Rattle.terminal_lines.proofs.TerminalWays.{IsTerminalPath}
 
 -- ---- a walk of edges has stops
 

@@ -9,11 +9,12 @@ use Rattle.tables.specs.Columns.{pool_columns}
 use Rattle.tables.specs.Tables.{TableRow}
 use Rattle.tables.specs.Writing.{InColumns, IsHeader}
 use Rattle.tables.proofs.Headers.{plain_header}
-use Rattle.ptn_network.specs.declared.edge.Edge.{Edge}
-use Rattle.ptn_network.specs.Networks.{NetworkParts}
-use Rattle.ptn_network.proofs.PathSteps.{no_edge}
+use Rattle.walks.specs.declared.edge.Edge.{Edge}
+use Rattle.walks.specs.Networks.{NetworkParts}
+use Rattle.walks.proofs.PathSteps.{no_edge}
 use Rattle.pool_maker.specs.PoolTexts.{edge_id, line_rows, pool_header, pool_rows, row_at}
-use Rattle.pool_maker.specs.Tellable.{AreTellable, IsRowId, IsShort}
+use Rattle.pool_maker.specs.Tellable.{AreTellable, IsRowId}
+use Rattle.terminal_lines.specs.TerminalPaths.{IsShort}
 
 abbrev InPool : TableRow → Type 0
 InPool row = InColumns pool_columns row.cells

@@ -14,14 +14,16 @@ use Rattle.std.proofs.lemmas.List.Sorted.{list_any-IsPermutation}
 use Rattle.std.proofs.lemmas.Map.Keys.{IsDistinct-IsPermutation}
 use Rattle.std.proofs.lemmas.Bool.{cases_Bool}
 use Rattle.tables.specs.declared.file_id.FileId.TheVariants as file
+use Rattle.tables.specs.declared.refusal.Refusal.{Refusal}
 use Rattle.tables.specs.declared.refusal.Refusal.TheVariants as refusal
 use Rattle.tables.specs.declared.row_why.RowWhy.TheVariants as why
-use Rattle.tables.proofs.Found.{any_is}
-use Rattle.ptn_network.specs.Networks.{rising}
-use Rattle.ptn_network.proofs.ById.{sorted_ids}
-use Rattle.pool_maker.specs.declared.terminals.Terminal.{Terminal}
+use Rattle.plan_num.proofs.Found.{any_is}
+use Rattle.walks.specs.RisingIds.{rising}
+use Rattle.walks.proofs.ById.{sorted_ids}
+use Rattle.terminal_lines.specs.declared.terminal.Terminal.{Terminal}
 use Rattle.pool_maker.specs.PoolTexts.{unknown_terminals}
-use Rattle.pool_maker.specs.Terminals.{terminal_of}
+use Rattle.terminal_lines.specs.TerminalPaths.{are_stops}
+use Rattle.terminal_lines.specs.Terminals.{terminal_of}
 
 -- ---- sorted ids
 
@@ -184,3 +186,13 @@ module _ (stops : List ℤ) where
       → list_all known (take i ids) ≡ true → ((q : ℤ → Bool) → list_any q ids ≡ list_any q others)
       → unknown_terminals stops others ≡ []
   all_known ids others i past so_far same = grind (arith, same_all, take_all)
+
+-- ---- without a fault all are
+
+known_by : (b : Bool) (fault : Refusal) → cond b [] (fault ∷ []) ≡ [] → b ≡ true
+known_by true fault none = refl
+known_by false fault none = cc
+
+pub all_stops : (stops terminals : List ℤ) → unknown_terminals stops terminals ≡ []
+    → are_stops stops terminals ≡ true
+all_stops stops terminals none = known_by _ _ none

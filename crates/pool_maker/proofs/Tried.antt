@@ -9,13 +9,15 @@ use Rattle.tables.specs.Reading.{faults, table_of, cells_from, cell_of, errors, 
 use Rattle.text_fields.specs.Rows.{rows, cleaned}
 use Rattle.tables.specs.Writing.{cell_text, cell_texts, joined, table_text}
 use Rattle.plan_num.specs.Number.{spelling_of, value_of, value_at, fixed_of, whole_of}
-use Rattle.ptn_network.specs.declared.edge.Edge.{Edge}
-use Rattle.ptn_network.specs.Networks.{NetworkParts, by_id, network_faults, network_of, stops_of}
-use Rattle.ptn_network.specs.Paths.{path_within}
-use Rattle.ptn_network.specs.Walks.{least_of, least_sum, walks_within}
+use Rattle.walks.specs.declared.edge.Edge.{Edge}
+use Rattle.walks.specs.Networks.{NetworkParts}
+use Rattle.ptn_network.specs.Networks.{network_faults, network_of, stops_of}
+use Rattle.walks.specs.RisingIds.{by_id}
+use Rattle.walks.specs.Paths.{path_within}
+use Rattle.walks.specs.Walks.{least_of, least_sum, walks_within}
 use Rattle.line_walks.specs.Pools.{line_faults, lines_of, pool_faults, pool_of, walk_from}
 use Rattle.pool_maker.specs.PoolTexts.{pool_text, terminal_faults, pool_header}
-use Rattle.pool_maker.specs.TerminalPaths.{lines_between, pairs_of}
+use Rattle.terminal_lines.specs.TerminalPaths.{lines_between, pairs_of}
 
 -- ---- a square: edges 1 and 2 lead from stop 1 over stop 2 to stop 4, and edges 3 and 4 over stop 3
 

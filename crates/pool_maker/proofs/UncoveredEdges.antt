@@ -6,9 +6,9 @@ use Rattle.std.specs.List.{flat_map, range_with_len}
 use Rattle.std.proofs.lemmas.Grind.{flat_map-append}
 use Rattle.std.proofs.lemmas.List.Elements.{filter-append}
 use Rattle.std.proofs.lemmas.List.FromFn.{map-range_with_len_more}
-use Rattle.ptn_network.specs.Networks.{NetworkParts}
+use Rattle.walks.specs.Networks.{NetworkParts}
 use Rattle.pool_maker.specs.PoolTexts.{edge_id, uncovered_line}
-use Rattle.pool_maker.specs.TerminalPaths.{is_covered, uncovered_among}
+use Rattle.terminal_lines.specs.TerminalPaths.{is_covered, uncovered_among}
 
 -- those of edges one behind another are those of each of them
 pub comments_both : (comment : ℕ → List ℕ) (lines : List (List ℕ)) (some more : List ℕ)

@@ -1,16 +1,12 @@
 -- Inner words: lines whose rows are within their columns.
 use Rattle.std.specs.Prelude.{ℕ, ℤ, pos, ◌≤◌, ◌<◌, ◌≤ℤ◌, List, length, All}
-use Rattle.ptn_network.specs.Networks.{NetworkParts}
+use Rattle.walks.specs.Networks.{NetworkParts}
+use Rattle.terminal_lines.specs.TerminalPaths.{IsShort}
 
 -- an id of a row
 pub record IsRowId (id : ℤ) : Type 0 where
   pub low : pos 1 ≤ℤ id
   pub high : id ≤ℤ pos 1000000000
-
--- a line with few edges, which are there
-pub record IsShort (network : NetworkParts) (line : List ℕ) : Type 0 where
-  pub few : length line ≤ 1000
-  pub there : All (λ edge. edge < length network.edges) line
 
 -- edges have ids that a row can have, and there are few lines, each of them with few edges
 pub record AreTellable (network : NetworkParts) (lines : List (List ℕ)) : Type 0 where

@@ -1,10 +1,7 @@
 //! Pools of lines, each a shortest path between two of some terminals.
 #![tactic(auto)]
 
-mod lines;
 mod make;
-mod path;
-mod paths;
 mod terminals;
 mod text;
 

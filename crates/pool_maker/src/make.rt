@@ -6,14 +6,13 @@ ghost use Rattle.pool_maker.specs.PoolTexts.{pool_text, terminal_faults};
 ghost use Rattle.plan_num.specs.Terminals.{AreTerminals};
 ghost use Rattle.pool_maker.specs.RightPools.{IsRightPool};
 
-use crate::lines::keep_lines;
-use crate::paths::paths_between;
 use crate::terminals::find_terminals;
 use crate::text::text_of_lines;
 use plan_num::Text;
 use ptn_network::Network;
 use std::alloc::Global;
 use tables::StageFault;
+use terminal_lines::{keep_lines, paths_between};
 
 /// The text of a pool whose lines are shortest paths between terminals, told by the ids of their
 /// stops. A path whose edges are all among those of another one is left out. Behind the lines, each
@@ -31,7 +30,7 @@ pub fn make_pool(
 {
     let network = Network::from_texts(alloc, stops, edges)?;
     let terminals = find_terminals(alloc, &network, terminals)?;
-    let paths = paths_between(alloc, &network, &terminals)?;
+    let paths = paths_between(alloc, network.for_walks(), &terminals)?;
     let lines = keep_lines(alloc, &paths)?;
     Ok(text_of_lines(alloc, &network, &lines)?)
 }

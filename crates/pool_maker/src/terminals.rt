@@ -3,15 +3,16 @@ ghost use Rattle.std.specs.Prelude.{◌≡◌, ℤ, Bool, map, option_map, posit
 ghost use Rattle.std.specs.List.{IsDistinct, list_any};
 ghost use Rattle.std.specs.Ordering.{int_eq};
 ghost use Rattle.tables.specs.Inputs.{UnlessFault};
-ghost use Rattle.ptn_network.specs.Networks.{rising};
+ghost use Rattle.walks.specs.RisingIds.{rising};
 ghost use Rattle.pool_maker.specs.PoolTexts.{unknown_terminals};
 ghost use Rattle.plan_num.specs.Terminals.{AreTerminals};
-ghost use Rattle.pool_maker.specs.Terminals.{terminal_of};
+ghost use Rattle.terminal_lines.specs.Terminals.{terminal_of};
 
 use plan_num::NoMemory;
 use ptn_network::Network;
 use std::alloc::Global;
 use tables::{FileId, Refusal, RowWhy, StageFault};
+use terminal_lines::Terminal;
 
 /// Whether some ids can be terminals: 2 to 20 of them, all different.
 pub fn are_terminals(ids: &[i64]) -> bool
@@ -30,13 +31,6 @@ fn are_different(ids: &[i64]) -> bool
         }
     }
     true
-}
-
-/// A terminal: the id of a stop, and its index.
-#[derive(Clone, Copy)]
-pub(crate) struct Terminal {
-    pub(crate) id: i64,
-    pub(crate) stop: usize,
 }
 
 /// The terminals of different ids, by id rising, or the refusal where one of them is no stop.

@@ -2,14 +2,14 @@
 ghost use Rattle.std.specs.Prelude.{◌≡◌, ◌++◌, ◌<◌, ◌≤◌, ◌∷◌, [], length, IfOk, OnOk};
 ghost use Rattle.std.specs.List.{flat_map};
 ghost use Rattle.pool_maker.specs.PoolTexts.{edge_id, line_rows, pool_rows, row_at, text_of, uncovered_line};
-ghost use Rattle.pool_maker.specs.TerminalPaths.{is_covered, uncovered, uncovered_among};
-ghost use Rattle.pool_maker.specs.Tellable.{AreTellable, IsShort};
+ghost use Rattle.terminal_lines.specs.TerminalPaths.{IsShort, is_covered, uncovered, uncovered_among};
+ghost use Rattle.pool_maker.specs.Tellable.{AreTellable};
 
-use crate::path::Path;
 use plan_num::{NoMemory, Text};
 use ptn_network::Network;
 use std::alloc::Global;
 use tables::{Table, columns, write_table};
+use terminal_lines::Path;
 
 /// The text of the lines of a pool, numbered from 1, and behind them a comment for each edge that
 /// no line has.

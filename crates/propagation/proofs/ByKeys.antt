@@ -8,7 +8,8 @@ use Rattle.std.proofs.lemmas.Bool.{eqb-true, false≢true}
 use Rattle.std.proofs.lemmas.List.{get_or_append_left, length-append}
 use Rattle.std.proofs.Math.Seq.{get_or-append_right}
 use Rattle.std.proofs.lemmas.List.Elements.{All-append, All-filter, All-nil, All-tail, filter_passes}
-use Rattle.std.proofs.lemmas.List.Sorted.{IsNonDecreasingBy-drop, IsPermutation-append_right, IsPermutation-filter_both, IsPermutation-refl, IsPermutation-trans}
+use Rattle.std.proofs.lemmas.List.Sorted.{IsNonDecreasingBy-drop, IsPermutation-append_right, IsPermutation-filter_both}
+use Rattle.std.proofs.lemmas.List.Sorted.{IsPermutation-refl, IsPermutation-trans}
 use Rattle.std.proofs.lemmas.Map.Keys.{IsDistinct-head, IsDistinct-tail}
 use Rattle.bit_rows.proofs.Cases.{by_less}
 
@@ -106,7 +107,14 @@ module _ {X : Type 0} (key : X → ℕ) where
         let of_j = ap n (get_or-append_right some more j d high) in
         let there : j - length some < length more = omega (arith, high, inside, long) in
         by_less i (length some)
-        (λ low. omega (arith, ap n (get_or_append_left some more d i low), of_j, same i d low, high_more (j - length some) d there))
+        (λ low. omega (
+          arith,
+          ap n (get_or_append_left some more d i low),
+          of_j,
+          same i d low,
+          high_more
+              (j - length some) d there,
+        ))
         (λ also. omega (
           arith,
           ap n (get_or-append_right some more i d also),

@@ -21,7 +21,8 @@ use Rattle.propagation.proofs.PassIsLeast.{chosen_are_changes}
 pub chosen_keep : (P : Activity → Type 0) (problem : DelayProblem) (kept : List Bool) → All P problem.changes
     → All P (chosen_changes problem kept)
 chosen_keep P problem kept all k d inside =
-    All-contains P problem.changes (get_or (chosen_changes problem kept) k d) all (chosen_are_changes problem kept k d inside)
+    All-contains P problem.changes (get_or (chosen_changes problem kept) k d) all
+    (chosen_are_changes problem kept k d inside)
 
 -- the activities that count
 module _ (problem : DelayProblem) (kept : List Bool) where
@@ -44,7 +45,8 @@ kept_all P problem kept rides changes view (Err error) told = tt
 -- the least of some ids is no greater than the first one
 below_first : (first : ℕ) (ids : List ℕ) → fold lesser first ids ≤ first
 below_first first [] = omega arith
-below_first first (id ∷ ids) = let rest = below_first (lesser first id) ids in omega (arith, rest, lesser_below first id)
+below_first first (id ∷ ids) = let rest =
+    below_first (lesser first id) ids in omega (arith, rest, lesser_below first id)
   where
     lesser_below : (a b : ℕ) → lesser a b ≤ a
     lesser_below a b =
@@ -61,17 +63,22 @@ module _ (most : ℕ) where
 
   pub reasons_below : (earliest times : List ℕ) (activities : List Activity)
       → All (λ activity. activity.id ≤ most) activities
-      → All (λ why. named_activity why ≤ most) (map (λ event. reason_by earliest times event (reduce lesser (tight_among times event activities))) (range_with_len 0 (length times)))
+      → All (λ why. named_activity why ≤ most)
+      (map (λ event. reason_by earliest times event (reduce lesser (tight_among times event activities)))
+      (range_with_len 0 (length times)))
   reasons_below earliest times activities small k d inside =
-      let f : ℕ → Reason = λ event. reason_by earliest times event (reduce lesser (tight_among times event activities)) in
+      let f : ℕ → Reason = λ event. reason_by earliest times event
+      (reduce lesser (tight_among times event activities)) in
       let within : k < length times = omega (arith, inside, length-map-range_with_len f 0 (length times)) in
       let here : 0 + k ≡ k = omega arith in
       subst (λ why. named_activity why ≤ most) (sym (get_or-map-range_with_len f 0 (length times) k k d within here))
       (elim (nat_eq (time_at times k) (get_or earliest k 0)) as
-      (λ b. named_activity (cond b reason.Source (by_activity (reduce lesser (tight_among times k activities)))) ≤ most) [
+      (λ b. named_activity (cond b reason.Source
+      (by_activity (reduce lesser (tight_among times k activities)))) ≤ most) [
         | true ↦ omega arith
         | false ↦ named_below (tight_among times k activities)
-            (All-map (λ id. id ≤ most) (λ (activity : Activity). activity.id) (filter (λ activity. is_tight times k activity.step) activities)
+            (All-map (λ id. id ≤ most) (λ (activity : Activity). activity.id)
+            (filter (λ activity. is_tight times k activity.step) activities)
             (All-filter (λ activity. is_tight times k activity.step) (λ activity. activity.id ≤ most) activities small))
       ])
 
@@ -80,16 +87,19 @@ module _ (problem : DelayProblem) (kept : List Bool) (earliest times : List ℕ)
     (from : earliest ≡ problem.earliest) (are : activities ≡ problem.rides ++ chosen_changes problem kept)
     (each : length times ≡ length problem.events) where
   pub canonical_told : {A E : Type 0} (view : A → List Reason) (result : Result A E)
-      → IfOk result (λ reasons. view reasons ≡ map (λ event. reason_by earliest times event (reduce lesser (tight_among times event activities))) (range_with_len 0 (length times)))
+      → IfOk result (λ reasons. view reasons ≡ map (λ event. reason_by earliest times event
+      (reduce lesser (tight_among times event activities))) (range_with_len 0 (length times)))
       → IfOk result (λ reasons. view reasons ≡ canonical_reasons problem (chosen_changes problem kept) times)
   unfolding canonical_reasons
   canonical_told view (Ok reasons) told =
-      told ∙ (λ i. map (λ event. reason_by (from i) times event (reduce lesser (tight_among times event (are i)))) (range_with_len 0 (each i)))
+      told ∙ (λ i. map (λ event. reason_by (from i) times event (reduce lesser (tight_among times event (are i))))
+      (range_with_len 0 (each i)))
   canonical_told view (Err error) told = tt
 
   pub ids_told : {A E : Type 0} (view : A → List Reason) (result : Result A E)
       → All (λ activity. activity.id ≤ 500000) activities
-      → IfOk result (λ reasons. view reasons ≡ map (λ event. reason_by earliest times event (reduce lesser (tight_among times event activities))) (range_with_len 0 (length times)))
+      → IfOk result (λ reasons. view reasons ≡ map (λ event. reason_by earliest times event
+      (reduce lesser (tight_among times event activities))) (range_with_len 0 (length times)))
       → IfOk result (λ reasons. All (λ why. named_activity why ≤ 500000) (view reasons))
   ids_told view (Ok reasons) small told =
       subst (All (λ why. named_activity why ≤ 500000)) (sym told) (reasons_below 500000 earliest times activities small)
@@ -97,7 +107,8 @@ module _ (problem : DelayProblem) (kept : List Bool) (earliest times : List ℕ)
 
 pub few_told : (earliest times : List ℕ) (activities : List Activity) → length times ≤ 100000
     → {A E : Type 0} (view : A → List Reason) (result : Result A E)
-    → IfOk result (λ reasons. view reasons ≡ map (λ event. reason_by earliest times event (reduce lesser (tight_among times event activities))) (range_with_len 0 (length times)))
+    → IfOk result (λ reasons. view reasons ≡ map (λ event. reason_by earliest times event
+    (reduce lesser (tight_among times event activities))) (range_with_len 0 (length times)))
     → IfOk result (λ reasons. length (view reasons) ≤ 100000)
 few_told earliest times activities few view (Ok reasons) told =
     grind (arith, length-map-range_with_len)

@@ -75,7 +75,8 @@ where_passing test (x ∷ xs) = grind (arith, where_passing test xs)
 pub kept_told : {A E : Type 0} (view : A → List Bool) (problem : DelayProblem) (wait : ℤ)
     (events : List DayEvent) (changes : List Activity) (alone : List ℕ) → events ≡ problem.events
     → changes ≡ problem.changes → alone ≡ least_times problem [] → (result : Result A E)
-    → IfOk result (λ kept. view kept ≡ map (λ change. waits wait (time_at alone change.step.from + change.step.lower) (planned_at events change.step.to)) changes)
+    → IfOk result (λ kept. view kept ≡ map (λ change. waits wait (time_at alone change.step.from + change.step.lower)
+    (planned_at events change.step.to)) changes)
     → IfOk result (λ kept. chosen_changes problem (view kept) ≡ kept_changes problem wait)
 unfolding kept_changes
 kept_told view problem wait events changes alone e h a (Err error) told = tt

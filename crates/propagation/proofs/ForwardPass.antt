@@ -39,14 +39,16 @@ is_pushed times step inside =
     let new = later_is (time_at times step.to) (asked times step) in
     let value = later (time_at times step.to) (asked times step) in
     let same : time_at (head_pushed times step) step.to ≡ value = get_or-set_same times step.to value 0 inside in
-    let apart = λ (event : ℕ) (other : step.to ≢ event). get_or-set_other times step.to event value 0 (λ e. other (sym e)) in
+    let apart = λ (event : ℕ) (other : step.to ≢ event). get_or-set_other times step.to event value 0
+    (λ e. other (sym e)) in
     record {
       each = length-set times step.to value;
-      grows = λ event. elim (eqb step.to event) as (λ b. eqb step.to event ≡ b → time_at times event ≤ time_at (head_pushed times step) event) [
-        | true ↦ λ is. subst (λ e. time_at times e ≤ time_at (head_pushed times step) e) (eqb-true step.to event is)
-            (omega (arith, same, new.first))
-        | false ↦ λ is. omega (arith, apart event (eqb-false step.to event is))
-      ] refl;
+      grows = λ event. elim (eqb step.to event) as
+          (λ b. eqb step.to event ≡ b → time_at times event ≤ time_at (head_pushed times step) event) [
+            | true ↦ λ is. subst (λ e. time_at times e ≤ time_at (head_pushed times step) e) (eqb-true step.to event is)
+                (omega (arith, same, new.first))
+            | false ↦ λ is. omega (arith, apart event (eqb-false step.to event is))
+          ] refl;
       stays = apart;
       holds = omega (arith, same, new.second);
       one = by same new.one;
@@ -119,8 +121,10 @@ module _ (kept : List Bool) (n : ℕ) (ranks : ℕ → ℕ) where
       pushed first holds event inside =
           let step = link.step in
           let is = is_pushed times step (omega (arith, first.to, each)) in
-          elim (eqb step.to event) as (λ b. eqb step.to event ≡ b → time_at (head_pushed times step) event ≤ time_at others event) [
-            | true ↦ λ same. subst (λ e. time_at (head_pushed times step) e ≤ time_at others e) (eqb-true step.to event same)
+          elim (eqb step.to event) as (λ b. eqb step.to event ≡ b
+          → time_at (head_pushed times step) event ≤ time_at others event) [
+            | true ↦ λ same. subst (λ e. time_at (head_pushed times step) e ≤ time_at others e)
+                (eqb-true step.to event same)
                 (value is.one (under step.to first.to) (under step.from first.from))
             | false ↦ λ other. let stay = is.stays event (eqb-false step.to event other) in
                 let old = under event inside in omega (arith, stay, old)
@@ -175,5 +179,6 @@ module _ (kept : List Bool) (n : ℕ) (ranks : ℕ → ℕ) where
           let is = is_pushed times step (omega (arith, first.to, each)) in
           let stay = stays links (head_pushed times step) step.from more size (heads_apart link links sorted joins) in
           let grow = grows links (head_pushed times step) more size step.to in
-          let apart : step.to ≢ step.from = λ e. let rank : ranks step.to ≡ ranks step.from = ap ranks e in omega (arith, rank, first.rises) in
+          let apart : step.to ≢ step.from = λ e. let rank : ranks step.to ≡ ranks step.from =
+          ap ranks e in omega (arith, rank, first.rises) in
           omega (arith, stay, grow, is.stays step.from apart, is.holds)

@@ -106,7 +106,8 @@ module _ (events : List DayEvent) (ranks : List ℕ) (few : length events ≤ 10
       (ranked : All (λ link. link.rank ≡ forward_rank events link.step.from) links) where
     links_there : IsPermutation links (by_ranks links ranks)
     links_there =
-        subst (IsPermutation links) (flat_map-map (λ event. filter (λ link. eqb link.step.from event) links) event_of ranks)
+        subst (IsPermutation links) (flat_map-map (λ event. filter
+        (λ link. eqb link.step.from event) links) event_of ranks)
         (all_by_keys (λ (link : Link). link.step.from) (map event_of ranks) links
         (IsDistinct-IsPermutation eqb eqb_flips (range_with_len 0 n) (map event_of ranks) events_are (apart_range n))
         (λ k d inside.
@@ -121,7 +122,8 @@ module _ (events : List DayEvent) (ranks : List ℕ) (few : length events ≤ 10
     links_rise : IsNonDecreasing ranks
         → IsNonDecreasingBy (λ link. link.rank) (by_ranks links ranks)
     links_rise rise =
-        subst (IsNonDecreasingBy (λ (link : Link). link.rank)) (flat_map-map (λ event. filter (λ link. eqb link.step.from event) links) event_of ranks)
+        subst (IsNonDecreasingBy (λ (link : Link). link.rank))
+        (flat_map-map (λ event. filter (λ link. eqb link.step.from event) links) event_of ranks)
         (by_keys_rise (λ (link : Link). link.step.from) (λ (link : Link). link.rank) (forward_rank events) links ranked
         (map event_of ranks) (events_rise rise))
 

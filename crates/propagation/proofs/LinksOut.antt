@@ -67,7 +67,12 @@ module _ (links : List Link) (from : ℕ) (firsts nexts : List ℕ) (d : Link)
         (λ other. rw (get_or-set_other firsts event e from 0 other) (others e among other));
     next = λ k e low high.
         by_same k from
-        (λ same. rw (same, get_or-set_same nexts from (get_or firsts event 0) 0 (omega (arith, inside, old.each)), get_or_default links from e d inside)
+        (λ same. rw (
+          same,
+          get_or-set_same nexts from (get_or firsts event 0) 0
+              (omega (arith, inside, old.each)),
+          get_or_default links from e d inside,
+        )
         (old.first event there))
         (λ other. rw (get_or-set_other nexts from k (get_or firsts event 0) 0 other)
         (old.next k e (omega (arith, low, other)) high));

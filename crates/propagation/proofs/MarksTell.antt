@@ -9,10 +9,7 @@ use Rattle.std.proofs.lemmas.List.Elements.{All-head, All-tail}
 use Rattle.std.proofs.lemmas.List.FromFn.{get_or-map-range_with_len, length-map-range_with_len}
 use Rattle.propagation.specs.Marks.{marked_by, with_mark}
 use Rattle.bit_rows.proofs.Places.{told_anew}
-
-pub or_none : (b : Bool) → (b || false) ≡ b
-or_none true = refl
-or_none false = refl
+use Rattle.plan_num.proofs.Tests.{or_false}
 
 pub or_assoc : (a b c : Bool) → ((a || b) || c) ≡ (a || (b || c))
 or_assoc true b c = refl
@@ -46,13 +43,15 @@ module _ {X : Type 0} (head : X → ℕ) (test : X → Bool) where
       → with_mark (map base (range_with_len 0 n)) (head x) (test x)
       ≡ map (λ event. base event || ((head x == event) && test x)) (range_with_len 0 n)
   one_marked base n x inside =
-      grind (arith, told_anew, get_or, eq-eqb, get_or-map-range_with_len, ne_eqb, or_none)
+      grind (arith, told_anew, get_or, eq-eqb, get_or-map-range_with_len, ne_eqb, or_false)
 
   pub any_told : (items : List X) (base : ℕ → Bool) (n : ℕ) → All (λ x. head x < n) items
       → marked_by head test (map base (range_with_len 0 n)) items
       ≡ map (λ event. base event || some_mark items event) (range_with_len 0 n)
-  any_told [] base n there = λ i. map (λ event. sym (or_none (base event)) i) (range_with_len 0 n)
+  any_told [] base n there = λ i. map (λ event. sym (or_false (base event)) i) (range_with_len 0 n)
   any_told (x ∷ items) base n there =
       ap (λ marks. marked_by head test marks items) (one_marked base n x (All-head (λ x. head x < n) x items there))
-      ∙ any_told items (λ event. base event || ((head x == event) && test x)) n (All-tail (λ x. head x < n) x items there)
-      ∙ (λ i. map (λ event. or_assoc (base event) ((head x == event) && test x) (some_mark items event) i) (range_with_len 0 n))
+      ∙ any_told items (λ event. base event || ((head x == event) && test x)) n
+      (All-tail (λ x. head x < n) x items there)
+      ∙ (λ i. map (λ event. or_assoc (base event) ((head x == event) && test x) (some_mark items event) i)
+      (range_with_len 0 n))

@@ -84,25 +84,30 @@ module _ (problem : DelayProblem) where
   module _ (P : Link → Type 0) where
     pub links_all : All (λ ride. P (link_of events None ride.step)) problem.rides
         → All (λ turn. P (link_of events None turn)) problem.turns
-        → ((k : ℕ) (d : Activity) → k < length problem.changes → P (link_of events (Some k) (get_or problem.changes k d).step))
+        → ((k : ℕ) (d : Activity) → k < length problem.changes
+        → P (link_of events (Some k) (get_or problem.changes k d).step))
         → All P (links_of problem)
     links_all rides turns changes =
-        All-append P (ride_links events problem.rides) (turn_links events problem.turns ++ change_links events 0 problem.changes)
+        All-append P (ride_links events problem.rides)
+        (turn_links events problem.turns ++ change_links events 0 problem.changes)
         (All-map P (λ ride. link_of events None ride.step) problem.rides rides)
         (All-append P (turn_links events problem.turns) (change_links events 0 problem.changes)
         (All-map P (link_of events None) problem.turns turns)
         (All-map P change_link (enumerate_from 0 problem.changes)
-        (λ k d inside. let within : k < length problem.changes = omega (arith, inside, length-enumerate_from 0 problem.changes) in
+        (λ k d inside. let within : k < length problem.changes =
+        omega (arith, inside, length-enumerate_from 0 problem.changes) in
         subst (λ at. P (change_link at)) (sym (placed_at problem.changes k d within)) (changes k d.1 within))))
 
     module _ (all : All P (links_of problem)) where
       rides_by : All (λ ride. P (link_of events None ride.step)) problem.rides
       rides_by =
           unmapped_all P (λ (ride : Activity). link_of events None ride.step) problem.rides
-          (front_all P (ride_links events problem.rides) (turn_links events problem.turns ++ change_links events 0 problem.changes) all)
+          (front_all P (ride_links events problem.rides)
+          (turn_links events problem.turns ++ change_links events 0 problem.changes) all)
 
       behind : All P (turn_links events problem.turns ++ change_links events 0 problem.changes)
-      behind = back_all P (ride_links events problem.rides) (turn_links events problem.turns ++ change_links events 0 problem.changes) all
+      behind = back_all P (ride_links events problem.rides)
+          (turn_links events problem.turns ++ change_links events 0 problem.changes) all
 
       turns_by : All (λ turn. P (link_of events None turn)) problem.turns
       turns_by =
@@ -159,7 +164,8 @@ module _ (problem : DelayProblem) (links : List Link) (linked : IsLinked problem
       (links_all problem (Joins n ranks)
       (λ k d inside. joined None (get_or problem.rides k d).step (ride_steps problem P problem.changes all k d inside))
       (λ k d inside. joined None (get_or problem.turns k d) (turn_steps problem P problem.changes all k d inside))
-      (λ k d inside. joined (Some k) (get_or problem.changes k d).step (change_steps problem P problem.changes all k d inside)))
+      (λ k d inside. joined (Some k) (get_or problem.changes k d).step
+      (change_steps problem P problem.changes all k d inside)))
 
   module _ (kept : List Bool) where
     abbrev chosen : List Activity
@@ -170,7 +176,8 @@ module _ (problem : DelayProblem) (links : List Link) (linked : IsLinked problem
         → All (λ step. asked times step ≤ time_at times step.to) (steps_with problem chosen)
     steps_hold times hold =
         let P = λ (step : Step). asked times step ≤ time_at times step.to in
-        let all = All-permutation (Holds kept times) links (links_of problem) (IsPermutation-sym (links_of problem) links linked.all) hold in
+        let all = All-permutation (Holds kept times) links (links_of problem)
+        (IsPermutation-sym (links_of problem) links linked.all) hold in
         steps_all problem P chosen (λ k d inside. rides_by problem (Holds kept times) all k d inside refl)
         (chosen_all (λ change. P change.step) kept problem.changes
         (λ k d inside is. change_by problem (Holds kept times) all k d inside is))
@@ -223,12 +230,14 @@ module _ (whole problem : DelayProblem) (links seen : List Link)
   passed : pushed_along kept seen earliest ≡ pushed_along kept links whole.earliest
   passed = λ i. pushed_along kept (is i) (from i)
 
-  pub least_told : {A E : Type 0} (view : A → List ℕ) (result : Result A E) → IfOk result (λ times. view times ≡ pushed_along kept seen earliest)
+  pub least_told : {A E : Type 0} (view : A → List ℕ) (result : Result A E)
+      → IfOk result (λ times. view times ≡ pushed_along kept seen earliest)
       → IfOk result (λ times. view times ≡ least_times problem (chosen_changes problem kept))
   least_told view (Ok times) told = grind (arith, passed, pass_is)
   least_told view (Err error) told = tt
 
-  pub told_least : {A E : Type 0} (view : A → List ℕ) (result : Result A E) → IfOk result (λ times. view times ≡ pushed_along kept seen earliest)
+  pub told_least : {A E : Type 0} (view : A → List ℕ) (result : Result A E)
+      → IfOk result (λ times. view times ≡ pushed_along kept seen earliest)
       → IfOk result (λ times. IsLeast problem (chosen_changes problem kept) (view times))
   told_least view (Ok times) told =
       subst (λ all. IsLeast problem (chosen_changes problem kept) all) (sym (told ∙ passed))

@@ -12,7 +12,8 @@ use Rattle.std.proofs.lemmas.Slice.Zip.{get_or-zip, length-zip}
 use Rattle.propagation.specs.declared.day_event.DayEvent.{DayEvent}
 use Rattle.propagation.specs.declared.step.Activity.{Activity}
 use Rattle.propagation.specs.declared.step.Step.{Step}
-use Rattle.propagation.specs.CheckedDays.{are_events, are_few, are_steps, goes_on, is_activity, is_day, is_placed, is_rising, is_soon, is_step, joins}
+use Rattle.propagation.specs.CheckedDays.{are_events, are_few, are_steps, goes_on, is_activity, is_day, is_placed}
+use Rattle.propagation.specs.CheckedDays.{is_rising, is_soon, is_step, joins}
 use Rattle.propagation.specs.DayEvents.{AreNumbered, no_event, stands_before}
 use Rattle.propagation.specs.LeastTimes.{time_at}
 use Rattle.propagation.specs.Links.{GainsLittle, IsDay}
@@ -99,10 +100,12 @@ module _ (problem : DelayProblem) (passes : is_day problem ≡ true) where
   others = and_parts (are_events problem) (are_steps problem) all.1
 
   counted : ((nat_le (length problem.events) 100000 && nat_eq (length problem.earliest) (length problem.events)) ≡ true)
-      × ((nat_le (length problem.changes) 500000 && nat_le (length problem.rides + (length problem.turns + length problem.changes)) 502000) ≡ true)
+      × ((nat_le (length problem.changes) 500000
+      && nat_le (length problem.rides + (length problem.turns + length problem.changes)) 502000) ≡ true)
   counted = and_parts
       (nat_le (length problem.events) 100000 && nat_eq (length problem.earliest) (length problem.events))
-      (nat_le (length problem.changes) 500000 && nat_le (length problem.rides + (length problem.turns + length problem.changes)) 502000)
+      (nat_le (length problem.changes) 500000 && nat_le
+      (length problem.rides + (length problem.turns + length problem.changes)) 502000)
       all.0
 
   few : (nat_le (length problem.events) 100000 ≡ true)
@@ -152,7 +155,8 @@ module _ (problem : DelayProblem) (passes : is_day problem ≡ true) where
       ∙ eqb-true (event_at problem.events event).id (event + 1) (place_parts event low).0
       ∙ sym (get_or-range_with_len 1 n event 0 low ∙ place))
 
-  kinds : ((list_all (is_activity problem.events) problem.rides && list_all (is_activity problem.events) problem.changes) ≡ true)
+  kinds : ((list_all (is_activity problem.events) problem.rides
+      && list_all (is_activity problem.events) problem.changes) ≡ true)
       × ((list_all (is_step problem.events) problem.turns && is_rising problem.changes) ≡ true)
   kinds = and_parts
       (list_all (is_activity problem.events) problem.rides && list_all (is_activity problem.events) problem.changes)

@@ -89,7 +89,8 @@ rank_rises events from to are few from_there to_there before =
         omega (arith, time, later_place a.arrives b.arrives less, from_there, few)
     by_kind time (inr both) = by_id time both.0 (decided a.id b.id Equal both.1)
 
-    by : (a.time < b.time) ⊎ ((a.time ≡ b.time) × (is_lt (slice_cmp nat_cmp (place_of a.arrives ∷ a.id ∷ []) (place_of b.arrives ∷ b.id ∷ [])) ≡ true))
+    by : (a.time < b.time) ⊎ ((a.time ≡ b.time)
+        × (is_lt (slice_cmp nat_cmp (place_of a.arrives ∷ a.id ∷ []) (place_of b.arrives ∷ b.id ∷ [])) ≡ true))
         → rank a.time a.arrives from < rank b.time b.arrives to
     by (inl less) = omega (arith, less, most_late a.arrives, from_there, few)
     by (inr both) =
@@ -102,7 +103,8 @@ pub planned_rises : (events : List DayEvent) (from to : ℕ)
 planned_rises events from to before =
     by (decided (at events from).time (at events to).time _ before)
   where
-    by : {P : Type 0} → ((at events from).time < (at events to).time) ⊎ (((at events from).time ≡ (at events to).time) × P)
+    by : {P : Type 0} → ((at events from).time < (at events to).time)
+        ⊎ (((at events from).time ≡ (at events to).time) × P)
         → (at events from).time ≤ (at events to).time
     by (inl less) = omega (arith, less)
     by (inr same) = omega (arith, same.0)

@@ -10,7 +10,9 @@ use Rattle.std.specs.declared.cmp.Ordering.TheVariants.{Less, Equal, Greater}
 use Rattle.std.proofs.lemmas.Bool.Decides.{Decides-eqb}
 use Rattle.std.proofs.lemmas.Cmp.{lists_total, nat_cmp_total}
 use Rattle.std.proofs.lemmas.List.{length-map, get_or-map}
-use Rattle.std.proofs.lemmas.List.Elements.{All-filter, All-contains_itself, All-contains, filter_passes, Contains-append_left, Contains-append_right, Contains-get_or, All-append, All-map, All-weaker}
+use Rattle.std.proofs.lemmas.List.Elements.{All-filter, All-contains_itself, All-contains, filter_passes}
+use Rattle.std.proofs.lemmas.List.Elements.{Contains-append_left, Contains-append_right, Contains-get_or, All-append}
+use Rattle.std.proofs.lemmas.List.Elements.{All-map, All-weaker}
 use Rattle.std.proofs.lemmas.List.Folds.{Any-from_list_any}
 use Rattle.std.proofs.lemmas.List.Sums.{length-filter, count_by-le-length}
 use Rattle.propagation.specs.DayEvents.{stands_before, forward_key}
@@ -20,18 +22,16 @@ use Rattle.propagation.specs.declared.reason.Reason.TheVariants as reason
 use Rattle.propagation.specs.declared.step.Activity.{Activity}
 use Rattle.propagation.specs.declared.step.Step.{Step}
 use Rattle.propagation.specs.LeastTimes.{IsFeasible, IsLeast, time_at, asked}
-use Rattle.propagation.specs.Problems.{DelayProblem, steps_with, event_at, earliest_at, GoesForward, IsForward, AreChanges}
+use Rattle.propagation.specs.Problems.{DelayProblem, steps_with, event_at, earliest_at, GoesForward, IsForward}
+use Rattle.propagation.specs.Problems.{AreChanges}
 use Rattle.propagation.specs.Reasons.{AreRight, is_right, is_tight}
+use Rattle.std.proofs.lemmas.Bool.{and_parts}
 
 record Tight (steps : List Step) (times : List ℕ) (event : ℕ) : Type 0 where
   step : Step
   there : Contains steps step
   to : step.to ≡ event
   just : asked times step ≡ time_at times event
-
-two : (a b : Bool) → (a && b) ≡ true → (a ≡ true) × (b ≡ true)
-two true b h = (refl, h)
-two false b h = grind arith
 
 tight_of : (steps : List Step) (times : List ℕ) (event : ℕ) (step : Step) → Contains steps step →
     is_tight times event step ≡ true → Tight steps times event
@@ -181,7 +181,8 @@ forward_with problem kept forward among =
     (λ k d within. of (get_or kept k d)
     (Contains-append_right rides changes (get_or kept k d) (among k d within)))))
     (λ k d within. All-contains P all (get_or problem.turns k d) forward.steps
-    (Contains-append_right (map (λ (at : Activity). at.step) (rides ++ changes)) problem.turns (get_or problem.turns k d)
+    (Contains-append_right (map (λ (at : Activity). at.step) (rides ++ changes)) problem.turns
+    (get_or problem.turns k d)
     (Contains-get_or problem.turns k d within)))
 
 pub reasons_prove_least : (problem : DelayProblem) (kept : List Activity) (times : List ℕ)

@@ -5,12 +5,15 @@ use Rattle.std.proofs.Common.{inl, inr, subst}
 use Rattle.std.specs.List.{All, Contains, filter}
 use Rattle.std.proofs.lemmas.Bool.Decides.{Decides-eqb}
 use Rattle.std.proofs.lemmas.List.{length-map, get_or-map, ext_get_or}
-use Rattle.std.proofs.lemmas.List.Elements.{All-filter, All-contains_itself, All-contains, filter_passes, Contains-append_left, Contains-append_right, Contains-get_or, All-append, All-map, All-weaker, All-head, All-tail, All-from_get_or}
+use Rattle.std.proofs.lemmas.List.Elements.{All-filter, All-contains_itself, All-contains, filter_passes}
+use Rattle.std.proofs.lemmas.List.Elements.{Contains-append_left, Contains-append_right, Contains-get_or, All-append}
+use Rattle.std.proofs.lemmas.List.Elements.{All-map, All-weaker, All-head, All-tail, All-from_get_or}
 use Rattle.std.proofs.lemmas.List.FromFn.{get_or-map-range_with_len, length-map-range_with_len}
 use Rattle.propagation.specs.declared.step.Activity.{Activity}
 use Rattle.propagation.specs.declared.step.Step.{Step}
 use Rattle.propagation.specs.LeastTimes.{IsLeast, time_at, asked, latest, pushed_at, pushed, pushed_often, least_times}
-use Rattle.propagation.specs.Problems.{DelayProblem, minutes, steps_with, earliest_at, GoesForward, IsForward, AreChanges}
+use Rattle.propagation.specs.Problems.{DelayProblem, minutes, steps_with, earliest_at, GoesForward, IsForward}
+use Rattle.propagation.specs.Problems.{AreChanges}
 use Rattle.propagation.specs.Waiting.{IsDisposition, is_kept, kept_changes, times_alone, disposition}
 use Rattle.propagation.proofs.Later.{latest_bounds, latest_reached, shifted}
 use Rattle.propagation.proofs.ReasonsProve.{mapped, rank, rising, few_before, forward_with}

@@ -11,6 +11,7 @@ use Rattle.propagation.specs.LeastTimes.{asked, least_times, pushed_at, pushed_o
 use Rattle.propagation.specs.Problems.{DelayProblem, earliest_at, minutes, steps_with}
 use Rattle.propagation.proofs.Later.{latest_reached}
 use Rattle.propagation.proofs.Rounds.{first, into_are, next, no_step}
+use Rattle.propagation.specs.declared.times.TheConstants.{LATEST}
 
 module _ (problem : DelayProblem) (steps : List Step) (each : length problem.earliest ≡ length problem.events)
     (soon : All (λ time. time ≤ 2000000000) problem.earliest)
@@ -63,6 +64,6 @@ pub least_small : (problem : DelayProblem) (kept : List Activity)
     → All (λ time. time ≤ 2000000000) problem.earliest
     → All (λ step. minutes step ≤ 2000000000) (steps_with problem kept)
     → All (λ step. step.from < length problem.events) (steps_with problem kept)
-    → All (λ time. time ≤ 1000000000000000000) (least_times problem kept)
+    → All (λ time. time ≤ LATEST) (least_times problem kept)
 unfolding least_times
 least_small problem kept each few soon short from i d within = grind (arith, rounds_below)

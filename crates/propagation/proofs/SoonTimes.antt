@@ -26,11 +26,19 @@ module _ (events : List DayEvent) where
       → step.from < length times → step.to < length times → LateBy most times
       → LateBy (most + 1100000) (head_pushed times step)
   head_late most times step gains from to late event inside =
-      elim (eqb step.to event) as (λ b. eqb step.to event ≡ b → time_at (head_pushed times step) event ≤ planned_at events event + (most + 1100000)) [
-        | true ↦ λ is. subst (λ e. time_at (head_pushed times step) e ≤ planned_at events e + (most + 1100000)) (eqb-true step.to event is)
+      elim (eqb step.to event) as (λ b. eqb step.to event ≡ b
+      → time_at (head_pushed times step) event ≤ planned_at events event + (most + 1100000)) [
+        | true ↦ λ is. subst (λ e. time_at (head_pushed times step) e ≤ planned_at events e + (most + 1100000))
+            (eqb-true step.to event is)
             (by (later_is (time_at times step.to) (asked times step)).one)
-        | false ↦ λ is. let stays = get_or-set_other times step.to event (later (time_at times step.to) (asked times step)) 0 (λ e. eqb-false step.to event is (sym e)) in
-            let old = late event (omega (arith, inside, length-set times step.to (later (time_at times step.to) (asked times step)))) in
+        | false ↦ λ is. let stays = get_or-set_other times step.to event
+            (later (time_at times step.to) (asked times step)) 0 (λ e. eqb-false step.to event is (sym e)) in
+            let old = late event (omega (
+              arith,
+              inside,
+              length-set times step.to
+                  (later (time_at times step.to) (asked times step)),
+            )) in
             omega (arith, stays, old)
       ] refl
     where
@@ -80,15 +88,19 @@ module _ (problem : DelayProblem) (links : List Link) (linked : IsLinked problem
       let gains = linked.gains in
       All-permutation P (links_of problem) links linked.all
       (links_all problem P
-      (λ k d inside. let at = ride_steps problem F problem.changes goes k d inside in (at.from, at.to, ride_steps problem G problem.changes gains k d inside))
-      (λ k d inside. let at = turn_steps problem F problem.changes goes k d inside in (at.from, at.to, turn_steps problem G problem.changes gains k d inside))
-      (λ k d inside. let at = change_steps problem F problem.changes goes k d inside in (at.from, at.to, change_steps problem G problem.changes gains k d inside)))
+      (λ k d inside. let at = ride_steps problem F problem.changes goes k d inside in
+      (at.from, at.to, ride_steps problem G problem.changes gains k d inside))
+      (λ k d inside. let at = turn_steps problem F problem.changes goes k d inside in
+      (at.from, at.to, turn_steps problem G problem.changes gains k d inside))
+      (λ k d inside. let at = change_steps problem F problem.changes goes k d inside in
+      (at.from, at.to, change_steps problem G problem.changes gains k d inside)))
 
   -- no event is later than at its earliest by more than all links may gain
   pub pass_small : All (λ time. time ≤ 600000000000) (pushed_along kept links problem.earliest)
   pass_small k d inside =
       let each = linked.forward.each in
-      let long = pass_long kept (length problem.events) (forward_rank problem.events) links problem.earliest (all_join problem links linked) each in
+      let long = pass_long kept (length problem.events) (forward_rank problem.events) links problem.earliest
+      (all_join problem links linked) each in
       let here : k < length problem.events = omega (arith, inside, long) in
       let late = late_along problem.events kept links 8589934590 problem.earliest
       (subst (λ n. All (IsSlow problem.events n) links) (sym each) all_slow)

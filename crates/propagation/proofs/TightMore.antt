@@ -3,7 +3,7 @@ use Rattle.std.proofs.Common.{◌≡◌, ◌∙◌, ℕ, suc, ◌+◌, ◌<◌, 
 use Rattle.std.proofs.Common.{nat_eq, List, [], ◌∷◌, ◌++◌, append_assoc, length, map, take, get_or}
 use Rattle.std.proofs.Common.{slice_set, Option, Some, None, refl, ap, sym, subst, arith}
 use Rattle.std.specs.List.{items_where_true, range_with_len, reduce}
-use Rattle.std.proofs.lemmas.Bool.{eq-eqb, eqb-true, false≢true, ne_eqb}
+use Rattle.std.proofs.lemmas.Bool.{eq-eqb, eqb-true, false≢true, ne_eqb, and_parts}
 use Rattle.std.proofs.lemmas.List.{append-nil, take_all}
 use Rattle.std.proofs.lemmas.List.Elements.{filter-append}
 use Rattle.std.proofs.lemmas.List.FromFn.{get_or-map-range_with_len}
@@ -69,17 +69,14 @@ module _ (times : List ℕ) (n : ℕ) (some : List Activity) (at : Activity) whe
     where
       by : (event : ℕ) → is_tight times event at.step ≡ false
       by event =
-          elim (eqb at.step.to event) as (λ b. eqb at.step.to event ≡ b → (b && nat_eq (asked times at.step) (time_at times event)) ≡ false) [
-            | true ↦ λ is. subst (λ e. nat_eq (asked times at.step) (time_at times e) ≡ false) (eqb-true at.step.to event is) slack
+          elim (eqb at.step.to event) as (λ b. eqb at.step.to event ≡ b
+          → (b && nat_eq (asked times at.step) (time_at times event)) ≡ false) [
+            | true ↦ λ is. subst (λ e. nat_eq (asked times at.step) (time_at times e) ≡ false)
+                (eqb-true at.step.to event is) slack
             | false ↦ λ is. refl
           ] refl
 
 -- ---- a chosen change more
-
-both : (a b : Bool) → (a && b) ≡ true → (a ≡ true) × (b ≡ true)
-both true true is = (refl, refl)
-both true false is = absurd (false≢true is)
-both false b is = absurd (false≢true is)
 
 module _ (times : List ℕ) (n : ℕ) (rides : List Activity) (kept : List Bool) (changes : List Activity)
   where
@@ -120,14 +117,15 @@ module _ (times : List ℕ) (n : ℕ) (rides : List Activity) (kept : List Bool)
           (Some (with_id (get_or (least_ids (counted i)) change.step.to None) change.id))
           ≡ least_ids (counted (i + 1))
       change_noted there is =
-          let parts = both (get_or kept i false) is_just is in
+          let parts = and_parts (get_or kept i false) is_just is in
           tight_noted times n (counted i) change there parts.1
           ∙ ap least_ids (sym (counted_more true parts.0))
 
       pub change_passed : (get_or kept i false && is_just) ≡ false
           → least_ids (counted i) ≡ least_ids (counted (i + 1))
       change_passed is =
-          elim (get_or kept i false) as (λ b. get_or kept i false ≡ b → least_ids (counted i) ≡ least_ids (counted (i + 1))) [
+          elim (get_or kept i false) as (λ b. get_or kept i false ≡ b
+          → least_ids (counted i) ≡ least_ids (counted (i + 1))) [
             | true ↦ λ e. slack_passed times n (counted i) change (ap (λ b. b && is_just) (sym e) ∙ is)
                 ∙ ap least_ids (sym (counted_more true e))
             | false ↦ λ e. ap least_ids (sym (counted_more false e ∙ append-nil (counted i)))

@@ -14,9 +14,12 @@ module _ (earliest times : List ℕ) (activities : List Activity) (ids : List (O
   least_id event = reduce lesser (tight_among times event activities)
 
   -- by the ids that were found
-  pub told_by_ids : {A E : Type 0} (view : A → List Reason) → ids ≡ map least_id (range_with_len 0 (length times)) → (result : Result A E)
-      → IfOk result (λ reasons. view reasons ≡ map (λ event. reason_by earliest times event (get_or ids event None)) (range_with_len 0 (length times)))
-      → IfOk result (λ reasons. view reasons ≡ map (λ event. reason_by earliest times event (least_id event)) (range_with_len 0 (length times)))
+  pub told_by_ids : {A E : Type 0} (view : A → List Reason) → ids ≡ map least_id (range_with_len 0 (length times))
+      → (result : Result A E)
+      → IfOk result (λ reasons. view reasons ≡ map (λ event. reason_by earliest times event (get_or ids event None))
+      (range_with_len 0 (length times)))
+      → IfOk result (λ reasons. view reasons ≡ map (λ event. reason_by earliest times event (least_id event))
+      (range_with_len 0 (length times)))
   told_by_ids view is (Ok reasons) told =
       grind (arith, told_alike, get_or, get_or-map-range_with_len)
   told_by_ids view is (Err error) told = tt

@@ -15,7 +15,8 @@ use Rattle.propagation.specs.declared.step.Activity.{Activity}
 use Rattle.propagation.specs.declared.step.Step.{Step}
 use Rattle.propagation.specs.LeastTimes.{IsLeast, time_at, asked, pushed_at}
 use Rattle.propagation.specs.Problems.{AreChanges, DelayProblem, IsForward, steps_with, earliest_at}
-use Rattle.propagation.specs.Reasons.{AreRight, is_right, is_tight, tight_ids, by_activity, lesser, canonical_reason, canonical_reasons}
+use Rattle.propagation.specs.Reasons.{AreRight, is_right, is_tight, tight_ids, by_activity, lesser, canonical_reason}
+use Rattle.propagation.specs.Reasons.{canonical_reasons}
 use Rattle.propagation.proofs.Later.{latest_reached, lesser_reached, shifted}
 use Rattle.propagation.proofs.ReasonsProve.{none}
 use Rattle.propagation.proofs.Rounds.{in_filter, into_are, no_step, least_is_pushed}
@@ -96,7 +97,8 @@ module _ (problem : DelayProblem) (kept : List Activity) (times : List ℕ) wher
     by_turn : is_right problem kept times event reason.Source ≡ false →
         tight_ids problem kept times event ≡ [] → is_right problem kept times event reason.Turn ≡ true
     by_turn not_source nil =
-        by (latest_reached (earliest_at problem event) (map (asked times) (filter (λ step. step.to == event) (steps_with problem kept))))
+        by (latest_reached (earliest_at problem event)
+        (map (asked times) (filter (λ step. step.to == event) (steps_with problem kept))))
       where
         by : (pushed_at problem (steps_with problem kept) times event ≡ earliest_at problem event) ⊎ Contains
             (map (asked times) (filter (λ step. step.to == event) (steps_with problem kept)))

@@ -1,5 +1,6 @@
 -- Times of events that respect their earliest times and steps, and the least of all such times.
-use Rattle.std.specs.Prelude.{ℕ, ◌+◌, ◌≤◌, ◌<◌, ◌≡◌, ◌==◌, zero, suc, nat_lt, if◌then◌else◌, List, length, map, filter, get_or, All}
+use Rattle.std.specs.Prelude.{ℕ, ◌+◌, ◌≤◌, ◌<◌, ◌≡◌, ◌==◌, zero, suc, nat_lt, if◌then◌else◌, List, length, map, filter}
+use Rattle.std.specs.Prelude.{get_or, All}
 use Rattle.std.specs.List.{fold, range_with_len}
 use Rattle.propagation.specs.declared.step.Activity.{Activity}
 use Rattle.propagation.specs.declared.step.Step.{Step}

@@ -1,5 +1,6 @@
 -- Inner words: the steps in the forward order of their first events, and one pass along them.
-use Rattle.std.specs.Prelude.{ℕ, ◌+◌, ◌<◌, ◌≤◌, Bool, true, false, if◌then◌else◌, List, ◌++◌, length, map, get_or, slice_set, All, Option, Some, None}
+use Rattle.std.specs.Prelude.{ℕ, ◌+◌, ◌<◌, ◌≤◌, Bool, true, false, if◌then◌else◌, List, ◌++◌, length, map, get_or}
+use Rattle.std.specs.Prelude.{slice_set, All, Option, Some, None}
 use Rattle.std.specs.List.{enumerate_from, fold}
 use Rattle.std.specs.List.Sorted.{IsNonDecreasingBy, IsPermutation, IsStrictlyIncreasing}
 use Rattle.propagation.specs.declared.day_event.DayEvent.{DayEvent}

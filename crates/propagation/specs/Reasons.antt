@@ -1,5 +1,6 @@
 -- Why an event is not earlier.
-use Rattle.std.specs.Prelude.{ℕ, ◌<◌, ◌≡◌, ◌==◌, ◌&&◌, nat_eq, nat_lt, Bool, true, if◌then◌else◌, List, ◌++◌, length, map, filter, get_or, Option, Some, None}
+use Rattle.std.specs.Prelude.{ℕ, ◌<◌, ◌≡◌, ◌==◌, ◌&&◌, nat_eq, nat_lt, Bool, true, if◌then◌else◌, List, ◌++◌, length}
+use Rattle.std.specs.Prelude.{map, filter, get_or, Option, Some, None}
 use Rattle.std.specs.List.{list_any, reduce, range_with_len}
 use Rattle.propagation.specs.declared.reason.Reason.{Reason}
 use Rattle.propagation.specs.declared.reason.Reason.TheVariants as reason

@@ -1,5 +1,6 @@
 -- Which changes are kept, and the disposition that keeps them.
-use Rattle.std.specs.Prelude.{ℕ, ℤ, pos, negsuc, zero, suc, ◌+◌, ◌<◌, ◌≤◌, ◌≡◌, nat_le, Bool, true, false, List, [], filter, get_or, length}
+use Rattle.std.specs.Prelude.{ℕ, ℤ, pos, negsuc, zero, suc, ◌+◌, ◌<◌, ◌≤◌, ◌≡◌, nat_le, Bool, true, false, List, []}
+use Rattle.std.specs.Prelude.{filter, get_or, length}
 use Rattle.std.specs.List.{items_where_true}
 use Rattle.propagation.specs.declared.step.Activity.{Activity}
 use Rattle.propagation.specs.LeastTimes.{IsLeast, time_at, least_times}

@@ -1,7 +1,8 @@
 // Parts of a problem from any hand.
 ghost use Rattle.std.specs.Prelude.{◌≡◌, ◌&&◌, [], is_some, length, IfOk, IfSome};
 ghost use Rattle.std.specs.List.{list_all, range_with_len};
-ghost use Rattle.propagation.specs.CheckedDays.{are_events, are_few, are_steps, is_activity, is_day, is_placed, is_rising, is_soon, is_step};
+ghost use Rattle.propagation.specs.CheckedDays.{are_events, are_few, are_steps, is_activity, is_day, is_placed};
+ghost use Rattle.propagation.specs.CheckedDays.{is_rising, is_soon, is_step};
 ghost use Rattle.propagation.specs.LeastTimes.{time_at};
 ghost use Rattle.propagation.specs.Links.{parts_of};
 ghost use Rattle.propagation.specs.LeastTimes.{time_at};
@@ -20,7 +21,7 @@ const MOST_CHANGES: usize = 500_000;
 
 const MOST_STEPS: usize = 502_000;
 
-const LATEST: u64 = 8_589_934_590;
+const LATEST_AT_FIRST: u64 = 8_589_934_590;
 
 impl Propagation {
     /// The problem of parts, where these make one. The ids of events are their places, from 1, and
@@ -113,7 +114,7 @@ fn time_at(earliest: &[u64], event: usize) -> u64
 fn are_soon(earliest: &[u64]) -> bool
     ensures { result ≡ list_all is_soon earliest.now }
 {
-    earliest.iter().all(|time| *time <= LATEST)
+    earliest.iter().all(|time| *time <= LATEST_AT_FIRST)
 }
 
 // Whether steps lead forward, and changes stand by their ids.

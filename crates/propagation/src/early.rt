@@ -5,6 +5,7 @@ ghost use Rattle.propagation.specs.LeastTimes.{asked, time_at};
 ghost use Rattle.propagation.specs.Marks.{marked_by};
 ghost use Rattle.propagation.specs.Problems.{Joins};
 ghost use Rattle.propagation.specs.EarlyEvents.{is_early_by};
+ghost use Rattle.propagation.specs.declared.times.TheConstants.{LATEST};
 
 use crate::marks::{first_marked, mark};
 use crate::reasons::asked;
@@ -23,7 +24,7 @@ pub fn first_early(
     requires each { length times.now ≡ length earliest.now }
     requires activities { All (λ activity. Joins (length times.now) activity.step) activities.now }
     requires turns { All (Joins (length times.now)) turns.now }
-    requires small { All (λ time. time ≤ 1000000000000000000) times.now }
+    requires small { All (λ time. time ≤ LATEST) times.now }
     ensures { IfOk result (λ event. event ≡ slice_get (filter
         (is_early_by earliest.now activities.now turns.now times.now)
         (range_with_len 0 (length times.now))) 0) }
@@ -52,7 +53,7 @@ fn early_alone(alloc: Global, earliest: &[u64], times: &[u64]) -> Result<Vec<boo
 fn mark_activities(marks: &mut Vec<bool>, activities: &[Activity], times: &[u64])
     requires each { length marks.old.items ≡ length times.now }
     requires ends { All (λ activity. Joins (length times.now) activity.step) activities.now }
-    requires small { All (λ time. time ≤ 1000000000000000000) times.now }
+    requires small { All (λ time. time ≤ LATEST) times.now }
     ensures { marks.new.items ≡ marked_by (λ activity. activity.step.to) (λ activity. nat_lt
         (time_at times.now activity.step.to) (asked times.now activity.step)) marks.old.items activities.now }
 {
@@ -66,7 +67,7 @@ fn mark_activities(marks: &mut Vec<bool>, activities: &[Activity], times: &[u64]
 fn mark_turns(marks: &mut Vec<bool>, turns: &[Step], times: &[u64])
     requires each { length marks.old.items ≡ length times.now }
     requires ends { All (Joins (length times.now)) turns.now }
-    requires small { All (λ time. time ≤ 1000000000000000000) times.now }
+    requires small { All (λ time. time ≤ LATEST) times.now }
     ensures { marks.new.items ≡ marked_by (λ turn. turn.to) (λ turn. nat_lt
         (time_at times.now turn.to) (asked times.now turn)) marks.old.items turns.now }
 {
@@ -79,7 +80,7 @@ fn mark_turns(marks: &mut Vec<bool>, turns: &[Step], times: &[u64])
 // Whether a step asks for a later time than its head has.
 fn is_ahead(times: &[u64], step: &Step) -> bool
     requires ends { Joins (length times.now) step.now }
-    requires small { All (λ time. time ≤ 1000000000000000000) times.now }
+    requires small { All (λ time. time ≤ LATEST) times.now }
     ensures { result ≡ nat_lt (time_at times.now step.now.to) (asked times.now step.now) }
 {
     times[step.to as usize] < asked(times, step)

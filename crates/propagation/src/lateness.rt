@@ -1,7 +1,8 @@
 // How late times are.
 ghost use Rattle.std.specs.Prelude.{◌≡◌, ◌≤◌, ◌≤ℤ◌, pos, neg_ℤ, length, All};
-ghost use Rattle.propagation.specs.Lateness.{delay_at, is_missed, lateness, missed_at, more_delay};
+ghost use Rattle.propagation.specs.Lateness.{delay_at, is_missed, missed_at, more_delay};
 ghost use Rattle.propagation.specs.Problems.{Joins};
+ghost use Rattle.propagation.specs.declared.times.TheConstants.{LATEST};
 
 use crate::day_event::DayEvent;
 use crate::step::Activity;
@@ -10,14 +11,12 @@ use crate::step::Activity;
 pub fn delay_at(events: &[DayEvent], times: &[u64]) -> i128
     requires few { length events.now ≤ 100000 }
     requires each { length times.now ≡ length events.now }
-    requires small { All (λ time. time ≤ 1000000000000000000) times.now }
+    requires small { All (λ time. time ≤ LATEST) times.now }
     ensures { result ≡ delay_at events.now times.now }
 {
     let mut sum = 0;
     for (index, event) in events.iter().enumerate() {
-        if is_arrival(event) {
-            sum += lateness(event, times[index]);
-        }
+        sum += more_delay(event, u64::from(event.time), times[index]);
     }
     sum
 }
@@ -29,23 +28,13 @@ fn is_arrival(event: &DayEvent) -> bool
     event.arrives
 }
 
-// How much later than planned an event is.
-fn lateness(event: &DayEvent, time: u64) -> i128
-    requires { time ≤ 1000000000000000000 }
-    ensures value { result ≡ lateness (event.now, time) }
-    ensures most { result ≤ℤ pos 1000000000000000000 }
-    ensures least { neg_ℤ (pos 1000000000000000000) ≤ℤ result }
-{
-    i128::from(time) - i128::from(event.time)
-}
-
 /// How much later than at one time an event is at another, where it is an arrival.
 pub fn more_delay(event: &DayEvent, before: u64, time: u64) -> i128
-    requires before { before ≤ 1000000000000000000 }
-    requires time { time ≤ 1000000000000000000 }
+    requires before { before ≤ LATEST }
+    requires time { time ≤ LATEST }
     ensures value { result ≡ more_delay event.now before time }
-    ensures most { result ≤ℤ pos 1000000000000000000 }
-    ensures least { neg_ℤ (pos 1000000000000000000) ≤ℤ result }
+    ensures most { result ≤ℤ pos LATEST }
+    ensures least { neg_ℤ (pos LATEST) ≤ℤ result }
 {
     if is_arrival(event) {
         i128::from(time) - i128::from(before)
@@ -57,7 +46,7 @@ pub fn more_delay(event: &DayEvent, before: u64, time: u64) -> i128
 /// How many changes are missed.
 pub fn missed_at(changes: &[Activity], times: &[u64]) -> usize
     requires ends { All (λ change. Joins (length times.now) change.step) changes.now }
-    requires small { All (λ time. time ≤ 1000000000000000000) times.now }
+    requires small { All (λ time. time ≤ LATEST) times.now }
     ensures { result ≡ missed_at changes.now times.now }
 {
     let mut missed = 0;
@@ -72,7 +61,7 @@ pub fn missed_at(changes: &[Activity], times: &[u64]) -> usize
 // Whether a change is missed.
 fn is_missed(change: &Activity, times: &[u64]) -> bool
     requires ends { Joins (length times.now) change.now.step }
-    requires small { All (λ time. time ≤ 1000000000000000000) times.now }
+    requires small { All (λ time. time ≤ LATEST) times.now }
     ensures { result ≡ is_missed times.now change.now }
 {
     let (from, to) = (change.step.from as usize, change.step.to as usize);

@@ -17,7 +17,7 @@ mod reasons;
 mod step;
 mod times;
 mod waiting;
-mod wrong;
+mod wrong_reasons;
 
 pub use day_event::{DayEvent, forward_rank};
 pub use early::first_early;
@@ -28,6 +28,6 @@ pub use propagation::Propagation;
 pub use reason::Reason;
 pub use reasons::{asked, canonical_reasons};
 pub use step::{Activity, Step};
-pub use times::{Times, is_broken};
+pub use times::{LATEST, Times, is_broken};
 pub use waiting::{kept_activities, waiting_changes};
-pub use wrong::first_wrong;
+pub use wrong_reasons::first_wrong;

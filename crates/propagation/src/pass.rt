@@ -3,6 +3,7 @@ ghost use Rattle.std.specs.Prelude.{◌≡◌, ◌+◌, ◌<◌, ◌≤◌, leng
 ghost use Rattle.propagation.specs.LeastTimes.{later, time_at};
 ghost use Rattle.propagation.specs.Links.{counts, head_pushed, pushed_along};
 ghost use Rattle.propagation.specs.Problems.{minutes};
+ghost use Rattle.propagation.specs.declared.times.TheConstants.{LATEST};
 
 use crate::links::Link;
 use crate::step::Step;
@@ -22,7 +23,7 @@ pub fn pushed_along(
         × (link.step.to < length earliest.now)) links.now }
     ensures times { IfOk result
         (λ times. times.items ≡ pushed_along kept.now links.now earliest.now) }
-    ensures small { IfOk result (λ times. All (λ time. time ≤ 1000000000000000000) times.items) }
+    ensures small { IfOk result (λ times. All (λ time. time ≤ LATEST) times.items) }
 {
     let mut times = Vec::from_slice(alloc, earliest)?;
     push_along(&mut times, links, kept);
@@ -49,7 +50,7 @@ fn push_along(times: &mut Vec<u64>, links: &[Link], kept: &[bool])
     requires ends { All (λ link. (link.step.from < length times.old.items)
         × (link.step.to < length times.old.items)) links.now }
     ensures times { times.new.items ≡ pushed_along kept.now links.now times.old.items }
-    ensures small { All (λ time. time ≤ 1000000000000000000) times.new.items }
+    ensures small { All (λ time. time ≤ LATEST) times.new.items }
 {
     for link in links {
         if counts(kept, link.change) {

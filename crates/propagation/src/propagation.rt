@@ -75,8 +75,11 @@ impl Propagation {
     ) -> Result<Propagation, NoMemory>
         requires { IsDay
             (parts_of events.items earliest.items rides.items changes.items turns.items) }
-        ensures { IfOk result (λ problem. problem
+        ensures value { IfOk result (λ problem. problem
             ≡ parts_of events.items earliest.items rides.items changes.items turns.items) }
+        ensures forward { IfOk result IsForward }
+        ensures rise { IfOk result
+            (λ problem. IsStrictlyIncreasing (map (λ change. change.id) problem.changes)) }
     {
         let links = links_in_order(alloc, &events, &rides, &turns, &changes)?;
         Ok(Propagation {
@@ -97,6 +100,9 @@ impl Propagation {
         ensures least { IfOk result
             (λ times. IsLeast self.now (chosen_changes self.now kept.now) times.items) }
         ensures small { IfOk result (λ times. All (λ time. time ≤ 600000000000) times.items) }
+        ensures few { length self.now.events ≤ 100000 }
+        ensures late { (event : ℕ) → event < length self.now.events
+            → planned_at self.now.events event ≤ earliest_at self.now event }
     {
         pushed_along(alloc, &self.earliest, &self.links, kept)
     }
@@ -154,6 +160,9 @@ impl Propagation {
         ensures ids { All (λ change. change.id ≤ 500000) self.now.changes }
         ensures rise { IsStrictlyIncreasing (map (λ change. change.id) self.now.changes) }
         ensures few { length self.now.changes ≤ 502000 }
+        ensures forward { IsForward self.now }
+        ensures late { (event : ℕ) → event < length self.now.events
+            → planned_at self.now.events event ≤ earliest_at self.now event }
     {
         &self.changes
     }

@@ -1,5 +1,6 @@
 // Why events are not earlier.
-ghost use Rattle.std.specs.Prelude.{◌≡◌, ◌≤◌, ◌<◌, ◌&&◌, ◌++◌, false, length, map, nat_eq, get_or, slice_set, if◌then◌else◌, All, IfOk, Some, None};
+ghost use Rattle.std.specs.Prelude.{◌≡◌, ◌≤◌, ◌<◌, ◌&&◌, ◌++◌, false, length, map, nat_eq, get_or, slice_set};
+ghost use Rattle.std.specs.Prelude.{if◌then◌else◌, All, IfOk, Some, None};
 ghost use Rattle.std.specs.List.{items_where_true, range_with_len, reduce};
 ghost use Rattle.propagation.specs.declared.reason.Reason.TheVariants as reasons;
 ghost use Rattle.propagation.specs.Reasons.{named_activity, by_activity, canonical_reasons, lesser, tight_among};
@@ -7,6 +8,7 @@ ghost use Rattle.propagation.specs.LeastTimes.{asked, time_at};
 ghost use Rattle.propagation.specs.Problems.{Joins};
 ghost use Rattle.propagation.specs.TightIds.{reason_by, with_id};
 ghost use Rattle.propagation.specs.Waiting.{chosen_changes};
+ghost use Rattle.propagation.specs.declared.times.TheConstants.{LATEST};
 
 use crate::propagation::Propagation;
 use crate::reason::Reason;
@@ -23,7 +25,7 @@ pub fn canonical_reasons(
     times: &[u64],
 ) -> Result<Vec<Reason>, NoMemory>
     requires each { length times.now ≡ length problem.now.events }
-    requires small { All (λ time. time ≤ 1000000000000000000) times.now }
+    requires small { All (λ time. time ≤ LATEST) times.now }
     ensures reasons { IfOk result (λ reasons. reasons.items
         ≡ canonical_reasons problem.now (chosen_changes problem.now kept.now) times.now) }
     ensures ids { IfOk result
@@ -47,7 +49,7 @@ fn written_reasons(
     requires each { length times.now ≡ length earliest.now }
     requires rides { All (λ ride. Joins (length times.now) ride.step) rides.now }
     requires changes { All (λ change. Joins (length times.now) change.step) changes.now }
-    requires small { All (λ time. time ≤ 1000000000000000000) times.now }
+    requires small { All (λ time. time ≤ LATEST) times.now }
     ensures { IfOk result (λ reasons. reasons.items ≡ map
         (λ event. reason_by earliest.now times.now event (reduce lesser
         (tight_among times.now event (rides.now ++ items_where_true kept.now changes.now))))
@@ -100,7 +102,7 @@ fn least_tight(
 ) -> Result<Vec<Option<u32>>, NoMemory>
     requires rides { All (λ ride. Joins (length times.now) ride.step) rides.now }
     requires changes { All (λ change. Joins (length times.now) change.step) changes.now }
-    requires small { All (λ time. time ≤ 1000000000000000000) times.now }
+    requires small { All (λ time. time ≤ LATEST) times.now }
     ensures { IfOk result (λ ids. ids.items ≡ map (λ event. reduce lesser
         (tight_among times.now event (rides.now ++ items_where_true kept.now changes.now)))
         (range_with_len 0 (length times.now))) }
@@ -122,7 +124,7 @@ fn least_tight(
 // Whether the change at an index is chosen, and its step is tight.
 fn is_chosen_tight(kept: &[bool], index: usize, times: &[u64], step: &Step) -> bool
     requires ends { Joins (length times.now) step.now }
-    requires small { All (λ time. time ≤ 1000000000000000000) times.now }
+    requires small { All (λ time. time ≤ LATEST) times.now }
     ensures { result ≡ (get_or kept.now index false
         && nat_eq (asked times.now step.now) (time_at times.now step.now.to)) }
 {
@@ -170,7 +172,7 @@ fn lesser(id: u32, other: u32) -> u32
 /// Whether the head of a step is just when the step asks it to be.
 pub fn is_tight(times: &[u64], step: &Step) -> bool
     requires ends { Joins (length times.now) step.now }
-    requires small { All (λ time. time ≤ 1000000000000000000) times.now }
+    requires small { All (λ time. time ≤ LATEST) times.now }
     ensures { result ≡ nat_eq (asked times.now step.now) (time_at times.now step.now.to) }
 {
     asked(times, step) == times[step.to as usize]
@@ -179,7 +181,7 @@ pub fn is_tight(times: &[u64], step: &Step) -> bool
 /// The time that a step asks of its head.
 pub fn asked(times: &[u64], step: &Step) -> u64
     requires ends { Joins (length times.now) step.now }
-    requires small { All (λ time. time ≤ 1000000000000000000) times.now }
+    requires small { All (λ time. time ≤ LATEST) times.now }
     ensures { result ≡ asked times.now step.now }
 {
     times[step.from as usize] + step.minutes()

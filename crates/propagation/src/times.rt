@@ -1,5 +1,6 @@
 // The least times for a set of kept changes, and what they tell.
-ghost use Rattle.std.specs.Prelude.{ℕ, List, ◌≡◌, ◌<◌, ◌≤◌, ◌≤ℤ◌, pos, length, map, slice_get, Some, option_map, All, IfOk};
+ghost use Rattle.std.specs.Prelude.{ℕ, List, ◌≡◌, ◌<◌, ◌≤◌, ◌≤ℤ◌, pos, length, map, slice_get, Some, option_map, All};
+ghost use Rattle.std.specs.Prelude.{IfOk};
 ghost use Rattle.std.specs.List.Sorted.{IsStrictlyIncreasing};
 ghost use Rattle.propagation.specs.Lateness.{delay_at, is_broken};
 ghost use Rattle.propagation.specs.LeastTimes.{IsLeast, least_times, time_at};
@@ -10,12 +11,15 @@ use crate::lateness::delay_at;
 use crate::propagation::Propagation;
 use crate::reasons::asked;
 use crate::step::Activity;
-use plan_num::NoMemory;
+use plan_num::{NUMBER_LIMIT, NoMemory};
 use std::alloc::Global;
 use std::marker::Model;
 
-/// The time of each event, in minutes. Contracts see it as the list of these; each is at most 10
-/// to the power of 18.
+/// The latest time that an event may have, in minutes: what a file of times holds at most. What a
+/// step asks of its head still fits a `u64` then, and how late 100,000 events are an `i128`.
+pub const LATEST: u64 = NUMBER_LIMIT;
+
+/// The time of each event, in minutes, none after `LATEST`. Contracts see it as the list of these.
 #[derive(Debug, Drop)]
 pub struct Times {
     times: Vec<u64>,
@@ -23,12 +27,13 @@ pub struct Times {
 
 impl Model for Times {
     ghost use Rattle.std.specs.Prelude.{ℕ, ◌≤◌, List, All};
+    ghost use Rattle.propagation.specs.declared.times.TheConstants.{LATEST};
 
     ghost Value = { List ℕ };
 
     ghost view = { λ t. t.times.items };
 
-    ghost invariant = { λ t. All (λ time. time ≤ 1000000000000000000) t.times.items };
+    ghost invariant = { λ t. All (λ time. time ≤ LATEST) t.times.items };
 }
 
 impl Times {
@@ -56,6 +61,9 @@ impl Propagation {
         ensures grow { IfOk result (GrowWithKept self.now kept.now) }
         ensures each { IfOk result (λ times. length times ≡ length self.now.events) }
         ensures small { IfOk result (λ times. All (λ time. time ≤ 600000000000) times) }
+        ensures few { length self.now.events ≤ 100000 }
+        ensures late { (event : ℕ) → event < length self.now.events
+            → planned_at self.now.events event ≤ earliest_at self.now event }
     {
         let times = self.least_times(alloc, kept)?;
         Ok(Times { times })
@@ -81,7 +89,6 @@ impl Propagation {
         ensures late { (event : ℕ) → event < length self.now.events
             → planned_at self.now.events event ≤ earliest_at self.now event }
     {
-        let _events = self.events();
         self.changes().len()
     }
 
@@ -119,7 +126,7 @@ impl Propagation {
 // The time of an event.
 fn time_of(times: &[u64], event: usize) -> i64
     requires there { event < length times.now }
-    requires small { All (λ time. time ≤ 1000000000000000000) times.now }
+    requires small { All (λ time. time ≤ LATEST) times.now }
     ensures { result ≡ pos (time_at times.now event) }
 {
     times[event] as i64
@@ -128,7 +135,7 @@ fn time_of(times: &[u64], event: usize) -> i64
 /// Whether times break a change.
 pub fn is_broken(times: &[u64], change: &Activity) -> bool
     requires ends { Joins (length times.now) change.now.step }
-    requires small { All (λ time. time ≤ 1000000000000000000) times.now }
+    requires small { All (λ time. time ≤ LATEST) times.now }
     ensures { result ≡ is_broken times.now change.now }
 {
     times[change.step.to as usize] < asked(times, &change.step)

@@ -4,6 +4,7 @@ ghost use Rattle.std.specs.List.{items_where_true};
 ghost use Rattle.propagation.specs.LeastTimes.{time_at};
 ghost use Rattle.propagation.specs.Problems.{Joins, planned_at};
 ghost use Rattle.propagation.specs.Waiting.{chosen_changes, kept_changes, waits};
+ghost use Rattle.propagation.specs.declared.times.TheConstants.{LATEST};
 
 use crate::day_event::DayEvent;
 use crate::propagation::Propagation;
@@ -35,7 +36,7 @@ fn kept_by(
 ) -> Result<Vec<bool>, NoMemory>
     requires ends { All (λ change. Joins (length events.now) change.step) changes.now }
     requires each { length alone.now ≡ length events.now }
-    requires small { All (λ time. time ≤ 1000000000000000000) alone.now }
+    requires small { All (λ time. time ≤ LATEST) alone.now }
     ensures { IfOk result (λ kept. kept.items ≡ map
         (λ change. waits wait (time_at alone.now change.step.from + change.step.lower)
         (planned_at events.now change.step.to)) changes.now) }
@@ -51,7 +52,7 @@ fn kept_by(
 fn is_kept(events: &[DayEvent], change: &Activity, alone: &[u64], wait: i64) -> bool
     requires ends { Joins (length events.now) change.now.step }
     requires each { length alone.now ≡ length events.now }
-    requires small { All (λ time. time ≤ 1000000000000000000) alone.now }
+    requires small { All (λ time. time ≤ LATEST) alone.now }
     ensures { result ≡ waits wait (time_at alone.now change.now.step.from + change.now.step.lower)
         (planned_at events.now change.now.step.to) }
 {

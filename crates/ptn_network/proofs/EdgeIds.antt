@@ -9,9 +9,9 @@ use Rattle.std.proofs.lemmas.List.Folds.{find_at}
 use Rattle.std.proofs.lemmas.List.Quantifiers.{position-Some}
 use Rattle.std.proofs.lemmas.Option.{cond_some, slice_get_past, slice_get-get_or}
 use Rattle.tables.proofs.CellFacts.{position-map}
-use Rattle.ptn_network.specs.declared.edge.Edge.{Edge}
+use Rattle.walks.specs.declared.edge.Edge.{Edge}
 use Rattle.ptn_network.specs.Ids.{edge_with, StandsAt}
-use Rattle.ptn_network.proofs.PathSteps.{no_edge}
+use Rattle.walks.proofs.PathSteps.{no_edge}
 
 nothing_chosen : {X : Type 0} (b : Bool) (x : X) → cond b (Some x) None ≡ None → b ≡ false
 nothing_chosen true x e = cc

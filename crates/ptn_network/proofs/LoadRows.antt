@@ -26,14 +26,14 @@ use Rattle.tables.specs.Writing.{InColumns}
 use Rattle.tables.proofs.Inputs.{sound_rows}
 use Rattle.tables.proofs.WholeRules.{without_whole, refused_as_whole, sound_as_whole}
 use Rattle.tables.specs.Tables.{TableRow}
-use Rattle.tables.proofs.Found.{any_mapped, any_found}
-use Rattle.ptn_network.specs.declared.edge.Edge.{Edge}
+use Rattle.plan_num.proofs.Found.{any_mapped, any_found}
+use Rattle.walks.specs.declared.edge.Edge.{Edge}
 use Rattle.ptn_network.specs.declared.edge_load.EdgeLoad.{EdgeLoad}
 use Rattle.ptn_network.specs.declared.load_row.LoadRow.{LoadRow}
 use Rattle.ptn_network.specs.Ids.{edge_with, StandsAt}
 use Rattle.ptn_network.specs.Loads.{load_input, load_row_of, load_rules, given_for, loads_of, no_load, IsLoad}
 use Rattle.ptn_network.proofs.EdgeIds.{stands_within, own_id_at}
-use Rattle.ptn_network.proofs.PathSteps.{no_edge}
+use Rattle.walks.proofs.PathSteps.{no_edge}
 
 same_ids : (x y : ℤ) → int_eq x y ≡ true → x ≡ y
 same_ids x y e = (Decides-int_eq x y).0 e

@@ -8,10 +8,11 @@ use Rattle.std.proofs.lemmas.List.{map_push}
 use Rattle.tables.specs.declared.row_why.RowWhy.{RowWhy}
 use Rattle.tables.specs.declared.row_why.RowWhy.TheVariants as why
 use Rattle.tables.specs.Inputs.{broken_whys}
-use Rattle.ptn_network.specs.declared.edge.Edge.{Edge}
+use Rattle.walks.specs.declared.edge.Edge.{Edge}
 use Rattle.ptn_network.specs.declared.edge_row.EdgeRow.{EdgeRow}
 use Rattle.ptn_network.specs.Inputs.{edge_rules}
-use Rattle.ptn_network.specs.Networks.{edge_entry, edge_of, AreKeyed}
+use Rattle.walks.specs.Networks.{AreKeyed}
+use Rattle.ptn_network.specs.Networks.{edge_entry, edge_of}
 
 -- the entries of edges have the ids of the rows
 entry_there : (stops : List ℤ) (rows : List EdgeRow) (id : ℤ)

@@ -1,18 +1,14 @@
 -- What holds of each network that texts give.
 use Rattle.std.proofs.Common.{◌≡◌, ◌≢◌, ℕ, ℤ, pos, ◌+◌, ◌<◌, ◌≤◌, ◌≤ℤ◌, int_lt, Bool, true, false}
-use Rattle.std.proofs.Common.{not, ◌&&◌, ◌||◌, cond, T, List, [], ◌∷◌, ◌++◌, length, map, get_or}
+use Rattle.std.proofs.Common.{not, ◌||◌, cond, T, List, [], ◌∷◌, ◌++◌, length, map, get_or}
 use Rattle.std.proofs.Common.{refl, ap, subst, sym, ◌∙◌, arith, Some, None, lit<}
-use Rattle.std.specs.List.{All, AllByRecursion, list_any, position, position_or_len}
+use Rattle.std.specs.List.{All, list_any, position, position_or_len}
 use Rattle.std.specs.List.Sorted.{IsStrictlySortedBy}
 use Rattle.std.specs.Map.{keys_of, values_of}
 use Rattle.std.specs.Option.{unwrap_or}
-use Rattle.std.specs.Ordering.{int_eq, int_cmp, is_lt}
-use Rattle.std.specs.declared.cmp.Ordering.{Ordering}
-use Rattle.std.specs.declared.cmp.Ordering.TheVariants.{Less, Equal, Greater}
-use Rattle.std.specs.FinMap.{put, is_sorted}
-use Rattle.std.specs.FinMap.Entries.{by_order, below_all}
+use Rattle.std.specs.Ordering.{int_eq, int_cmp}
 use Rattle.std.specs.Int.Signed.{lt_z_no}
-use Rattle.std.proofs.lemmas.Bool.{lt-ltb}
+use Rattle.std.proofs.lemmas.Bool.{lt-ltb, or_parts, not-false}
 use Rattle.std.proofs.lemmas.Bool.Decides.{Decides-int_eq}
 use Rattle.std.proofs.lemmas.Int.{ints}
 use Rattle.std.proofs.lemmas.List.{length-map}
@@ -31,71 +27,15 @@ use Rattle.tables.specs.Inputs.{records, records_of, row_limit, broken_whys, inp
 use Rattle.tables.proofs.Inputs.{few_rows, sound_rows}
 use Rattle.tables.proofs.Ranges.{front_none, back_none}
 use Rattle.tables.proofs.WriteFacts.{in_column}
-use Rattle.ptn_network.specs.declared.edge.Edge.{Edge}
+use Rattle.walks.specs.declared.edge.Edge.{Edge}
 use Rattle.ptn_network.specs.declared.edge_row.EdgeRow.{EdgeRow}
 use Rattle.ptn_network.specs.Inputs.{stop_input, edge_input, edge_row, edge_rules}
-use Rattle.ptn_network.specs.Networks.{by_id, index_in, edge_of, edge_entry, stops_of, network_of, network_faults, IsEdge, IsNetwork, rising}
-use Rattle.ptn_network.proofs.ById.{by_id_sorted, by_id_keyed}
+use Rattle.walks.specs.Networks.{IsEdge, IsNetwork}
+use Rattle.ptn_network.specs.Networks.{edge_of, edge_entry, stops_of, network_of, network_faults}
+use Rattle.walks.specs.RisingIds.{by_id, index_in}
+use Rattle.walks.proofs.ById.{by_id_sorted, by_id_keyed}
+use Rattle.walks.proofs.RisingIds.{all_by_id, length_by_id, rising_rises, sorted_rise}
 use Rattle.ptn_network.proofs.Rows.{no_reason, entries_keyed}
-
--- ---- the order of ids
-
-first_of : (a b : Bool) → T (a && b) → T a
-first_of true b h = tt
-first_of false b h = h
-
-second_of : (a b : Bool) → T (a && b) → T b
-second_of true b h = h
-second_of false b h = absurd h
-
-less : (o : Ordering) → T (is_lt o) → o ≡ Less
-less Less h = refl
-less Equal h = absurd h
-less Greater h = absurd h
-
-above : {X : Type 0} (k : ℤ) (es : List (ℤ × X)) → T (below_all int_cmp k es)
-    → AllByRecursion (λ y. int_cmp k y ≡ Less) (keys_of es)
-above k [] h = tt
-above k (e ∷ es) h = (less _ (first_of _ _ h), above k es (second_of _ _ h))
-
-sorted_rise : {X : Type 0} (es : List (ℤ × X)) → T (is_sorted int_cmp es)
-    → IsStrictlySortedBy int_cmp (keys_of es)
-unfolding IsStrictlySortedBy
-sorted_rise [] h = tt
-sorted_rise (e ∷ es) h = (above e.0 es (first_of _ _ h), sorted_rise es (second_of _ _ h))
-
--- ---- entries by id
-
-length_put : {X : Type 0} (k : ℤ) (v : X) (es : List (ℤ × X))
-    → length (put int_cmp k v es) ≤ length es + 1
-length_put k v [] = omega arith
-length_put k v (e ∷ es) = grind (arith, length_put k v es)
-
-length_by_id : {X : Type 0} (es : List (ℤ × X)) → length (by_id es) ≤ length es
-unfolding by_id
-length_by_id [] = omega arith
-length_by_id (e ∷ es) = omega (arith, length_put e.0 e.1 (by_id es), length_by_id es)
-
-all_put : {X : Type 0} (P : X → Type 0) (k : ℤ) (v : X) (es : List (ℤ × X)) → P v
-    → All P (values_of es) → All P (values_of (put int_cmp k v es))
-all_put P k v [] own all = All-cons P v [] own all
-all_put P k v (e ∷ es) own all =
-    let rest = All-tail P e.1 (values_of es) all in
-    elim (int_cmp k e.0) as (λ o. All P
-    (values_of (by_order o ((k, v) ∷ e ∷ es) ((e.0, v) ∷ es) (e ∷ put int_cmp k v es)))) [
-      | Less ↦ All-cons P v (values_of (e ∷ es)) own all
-      | Equal ↦ All-cons P v (values_of es) own rest
-      | Greater ↦ All-cons P e.1 (values_of (put int_cmp k v es))
-          (All-head P e.1 (values_of es) all) (all_put P k v es own rest)
-    ]
-
--- what holds of each value holds of each by id
-pub all_by_id : {X : Type 0} (P : X → Type 0) (es : List (ℤ × X)) → All P (values_of es)
-    → All P (values_of (by_id es))
-unfolding by_id
-all_by_id P [] all = all
-all_by_id P (e ∷ es) all = all_put P e.0 e.1 (by_id es) (All-head P e.1 (values_of es) all)
-    (all_by_id P es (All-tail P e.1 (values_of es) all))
 
 -- ---- one edge
 
@@ -115,7 +55,7 @@ record IsAt (stops : List ℤ) (id : ℤ) : Type 0 where
 
 is_at : (stops : List ℤ) (id : ℤ) → not (list_any (int_eq id) stops) ≡ false → IsAt stops id
 is_at stops id known =
-    let there : list_any (int_eq id) stops ≡ true = turned _ known in
+    let there : list_any (int_eq id) stops ≡ true = not-false _ known in
     let place = position_or_len (int_eq id) stops in
     let at : position (int_eq id) stops ≡ Some place = ap (λ b. cond b
     (Some place) None) (lt-ltb place (length stops) (passes (int_eq id) stops there)) in
@@ -125,14 +65,6 @@ is_at stops id known =
       within = rw index found.0;
       is = (Decides-int_eq _ _).0 found.1 ∙ ap (λ i. get_or stops i (pos 0)) (sym index);
     }
-  where
-    turned : (b : Bool) → not b ≡ false → b ≡ true
-    turned true e = refl
-    turned false e = cc
-
-neither : (a b : Bool) → (a || b) ≡ false → (a ≡ false) × (b ≡ false)
-neither true b e = cc
-neither false b e = (refl, e)
 
 later_reasons : (b : Bool) (reason : RowWhy) (more : List RowWhy)
     → cond b (reason ∷ []) [] ++ more ≡ [] → more ≡ []
@@ -150,12 +82,12 @@ edge_sound : (stops : List ℤ) (before : List EdgeRow) (cells : List ℤ)
 edge_sound stops before cells none within =
     let row = edge_row cells in
     let known = later_reasons _ why.RepeatedId _ none in
-    let ends = neither _ _ (no_reason _ why.UnknownStop _ known) in
+    let ends = or_parts _ _ (no_reason _ why.UnknownStop _ known) in
     let left = is_at stops row.left ends.0 in
     let right = is_at stops row.right ends.1 in
     let joins = later_reasons _ why.UnknownStop _ known in
     let some = later_reasons _ why.LoopEdge _ joins in
-    let zero = neither _ _ (no_reason _ why.ZeroBound _ some) in
+    let zero = or_parts _ _ (no_reason _ why.ZeroBound _ some) in
     let crossed = no_reason (int_lt row.upper row.lower) why.BoundsCrossed _
     (later_reasons _ why.ZeroBound _ some) in
     let length_in = in_column edge_columns cells 3 kind.Skip (pos 0) within (lit< tt) in
@@ -183,10 +115,6 @@ all_entries P stops (row ∷ rows) all = All-cons P _ (values_of
     (map (edge_entry stops) (records (edge_input stops) rows)))
     (All-head (λ r. P (edge_of stops (edge_row r.cells))) row rows all)
     (all_entries P stops rows (All-tail (λ r. P (edge_of stops (edge_row r.cells))) row rows all))
-
--- ids that were sorted rise
-pub rising_rises : (ids : List ℤ) → IsStrictlySortedBy int_cmp (rising ids)
-rising_rises ids = sorted_rise _ (by_id_sorted _)
 
 stops_rise : (text : List ℕ) → IsStrictlySortedBy int_cmp (stops_of text)
 unfolding stops_of

@@ -4,7 +4,7 @@ use Rattle.std.specs.List.{list_any, find}
 use Rattle.std.specs.Ordering.{int_eq}
 use Rattle.tables.specs.declared.row_why.RowWhy.TheVariants as why
 use Rattle.tables.specs.Inputs.{RowRule}
-use Rattle.ptn_network.specs.declared.edge.Edge.{Edge}
+use Rattle.walks.specs.declared.edge.Edge.{Edge}
 
 -- a stop that is not there
 abbrev pub is_unknown : List ℤ → ℤ → Bool

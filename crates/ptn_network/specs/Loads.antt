@@ -7,9 +7,10 @@ use Rattle.tables.specs.declared.row_why.RowWhy.TheVariants as why
 use Rattle.tables.specs.Columns.{load_columns}
 use Rattle.tables.specs.Inputs.{Input, RowRule, TableRule, records_of, own_id, whole_rule}
 use Rattle.ptn_network.specs.Ids.{known_edge}
-use Rattle.ptn_network.specs.declared.edge.Edge.{Edge}
+use Rattle.walks.specs.declared.edge.Edge.{Edge}
 use Rattle.ptn_network.specs.declared.edge_load.EdgeLoad.{EdgeLoad}
 use Rattle.ptn_network.specs.declared.load_row.LoadRow.{LoadRow}
+use Rattle.plan_num.specs.declared.number.TheConstants.{NUMBER_LIMIT}
 
 -- the load of a row: of the edge of an id, with its bounds of frequency
 abbrev pub load_row_of : List ℤ → LoadRow
@@ -70,7 +71,7 @@ loads_of file edges text = loads_over edges (records_of (load_input file edges) 
 -- a load that is not too great, with bounds of frequency in order
 pub record IsBounded (load : EdgeLoad) : Type 0 where
   pub load_low : pos 0 ≤ℤ load.load
-  pub load_high : load.load ≤ℤ pos 1000000000000000000
+  pub load_high : load.load ≤ℤ pos NUMBER_LIMIT
   pub least_low : pos 0 ≤ℤ load.least
   pub in_order : load.least ≤ℤ load.most
 

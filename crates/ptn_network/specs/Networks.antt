@@ -1,59 +1,13 @@
--- Networks: stops, and edges between them.
-use Rattle.std.specs.Prelude.{◌≡◌, ◌≢◌, ℕ, ℤ, pos, ◌<◌, ◌≤◌, ◌≤ℤ◌, List, [], ◌∷◌, ◌++◌, length, map, position, slice_index_or}
-use Rattle.std.specs.List.{All}
-use Rattle.std.specs.List.Sorted.{IsStrictlySortedBy}
-use Rattle.std.specs.Option.{unwrap_or}
-use Rattle.std.specs.Ordering.{int_eq, int_cmp}
-use Rattle.std.specs.FinMap.{put}
-use Rattle.std.specs.Map.{keys_of, values_of}
+-- Networks as texts tell them: stops and edges by id rising, and every fault of their texts.
+use Rattle.std.specs.Prelude.{ℕ, ℤ, List, [], ◌++◌, length, map, slice_index_or}
+use Rattle.std.specs.Map.{values_of}
 use Rattle.tables.specs.declared.refusal.Refusal.{Refusal}
 use Rattle.tables.specs.Inputs.{records_of, input_faults}
-use Rattle.ptn_network.specs.declared.edge.Edge.{Edge}
+use Rattle.walks.specs.declared.edge.Edge.{Edge}
 use Rattle.ptn_network.specs.declared.edge_row.EdgeRow.{EdgeRow}
 use Rattle.ptn_network.specs.Inputs.{stop_input, edge_input}
-
--- the ids of stops, rising, and edges by id rising
-pub record NetworkParts : Type 0 where
-  pub stops : List ℤ
-  pub edges : List Edge
-
--- what holds of an edge over so many stops: it joins two of them, and has a length and minutes that
--- are some and not too many
-pub record IsEdge (stops : ℕ) (edge : Edge) : Type 0 where
-  pub left : edge.left < stops
-  pub right : edge.right < stops
-  pub apart : edge.left ≢ edge.right
-  pub some_length : pos 1 ≤ℤ edge.length
-  pub short : edge.length ≤ℤ pos 10000000000
-  pub some_time : pos 1 ≤ℤ edge.lower
-  pub in_order : edge.lower ≤ℤ edge.upper
-  pub soon : edge.upper ≤ℤ pos 10000
-
--- what holds of a network: ids rise, stops and edges are within their limits, and each edge is one
--- over the stops
-pub record IsNetwork (network : NetworkParts) : Type 0 where
-  pub stops_rise : IsStrictlySortedBy int_cmp network.stops
-  pub edges_rise : IsStrictlySortedBy int_cmp (map (λ edge. edge.id) network.edges)
-  pub few_stops : length network.stops ≤ 1000
-  pub few_edges : length network.edges ≤ 1000
-  pub edges : All (IsEdge (length network.stops)) network.edges
-
--- entries by id rising: each is put where its id belongs
-unfoldable pub by_id : {X : Type 0} → List (ℤ × X) → List (ℤ × X)
-by_id [] = []
-by_id (entry ∷ entries) = put int_cmp entry.0 entry.1 (by_id entries)
-
--- each entry has the id of its edge
-abbrev pub AreKeyed : List (ℤ × Edge) → Type 0
-AreKeyed entries = keys_of entries ≡ map (λ edge. edge.id) (values_of entries)
-
--- ids, rising
-abbrev pub rising : List ℤ → List ℤ
-rising ids = keys_of (by_id (map (λ id. (id, tt {0})) ids))
-
--- the index of the stop of an id
-abbrev pub index_in : List ℤ → ℤ → ℕ
-index_in stops id = unwrap_or (position (int_eq id) stops) 0
+use Rattle.walks.specs.Networks.{NetworkParts}
+use Rattle.walks.specs.RisingIds.{by_id, index_in, rising}
 
 -- the edge of a row between the stops of two indexes
 abbrev pub edge_between : ℕ → ℕ → EdgeRow → Edge

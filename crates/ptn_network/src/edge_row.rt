@@ -5,8 +5,8 @@ ghost use Rattle.tables.specs.Tables.{no_row};
 ghost use Rattle.ptn_network.specs.Inputs.{edge_row, own_rules, two_ends, some_length, bounds_in_order};
 ghost use Rattle.ptn_network.specs.Networks.{edge_between};
 
-use crate::edge::Edge;
 use tables::{RowWhy, Table};
+use walks::Edge;
 
 /// An edge between the stops of two ids.
 #[derive(Clone, Copy)]

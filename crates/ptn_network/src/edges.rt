@@ -6,14 +6,15 @@ ghost use Rattle.tables.specs.Inputs.{input_faults, records_of, broken_whys, Unl
 ghost use Rattle.indexmap.specs.IndexMap.{get};
 ghost use Rattle.ptn_network.specs.declared.edge_row.EdgeRow.{EdgeRow};
 ghost use Rattle.ptn_network.specs.Inputs.{edge_input, edge_row, edge_rules};
-ghost use Rattle.ptn_network.specs.Networks.{by_id, edge_entry, edge_of};
+ghost use Rattle.ptn_network.specs.Networks.{edge_entry, edge_of};
+ghost use Rattle.walks.specs.RisingIds.{by_id};
 
-use crate::edge::Edge;
 use crate::edge_row::EdgeRow;
 use indexmap::{IndexMap, IndexSet};
 use plan_num::NoMemory;
 use std::alloc::Global;
 use tables::{Counted, FileId, RowFold, RowLimit, RowWhy, StageFault, Table, columns, fold_file};
+use walks::Edge;
 
 const LIMIT: RowLimit = RowLimit {
     what: Counted::Edges,

@@ -2,7 +2,7 @@
 ghost use Rattle.std.specs.Prelude.{◌≡◌, ◌<◌, ⊤, [], List, length, map, slice_get, slice_index_or, not, is_some, option_map, unwrap_or, if◌then◌else◌, None, Some, IfOk, MatchResult};
 ghost use Rattle.std.specs.List.{list_any, All};
 ghost use Rattle.tables.specs.Inputs.{input_faults, broken_whys, UnlessFault};
-ghost use Rattle.ptn_network.specs.Networks.{IsNetwork};
+ghost use Rattle.walks.specs.Networks.{IsNetwork};
 ghost use Rattle.ptn_network.specs.declared.load_row.LoadRow.{LoadRow};
 ghost use Rattle.ptn_network.specs.Ids.{StandsAt};
 ghost use Rattle.ptn_network.specs.Loads.{load_input, load_row_of, load_rules, given_for, loads_of, no_load, IsLoad};

@@ -1,49 +1,32 @@
-// Networks.
-ghost use Rattle.std.specs.Prelude.{◌≡◌, ◌<◌, length, slice_get, position, Some, map};
+// Networks of texts.
+ghost use Rattle.std.specs.Prelude.{◌≡◌, ◌<◌, length, slice_get, position, Some, map, IfOk};
 ghost use Rattle.std.specs.Ordering.{int_eq};
 ghost use Rattle.tables.specs.Inputs.{UnlessFault};
-ghost use Rattle.ptn_network.specs.Networks.{network_of, network_faults, IsEdge, IsNetwork};
-ghost use Rattle.ptn_network.specs.StopEdges.{AreEdgesAt};
+ghost use Rattle.ptn_network.specs.Networks.{network_of, network_faults};
+ghost use Rattle.walks.specs.Networks.{IsEdge, IsNetwork};
+ghost use Rattle.walks.specs.Walks.{edge_length, edge_time, least_sums, AreLeastSums, AreSumsUpTo};
 
-use crate::edge::Edge;
 use crate::edges::read_edges;
-use crate::stop_edges::StopEdges;
 use crate::stops::read_stops;
-use indexmap::{IndexMap, IndexSet};
+use plan_num::NoMemory;
 use std::alloc::Global;
 use std::marker::Model;
 use tables::StageFault;
+use walks::{Edge, Reach};
 
 /// Stops and edges, each by id rising. An index of a stop or of an edge is its place in that order.
+/// Contracts see it as that of `walks`, which it holds.
+#[derive(Drop)]
 pub struct Network {
-    stops: IndexSet<i64>,
-    edges: IndexMap<i64, Edge>,
-    at_stops: StopEdges,
-}
-
-impl Drop for Network {
-    fn drop(self) {
-        let Network {
-            stops: _,
-            edges: _,
-            at_stops: _,
-        } = self;
-    }
+    network: walks::Network,
 }
 
 impl Model for Network {
-    ghost use Rattle.std.specs.Map.{values_of};
-    ghost use Rattle.std.specs.Prelude.{length};
-    ghost use Rattle.ptn_network.specs.Networks.{NetworkParts, AreKeyed, IsNetwork};
-    ghost use Rattle.ptn_network.specs.StopEdges.{AreStopEdges};
+    ghost use Rattle.walks.specs.Networks.{NetworkParts};
 
     ghost Value = { NetworkParts };
 
-    ghost view = { λ n. record { stops = n.stops.keys; edges = values_of n.edges.entries } };
-
-    ghost invariant = { λ n. AreKeyed n.edges.entries
-        × IsNetwork (record { stops = n.stops.keys; edges = values_of n.edges.entries })
-        × AreStopEdges (length n.stops.keys) (values_of n.edges.entries) n.at_stops };
+    ghost view = { λ network. network.network };
 }
 
 impl Network {
@@ -54,12 +37,15 @@ impl Network {
     {
         let stops = read_stops(alloc, stops)?;
         let edges = read_edges(alloc, &stops, edges)?;
-        let at_stops = StopEdges::new(alloc, stops.len(), &edges)?;
-        Ok(Network {
-            stops,
-            edges,
-            at_stops,
-        })
+        let network = walks::Network::new(alloc, stops, edges)?;
+        Ok(Network { network })
+    }
+
+    /// The same, for walks over it.
+    pub fn for_walks(&self) -> &walks::Network
+        ensures { result.now ≡ self.now }
+    {
+        &self.network
     }
 
     /// How many stops there are.
@@ -67,7 +53,7 @@ impl Network {
         ensures count { result ≡ length self.now.stops }
         ensures network { IsNetwork self.now }
     {
-        self.stops.len()
+        self.network.stop_count()
     }
 
     /// How many edges there are.
@@ -75,7 +61,7 @@ impl Network {
         ensures count { result ≡ length self.now.edges }
         ensures network { IsNetwork self.now }
     {
-        self.edges.len()
+        self.network.edge_count()
     }
 
     /// The id of the stop at an index.
@@ -83,21 +69,21 @@ impl Network {
         requires { stop < length self.now.stops }
         ensures { slice_get self.now.stops stop ≡ Some result }
     {
-        self.stops.as_slice()[stop]
+        self.network.stop_id(stop)
     }
 
     /// The index of the stop of an id.
     pub fn stop_index(&self, id: i64) -> Option<usize>
         ensures { result ≡ position (int_eq id) self.now.stops }
     {
-        self.stops.get_index_of(&id)
+        self.network.stop_index(id)
     }
 
     /// The index of the edge of an id.
     pub fn edge_index(&self, id: i64) -> Option<usize>
         ensures { result ≡ position (int_eq id) (map (λ edge. edge.id) self.now.edges) }
     {
-        self.edges.get_index_of(&id)
+        self.network.edge_index(id)
     }
 
     /// The edge at an index.
@@ -106,14 +92,28 @@ impl Network {
         ensures place { slice_get self.now.edges index ≡ Some result }
         ensures sound { IsEdge (length self.now.stops) result }
     {
-        self.edges[index]
+        self.network.edge(index)
     }
 
-    /// The indexes of the edges that can be driven from the stop at an index.
-    pub(crate) fn edges_at(&self, stop: usize) -> &[usize]
-        requires { stop < length self.now.stops }
-        ensures { AreEdgesAt self.now.edges stop result.now }
+    /// The least lengths of walks from a stop, in millionths.
+    pub fn least_lengths(&self, alloc: Global, from: usize) -> Result<Reach, NoMemory>
+        requires { from < length self.now.stops }
+        ensures sums { IfOk result (λ reach. reach ≡ least_sums self.now edge_length from) }
+        ensures least { IfOk result (λ reach. AreLeastSums self.now edge_length from reach) }
+        ensures size { IfOk result (λ reach. length reach ≡ length self.now.stops) }
+        ensures small { IfOk result (λ reach. AreSumsUpTo 10000000000000 reach) }
     {
-        self.at_stops.at(stop)
+        self.network.least_lengths(alloc, from)
+    }
+
+    /// The least times of walks from a stop, in minutes: the sums of the least minutes of drives.
+    pub fn least_times(&self, alloc: Global, from: usize) -> Result<Reach, NoMemory>
+        requires { from < length self.now.stops }
+        ensures sums { IfOk result (λ reach. reach ≡ least_sums self.now edge_time from) }
+        ensures least { IfOk result (λ reach. AreLeastSums self.now edge_time from reach) }
+        ensures size { IfOk result (λ reach. length reach ≡ length self.now.stops) }
+        ensures small { IfOk result (λ reach. AreSumsUpTo 10000000 reach) }
+    {
+        self.network.least_times(alloc, from)
     }
 }

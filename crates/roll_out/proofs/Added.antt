@@ -6,6 +6,7 @@ use Rattle.std.proofs.lemmas.List.{append_assoc, append-nil, map-append, map-id,
 use Rattle.std.proofs.lemmas.List.Elements.{filter-append}
 use Rattle.std.proofs.lemmas.List.FromFn.{map-range_with_len_more, get_or-enumerate_from, length-enumerate_from}
 use Rattle.event_tables.specs.declared.periodic_event.PeriodicEvent.{PeriodicEvent}
+use Rattle.plan_num.proofs.Added.{added_numbered}
 
 -- the ids of the events of the things that pass a test
 abbrev pub ids_where : {X : Type 0} → (X → Bool) → (X → PeriodicEvent) → List X → List ℕ
@@ -93,12 +94,3 @@ numbered_more f a [] x j e =
     let same : a ≡ j = omega (arith, e) in ap (λ n. f (n, x) ∷ []) same
 numbered_more f a (y ∷ xs) x j e =
     ap (λ rest. f (a, y) ∷ rest) (numbered_more f (a + 1) xs x j (omega (arith, e)))
-
--- the next one of some things is added with its number
-pub added_numbered : {X Y : Type 0} (f : ℕ × X → Y) (xs : List X) (i : ℕ) (d : X)
-    (now after : List Y)
-    → i < length xs → now ≡ map f (enumerate_from 1 (take i xs))
-    → after ≡ now ++ f (i + 1, get_or xs i d) ∷ []
-    → after ≡ map f (enumerate_from 1 (take (i + 1) xs))
-added_numbered f xs i d now after h so_far more =
-    grind (arith, get_or, numbered_more, length-take-le, take_more)

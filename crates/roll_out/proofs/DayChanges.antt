@@ -14,7 +14,7 @@ use Rattle.roll_out.specs.DayActivities.{change_copy, is_change, is_copy, change
 use Rattle.roll_out.specs.DayTrips.{day_events}
 use Rattle.roll_out.specs.Plans.{PlanParts, ArePlans, IsBetween, trips_by, copies_by, copies_with, copy_id, copy_time, ids_at, changes_at, changes_by, changes_if}
 use Rattle.roll_out.specs.TimedRuns.{TimedParts, minutes_of}
-use Rattle.roll_out.proofs.Lists.{filter_both, filter_map_is, same_parts, parts_where}
+use Rattle.plan_num.proofs.Parts.{filter_both, filter_map_is, same_parts, parts_where}
 use Rattle.roll_out.proofs.OneCopy.{place_of, copies_are}
 
 pub same_for : {A X : Type 0} (P : A → Type 0) (f g : A → List X) → ((x : A) → P x → f x ≡ g x)

@@ -21,7 +21,8 @@ use Rattle.roll_out.proofs.GoesForward.{changes_stand, forward_between}
 use Rattle.roll_out.proofs.GoodRuns.{IsFit, IsIn, no_true}
 use Rattle.roll_out.proofs.ListedEvents.{IsListed}
 use Rattle.roll_out.proofs.PlacedEvents.{known_ends_is}
-use Rattle.roll_out.proofs.RolledTrips.{IsRolled, append_all}
+use Rattle.roll_out.proofs.RolledTrips.{IsRolled}
+use Rattle.plan_num.proofs.Lists.{append_all}
 
 -- an event of the day is of the kind and at the stop of its periodic event
 pub record IsOf (network : TimedParts) (event : ExpandedEvent) : Type 0 where

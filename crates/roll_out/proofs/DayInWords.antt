@@ -18,8 +18,8 @@ use Rattle.roll_out.specs.DayTrips.{TripParts, departures_of, first_time, is_in_
 use Rattle.roll_out.specs.Plans.{IsDay, IsTimed}
 use Rattle.roll_out.specs.TimedRuns.{TimedParts, minutes_of, timed_from}
 use Rattle.roll_out.proofs.DayChangesGood.{mapped_from, parts_from, passing_all}
-use Rattle.tables.proofs.Members.{Contains-cons, Contains-filter as contains_filter, Contains-flat_map as contains_part}
-use Rattle.tables.proofs.Members.{Contains-map as contains_map, Contains-range as contains_range}
+use Rattle.plan_num.proofs.Members.{Contains-cons, Contains-filter as contains_filter, Contains-flat_map as contains_part}
+use Rattle.plan_num.proofs.Members.{Contains-map as contains_map, Contains-range as contains_range}
 use Rattle.roll_out.proofs.SoundPlans.{ids_in, time_in}
 use Rattle.roll_out.proofs.WholeRuns.{runs_some}
 use Rattle.roll_out.proofs.Spaced.{div_low}

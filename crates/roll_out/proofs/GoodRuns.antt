@@ -4,11 +4,11 @@ use Rattle.std.proofs.Common.{false, ◌&&◌, ◌||◌, not, cond, All, IfSome,
 use Rattle.std.proofs.Common.{filter, get_or, find, Some, refl, ap, subst, sym, ◌∙◌, inl, inr}
 use Rattle.std.specs.List.{flat_map, enumerate_from, count_by, AllByRecursion}
 use Rattle.std.proofs.lemmas.Bool.{eqb-true, eqb-false, false≢true, not-false, cases_Bool}
-use Rattle.std.proofs.lemmas.List.{get_or-map}
+use Rattle.std.proofs.lemmas.List.{get_or-map, get_or_default}
 use Rattle.std.proofs.lemmas.List.Elements.{All-from_recursion, recursion_from_All}
 use Rattle.std.proofs.lemmas.List.FromFn.{get_or-enumerate_from, get_or-range_with_len, length-enumerate_from}
 use Rattle.std.proofs.lemmas.List.Sums.{sum_by-cons}
-use Rattle.tables.proofs.Ranges.{front_none, back_none, unmapped as nothing_mapped}
+use Rattle.tables.proofs.Ranges.{front_none, back_none}
 use Rattle.event_tables.specs.declared.event_kind.EventKind.{EventKind}
 use Rattle.event_tables.specs.declared.event_kind.EventKind.TheVariants as kinds
 use Rattle.event_tables.specs.declared.periodic_activity.PeriodicActivity.{PeriodicActivity}
@@ -22,6 +22,7 @@ use Rattle.roll_out.specs.Plans.{IsBetween, IsTimed}
 use Rattle.roll_out.specs.TimedRuns.{TimedParts, no_event}
 use Rattle.roll_out.proofs.SoundPlans.{between_all}
 use Rattle.roll_out.proofs.WholeRuns.{runs_have, runs_some, runs_whole}
+use Rattle.plan_num.proofs.Lists.{unmapped}
 
 pub no_true : {P : Type 0} → false ≡ true → P
 no_true e = absurd (false≢true e)
@@ -42,12 +43,6 @@ no_parts : {A X : Type 0} (f : A → List X) (xs : List A) → flat_map f xs ≡
 no_parts f [] none = tt
 no_parts f (x ∷ xs) none =
     grind (arith, front_none, back_none, no_parts f xs (back_none (f x) (flat_map f xs) none))
-
-get_or_same : {X : Type 0} (xs : List X) (i : ℕ) (d e : X) → i < length xs → get_or xs i d
-    ≡ get_or xs i e
-get_or_same [] i d e h = absurd (omega (arith, h))
-get_or_same (x ∷ xs) zero d e h = refl
-get_or_same (x ∷ xs) (suc i) d e h = get_or_same xs i d e (omega (arith, h))
 
 -- ---- activities
 
@@ -128,7 +123,7 @@ last_breaks : (run : List PeriodicEvent) → 1 ≤ length run → broken_in run 
     → breaks (length run) (0 + (length run - 1), get_or run (length run - 1) no_event) ≡ false
 last_breaks run some none =
     let all = nothing_passes (breaks (length run)) (enumerate_from 0 run)
-    (nothing_mapped (λ (at : ℕ × PeriodicEvent). at.1) _ none) in
+    (unmapped (λ (at : ℕ × PeriodicEvent). at.1) _ none) in
     let size = length-enumerate_from 0 run in
     let last = All-from_recursion (λ at. breaks (length run) at ≡ false) (enumerate_from 0 run) all
     (length run - 1) (0, no_event) (omega (arith, some, size)) in
@@ -171,7 +166,7 @@ module _ (network : TimedParts) (is : IsTimed network)
       let e : (get_or network.events i d).id - 1 ≡ i = omega (arith, at) in (
         (omega (arith, at), omega (arith, at, h)),
         ap (λ k. get_or network.events k no_event) e
-            ∙ get_or_same network.events i no_event d h,
+            ∙ get_or_default network.events i no_event d h,
       )
 
   all_in : AllByRecursion (λ (run : List PeriodicEvent). AllByRecursion (IsIn network) run)
@@ -198,4 +193,4 @@ pub first_joined : (network : TimedParts) (event next : PeriodicEvent) (run : Li
     → unjoined_in network.activities (event ∷ next ∷ run) ≡ []
     → (way : PeriodicActivity) × (find (leads (event, next)) network.activities ≡ Some way)
 first_joined network event next run none =
-    grind (arith, nothing_passes, nothing_mapped, counted_found, eqb-true, not-false)
+    grind (arith, nothing_passes, unmapped, counted_found, eqb-true, not-false)

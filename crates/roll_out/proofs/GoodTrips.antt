@@ -21,7 +21,7 @@ use Rattle.roll_out.specs.declared.timed_event.TimedEvent.{TimedEvent}
 use Rattle.roll_out.specs.DayTrips.{TripParts, no_timed, numbered_trips, trip_row, trips_of}
 use Rattle.roll_out.specs.RolloutStage.{trip_rows}
 use Rattle.roll_out.specs.TimedRuns.{TimedParts, minutes_on, timed_from, way_on}
-use Rattle.roll_out.proofs.FoundOnes.{found_has}
+use Rattle.plan_num.proofs.Found.{found_has}
 use Rattle.roll_out.proofs.GoodRuns.{IsFit, IsGoodRun, IsIn, drive_takes, first_joined, found_passes, no_true}
 use Rattle.roll_out.proofs.RolledTrips.{IsRolled, leads_kind}
 use Rattle.roll_out.proofs.SoundPlans.{minutes_are, timed_size}

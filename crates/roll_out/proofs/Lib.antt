@@ -5,13 +5,11 @@ mod DayChanges
 mod DayChangesGood
 mod DayInWords
 mod EndsOfTrips
-mod FoundOnes
 mod GoesForward
 mod GoodRuns
 mod GoodTrips
 mod Growing
 mod ListedEvents
-mod Lists
 mod Neighbours
 mod NotedWays
 mod NumberedActivities

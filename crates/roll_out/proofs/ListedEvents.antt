@@ -13,7 +13,7 @@ use Rattle.roll_out.specs.declared.day.Day.{Day}
 use Rattle.roll_out.specs.declared.timed_event.TimedEvent.{TimedEvent}
 use Rattle.roll_out.specs.DayTrips.{TripParts, day_event, day_events, numbered_trips, trip_events, trips_of}
 use Rattle.roll_out.specs.TimedRuns.{TimedParts}
-use Rattle.roll_out.proofs.Lists.{range_parts}
+use Rattle.plan_num.proofs.Parts.{range_parts}
 
 abbrev id_of : ExpandedEvent → ℕ
 id_of event = event.id

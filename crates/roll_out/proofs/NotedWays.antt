@@ -15,6 +15,7 @@ use Rattle.event_tables.specs.RunRules.{lacks_way, leads, same_kind, way_on}
 use Rattle.roll_out.specs.TimedRuns.{TimedParts}
 use Rattle.roll_out.specs.TimedRuns.{way_on as way_from}
 use Rattle.roll_out.specs.Plans.{leaves}
+use Rattle.plan_num.proofs.Lists.{find_passing}
 
 -- ---- those that lead from an event to the next one are among those that leave it
 
@@ -29,13 +30,6 @@ filter_within : {X : Type 0} (test other : X → Bool)
 filter_within test other more [] = refl
 filter_within test other more (x ∷ xs) =
     grind (arith, cases_Bool, fails, filter_within test other more xs)
-
-find_within : {X : Type 0} (test other : X → Bool)
-    → ((x : X) → test x ≡ true → other x ≡ true) → (xs : List X)
-    → find test (filter other xs) ≡ find test xs
-find_within test other more [] = refl
-find_within test other more (x ∷ xs) =
-    grind (arith, cases_Bool, fails, find_within test other more xs)
 
 way_kind : (of : EventKind) (at : PeriodicKind) → same_kind at (way_on of) ≡ true
     → (same_kind at kind.Drive || same_kind at kind.Wait) ≡ true
@@ -56,7 +50,7 @@ lacks_as pair activities =
 
 pub leads_as : (pair : PeriodicEvent × PeriodicEvent) (activities : List PeriodicActivity)
     → find (leads pair) (filter (leaves pair.0.id) activities) ≡ find (leads pair) activities
-leads_as pair activities = find_within (leads pair) (leaves pair.0.id) (leads_on pair) activities
+leads_as pair activities = find_passing (leads pair) (leaves pair.0.id) (leads_on pair) activities
 
 pub way_found : (network : TimedParts) (event next : PeriodicEvent) (behind : List PeriodicEvent)
     → Some next ≡ slice_get behind 0

@@ -16,7 +16,7 @@ use Rattle.roll_out.specs.declared.timed_event.TimedEvent.{TimedEvent}
 use Rattle.roll_out.specs.DayActivities.{is_copy}
 use Rattle.roll_out.specs.DayTrips.{day_event, day_events, trip_events, no_timed}
 use Rattle.roll_out.specs.Plans.{PlanParts, trip_after, plan_trips, trips_by, copies_at, plan_copies, copies_by, copy_id, copy_time, no_copies}
-use Rattle.roll_out.proofs.Lists.{filter_parts, map_parts, same_parts}
+use Rattle.plan_num.proofs.Parts.{filter_parts, map_parts, same_parts}
 
 -- the ids of the periodic events of a run
 abbrev pub run_ids : List TimedEvent → List ℕ

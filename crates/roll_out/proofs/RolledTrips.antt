@@ -18,17 +18,12 @@ use Rattle.roll_out.specs.declared.timed_event.TimedEvent.{TimedEvent}
 use Rattle.roll_out.specs.DayActivities.{day_ways, trip_ways, way_from, way_kind}
 use Rattle.roll_out.specs.DayTrips.{TripParts, day_event, departures_of, numbered_trips, trip_events, trips_of}
 use Rattle.roll_out.specs.TimedRuns.{TimedParts, minutes_of, minutes_on, timed_from, way_on}
-use Rattle.roll_out.proofs.FoundOnes.{found_has}
+use Rattle.plan_num.proofs.Found.{found_has}
 use Rattle.roll_out.proofs.GoesForward.{forward_between, later_stands, waits_stand}
 use Rattle.roll_out.proofs.GoodRuns.{IsFit, IsGoodRun, drive_takes, found_passes}
 use Rattle.roll_out.proofs.ListedEvents.{IsListed, mapped_all}
 use Rattle.roll_out.proofs.SoundPlans.{minutes_are}
-
-pub append_all : {X : Type 0} (P : X → Type 0) (xs ys : List X) → AllByRecursion P xs
-    → AllByRecursion P ys
-    → AllByRecursion P (xs ++ ys)
-append_all P [] ys first second = second
-append_all P (x ∷ xs) ys first second = (first.0, append_all P xs ys first.1 second)
+use Rattle.plan_num.proofs.Lists.{append_all}
 
 no_sync : (event : EventKind) → is_sync (way_kind event) ≡ false
 no_sync kinds.Departure = refl

@@ -17,7 +17,7 @@ use Rattle.tables.specs.Columns.{activities_x_columns, events_x_columns, trips_c
 use Rattle.tables.specs.Inputs.{input_faults, records_of}
 use Rattle.giv_files.specs.Settings.{BundleParts, Fits, SettingsFit}
 use Rattle.giv_files.specs.StageCalls.{StageGives, input_text}
-use Rattle.tables.proofs.Ranges.{front_none, back_none, unmapped as nothing_mapped}
+use Rattle.tables.proofs.Ranges.{front_none, back_none}
 use Rattle.giv_files.proofs.SettingFacts.{amount_within}
 use Rattle.tables.proofs.InTurn.{none_first, none_after}
 use Rattle.giv_files.proofs.StageCalls.{made_unless, none_unless}
@@ -47,13 +47,14 @@ use Rattle.roll_out.proofs.FilesRead.{activities_fine, events_fine, times_fine}
 use Rattle.roll_out.proofs.GoodRuns.{IsFit, all_fit, runs_good}
 use Rattle.roll_out.proofs.GoodTrips.{starts_rise, trip_stops, trip_takes}
 use Rattle.roll_out.proofs.ListedEvents.{IsListed, all_listed, events_placed, parts_of_all}
-use Rattle.roll_out.proofs.RolledTrips.{IsRolled, append_all, trips_rolled, ways_good}
+use Rattle.roll_out.proofs.RolledTrips.{IsRolled, trips_rolled, ways_good}
 use Rattle.roll_out.proofs.RolloutAccepted.{TripGood, activities_accepted, activities_again, activities_back, events_accepted, events_again, events_back, trips_accepted, trips_again, trips_back}
 use Rattle.roll_out.proofs.NumberedActivities.{numbered_good, numbers_are}
 use Rattle.roll_out.proofs.RuleRows.{activity_id, event_id}
 use Rattle.roll_out.proofs.SoundPlans.{between_all, plans_are}
 use Rattle.roll_out.proofs.SoundTrips.{events_counted, trips_counted, trips_sound}
 use Rattle.roll_out.proofs.TripsOfDay.{trips_are}
+use Rattle.plan_num.proofs.Lists.{unmapped, append_all}
 
 module _ (bundle : BundleParts) (own : bundle.stage ≡ stage.Rollout) (fits : Fits bundle)
     (none : rollout_faults bundle ≡ []) (short : long_lists (network_in bundle) (trips_in bundle)
@@ -108,7 +109,7 @@ module _ (bundle : BundleParts) (own : bundle.stage ≡ stage.Rollout) (fits : F
 
   -- it keeps the rules of runs
   keep : KeepRunRules network.events network.activities
-  keep = grind (arith, event_id, activity_id, front_none, runs_none, nothing_mapped, back_none)
+  keep = grind (arith, event_id, activity_id, front_none, runs_none, unmapped, back_none)
 
   fit : All (IsFit network) network.activities
   fit = all_fit network is_timed keep.placed
@@ -252,10 +253,3 @@ pub rollout_is_right : (bundle : BundleParts) (made : Made) → bundle.stage ≡
 unfolding rollout_stage
 rollout_is_right bundle made own fits is =
     grind (arith, none_unless, none_first, none_after, made_unless, made_right)
-
--- what a call gives that meets the stage
-pub right_given : (bundle : BundleParts) (result : Result Made StageFault)
-    → bundle.stage ≡ stage.Rollout → Fits bundle → StageGives (rollout_stage bundle) result
-    → IfOk result (λ made. RolloutIsRight bundle made)
-right_given bundle (Ok made) own fits given = rollout_is_right bundle made own fits given
-right_given bundle (Err fault) own fits given = tt

@@ -21,7 +21,7 @@ use Rattle.std.proofs.lemmas.Int.{ints}
 use Rattle.std.proofs.lemmas.Nat.{div-add-mod', mul-le}
 use Rattle.std.proofs.lemmas.List.{get_or-map}
 use Rattle.std.proofs.lemmas.List.FromFn.{get_or-range_with_len}
-use Rattle.roll_out.proofs.FoundOnes.{found_has}
+use Rattle.plan_num.proofs.Found.{found_has}
 use Rattle.roll_out.proofs.WholeRuns.{runs_few, runs_have, runs_short, runs_some, runs_whole, whole_run}
 
 -- ---- timed events

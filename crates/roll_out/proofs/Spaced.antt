@@ -10,7 +10,7 @@ use Rattle.roll_out.specs.declared.copies.Copies.{Copies}
 use Rattle.roll_out.specs.declared.day.Day.{Day}
 use Rattle.roll_out.specs.DayTrips.{is_in_day, starts}
 use Rattle.roll_out.specs.Plans.{copy_id, copy_time, ids_at, first_start, start_count}
-use Rattle.roll_out.proofs.Lists.{filter_map_is, none_of_range, window, shifted, same_map}
+use Rattle.plan_num.proofs.Parts.{filter_map_is, none_of_range, window, shifted, same_map}
 
 -- ---- the copies at a time
 

@@ -11,10 +11,17 @@
 #![tactic(auto)]
 
 mod files;
+mod large;
+mod many_rows;
 mod script;
+mod spy;
+mod texts;
 mod trouble;
 mod turns;
 
 pub use files::{Play, play_files};
+pub use large::{TOO_LONG, many, splits};
 pub use script::{Script, text_named, with_number};
+pub use spy::{SpyFiles, SpySink};
+pub use texts::{is_piece, piece_of, text_of};
 pub use trouble::Trouble;

@@ -1,12 +1,11 @@
 // What a script changes in its files.
 ghost use Rattle.std.specs.Prelude.{◌≤◌};
 
-use crate::large::{TOO_LONG, many, splits};
 use crate::names::{HAND, MADE, OTHER};
 use crate::player::Player;
 use demo_dataset::demo_files;
 use plan_files::Files;
-use script_files::{Script, Trouble, text_named};
+use script_files::{Script, TOO_LONG, Trouble, many, splits, text_named};
 
 impl Player<'_> {
     // Changes files as a command says, and tells whether there is such a command.

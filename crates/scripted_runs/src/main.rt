@@ -52,10 +52,8 @@
 #![tactic(auto)]
 
 mod change;
-mod large;
 mod names;
 mod player;
-mod spy;
 mod stands;
 mod stops;
 

@@ -1,10 +1,9 @@
 // A player of scripts.
 use crate::names::{KEPT, MADE};
-use crate::spy::{SpyFiles, SpySink};
 use lintim_cli::{Status, lintim};
 use plan_files::{Files, Sink};
 use plan_num::{Steps, Tally};
-use script_files::{Script, Trouble};
+use script_files::{Script, SpyFiles, SpySink, Trouble};
 use std::alloc::{AllocError, Global};
 use std::mem;
 

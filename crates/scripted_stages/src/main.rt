@@ -27,10 +27,8 @@
 
 mod calls;
 mod judges;
-mod large;
 mod player;
 mod setup;
-mod texts;
 mod told;
 
 use crate::player::first_wrong;

@@ -1,9 +1,8 @@
 // A player of scripts.
 use crate::setup::Setup;
-use crate::texts::{is_piece, piece_of};
 use crate::told::outcome;
 use giv_files::Stage;
-use script_files::Trouble;
+use script_files::{Trouble, is_piece, piece_of};
 use std::alloc::{AllocError, Global};
 
 /// The first line of a script that does not hold, and what is told in its place. Some texts have

@@ -1,9 +1,8 @@
 // What a stage is called with, as a script says it.
 use crate::judges::judged;
-use crate::texts::text_of;
 use giv_files::{Bundle, FileId, Key, Settings, Stage};
 use plan_num::NoMemory;
-use script_files::Trouble;
+use script_files::{Trouble, text_of};
 use std::alloc::Global;
 
 // How many inputs a stage takes at most.

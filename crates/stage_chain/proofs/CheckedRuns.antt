@@ -20,7 +20,8 @@ use Rattle.stage_chain.specs.declared.cause.Cause.TheVariants as cause
 use Rattle.stage_chain.specs.declared.finding.Finding.{Finding}
 use Rattle.command_line.specs.declared.ends.RunEnd.TheVariants as end
 use Rattle.stage_chain.specs.Built.{cause_of, files_of, made, trace_of, trace_under}
-use Rattle.stage_chain.specs.Chain.{Halt, Trace, Visit, bundle_by, chain_from, go_on, is_to_run, stage_place, to_run, visit_of}
+use Rattle.stage_chain.specs.Chain.{Halt, Trace, Visit, bundle_by, chain_from, go_on, is_to_run}
+use Rattle.stage_chain.specs.Chain.{stage_place, to_run, visit_of}
 use Rattle.stage_chain.specs.Checks.{check_of, first_found, found_under, judge, lacks_file, standing}
 use Rattle.stage_chain.specs.Hand.{hand_of}
 use Rattle.stage_chain.specs.Passing.{RunsPass}
@@ -31,13 +32,13 @@ use Rattle.stage_chain.specs.Runs.{Trusts, after, run_over, started}
 use Rattle.command_line.specs.declared.mode.Mode.{Mode}
 use Rattle.stage_chain.proofs.BothModes.{honest_start}
 use Rattle.stage_chain.proofs.Keeping.{from_scratch}
-use Rattle.stage_chain.proofs.LeftRight.{left_by, run_files, settings_after}
-use Rattle.stage_chain.proofs.Placed.{ArePlaced}
+use Rattle.stage_chain.proofs.FilesLeftAreRight.{left_by, run_files, settings_after}
+use Rattle.stage_chain.proofs.FoundAmongAllMade.{ArePlaced}
 use Rattle.stage_chain.proofs.Traces.{are_placed, chain, stages_run, traced}
 use Rattle.stage_chain.specs.StageParts.{StageParts}
 use Rattle.stage_chain.specs.Laws.{AreStages, bundle_over}
 use Rattle.stage_chain.proofs.Looked.{bundle_looked, front_given, looked}
-use Rattle.stage_chain.proofs.LeftRight.{looks_there}
+use Rattle.stage_chain.proofs.FilesLeftAreRight.{looks_there}
 
 -- ---- a chain that does not end early makes all its stages
 
@@ -50,9 +51,11 @@ module _ (solve : BundleParts → Result Made Refusal) (values : List ℤ) (hand
       by (visit_of solve values hand made stage) (λ visit. all_visited (made ++ visit.made.files) stages) none
     where
       by : (told : Result Visit Halt)
-          → ((visit : Visit) → (chain_from solve values hand (made ++ visit.made.files) stages).halt ≡ None → length (chain_from solve values hand (made ++ visit.made.files) stages).visits ≡ length stages)
+          → ((visit : Visit) → (chain_from solve values hand (made ++ visit.made.files) stages).halt ≡ None
+          → length (chain_from solve values hand (made ++ visit.made.files) stages).visits ≡ length stages)
           → (go_on told (λ visit. chain_from solve values hand (made ++ visit.made.files) stages)).halt ≡ None
-          → length (go_on told (λ visit. chain_from solve values hand (made ++ visit.made.files) stages)).visits ≡ suc (length stages)
+          → length (go_on told (λ visit. chain_from solve values hand (made ++ visit.made.files) stages)).visits
+          ≡ suc (length stages)
       by (Err halt) rest none = absurd (cc)
       by (Ok visit) rest none = ap suc (rest visit none)
 
@@ -78,10 +81,14 @@ module _ (S : StageParts) (laws : AreStages S) where
         let look = text_in folder in
         let can = laws.placed values place in
         let same = bundle_looked look values at visit.bundle given in
-        let there = sym (looks_there folder place) ∙ ap (files_by look) (sym can.makes ∙ ap stage_makes (sym own)) ∙ found in
-        let here : S.IsRight at visit.bundle visit.made.files = subst (λ own. S.IsRight own visit.bundle visit.made.files) own right in
-        let passes = laws.pass folder values (looked look) place visit.made (ap S.run same ∙ solved) (subst (λ bundle. S.IsRight at bundle visit.made.files) (sym same) here) there in
-        none_by place (bundle_over values (looked look) place) (front_given look values at place can.more visit.bundle can.inputs given) passes.0 passes.1
+        let there =
+        sym (looks_there folder place) ∙ ap (files_by look) (sym can.makes ∙ ap stage_makes (sym own)) ∙ found in
+        let here : S.IsRight at visit.bundle visit.made.files =
+        subst (λ own. S.IsRight own visit.bundle visit.made.files) own right in
+        let passes = laws.pass folder values (looked look) place visit.made (ap S.run same ∙ solved)
+        (subst (λ bundle. S.IsRight at bundle visit.made.files) (sym same) here) there in
+        none_by place (bundle_over values (looked look) place)
+        (front_given look values at place can.more visit.bundle can.inputs given) passes.0 passes.1
 
     -- the first that is found of stages, all of which are to run
     abbrev first_judged : List Stage → Option Finding
@@ -104,11 +111,14 @@ module _ (S : StageParts) (laws : AreStages S) where
         → to_run values (map (S.placed values) places) ≡ map (S.placed values) (to_run values places)
     run_placed [] = refl
     run_placed (place ∷ places) =
-        by (is_to_run values (S.placed values place)) (is_to_run values place) (ap (λ point. nat_le point (stage_place (last_stage_of values))) (laws.placed values place).point) (run_placed places)
+        by (is_to_run values (S.placed values place)) (is_to_run values place)
+        (ap (λ point. nat_le point (stage_place (last_stage_of values))) (laws.placed values place).point)
+        (run_placed places)
       where
         by : (b c : Bool) → b ≡ c
             → to_run values (map (S.placed values) places) ≡ map (S.placed values) (to_run values places)
-            → cond b (S.placed values place ∷ to_run values (map (S.placed values) places)) (to_run values (map (S.placed values) places))
+            → cond b (S.placed values place ∷ to_run values (map (S.placed values) places))
+            (to_run values (map (S.placed values) places))
             ≡ map (S.placed values) (cond c (place ∷ to_run values places) (to_run values places))
         by true true e rest = ap (λ more. S.placed values place ∷ more) rest
         by false false e rest = rest
@@ -158,11 +168,13 @@ module _ (S : StageParts) (laws : AreStages S) where
     passes_under is same none =
         let run = run_placed S laws (after S folder) values S.places in
         let visits = (chain S laws values hand).visits in
-        let placed = subst (λ all. ArePlaced S.run laws.makes values hand all (stages_run S laws values) visits) (sym same) (are_placed S laws values hand) in
+        let placed = subst (λ all. ArePlaced S.run laws.makes values hand all (stages_run S laws values) visits)
+        (sym same) (are_placed S laws values hand) in
         ap (λ settings. found_under S settings (after S folder)) (settings_after S laws folder ∙ is)
         ∙ by_run S laws (after S folder) values S.places
         ∙ all_pass S laws (after S folder) values hand (run_over S folder).files (to_run values S.places) visits
-        (all_visited S.run values hand [] (stages_run S laws values) none ∙ ap length run) (subst (λ stages. ArePlaced S.run laws.makes values hand (run_over S folder).files stages visits) run placed)
+        (all_visited S.run values hand [] (stages_run S laws values) none ∙ ap length run)
+        (subst (λ stages. ArePlaced S.run laws.makes values hand (run_over S folder).files stages visits) run placed)
         (left_by S laws folder values is same)
 
   end_by : (folder : Folder) (trace : Trace) → trace_of S folder ≡ trace
@@ -179,9 +191,16 @@ module _ (S : StageParts) (laws : AreStages S) where
   honest_passes folder honest done = by (sym (from_scratch S laws folder honest).end ∙ done)
     where
       by : (made S (hand_of folder)).end ≡ end.Done → check_of S (after S folder) ≡ None
-      by done = traced S laws (hand_of folder) (λ trace. trace_of S (hand_of folder) ≡ trace → check_of S (after S folder) ≡ None)
-          (λ reason is same. absurd (never reason (sym (end_by S laws (hand_of folder) (trace_under S (Err reason) (hand_of folder)) same) ∙ done)))
-          (λ values is same. passes_under S laws folder values is (run_files S laws folder honest (chain S laws values (hand_of folder)) same) (no_cause (chain S laws values (hand_of folder)).halt (sym (end_by S laws (hand_of folder) (chain S laws values (hand_of folder)) same) ∙ done)))
+      by done =
+          traced S laws (hand_of folder)
+          (λ trace. trace_of S (hand_of folder) ≡ trace → check_of S (after S folder) ≡ None)
+          (λ reason is same.
+          absurd (never reason
+          (sym (end_by S laws (hand_of folder) (trace_under S (Err reason) (hand_of folder)) same) ∙ done)))
+          (λ values is same. passes_under S laws folder values is
+          (run_files S laws folder honest (chain S laws values (hand_of folder)) same)
+          (no_cause (chain S laws values (hand_of folder)).halt
+          (sym (end_by S laws (hand_of folder) (chain S laws values (hand_of folder)) same) ∙ done)))
           refl
 
   pub runs_pass : (by : Mode) (folder : Folder) → RunsPass S by folder

@@ -3,7 +3,7 @@ use Rattle.std.proofs.Common.{◌≡◌, ℕ, Bool, true, false, cond, not, ◌|
 use Rattle.std.proofs.Common.{filter, refl, ap, sym, ◌∙◌}
 use Rattle.std.specs.List.{list_all}
 use Rattle.std.specs.Str.{bytes_eq}
-use Rattle.std.proofs.lemmas.Bool.{false≢true, and_parts, and_from}
+use Rattle.std.proofs.lemmas.Bool.{and_parts, and_from, not-true}
 use Rattle.std.proofs.lemmas.List.Folds.{list_all-append}
 use Rattle.std.proofs.lemmas.Slice.Eq.{bytes_eq-Decides}
 use Rattle.stage_chain.specs.Hand.{is_among}
@@ -51,11 +51,7 @@ pub not_among : (names : List (List ℕ)) (name : List ℕ) → differs_from nam
 not_among [] name h = refl
 not_among (other ∷ names) name h =
     let parts = and_parts _ _ h in
-    ap (λ b. b || is_among name names) (turned (bytes_eq name other) parts.0) ∙ not_among names name parts.1
-  where
-    turned : (b : Bool) → not b ≡ true → b ≡ false
-    turned true e = absurd (false≢true e)
-    turned false e = refl
+    ap (λ b. b || is_among name names) (not-true (bytes_eq name other) parts.0) ∙ not_among names name parts.1
 
 pub none_differ : (names : List (List ℕ)) → Differ names []
 none_differ [] = refl
@@ -67,15 +63,20 @@ front_differ [] others other h k = refl
 front_differ (name ∷ names) others other h k =
     let first = and_parts _ _ h in
     let rest = and_parts _ _ k in
-    and_from _ _ (and_from _ _ (ap not (same_way name other) ∙ first.0) rest.0) (front_differ names others other first.1 rest.1)
+    and_from _ _ (and_from _ _ (ap not (same_way name other) ∙ first.0) rest.0)
+    (front_differ names others other first.1 rest.1)
 
 pub differ_swap : (names others : List (List ℕ)) → Differ names others → Differ others names
 differ_swap [] others h = none_differ others
-differ_swap (name ∷ names) others h = let parts = and_parts _ _ h in front_differ others names name parts.0 (differ_swap names others parts.1)
+differ_swap (name ∷ names) others h =
+    let parts = and_parts _ _ h in
+    front_differ others names name parts.0 (differ_swap names others parts.1)
 
 pub differ_both : (names others more : List (List ℕ)) → Differ names others → Differ names more
     → Differ names (others ++ more)
-differ_both names others more h k = differ_swap (others ++ more) names (all_both (differs_from names) others more (differ_swap names others h) (differ_swap names more k))
+differ_both names others more h k =
+    differ_swap (others ++ more) names
+    (all_both (differs_from names) others more (differ_swap names others h) (differ_swap names more k))
 
 -- differing names in two parts: each part differs, and the one from the other
 pub record Parts (names others : List (List ℕ)) : Type 0 where

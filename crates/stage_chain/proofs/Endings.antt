@@ -116,7 +116,14 @@ module _ (run : BundleParts → Result Made Refusal) where
           (record { fits = fits; refused = λ reason e. absurd (never bundle made reason is e) }) ends.all;
       one = λ at reason halt.
           let more = ends.one at reason halt in
-          record { bundle = more.bundle; given = Contains-append_right (bundle ∷ []) (handed rest) more.bundle more.given; own = more.own; refused = more.refused };
+          record {
+            bundle = more.bundle;
+            given =
+                Contains-append_right (bundle ∷ []) (handed rest) more.bundle more.given;
+            own = more.own;
+            refused =
+                more.refused;
+          };
     }
 
     -- a stage that refuses what it is handed ends the chain
@@ -129,17 +136,22 @@ module _ (run : BundleParts → Result Made Refusal) where
     none_given : (why : Cause) (rest : Visit → Trace) → IsNoRefusal why
         → EndsAtRefusals (go_on (Err (record { cause = why; given = None })) rest)
     none_given (cause.Refused at reason) rest free = absurd free
-    none_given (cause.BadConfig reason) rest free = record { all = λ k d inside. absurd (omega (arith, inside)); one = λ at reason halt. absurd (cc) }
-    none_given (cause.Missing file) rest free = record { all = λ k d inside. absurd (omega (arith, inside)); one = λ at reason halt. absurd (cc) }
-    none_given (cause.TooLong file) rest free = record { all = λ k d inside. absurd (omega (arith, inside)); one = λ at reason halt. absurd (cc) }
+    none_given (cause.BadConfig reason) rest free =
+        record { all = λ k d inside. absurd (omega (arith, inside)); one = λ at reason halt. absurd (cc) }
+    none_given (cause.Missing file) rest free =
+        record { all = λ k d inside. absurd (omega (arith, inside)); one = λ at reason halt. absurd (cc) }
+    none_given (cause.TooLong file) rest free =
+        record { all = λ k d inside. absurd (omega (arith, inside)); one = λ at reason halt. absurd (cc) }
 
     chain_ends : (before : List MadeFile) (stages : List Stage)
         → EndsAtRefusals (chain_from run values hand before stages)
     unfolding visit_of
-    chain_ends before [] = record { all = λ k d inside. absurd (omega (arith, inside)); one = λ at reason halt. absurd (cc) }
+    chain_ends before [] =
+        record { all = λ k d inside. absurd (omega (arith, inside)); one = λ at reason halt. absurd (cc) }
     chain_ends before (at ∷ stages) =
         by (bundle_told values at (texts_of values hand before (stage_inputs at))) refl
-        (told_free values at (texts_of values hand before (stage_inputs at)) (texts_free values hand before (stage_inputs at)))
+        (told_free values at (texts_of values hand before (stage_inputs at))
+        (texts_free values hand before (stage_inputs at)))
         (λ made. chain_ends (before ++ made) stages)
       where
         rest : Visit → Trace
@@ -158,7 +170,8 @@ module _ (run : BundleParts → Result Made Refusal) where
             → bundle_told values at (texts_of values hand before (stage_inputs at)) ≡ told → NoneRefused told → More
             → EndsAtRefusals (go_on (tried run values hand told) rest)
         by (Err why) is free more = none_given why rest free
-        by (Ok bundle) is free more = tries more bundle (given_fits (input_text hand before) values at bundle are is) (run bundle) refl
+        by (Ok bundle) is free more =
+            tries more bundle (given_fits (input_text hand before) values at bundle are is) (run bundle) refl
 
 -- a chain whose settings are refused handed nothing to a stage
 unsettled : (run : BundleParts → Result Made Refusal) (reason : ConfigFault)
@@ -170,10 +183,12 @@ module _ (S : StageParts) (laws : AreStages S) where
   pub ends_at_refusals : (hand : Folder) → EndsAtRefusals S.run (trace_of S hand)
   ends_at_refusals hand = traced S laws hand (EndsAtRefusals S.run)
       (λ reason is. unsettled S.run reason)
-      (λ values is. chain_ends S.run values (effective_settings (look_in hand) values is) hand [] (stages_run S laws values))
+      (λ values is. chain_ends S.run values (effective_settings (look_in hand) values is) hand []
+      (stages_run S laws values))
 
   pub ends_over_kept : (keep hand : Folder)
       → EndsAtRefusals (solve_over S keep) (trace_over S keep hand)
   ends_over_kept keep hand = traced_over S laws keep hand (EndsAtRefusals (solve_over S keep))
       (λ reason is. unsettled (solve_over S keep) reason)
-      (λ values is. chain_ends (solve_over S keep) values (effective_settings (look_in hand) values is) hand [] (stages_run S laws values))
+      (λ values is. chain_ends (solve_over S keep) values (effective_settings (look_in hand) values is) hand []
+      (stages_run S laws values))

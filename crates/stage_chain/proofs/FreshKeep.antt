@@ -58,13 +58,17 @@ module _ (S : StageParts) (laws : AreStages S) (folder : Folder) where
   entries = new_entries base (run_visits S laws base)
 
   kept_under : (name : List ℕ) (kept : Bool) → is_among name keep_names ≡ kept
-      → cond kept (files.get (folder_after entries (made_base S laws base)) name) None ≡ files.get (folder_after entries files.empty) name
+      → cond kept (files.get (folder_after entries (made_base S laws base)) name) None
+      ≡ files.get (folder_after entries files.empty) name
   kept_under name true is =
       let at = keeper name all_stages is in
       after_same entries (made_base S laws base) files.empty name
-      (ap (files.get (made_base S laws base)) at.1 ∙ base_keeps S laws base at.0 ∙ fresh_none folder at.0 ∙ sym (files.get-empty (slice_cmp nat_cmp) name))
+      (ap (files.get (made_base S laws base)) at.1 ∙ base_keeps S laws base at.0 ∙ fresh_none folder at.0
+      ∙ sym (files.get-empty (slice_cmp nat_cmp) name))
   kept_under name false is =
-      sym (get_behind entries files.empty name (none_by is_kept_name name (names_in entries) is (are_apart S laws base (hand_of base)).kept) ∙ files.get-empty (slice_cmp nat_cmp) name)
+      sym (get_behind entries files.empty name
+      (none_by is_kept_name name (names_in entries) is (are_apart S laws base (hand_of base)).kept)
+      ∙ files.get-empty (slice_cmp nat_cmp) name)
 
   pub fresh_keeps : FreshKeeps S folder
   unfolding FreshKeeps after entries_over made_over

@@ -78,7 +78,9 @@ module _ (look : Folder → FileId → Result (List ℕ) Cause) (values : List �
   ended folder files inputs i d stage texts (end.Stopped why) inside same is so_far =
       let all = texts_by (look folder) values in
       ap (λ inputs. bundle_told values stage (all inputs)) (sym same)
-      ∙ ap (bundle_told values stage) (sym so_far ∙ at_drop_more (λ rest. behind texts (all rest)) files i d inside ∙ ap (λ next. behind texts (with_text next (all (drop (i + 1) files)))) is)
+      ∙ ap (bundle_told values stage)
+      (sym so_far ∙ at_drop_more (λ rest. behind texts (all rest)) files i d inside
+      ∙ ap (λ next. behind texts (with_text next (all (drop (i + 1) files)))) is)
   ended folder files inputs i d stage texts end.FileFault inside same is so_far = tt
   ended folder files inputs i d stage texts end.NoMemory inside same is so_far = tt
 

@@ -1,8 +1,8 @@
 -- The files that people write stay as they are.
-use Rattle.std.proofs.Common.{arith, ◌≡◌, ℕ, Bool, true, false, not, List, [], ◌∷◌, ◌++◌, map}
+use Rattle.std.proofs.Common.{arith, ◌≡◌, ℕ, true, not, List, [], ◌∷◌, ◌++◌, map}
 use Rattle.std.proofs.Common.{Option, Ok, refl}
 use Rattle.std.specs.List.{list_all}
-use Rattle.std.proofs.lemmas.Bool.{false≢true, and_parts}
+use Rattle.std.proofs.lemmas.Bool.{and_parts, not-true}
 use Rattle.std.proofs.lemmas.List.{map-append}
 use Rattle.std.proofs.lemmas.List.Folds.{list_all-map}
 use Rattle.plan_files.specs.declared.write.Write.{Write}
@@ -46,7 +46,8 @@ own_no_hand _ = refl
 
 pub makes_no_hand : (stage : Stage) (files : List MadeFile) → MakesAs stage (ids_of files)
     → AreNoHandFiles files
-makes_no_hand stage files makes = (made_list stage (ids_of files) makes).within (λ file. not (is_hand_file file)) (own_no_hand stage)
+makes_no_hand stage files makes =
+    (made_list stage (ids_of files) makes).within (λ file. not (is_hand_file file)) (own_no_hand stage)
 
 pub both_no_hand : (files more : List MadeFile) → AreNoHandFiles files → AreNoHandFiles more
     → AreNoHandFiles (files ++ more)
@@ -73,25 +74,26 @@ module _ (S : StageParts) (laws : AreStages S) where
       → S.run bundle ≡ Ok made → new ≡ with_made old made (entry_put bundle made ∷ [])
       → NamesNoHand new
   more_no_hand old new bundle made h is more = rw more (record {
-    files = both_no_hand old.files made.files h.files (makes_no_hand bundle.stage made.files (laws.makes bundle made is));
+    files =
+        both_no_hand old.files made.files h.files (makes_no_hand bundle.stage made.files (laws.makes bundle made is));
     entries = outside_both is_hand old.entries (entry_put bundle made ∷ []) h.entries (entry_outside bundle made);
   })
 
 -- ---- the writes of a run name no hand file
 
-not_false : (b : Bool) → not b ≡ true → b ≡ false
-not_false true e = absurd (false≢true e)
-not_false false e = refl
-
 puts_outside : (files : List MadeFile) → AreNoHandFiles files
     → AreOutside is_hand (map put_of files)
 puts_outside [] h = tt
-puts_outside (file ∷ files) h = let parts = and_parts _ _ h in (not_false (is_hand (name_of file)) parts.0, puts_outside files parts.1)
+puts_outside (file ∷ files) h =
+    let parts = and_parts _ _ h in
+    (not-true (is_hand (name_of file)) parts.0, puts_outside files parts.1)
 
 pub removals_outside : (names : List (List ℕ)) → list_all (λ name. not (is_hand name)) names ≡ true
     → AreOutside is_hand (map Removal names)
 removals_outside [] h = tt
-removals_outside (name ∷ names) h = let parts = and_parts _ _ h in (not_false (is_hand name) parts.0, removals_outside names parts.1)
+removals_outside (name ∷ names) h =
+    let parts = and_parts _ _ h in
+    (not-true (is_hand name) parts.0, removals_outside names parts.1)
 
 module _ (S : StageParts) (laws : AreStages S) where
   -- whatever of their files the stages made
@@ -119,7 +121,9 @@ module _ (S : StageParts) (laws : AreStages S) where
       let visits = (trace_over S folder (hand_of folder)).visits in
       let apart = are_apart S laws folder (hand_of folder) in
       outside_both is_hand (unmet folder (writes_for S (files_of visits))) (new_entries folder visits)
-      (outside_some (λ write. not (is_met folder write)) is_hand (writes_for S (files_of visits)) (made_outside S laws (files_of visits) (files_no_hand (files_of visits) (apart.within (λ name. not (is_hand name)) laws.list.no_hand))))
+      (outside_some (λ write. not (is_met folder write)) is_hand (writes_for S (files_of visits))
+      (made_outside S laws (files_of visits)
+      (files_no_hand (files_of visits) (apart.within (λ name. not (is_hand name)) laws.list.no_hand))))
       (entries_outside (new_entries folder visits) apart.kept)
 
   -- and none two files by one name
@@ -127,7 +131,8 @@ module _ (S : StageParts) (laws : AreStages S) where
   unfolding writes_of made_over entries_over
   writes_once folder =
       let visits = (trace_over S folder (hand_of folder)).visits in
-      once_some (λ write. not (is_met folder write)) (writes_for S (files_of visits)) (new_entries folder visits) (all_differ S laws folder visits (are_apart S laws folder (hand_of folder)))
+      once_some (λ write. not (is_met folder write)) (writes_for S (files_of visits)) (new_entries folder visits)
+      (all_differ S laws folder visits (are_apart S laws folder (hand_of folder)))
 
 -- writes that name no hand file leave them as before, all or some of them
 pub applied_hand : (writes : List Write) (old new : Option Folder) (before now : Option (List Write))

@@ -4,7 +4,7 @@ use Rattle.std.proofs.Common.{map, Option, Some, None, Result, Ok, Err, refl, ap
 use Rattle.std.proofs.Common.{append_assoc, append-nil, IfOk, arith, fold, ◌+◌, ◌||◌}
 use Rattle.std.specs.List.{list_all, list_any, sum_by}
 use Rattle.std.specs.FinMap as files
-use Rattle.std.proofs.lemmas.Bool.{and_parts}
+use Rattle.std.proofs.lemmas.Bool.{and_parts, or_parts}
 use Rattle.std.proofs.lemmas.List.{map-append}
 use Rattle.std.proofs.lemmas.List.Elements.{filter-append}
 use Rattle.plan_files.specs.declared.write.Write.{Write}
@@ -24,7 +24,6 @@ use Rattle.config_keys.specs.Values.{effective}
 use Rattle.stage_chain.specs.declared.cause.Cause.{Cause}
 use Rattle.stage_chain.specs.declared.holding.Holding.{Holding}
 use Rattle.stage_chain.specs.declared.holding.Holding.TheVariants as holding
-use Rattle.stage_chain.specs.declared.state.StageState.TheVariants as state
 use Rattle.stage_chain.specs.Built.{cause_of, chain_under, files_of}
 use Rattle.stage_chain.specs.Chain.{Trace, Visit, bundle_told, chain_from, go_on, handed, handed_end, is_file}
 use Rattle.stage_chain.specs.Chain.{is_to_run, made_text, solved, texts_of, to_run, tried, visit_of}
@@ -41,9 +40,9 @@ use Rattle.stage_chain.specs.Right.{files_by, found_file}
 use Rattle.stage_chain.proofs.HandAlone.{over_alone}
 use Rattle.stage_chain.proofs.Keeping.{solve_makes}
 use Rattle.stage_chain.proofs.KeptAfter.{AreKept, kept_none}
-use Rattle.stage_chain.proofs.MadeTexts.{names_of, neither, text_nowhere}
+use Rattle.stage_chain.proofs.MadeTexts.{names_of, text_nowhere}
 use Rattle.stage_chain.proofs.NextRuns.{all_tell}
-use Rattle.stage_chain.proofs.Placed.{names_more, own_found}
+use Rattle.stage_chain.proofs.FoundAmongAllMade.{names_more, own_found}
 use Rattle.stage_chain.proofs.Visits.{bundle_stage}
 use Rattle.stage_chain.proofs.Wishes.{AreMet, none_unmet, same_is}
 
@@ -75,7 +74,8 @@ among_by made file told is = subst (λ told. text_among made file ≡ elim told 
           | Ok text ↦ Some text
           | Err why ↦ None
         ]
-            → cond here (Some other.text) (text_among made file) ≡ elim (cond here (Ok other.text) (made_text made file)) as (λ _. Option (List ℕ)) [
+            → cond here (Some other.text) (text_among made file)
+            ≡ elim (cond here (Ok other.text) (made_text made file)) as (λ _. Option (List ℕ)) [
               | Ok text ↦ Some text
               | Err why ↦ None
             ]
@@ -102,7 +102,8 @@ module _ (folder : Folder) (made : List MadeFile) where
       by (Ok text) is stands rest = (there file text stands is, rest)
       by (Err why) is stands rest = rest
 
-  module _ (all : List MadeFile) (own : (name : List ℕ) → is_among name (names_of all) ≡ false → is_among name (names_of made) ≡ false) where
+  module _ (all : List MadeFile)
+      (own : (name : List ℕ) → is_among name (names_of all) ≡ false → is_among name (names_of made) ≡ false) where
     -- and so do removals of what was not
     removals_met : (ids : List FileId) → list_all (stands_as folder made) ids ≡ true
         → AreMet folder (map Removal (names_besides all (map file_name ids)))
@@ -113,7 +114,10 @@ module _ (folder : Folder) (made : List MadeFile) where
       where
         by : (kept : Bool) → is_among (file_name file) (names_of all) ≡ kept → stands_as folder made file ≡ true
             → AreMet folder (map Removal (names_besides all (map file_name ids)))
-            → AreMet folder (map Removal (cond (not kept) (file_name file ∷ names_besides all (map file_name ids)) (names_besides all (map file_name ids))))
+            → AreMet folder
+            (map Removal
+            (cond (not kept) (file_name file ∷ names_besides all (map file_name ids))
+            (names_besides all (map file_name ids))))
         by true is stands rest = rest
         by false is stands rest = (
           same_is (files.get folder (file_name file)) (text_among made file) stands
@@ -135,7 +139,8 @@ module _ (S : StageParts) (laws : AreStages S) (folder : Folder) (values : List 
   kept_so before = record { kept = before; lost = [] }
 
   abbrev chain_on : List MadeFile → List Stage → Trace
-  chain_on before places = chain_from (solve_over S folder) values folder before (to_run values (map (S.placed values) places))
+  chain_on before places =
+      chain_from (solve_over S folder) values folder before (to_run values (map (S.placed values) places))
 
   kept_solves : (bundle : BundleParts) (made : Made) → kept_in folder bundle ≡ Some made
       → solve_over S folder bundle ≡ Ok made
@@ -181,53 +186,64 @@ module _ (S : StageParts) (laws : AreStages S) (folder : Folder) (values : List 
     settled_held : is_to_run values at ≡ true → IsSettled folder place (state_by folder place here) → IsHeld
     settled_held runs settled = by told refl
       where
-        stands_by : (made : Made) (stand : Bool) → list_all (stands_as folder made.files) (stage_makes place) ≡ stand
-            → IsSettled folder place (cond stand state.Kept state.Edited) → stand ≡ true
-        stands_by made true is settled = refl
-        stands_by made false is settled = absurd settled
-
-        kept_by : (bundle : BundleParts) (found : Option Made) → told ≡ Ok bundle → kept_in folder bundle ≡ found → IsHeld
+        kept_by : (bundle : BundleParts) (found : Option Made) → told ≡ Ok bundle → kept_in folder bundle ≡ found
+            → IsHeld
         kept_by bundle None given is =
-            absurd (subst (λ h. IsSettled folder place (state_by folder place h)) (held_here runs ∙ ap (λ told. held (kept_of folder told)) given ∙ ap held is) settled)
+            absurd (subst (λ h. IsSettled folder place (state_by folder place h))
+            (held_here runs ∙ ap (λ told. held (kept_of folder told)) given ∙ ap held is) settled)
         kept_by bundle (Some made) given is = grind (arith, held_here)
 
         by : (found : Result BundleParts Cause) → told ≡ found → IsHeld
         by (Err why) is =
-            absurd (subst (λ h. IsSettled folder place (state_by folder place h)) (held_here runs ∙ ap (λ told. held (kept_of folder told)) is) settled)
+            absurd (subst (λ h. IsSettled folder place (state_by folder place h))
+            (held_here runs ∙ ap (λ told. held (kept_of folder told)) is) settled)
         by (Ok bundle) is = kept_by bundle (kept_in folder bundle) is refl
 
   -- with one stage more that is held
   held_more : (before : List MadeFile) (place : Stage) (places : List Stage) (held : IsHeld before place)
       → IsIdleOn (before ++ held.made.files) places (chain_on (before ++ held.made.files) places)
-      → IsIdleOn before (place ∷ places) (go_on (Ok (record { bundle = held.bundle; made = held.made })) (λ visit. chain_on (before ++ visit.made.files) places))
+      → IsIdleOn before (place ∷ places)
+      (go_on (Ok (record { bundle = held.bundle; made = held.made }))
+      (λ visit. chain_on (before ++ visit.made.files) places))
   held_more before place places held rest =
       let made = held.made.files in
       let at = S.placed values place in
       let own = bundle_stage values at _ held.bundle held.given in
-      let makes = subst (λ own. MakesAs own (ids_of made)) own (solve_makes S laws folder held.bundle held.made (kept_solves held.bundle held.made held.kept)) in
-      let stand : list_all (stands_as folder made) (stage_makes at) ≡ true = ap (list_all (stands_as folder made)) (laws.placed values place).makes ∙ held.stand in
-      let puts = subst (λ files. AreMet folder (map put_of files)) (own_found at made makes) (puts_met folder made (stage_makes at) stand) in
+      let makes = subst (λ own. MakesAs own (ids_of made)) own
+      (solve_makes S laws folder held.bundle held.made (kept_solves held.bundle held.made held.kept)) in
+      let stand : list_all (stands_as folder made) (stage_makes at) ≡ true =
+      ap (list_all (stands_as folder made)) (laws.placed values place).makes ∙ held.stand in
+      let puts = subst (λ files. AreMet folder (map put_of files)) (own_found at made makes)
+      (puts_met folder made (stage_makes at) stand) in
       let behind = files_of (chain_on (before ++ made) places).visits in
       record {
         halt = rest.halt;
         kept = (held.kept, rest.kept);
-        puts = subst (AreMet folder) (sym (map-append put_of made behind)) (met_both folder (map put_of made) (map put_of behind) puts rest.puts);
+        puts = subst (AreMet folder) (sym (map-append put_of made behind))
+            (met_both folder (map put_of made) (map put_of behind) puts rest.puts);
         removals = λ all whole.
             let same : before ++ made ++ behind ≡ all = append_assoc before made behind ∙ whole in
-            let own_names : (name : List ℕ) → is_among name (names_of all) ≡ false → is_among name (names_of made) ≡ false = λ name out. outside before made behind name (ap (λ files. is_among name (names_of files)) same ∙ out) in
+            let own_names : (name : List ℕ) → is_among name (names_of all) ≡ false
+            → is_among name (names_of made) ≡ false =
+            λ name out. outside before made behind name (ap (λ files. is_among name (names_of files)) same ∙ out) in
             subst (λ names. AreMet folder (map Removal (names_besides all names))) (sym (names_more place places))
-            (subst (λ names. AreMet folder (map Removal names)) (sym (filter-append (λ name. not (is_among name (names_of all))) (map file_name (stage_makes place)) (names_made_by places)))
-            (subst (AreMet folder) (sym (map-append Removal (names_besides all (map file_name (stage_makes place))) (names_besides all (names_made_by places))))
-            (met_both folder _ _ (removals_met folder made all own_names (stage_makes place) held.stand) (rest.removals all same))));
+            (subst (λ names. AreMet folder (map Removal names))
+            (sym (filter-append (λ name. not (is_among name (names_of all))) (map file_name (stage_makes place))
+            (names_made_by places)))
+            (subst (AreMet folder)
+            (sym (map-append Removal (names_besides all (map file_name (stage_makes place)))
+            (names_besides all (names_made_by places))))
+            (met_both folder _ _ (removals_met folder made all own_names (stage_makes place) held.stand)
+            (rest.removals all same))));
       }
     where
       outside : (before made behind : List MadeFile) (name : List ℕ)
           → is_among name (names_of (before ++ made ++ behind)) ≡ false → is_among name (names_of made) ≡ false
       outside [] [] behind name out = refl
       outside [] (file ∷ made) behind name out =
-          let parts = neither _ _ out in
+          let parts = or_parts _ _ out in
           ap (λ b. b || is_among name (names_of made)) parts.0 ∙ outside [] made behind name parts.1
-      outside (file ∷ before) made behind name out = outside before made behind name (neither _ _ out).1
+      outside (file ∷ before) made behind name out = outside before made behind name (or_parts _ _ out).1
 
   -- with one more that is off
   off_more : (before : List MadeFile) (place : Stage) (places : List Stage) → HasNoFile folder place
@@ -239,7 +255,8 @@ module _ (S : StageParts) (laws : AreStages S) (folder : Folder) (values : List 
   unfolding visit_of
   idle_on before [] settled = record { halt = refl; kept = tt; puts = tt; removals = λ all whole. tt }
   idle_on before (place ∷ places) settled =
-      by (is_to_run values (S.placed values place)) refl (λ made settled. idle_on (before ++ made) places settled) (idle_on before places)
+      by (is_to_run values (S.placed values place)) refl (λ made settled. idle_on (before ++ made) places settled)
+      (idle_on before places)
     where
       Later : Type 0
       Later = (made : List MadeFile) → AreSettled S folder values (kept_so (before ++ made)) places
@@ -249,12 +266,18 @@ module _ (S : StageParts) (laws : AreStages S) (folder : Folder) (values : List 
       Same = AreSettled S folder values (kept_so before) places → IsIdleOn before places (chain_on before places)
 
       by : (runs : Bool) → is_to_run values (S.placed values place) ≡ runs → Later → Same
-          → IsIdleOn before (place ∷ places) (chain_from (solve_over S folder) values folder before (cond runs (S.placed values place ∷ to_run values (map (S.placed values) places)) (to_run values (map (S.placed values) places))))
+          → IsIdleOn before (place ∷ places)
+          (chain_from (solve_over S folder) values folder before
+          (cond runs (S.placed values place ∷ to_run values (map (S.placed values) places))
+          (to_run values (map (S.placed values) places))))
       by true runs later same =
           let held = settled_held before place runs settled.0 in
-          let rest = later held.made.files (subst (λ h. AreSettled S folder values (known_with (kept_so before) place h) places) held.holds settled.1) in
-          subst (λ visit. IsIdleOn before (place ∷ places) (go_on visit (λ visit. chain_on (before ++ visit.made.files) places)))
-          (sym (ap (tried (solve_over S folder) values folder) held.given ∙ ap (solved (solve_over S folder) values folder held.bundle) (kept_solves held.bundle held.made held.kept)))
+          let rest = later held.made.files (subst (λ h. AreSettled S folder values
+          (known_with (kept_so before) place h) places) held.holds settled.1) in
+          subst (λ visit. IsIdleOn before (place ∷ places)
+          (go_on visit (λ visit. chain_on (before ++ visit.made.files) places)))
+          (sym (ap (tried (solve_over S folder) values folder) held.given
+          ∙ ap (solved (solve_over S folder) values folder held.bundle) (kept_solves held.bundle held.made held.kept)))
           (held_more before place places held rest)
       by false runs later same =
           let off = off_here before place runs in
@@ -269,11 +292,13 @@ module _ (S : StageParts) (laws : AreStages S) (folder : Folder) (values : List 
   kept_work count (visit ∷ visits) kept =
       grind (arith, is_some, kept_work (count + work_over S folder visit.bundle) visits kept.1)
 
-  pub idle_run : effective (look_in folder) ≡ Ok values → AreSettled S folder values nothing_known S.places → IsIdle S folder
+  pub idle_run : effective (look_in folder) ≡ Ok values → AreSettled S folder values nothing_known S.places
+      → IsIdle S folder
   unfolding made_over trace_over writes_of entries_over writes_for
   idle_run is settled =
       let idle = idle_on [] S.places settled in
-      let same : trace_over S folder (hand_of folder) ≡ chain_on [] S.places = over_alone S laws folder folder ∙ ap (λ settings. chain_under S (solve_over S folder) settings folder) is in
+      let same : trace_over S folder (hand_of folder) ≡ chain_on [] S.places =
+      over_alone S laws folder folder ∙ ap (λ settings. chain_under S (solve_over S folder) settings folder) is in
       let visits = (chain_on [] S.places).visits in
       record {
         end = ap (λ (trace : Trace). end_of (cause_of trace.halt)) same ∙ ap (λ halt. end_of (cause_of halt)) idle.halt;
@@ -281,23 +306,31 @@ module _ (S : StageParts) (laws : AreStages S) (folder : Folder) (values : List 
             ∙ ap (λ halt. sum_by (work_over S folder) (map (λ visit. visit.bundle) visits ++ handed_end halt)) idle.halt
             ∙ ap (sum_by (work_over S folder)) (append-nil (map (λ visit. visit.bundle) visits))
             ∙ kept_work 0 visits idle.kept;
-        writes = ap (λ (trace : Trace). unmet folder (writes_for S (files_of trace.visits)) ++ new_entries folder trace.visits) same
+        writes =
+            ap (λ (trace : Trace). unmet folder (writes_for S (files_of trace.visits)) ++ new_entries folder
+            trace.visits) same
             ∙ ap (λ some. unmet folder (writes_for S (files_of visits)) ++ some) (kept_none folder visits idle.kept)
-            ∙ ap (λ some. some ++ []) (none_unmet (writes_for S (files_of visits)) folder (met_both folder _ _ idle.puts (idle.removals (files_of visits) refl)));
+            ∙ ap (λ some. some ++ [])
+            (none_unmet (writes_for S (files_of visits)) folder
+            (met_both folder _ _ idle.puts (idle.removals (files_of visits) refl)));
       }
 
 module _ (S : StageParts) (laws : AreStages S) where
   pub tells_next : (folder : Folder) → TellsNext S folder
   unfolding trace_over
-  tells_next folder = record { stages = tell (effective (look_in folder)) refl; idle = idle (effective (look_in folder)) refl }
+  tells_next folder =
+      record { stages = tell (effective (look_in folder)) refl; idle = idle (effective (look_in folder)) refl }
     where
       tell : (settings : Result (List ℤ) ConfigFault) → effective (look_in folder) ≡ settings
-          → IfOk settings (λ values. AllTell S folder values (handed (trace_over S folder (hand_of folder))) nothing_known S.places)
+          → IfOk settings
+          (λ values. AllTell S folder values (handed (trace_over S folder (hand_of folder))) nothing_known S.places)
       tell (Err reason) is = tt
       tell (Ok values) is =
           subst (λ (trace : Trace). AllTell S folder values (handed trace) nothing_known S.places)
-          (sym (over_alone S laws folder folder ∙ ap (λ settings. chain_under S (solve_over S folder) settings folder) is))
-          (all_tell S laws folder values S.places nothing_known [] (laws.lists values).rise (record { same = λ file out. refl }))
+          (sym (over_alone S laws folder folder
+          ∙ ap (λ settings. chain_under S (solve_over S folder) settings folder) is))
+          (all_tell S laws folder values S.places nothing_known [] (laws.lists values).rise
+          (record { same = λ file out. refl }))
 
       idle : (settings : Result (List ℤ) ConfigFault) → effective (look_in folder) ≡ settings
           → IfOk settings (λ values. AreSettled S folder values nothing_known S.places → IsIdle S folder)

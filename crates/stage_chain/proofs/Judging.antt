@@ -1,9 +1,9 @@
 -- What is found of a stage whose files stand in a folder.
 use Rattle.std.proofs.Common.{arith, ◌≡◌, ℕ, ℤ, Bool, true, false, cond, is_some, List, Option}
 use Rattle.std.proofs.Common.{Some, None, IfSome, IfOk, Result, Ok, Err, refl, ap, subst, sym, ◌∙◌}
-use Rattle.std.proofs.Common.{◌+◌, ◌<◌, ◌≤◌, length, get_or, drop}
+use Rattle.std.proofs.Common.{◌+◌, ◌<◌, length, get_or, drop}
 use Rattle.std.specs.Option.{option_or}
-use Rattle.std.proofs.lemmas.List.{at_drop_more, at_drop_all}
+use Rattle.std.proofs.lemmas.List.{at_drop_more}
 use Rattle.plan_files.specs.Folder.{Folder}
 use Rattle.giv_files.specs.declared.made.MadeFile.{MadeFile}
 use Rattle.giv_files.specs.declared.stage.Stage.{Stage}
@@ -23,7 +23,8 @@ use Rattle.stage_chain.specs.declared.finding.Finding.TheVariants.{BadInput, Bro
 use Rattle.stage_chain.specs.declared.outcome.ChainFault.{ChainFault}
 use Rattle.stage_chain.specs.declared.rule.Rule.TheVariants as rule
 use Rattle.stage_chain.specs.Chain.{bundle_by}
-use Rattle.stage_chain.specs.Checks.{EndedAs, UnsettledAs, check_of, first_found, found_at, found_over, found_under, judge, lacks_file, standing}
+use Rattle.stage_chain.specs.Checks.{EndedAs, UnsettledAs, check_of, first_found, found_at}
+use Rattle.stage_chain.specs.Checks.{found_over, found_under, judge, lacks_file, standing}
 use Rattle.stage_chain.specs.Ends.{Gives, has_failed, is_broken}
 use Rattle.stage_chain.specs.Right.{text_in}
 use Rattle.stage_chain.specs.StageParts.{StageParts}
@@ -51,7 +52,9 @@ module _ (S : StageParts) (laws : AreStages S) where
         → EndedAs stage ended result → FoundIn result folder
     unfolding judge
     ended_in folder (end.Stopped why) result given is =
-        subst (λ result. IfOk result (λ found. found ≡ found_over S folder values stage (bundle_by (text_in folder) values stage))) (sym is) (ap (found_over S folder values stage) (sym given))
+        subst (λ result. IfOk result
+        (λ found. found ≡ found_over S folder values stage (bundle_by (text_in folder) values stage))) (sym is)
+        (ap (found_over S folder values stage) (sym given))
     ended_in folder end.FileFault result given is = rw is tt
     ended_in folder end.NoMemory result given is = rw is tt
 
@@ -84,7 +87,8 @@ module _ (S : StageParts) (laws : AreStages S) where
         → IfSome contents (λ folder. IfOk result (λ found. found ≡ found_over S folder values stage (Ok bundle)))
     judged_there None told some found result same h is e = tt
     judged_there (Some folder) told some found result same h is e =
-        subst (λ result. IfOk result (λ found. found ≡ found_over S folder values stage (Ok bundle))) (sym e) (is ∙ there (lacks_file folder stage) some (standing folder stage) (sym same ∙ h))
+        subst (λ result. IfOk result (λ found. found ≡ found_over S folder values stage (Ok bundle))) (sym e)
+        (is ∙ there (lacks_file folder stage) some (standing folder stage) (sym same ∙ h))
 
   -- ---- stages one after the other
 
@@ -102,8 +106,10 @@ module _ (S : StageParts) (laws : AreStages S) where
     told_some contents now stages all i d None inside same own is there so_far = absurd (cc)
     told_some None now stages all i d (Some some) inside same own is there so_far = tt
     told_some (Some folder) now stages all i d (Some some) inside same own is there so_far =
-        let here = subst (λ now. IfSome now (λ folder. Some some ≡ found_at S folder values (get_or stages i d))) same is in
-        sym (at_drop_more (first_found S folder values) stages i d inside ∙ ap (λ found. option_or found (first_found S folder values (drop (i + 1) stages))) (sym here))
+        let here =
+        subst (λ now. IfSome now (λ folder. Some some ≡ found_at S folder values (get_or stages i d))) same is in
+        sym (at_drop_more (first_found S folder values) stages i d inside
+        ∙ ap (λ found. option_or found (first_found S folder values (drop (i + 1) stages))) (sym here))
         ∙ so_far ∙ ap (first_found S folder values) own
 
     -- nothing is
@@ -116,16 +122,9 @@ module _ (S : StageParts) (laws : AreStages S) where
     told_none None now stages i d None inside same is none so_far = tt
     told_none (Some folder) now stages i d None inside same is none so_far =
         let here = subst (λ now. IfSome now (λ folder. None ≡ found_at S folder values (get_or stages i d))) same is in
-        sym (at_drop_more (first_found S folder values) stages i d inside ∙ ap (λ found. option_or found (first_found S folder values (drop (i + 1) stages))) (sym here))
+        sym (at_drop_more (first_found S folder values) stages i d inside
+        ∙ ap (λ found. option_or found (first_found S folder values (drop (i + 1) stages))) (sym here))
         ∙ so_far
-
-    pub told_end : (contents : Option Folder) (stages all : List Stage) (i : ℕ) → length stages ≤ i
-        → stages ≡ all → IfSome contents (FirstLeft stages (drop i stages))
-        → IfSome contents (λ folder. None ≡ first_found S folder values all)
-    told_end None stages all i past own so_far = tt
-    told_end (Some folder) stages all i past own so_far =
-        sym (at_drop_all (first_found S folder values) stages i past)
-        ∙ so_far ∙ ap (first_found S folder values) own
 
   -- ---- the settings
 
@@ -143,13 +142,15 @@ module _ (S : StageParts) (laws : AreStages S) where
   told_settled None now values result same told h = tt
   told_settled (Some folder) now values (Err fault) same told h = tt
   told_settled (Some folder) now values (Ok found) same told h =
-      found_is folder (Ok values) found told (subst (λ now. IfSome now (λ folder. found ≡ first_found S folder values S.places)) same h)
+      found_is folder (Ok values) found told
+      (subst (λ now. IfSome now (λ folder. found ≡ first_found S folder values S.places)) same h)
 
   unsettled_in : (folder : Folder) (end : ConfigEnd) (result : Result (Option Finding) ChainFault)
       → ConfigGives (effective (look_in folder)) (Err end) → UnsettledAs end result
       → IfOk result (λ found. found ≡ check_of S folder)
   unsettled_in folder (config.Refused reason) result told is =
-      subst (λ result. IfOk result (λ found. found ≡ check_of S folder)) (sym is) (found_is folder (Err reason) (Some (BadInput (cause.BadConfig reason))) told refl)
+      subst (λ result. IfOk result (λ found. found ≡ check_of S folder)) (sym is)
+      (found_is folder (Err reason) (Some (BadInput (cause.BadConfig reason))) told refl)
   unsettled_in folder config.FileFault result told is = rw is tt
   unsettled_in folder config.NoMemory result told is = rw is tt
 

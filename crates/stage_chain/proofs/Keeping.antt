@@ -24,7 +24,8 @@ use Rattle.stage_chain.specs.Built.{trace_of}
 use Rattle.stage_chain.specs.Chain.{bundle_told, chain_from, go_on, input_text, texts_of, to_run}
 use Rattle.stage_chain.specs.Chain.{tried, visit_of}
 use Rattle.stage_chain.specs.Hand.{hand_of}
-use Rattle.stage_chain.specs.Kept.{IsKeptHonest, KeepsNothing, kept_in, kept_or, made_over, solve_over, trace_over, work_over}
+use Rattle.stage_chain.specs.Kept.{IsKeptHonest, KeepsNothing, kept_in, kept_or, made_over}
+use Rattle.stage_chain.specs.Kept.{solve_over, trace_over, work_over}
 use Rattle.stage_chain.specs.Runs.{IsFromScratch, run_over}
 use Rattle.stage_chain.proofs.MadeRight.{given_fits}
 use Rattle.stage_chain.specs.StageParts.{StageParts}
@@ -52,7 +53,8 @@ module _ (S : StageParts) (laws : AreStages S) where
     where
       by : (kept : Option Made) → kept_in keep bundle ≡ kept
           → kept_or kept (S.run bundle) ≡ S.run bundle
-      by (Some some) is = sym (honest_is_made S.run (λ stage. files.get keep (keep_name stage)) honest bundle some fits is)
+      by (Some some) is =
+          sym (honest_is_made S.run (λ stage. files.get keep (keep_name stage)) honest bundle some fits is)
       by None is = refl
 
   module _ (keep : Folder) (honest : IsKeptHonest S keep) (hand : Folder) where
@@ -67,14 +69,19 @@ module _ (S : StageParts) (laws : AreStages S) where
               → bundle_told values stage (texts_of values hand before (stage_inputs stage)) ≡ told
               → tried (solve_over S keep) values hand told ≡ tried S.run values hand told
           by (Err why) is = refl
-          by (Ok bundle) is = ap (λ result. tried (λ _. result) values hand (Ok bundle)) (honest_solve keep honest bundle (given_fits (input_text hand before) values stage bundle are is))
+          by (Ok bundle) is =
+              ap (λ result. tried (λ _. result) values hand (Ok bundle))
+              (honest_solve keep honest bundle (given_fits (input_text hand before) values stage bundle are is))
 
       honest_chain : (before : List MadeFile) (stages : List Stage)
           → chain_from (solve_over S keep) values hand before stages ≡ chain_from S.run values hand before stages
       honest_chain before [] = refl
       honest_chain before (stage ∷ stages) =
-          ap (λ visit. go_on visit (λ visit. chain_from (solve_over S keep) values hand (before ++ visit.made.files) stages)) (honest_visit before stage)
-          ∙ ap (go_on (visit_of S.run values hand before stage)) (λ i visit. honest_chain (before ++ visit.made.files) stages i)
+          ap (λ visit. go_on visit
+          (λ visit. chain_from (solve_over S keep) values hand (before ++ visit.made.files) stages))
+          (honest_visit before stage)
+          ∙ ap (go_on (visit_of S.run values hand before stage))
+          (λ i visit. honest_chain (before ++ visit.made.files) stages i)
 
     -- The chain over an honest keep does what is done from scratch.
     pub honest_trace : trace_over S keep hand ≡ trace_of S hand

@@ -29,7 +29,7 @@ use Rattle.stage_keep.specs.Honest.{IsHonest, kept_for}
 use Rattle.stage_keep.proofs.EntriesRead.{entries_are_read_back}
 use Rattle.stage_keep.proofs.Honesty.{own_kept, read_is_honest}
 use Rattle.stage_chain.specs.Built.{chain_under, files_of}
-use Rattle.stage_chain.specs.Chain.{Halt, Visit, chain_from, input_text, solved}
+use Rattle.stage_chain.specs.Chain.{Halt, Visit, chain_from, input_text}
 use Rattle.stage_chain.specs.Chain.{visit_of}
 use Rattle.stage_chain.specs.Hand.{hand_of, is_among, names_made_by}
 use Rattle.stage_chain.specs.Kept.{HaveEntries, IsKeptHonest, HasEntry, entry_put, kept_in}
@@ -39,7 +39,7 @@ use Rattle.stage_chain.specs.Runs.{without_made, writes_for, writes_of}
 use Rattle.stage_chain.proofs.Differing.{not_among}
 use Rattle.stage_chain.proofs.Keeping.{solve_makes}
 use Rattle.stage_chain.proofs.Left.{other_with, writes_leave}
-use Rattle.stage_chain.proofs.LeftRight.{hand_after}
+use Rattle.stage_chain.proofs.FilesLeftAreRight.{hand_after}
 use Rattle.stage_chain.proofs.MadeRight.{given_fits}
 use Rattle.stage_chain.proofs.Traces.{by_visits, stages_run, traced_over}
 use Rattle.stage_chain.proofs.Visits.{AreVisits, IsHalt, IsVisit, bundle_stage}
@@ -90,10 +90,12 @@ module _ (S : StageParts) (laws : AreStages S) where
     pub base_keeps : (at : Stage) → files.get made_base (keep_name at) ≡ files.get folder (keep_name at)
     base_keeps at =
         let apart = are_apart S laws folder (hand_of folder) in
-        let out = not_among (map name_of (files_of run_visits)) (keep_name at) (apart.within (λ name. not (bytes_eq (keep_name at) name)) (built_apart_of at)) in
+        let out = not_among (map name_of (files_of run_visits)) (keep_name at)
+        (apart.within (λ name. not (bytes_eq (keep_name at) name)) (built_apart_of at)) in
         other_with (files_of run_visits) (without_made S folder) (keep_name at) out
         ∙ get_part (λ name. not (is_among name (names_made_by S.places))) folder (keep_name at)
-        ∙ ap (λ b. cond (not b) (files.get folder (keep_name at)) None) (not_among (names_made_by S.places) (keep_name at) (built_apart_of at))
+        ∙ ap (λ b. cond (not b) (files.get folder (keep_name at)) None)
+        (not_among (names_made_by S.places) (keep_name at) (built_apart_of at))
 
     alike_base : (stages : List Stage) → Alike made_base folder (map keep_name stages)
     alike_base [] = tt
@@ -122,7 +124,8 @@ module _ (S : StageParts) (laws : AreStages S) where
   put_honest : (base : Folder) (visit : Visit) → Fits visit.bundle → HasEntry visit
       → S.run visit.bundle ≡ Ok visit.made → IsKeptHonest S base
       → IsKeptHonest S (after_write (entry_put visit.bundle visit.made) base)
-  put_honest base visit fits entry is honest = λ at bytes there. by at bytes (bytes_eq (keep_name at) (keep_name visit.bundle.stage)) refl
+  put_honest base visit fits entry is honest =
+      λ at bytes there. by at bytes (bytes_eq (keep_name at) (keep_name visit.bundle.stage)) refl
       (sym (get_written (entry_put visit.bundle visit.made) base (keep_name at)) ∙ there)
     where
       by : (at : Stage) (bytes : List ℕ) (here : Bool)
@@ -130,7 +133,8 @@ module _ (S : StageParts) (laws : AreStages S) where
           → cond here (Some (bytes_for visit)) (files.get base (keep_name at)) ≡ Some bytes
           → IsHonest S.run at bytes
       by at bytes true same there =
-          let own : visit.bundle.stage ≡ at = sym (same_stage at visit.bundle.stage ((bytes_eq-Decides (keep_name at) (keep_name visit.bundle.stage)).0 same)) in
+          let own : visit.bundle.stage ≡ at = sym (same_stage at visit.bundle.stage
+          ((bytes_eq-Decides (keep_name at) (keep_name visit.bundle.stage)).0 same)) in
           let text : bytes_for visit ≡ bytes = cc in
           subst (λ at. IsHonest S.run at bytes) own (subst (λ bytes. IsHonest S.run visit.bundle.stage bytes) text
           (read_is_honest S.run visit.bundle visit.made (bytes_for visit) fits (read_back visit entry) is))
@@ -145,21 +149,28 @@ module _ (S : StageParts) (laws : AreStages S) where
     entries_honest before [] (visit ∷ visits) halt base visited back honest = absurd visited
     entries_honest before (at ∷ stages) (visit ∷ visits) halt base visited back honest =
         subst (IsKeptHonest S) (sym (folder_after_both (new_entry keep visit) (new_entries keep visits) base))
-        (entries_honest (before ++ visit.made.files) stages visits halt (folder_after (new_entry keep visit) base) visited.1 back.1 (by (kept_in keep visit.bundle) refl))
+        (entries_honest (before ++ visit.made.files) stages visits halt (folder_after (new_entry keep visit) base)
+        visited.1 back.1 (by (kept_in keep visit.bundle) refl))
       where
         by : (kept : Option Made) → kept_in keep visit.bundle ≡ kept
             → IsKeptHonest S (folder_after (cond (is_some kept) [] (entry_put visit.bundle visit.made ∷ [])) base)
         by (Some made) is = honest
-        by None is = put_honest base visit (given_fits (input_text hand before) values at visit.bundle are visited.0.given) (back.0 is) (not_kept S laws keep visit is visited.0.solved) honest
+        by None is =
+            put_honest base visit (given_fits (input_text hand before) values at visit.bundle are visited.0.given)
+            (back.0 is) (not_kept S laws keep visit is visited.0.solved) honest
 
   -- What a run keeps that started from an honest keep is honest.
   pub honest_after : (folder : Folder) → HaveEntries folder (trace_over S folder (hand_of folder)).visits
       → IsKeptHonest S folder → IsKeptHonest S (after S folder)
   unfolding after entries_over made_over
   honest_after folder back honest =
-      traced_over S laws folder (hand_of folder) (λ trace. HaveEntries folder trace.visits → IsKeptHonest S (folder_after (new_entries folder trace.visits) (made_base S laws folder)))
+      traced_over S laws folder (hand_of folder)
+      (λ trace. HaveEntries folder trace.visits
+      → IsKeptHonest S (folder_after (new_entries folder trace.visits) (made_base S laws folder)))
       (λ reason is _. start)
-      (λ values is back. entries_honest folder values (effective_settings (look_in (hand_of folder)) values is) (hand_of folder) [] (stages_run S laws values) _ _ (made_base S laws folder) (by_visits S laws (solve_over S folder) (solve_makes S laws folder) values (hand_of folder)) back start)
+      (λ values is back. entries_honest folder values (effective_settings (look_in (hand_of folder)) values is)
+      (hand_of folder) [] (stages_run S laws values) _ _ (made_base S laws folder)
+      (by_visits S laws (solve_over S folder) (solve_makes S laws folder) values (hand_of folder)) back start)
       back
     where
       start : IsKeptHonest S (made_base S laws folder)
@@ -173,7 +184,8 @@ abbrev KeepsOn : Folder → Folder → List Stage → List Visit → Type 0
 KeepsOn left keep [] visits = ⊤
 KeepsOn left keep (at ∷ stages) [] = files.get left (keep_name at) ≡ files.get keep (keep_name at)
 KeepsOn left keep (at ∷ stages) (visit ∷ visits) =
-    (files.get left (keep_name at) ≡ cond (is_some (kept_in keep visit.bundle)) (files.get keep (keep_name at)) (Some (bytes_for visit)))
+    (files.get left (keep_name at)
+    ≡ cond (is_some (kept_in keep visit.bundle)) (files.get keep (keep_name at)) (Some (bytes_for visit)))
     × KeepsOn left keep stages visits
 
 -- each stage that was made is kept
@@ -201,51 +213,71 @@ module _ (S : StageParts) (laws : AreStages S) where
     keeps_on before (at ∷ stages) (visit ∷ visits) halt base visited h same =
         let parts = and_parts _ _ h in
         let own : visit.bundle.stage ≡ at = bundle_stage values at _ visit.bundle visited.0.given in
-        let later = entries_within S laws keep values hand (λ other. not (bytes_eq (keep_name at) other)) (before ++ visit.made.files) stages visits halt visited.1 parts.0 in
+        let later = entries_within S laws keep values hand (λ other. not (bytes_eq (keep_name at) other))
+        (before ++ visit.made.files) stages visits halt visited.1 parts.0 in
         let next = folder_after (new_entry keep visit) base in
         let whole = folder_after_both (new_entry keep visit) (new_entries keep visits) base in (
           ap (λ left. files.get left (keep_name at)) whole
-              ∙ get_behind (new_entries keep visits) next (keep_name at) (not_among (names_in (new_entries keep visits)) (keep_name at) later)
+              ∙ get_behind (new_entries keep visits) next (keep_name at)
+              (not_among (names_in (new_entries keep visits)) (keep_name at) later)
               ∙ here (is_some (kept_in keep visit.bundle)) own,
-          subst (λ left. KeepsOn left keep stages visits) (sym whole) (keeps_on (before ++ visit.made.files) stages visits halt next visited.1 parts.1 (still (is_some (kept_in keep visit.bundle)) own parts.0)),
+          subst (λ left. KeepsOn left keep stages visits) (sym whole)
+              (keeps_on (before ++ visit.made.files) stages visits halt next visited.1 parts.1
+              (still (is_some (kept_in keep visit.bundle)) own parts.0)),
         )
       where
         here : (kept : Bool) → visit.bundle.stage ≡ at
-            → files.get (folder_after (cond kept [] (entry_put visit.bundle visit.made ∷ [])) base) (keep_name at) ≡ cond kept (files.get keep (keep_name at)) (Some (bytes_for visit))
+            → files.get (folder_after (cond kept [] (entry_put visit.bundle visit.made ∷ [])) base) (keep_name at)
+            ≡ cond kept (files.get keep (keep_name at)) (Some (bytes_for visit))
         here true own = same.0
         here false own =
             get_written (entry_put visit.bundle visit.made) base (keep_name at)
-            ∙ ap (λ b. cond b (Some (bytes_for visit)) (files.get base (keep_name at))) ((bytes_eq-Decides (keep_name at) (keep_name visit.bundle.stage)).1 (ap keep_name (sym own)))
+            ∙ ap (λ b. cond b (Some (bytes_for visit)) (files.get base (keep_name at)))
+            ((bytes_eq-Decides (keep_name at) (keep_name visit.bundle.stage)).1 (ap keep_name (sym own)))
 
         still : (kept : Bool) → visit.bundle.stage ≡ at
             → differs_from (map keep_name stages) (keep_name at) ≡ true
-            → Alike (folder_after (cond kept [] (entry_put visit.bundle visit.made ∷ [])) base) keep (map keep_name stages)
+            → Alike (folder_after (cond kept [] (entry_put visit.bundle visit.made ∷ [])) base) keep
+            (map keep_name stages)
         still true own out = same.1
-        still false own out = alike_after (entry_put visit.bundle visit.made) base keep (map keep_name stages) (ap (λ s. differs_from (map keep_name stages) (keep_name s)) own ∙ out) same.1
+        still false own out =
+            alike_after (entry_put visit.bundle visit.made) base keep (map keep_name stages)
+            (ap (λ s. differs_from (map keep_name stages) (keep_name s)) own ∙ out) same.1
 
     module _ (left : Folder) where
       -- what is kept of a stage that was made is what was made
       kept_on : (at : Stage) (before : List MadeFile) (visit : Visit)
           → IsVisit (solve_over S keep) values hand before at visit
           → (kept_in keep visit.bundle ≡ None → HasEntry visit)
-          → files.get left (keep_name at) ≡ cond (is_some (kept_in keep visit.bundle)) (files.get keep (keep_name at)) (Some (bytes_for visit))
+          → files.get left (keep_name at)
+          ≡ cond (is_some (kept_in keep visit.bundle)) (files.get keep (keep_name at)) (Some (bytes_for visit))
           → kept_in left visit.bundle ≡ Some visit.made
       unfolding solve_over
       kept_on at before visit is back there =
           let own : visit.bundle.stage ≡ at = bundle_stage values at _ visit.bundle is.given in
           by (kept_in keep visit.bundle) refl is.solved
-          (ap (λ s. files.get left (keep_name s)) own ∙ there ∙ ap (λ s. cond (is_some (kept_in keep visit.bundle)) (files.get keep (keep_name s)) (Some (bytes_for visit))) (sym own))
+          (ap (λ s. files.get left (keep_name s)) own ∙ there
+          ∙ ap (λ s. cond (is_some (kept_in keep visit.bundle)) (files.get keep (keep_name s))
+          (Some (bytes_for visit))) (sym own))
         where
           by : (kept : Option Made) → kept_in keep visit.bundle ≡ kept
               → kept_or (kept_in keep visit.bundle) (S.run visit.bundle) ≡ Ok visit.made
-              → files.get left (keep_name visit.bundle.stage) ≡ cond (is_some (kept_in keep visit.bundle)) (files.get keep (keep_name visit.bundle.stage)) (Some (bytes_for visit))
+              → files.get left (keep_name visit.bundle.stage)
+              ≡ cond (is_some (kept_in keep visit.bundle)) (files.get keep (keep_name visit.bundle.stage))
+              (Some (bytes_for visit))
               → kept_in left visit.bundle ≡ Some visit.made
           by (Some made) kept gives there =
-              let same : made ≡ visit.made = ok_same made visit.made (kept_or (kept_in keep visit.bundle) (S.run visit.bundle)) (ap (λ kept. kept_or kept (S.run visit.bundle)) kept) gives in
-              ap (kept_for visit.bundle) (there ∙ ap (λ kept. cond (is_some kept) (files.get keep (keep_name visit.bundle.stage)) (Some (bytes_for visit))) kept)
+              let same : made ≡ visit.made =
+              ok_same made visit.made (kept_or (kept_in keep visit.bundle) (S.run visit.bundle))
+              (ap (λ kept. kept_or kept (S.run visit.bundle)) kept) gives in
+              ap (kept_for visit.bundle)
+              (there ∙ ap (λ kept. cond (is_some kept) (files.get keep (keep_name visit.bundle.stage))
+              (Some (bytes_for visit))) kept)
               ∙ kept ∙ ap Some same
           by None kept gives there =
-              ap (kept_for visit.bundle) (there ∙ ap (λ kept. cond (is_some kept) (files.get keep (keep_name visit.bundle.stage)) (Some (bytes_for visit))) kept)
+              ap (kept_for visit.bundle)
+              (there ∙ ap (λ kept. cond (is_some kept) (files.get keep (keep_name visit.bundle.stage))
+              (Some (bytes_for visit))) kept)
               ∙ own_kept visit.bundle visit.made (bytes_for visit) (read_back visit (back kept))
 
       kept_gives : (visit : Visit) → kept_in left visit.bundle ≡ Some visit.made
@@ -263,7 +295,8 @@ module _ (S : StageParts) (laws : AreStages S) where
           ⊎_elim (λ none. inl none)
           (λ refused.
           let own : refused.bundle.stage ≡ at = bundle_stage values at _ refused.bundle refused.given in
-          let same : kept_in left refused.bundle ≡ kept_in keep refused.bundle = ap (kept_for refused.bundle) (ap (λ s. files.get left (keep_name s)) own ∙ there ∙ ap (λ s. files.get keep (keep_name s)) (sym own)) in
+          let same : kept_in left refused.bundle ≡ kept_in keep refused.bundle = ap (kept_for refused.bundle)
+          (ap (λ s. files.get left (keep_name s)) own ∙ there ∙ ap (λ s. files.get keep (keep_name s)) (sym own)) in
           inr (record {
             bundle = refused.bundle;
             reason = refused.reason;
@@ -318,7 +351,8 @@ module _ (S : StageParts) (laws : AreStages S) where
       ap (λ settings. (chain_under S (solve_over S folder) settings hand).visits) is
 
   made_by : (folder hand : Folder) (values : List ℤ) → effective (look_in hand) ≡ Ok values
-      → (trace_over S folder hand).visits ≡ (chain_from (solve_over S folder) values hand [] (stages_run S laws values)).visits
+      → (trace_over S folder hand).visits
+      ≡ (chain_from (solve_over S folder) values hand [] (stages_run S laws values)).visits
   unfolding trace_over
   made_by folder hand values is =
       ap (λ settings. (chain_under S (solve_over S folder) settings hand).visits) is
@@ -330,16 +364,20 @@ module _ (S : StageParts) (laws : AreStages S) where
       let hand = hand_of folder in
       let there = ap (λ hand. (trace_over S (after S folder) hand).visits) (hand_after S laws folder) in
       traced_over S laws folder hand
-      (λ trace. (trace_over S folder hand).visits ≡ trace.visits → HaveEntries folder trace.visits → IsStill (after S folder) trace.visits)
+      (λ trace. (trace_over S folder hand).visits ≡ trace.visits → HaveEntries folder trace.visits
+      → IsStill (after S folder) trace.visits)
       (λ reason is same back. record { same = there ∙ none_made (after S folder) hand reason is; kept = tt })
       (λ values is same back.
       let stages = stages_run S laws values in
       let own = by_visits S laws (solve_over S folder) (solve_makes S laws folder) values hand in
-      let on = subst (λ visits. KeepsOn (folder_after (new_entries folder visits) (made_base S laws folder)) folder stages (chain_under S (solve_over S folder) (Ok values) hand).visits) (sym same)
-      (keeps_on folder values hand [] stages _ _ (made_base S laws folder) own (run_apart S laws values) (alike_base S laws folder stages)) in
+      let on = subst (λ visits. KeepsOn (folder_after (new_entries folder visits) (made_base S laws folder)) folder
+      stages (chain_under S (solve_over S folder) (Ok values) hand).visits) (sym same)
+      (keeps_on folder values hand [] stages _ _ (made_base S laws folder) own (run_apart S laws values)
+      (alike_base S laws folder stages)) in
       let still = still_visits folder values hand (after S folder) [] stages _ _ own back on in
       record {
-        same = there ∙ made_by (after S folder) hand values is ∙ visits_are folder values hand (after S folder) [] stages _ _ still.0;
+        same = there ∙ made_by (after S folder) hand values is
+            ∙ visits_are folder values hand (after S folder) [] stages _ _ still.0;
         kept = still.1;
       })
       refl back
@@ -351,8 +389,10 @@ module _ (S : StageParts) (laws : AreStages S) where
   met_left folder =
       let made = files_of (run_visits S laws folder) in
       let apart = are_apart S laws folder (hand_of folder) in
-      met_behind (writes_for S made) (new_entries folder (run_visits S laws folder)) (made_base S laws folder) (files_apart S laws folder (run_visits S laws folder) apart)
-      (subst (λ left. AreMet left (writes_for S made)) (writes_leave S laws made folder) (met_after (writes_for S made) folder (files_differ S laws made apart.differ)))
+      met_behind (writes_for S made) (new_entries folder (run_visits S laws folder)) (made_base S laws folder)
+      (files_apart S laws folder (run_visits S laws folder) apart)
+      (subst (λ left. AreMet left (writes_for S made)) (writes_leave S laws made folder)
+      (met_after (writes_for S made) folder (files_differ S laws made apart.differ)))
 
   -- A further run over what a run left writes nothing.
   pub none_again : (folder : Folder) → HaveEntries folder (trace_over S folder (hand_of folder)).visits
@@ -362,5 +402,6 @@ module _ (S : StageParts) (laws : AreStages S) where
       let made = files_of (run_visits S laws folder) in
       let still = still_under folder back in
       ap (λ some. unmet (after S folder) (writes_for S (files_of some)) ++ new_entries (after S folder) some) still.same
-      ∙ ap (λ some. unmet (after S folder) (writes_for S made) ++ some) (kept_none (after S folder) (run_visits S laws folder) still.kept)
+      ∙ ap (λ some. unmet (after S folder) (writes_for S made) ++ some)
+      (kept_none (after S folder) (run_visits S laws folder) still.kept)
       ∙ ap (λ some. some ++ []) (none_unmet (writes_for S made) (after S folder) (met_left folder))

@@ -51,8 +51,10 @@ pub same_with : (made : List MadeFile) (folder other : Folder) (name : List ℕ)
     → files.get (with_files made folder) name ≡ files.get (with_files made other) name
 same_with [] folder other name same = same refl
 same_with (file ∷ made) folder other name same =
-    same_with made (files.insert folder (name_of file) file.text) (files.insert other (name_of file) file.text) name (λ out.
-    get_written (Put (name_of file) file.text) folder name ∙ by (bytes_eq name (name_of file)) refl out ∙ sym (get_written (Put (name_of file) file.text) other name))
+    same_with made (files.insert folder (name_of file) file.text) (files.insert other (name_of file) file.text) name
+    (λ out.
+    get_written (Put (name_of file) file.text) folder name ∙ by (bytes_eq name (name_of file)) refl out
+    ∙ sym (get_written (Put (name_of file) file.text) other name))
   where
     by : (here : Bool) → bytes_eq name (name_of file) ≡ here
         → is_among name (map name_of made) ≡ false
@@ -66,11 +68,14 @@ pub other_with : (made : List MadeFile) (folder : Folder) (name : List ℕ)
     → files.get (with_files made folder) name ≡ files.get folder name
 other_with [] folder name out = refl
 other_with (file ∷ made) folder name out =
-    by (bytes_eq name (name_of file)) refl out (λ out. other_with made (files.insert folder (name_of file) file.text) name out)
+    by (bytes_eq name (name_of file)) refl out
+    (λ out. other_with made (files.insert folder (name_of file) file.text) name out)
   where
     by : (here : Bool) → bytes_eq name (name_of file) ≡ here
         → (here || is_among name (map name_of made)) ≡ false
-        → (is_among name (map name_of made) ≡ false → files.get (with_files made (files.insert folder (name_of file) file.text)) name ≡ files.get (files.insert folder (name_of file) file.text) name)
+        → (is_among name (map name_of made) ≡ false
+        → files.get (with_files made (files.insert folder (name_of file) file.text)) name
+        ≡ files.get (files.insert folder (name_of file) file.text) name)
         → files.get (with_files made (files.insert folder (name_of file) file.text)) name ≡ files.get folder name
     by true is out more = absurd (false≢true (sym out))
     by false is out more =
@@ -89,7 +94,8 @@ picked true false among rest all alike e = e
 picked false false among rest all alike e = e
 
 among_kept : (name other : List ℕ) (rest : List (List ℕ)) (kept : Bool)
-    → is_among name (cond (not kept) (other ∷ rest) rest) ≡ cond (not kept) (bytes_eq name other || is_among name rest) (is_among name rest)
+    → is_among name (cond (not kept) (other ∷ rest) rest)
+    ≡ cond (not kept) (bytes_eq name other || is_among name rest) (is_among name rest)
 among_kept name other rest true = refl
 among_kept name other rest false = refl
 
@@ -103,28 +109,33 @@ among_besides made [] name = nothing (is_among name (map name_of made))
 among_besides made (other ∷ names) name =
     grind (arith, among_kept, picked, bytes_eq-Decides, among_besides made names name)
 
+none_or : (among : Bool) (found : Option (List ℕ)) → cond among None found ≡ cond (not among) found None
+none_or true found = refl
+none_or false found = refl
+
 module _ (S : StageParts) (laws : AreStages S) where
   -- The writes leave a folder with the files that were made, and without the others that the stages
   -- make.
   pub writes_leave : (made : List MadeFile) (folder : Folder)
       → folder_after (writes_for S made) folder ≡ with_files made (without_made S folder)
   unfolding writes_for
-  writes_leave made folder = same_folder (folder_after (map put_of made ++ map Removal besides) folder) (with_files made (without_made S folder)) (λ name.
-      ap (λ left. files.get left name) (folder_after_both (map put_of made) (map Removal besides) folder ∙ ap (folder_after (map Removal besides)) (puts_leave made folder))
+  writes_leave made folder =
+      same_folder (folder_after (map put_of made ++ map Removal besides) folder)
+      (with_files made (without_made S folder)) (λ name.
+      ap (λ left. files.get left name)
+      (folder_after_both (map put_of made) (map Removal besides) folder
+      ∙ ap (folder_after (map Removal besides)) (puts_leave made folder))
       ∙ get_removed besides (with_files made folder) name
-      ∙ ap (λ gone. cond gone None (files.get (with_files made folder) name)) (among_besides made (names_made_by S.places) name)
+      ∙ ap (λ gone. cond gone None (files.get (with_files made folder) name))
+      (among_besides made (names_made_by S.places) name)
       ∙ by name (is_among name (map name_of made)) refl)
     where
       besides : List (List ℕ)
       besides = names_besides made (names_made_by S.places)
 
-      none_or : (among : Bool) (found : Option (List ℕ))
-          → cond among None found ≡ cond (not among) found None
-      none_or true found = refl
-      none_or false found = refl
-
       by : (name : List ℕ) (among : Bool) → is_among name (map name_of made) ≡ among
-          → cond (cond among false (is_among name (names_made_by S.places))) None (files.get (with_files made folder) name) ≡ files.get (with_files made (without_made S folder)) name
+          → cond (cond among false (is_among name (names_made_by S.places))) None
+          (files.get (with_files made folder) name) ≡ files.get (with_files made (without_made S folder)) name
       by name true is =
           same_with made folder (without_made S folder) name (λ out. absurd (false≢true (sym out ∙ is)))
       by name false is = grind (arith, other_with, none_or, get_part)
@@ -137,7 +148,8 @@ module _ (S : StageParts) (laws : AreStages S) where
       let made = files_of visits in
       let apart = are_apart S laws folder (hand_of folder) in
       folder_after_both (unmet folder (writes_for S made)) (new_entries folder visits) folder
-      ∙ ap (folder_after (new_entries folder visits)) (unmet_leaves (writes_for S made) folder (files_differ S laws made apart.differ) ∙ writes_leave made folder)
+      ∙ ap (folder_after (new_entries folder visits))
+      (unmet_leaves (writes_for S made) folder (files_differ S laws made apart.differ) ∙ writes_leave made folder)
 
 -- ---- a fresh run
 
@@ -150,10 +162,5 @@ pub fresh_left : (folder : Folder)
 fresh_left folder =
     unmet_leaves (map Removal keep_names) folder (ap differing (names_removed keep_names) ∙ keep_names_differ)
     ∙ same_folder (folder_after (map Removal keep_names) folder) (without_keep folder) (λ name.
-    get_removed keep_names folder name ∙ by (is_among name keep_names) (files.get folder name)
+    get_removed keep_names folder name ∙ none_or (is_among name keep_names) (files.get folder name)
     ∙ sym (get_part (λ name. not (is_among name keep_names)) folder name))
-  where
-    by : (among : Bool) (found : Option (List ℕ))
-        → cond among None found ≡ cond (not among) found None
-    by true found = refl
-    by false found = refl

@@ -31,7 +31,9 @@ module _ (look : FileId → Result (List ℕ) Cause) where
       → texts_by look values inputs ≡ Ok texts
       → map (λ file. looked (chosen values file)) inputs ≡ texts
   texts_looked values [] texts e = cc
-  texts_looked values (file ∷ inputs) texts e = one_looked (look (chosen values file)) (texts_by look values inputs) (map (λ file. looked (chosen values file)) inputs) texts (texts_looked values inputs) e
+  texts_looked values (file ∷ inputs) texts e =
+      one_looked (look (chosen values file)) (texts_by look values inputs)
+      (map (λ file. looked (chosen values file)) inputs) texts (texts_looked values inputs) e
 
   told_looked : (values : List ℤ) (stage : Stage) (texts : Result (List (List ℕ)) Cause)
       (some : List (List ℕ)) (bundle : BundleParts)
@@ -45,7 +47,10 @@ module _ (look : FileId → Result (List ℕ) Cause) where
   pub bundle_looked : (values : List ℤ) (stage : Stage) (bundle : BundleParts)
       → bundle_told values stage (texts_by look values (stage_inputs stage)) ≡ Ok bundle
       → bundle_over values looked stage ≡ bundle
-  bundle_looked values stage bundle e = told_looked values stage (texts_by look values (stage_inputs stage)) (map (λ file. looked (chosen values file)) (stage_inputs stage)) bundle (texts_looked values (stage_inputs stage)) e
+  bundle_looked values stage bundle e =
+      told_looked values stage (texts_by look values (stage_inputs stage))
+      (map (λ file. looked (chosen values file)) (stage_inputs stage)) bundle
+      (texts_looked values (stage_inputs stage)) e
 
   pub files_looked : (some : List FileId)
       → files_over looked (ids_of (files_by look some)) ≡ files_by look some
@@ -55,7 +60,8 @@ module _ (look : FileId → Result (List ℕ) Cause) where
     where
       by : (found : Result (List ℕ) Cause) → look file ≡ found
           → files_over looked (ids_of (files_by look some)) ≡ files_by look some
-          → files_over looked (ids_of (found_file file found (files_by look some))) ≡ found_file file found (files_by look some)
+          → files_over looked (ids_of (found_file file found (files_by look some)))
+          ≡ found_file file found (files_by look some)
       by (Ok text) is rest =
           ap (λ t. record { file = file; text = text_or t } ∷ files_over looked (ids_of (files_by look some))) is
           ∙ ap (λ more. record { file = file; text = text } ∷ more) rest
@@ -77,7 +83,8 @@ module _ (look : FileId → Result (List ℕ) Cause) where
       → texts_by look values inputs ≡ Ok (map (λ file. looked (chosen values file)) inputs)
   front_there values [] more texts e = refl
   front_there values (file ∷ inputs) more texts e =
-      one_there (look (chosen values file)) (texts_by look values (inputs ++ more)) (texts_by look values inputs) (map (λ file. looked (chosen values file)) inputs) texts (front_there values inputs more) e
+      one_there (look (chosen values file)) (texts_by look values (inputs ++ more)) (texts_by look values inputs)
+      (map (λ file. looked (chosen values file)) inputs) texts (front_there values inputs more) e
 
   told_there : (values : List ℤ) (stage : Stage) (texts : Result (List (List ℕ)) Cause)
       (bundle : BundleParts) {T : Type 0}
@@ -92,4 +99,5 @@ module _ (look : FileId → Result (List ℕ) Cause) where
       → bundle_by look values place ≡ Ok (bundle_over values looked place)
   front_given values stage place more bundle same given =
       told_there values stage (texts_by look values (stage_inputs stage)) bundle
-      (λ texts found. ap (bundle_told values place) (front_there values (stage_inputs place) more texts (ap (texts_by look values) (sym same) ∙ found))) given
+      (λ texts found. ap (bundle_told values place)
+      (front_there values (stage_inputs place) more texts (ap (texts_by look values) (sym same) ∙ found))) given

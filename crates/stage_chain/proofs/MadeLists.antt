@@ -4,7 +4,6 @@ use Rattle.std.proofs.Common.{filter, refl, arith}
 use Rattle.std.specs.Prelude.{slice_index_or}
 use Rattle.std.specs.List.{list_all, Contains}
 use Rattle.tables.specs.declared.file_id.FileId.{FileId}
-use Rattle.tables.specs.declared.file_id.FileId.TheVariants as file
 use Rattle.giv_files.specs.declared.stage.Stage.{Stage}
 use Rattle.giv_files.specs.declared.stage.Stage.TheVariants as stage
 use Rattle.tables.specs.FileNames.{file_name}
@@ -34,7 +33,8 @@ only_one list files at = by at.0 at.1 at.2
 the_list : (stage : Stage) (files : List FileId) → Contains (stage_makes stage ∷ []) files
     → ((p : FileId → Bool) → list_all p (stage_makes stage) ≡ true → list_all p (always_made stage) ≡ true)
     → differing (map file_name (stage_makes stage)) ≡ true
-    → filter (λ file. is_among (file_name file) (map file_name (stage_makes stage))) (stage_makes stage) ≡ stage_makes stage
+    → filter (λ file. is_among (file_name file) (map file_name (stage_makes stage))) (stage_makes stage)
+    ≡ stage_makes stage
     → IsMadeList stage files
 the_list stage files at always differ kept = grind arith
 

@@ -5,7 +5,7 @@ use Rattle.std.specs.Cmp.Lexicographic.{slice_cmp}
 use Rattle.std.specs.List.{list_all}
 use Rattle.std.specs.Str.{bytes_eq}
 use Rattle.std.specs.FinMap as files
-use Rattle.std.proofs.lemmas.Bool.{false≢true, and_parts}
+use Rattle.std.proofs.lemmas.Bool.{false≢true, and_parts, not-true}
 use Rattle.std.proofs.lemmas.Slice.Eq.{bytes_eq-Decides}
 use Rattle.plan_files.specs.Folder.{Folder}
 use Rattle.plan_files.proofs.OtherFiles.{get_part, same_folder}
@@ -36,33 +36,34 @@ passes_by test name (other ∷ names) among h =
     by true is among here rest = ap test ((bytes_eq-Decides name other).0 is) ∙ here
     by false is among here rest = rest among
 
-turned : (b : Bool) → not b ≡ true → b ≡ false
-turned true e = absurd (false≢true e)
-turned false e = refl
-
 module _ (S : StageParts) (laws : AreStages S) where
   part_in : (folder : Folder) (name : List ℕ) (here : Bool)
       → is_among name (names_made_by S.places) ≡ here
-      → files.get (made_part S (after S folder)) name ≡ files.get (with_files (run_over S folder).files files.empty) name
+      → files.get (made_part S (after S folder)) name
+      ≡ files.get (with_files (run_over S folder).files files.empty) name
   unfolding after entries_over made_over
   part_in folder name true is =
       let visits = (trace_over S folder (hand_of folder)).visits in
       let apart = are_apart S laws folder (hand_of folder) in
-      let no_keep = turned (is_kept_name name) (passes_by (λ name. not (is_kept_name name)) name (names_made_by S.places) is laws.list.no_keep) in
+      let no_keep = not-true (is_kept_name name) (passes_by (λ name. not (is_kept_name name)) name
+      (names_made_by S.places) is laws.list.no_keep) in
       get_part (λ name. is_among name (names_made_by S.places)) (after S folder) name
       ∙ ap (λ b. cond b (files.get (after S folder) name) None) is
-      ∙ get_behind (new_entries folder visits) (with_files (files_of visits) (without_made S folder)) name (none_by is_kept_name name (names_in (new_entries folder visits)) no_keep apart.kept)
+      ∙ get_behind (new_entries folder visits) (with_files (files_of visits) (without_made S folder)) name
+      (none_by is_kept_name name (names_in (new_entries folder visits)) no_keep apart.kept)
       ∙ same_with (files_of visits) (without_made S folder) files.empty name (λ _.
       get_part (λ name. not (is_among name (names_made_by S.places))) folder name
       ∙ ap (λ b. cond (not b) (files.get folder name) None) is ∙ sym (files.get-empty (slice_cmp nat_cmp) name))
   part_in folder name false is =
       let visits = (trace_over S folder (hand_of folder)).visits in
       let apart = are_apart S laws folder (hand_of folder) in
-      let within = apart.within (λ name. is_among name (names_made_by S.places)) (each_among [] (names_made_by S.places)) in
+      let within =
+      apart.within (λ name. is_among name (names_made_by S.places)) (each_among [] (names_made_by S.places)) in
       get_part (λ name. is_among name (names_made_by S.places)) (after S folder) name
       ∙ ap (λ b. cond b (files.get (after S folder) name) None) is
       ∙ sym (files.get-empty (slice_cmp nat_cmp) name)
-      ∙ sym (other_with (files_of visits) files.empty name (none_by (λ name. is_among name (names_made_by S.places)) name (map name_of (files_of visits)) is within))
+      ∙ sym (other_with (files_of visits) files.empty name
+      (none_by (λ name. is_among name (names_made_by S.places)) name (map name_of (files_of visits)) is within))
 
   part_after : (folder : Folder) → made_part S (after S folder) ≡ with_files (run_over S folder).files files.empty
   part_after folder = same_folder (made_part S (after S folder)) (with_files (run_over S folder).files files.empty)

@@ -15,7 +15,7 @@ use Rattle.stage_chain.specs.declared.cause.Cause.{Cause}
 use Rattle.stage_chain.specs.Chain.{Visit, chosen, input_text, with_text, texts_by, bundle_for}
 use Rattle.stage_chain.specs.Chain.{bundle_told, bundle_by}
 use Rattle.stage_chain.specs.Right.{AllStandRight}
-use Rattle.stage_chain.proofs.Placed.{ArePlaced}
+use Rattle.stage_chain.proofs.FoundAmongAllMade.{ArePlaced}
 use Rattle.stage_chain.specs.StageParts.{StageParts}
 use Rattle.stage_chain.specs.Laws.{AreStages}
 
@@ -32,7 +32,8 @@ module _ (look : FileId → Result (List ℕ) Cause) (values : List ℤ) where
   texts_count : (inputs : List FileId) (texts : List (List ℕ))
       → texts_by look values inputs ≡ Ok texts → length texts ≡ length inputs
   texts_count [] texts e = let same : [] ≡ texts = cc in sym (ap length same)
-  texts_count (file ∷ inputs) texts e = one_more (look (chosen values file)) (texts_by look values inputs) (length inputs) texts (texts_count inputs) e
+  texts_count (file ∷ inputs) texts e =
+      one_more (look (chosen values file)) (texts_by look values inputs) (length inputs) texts (texts_count inputs) e
 
   told_fits : (stage : Stage) (texts : Result (List (List ℕ)) Cause) (bundle : BundleParts)
       → AreSettings values
@@ -46,7 +47,8 @@ module _ (look : FileId → Result (List ℕ) Cause) (values : List ℤ) where
   -- what a stage is given fits it
   pub given_fits : (stage : Stage) (bundle : BundleParts) → AreSettings values
       → bundle_by look values stage ≡ Ok bundle → Fits bundle
-  given_fits stage bundle are e = told_fits stage (texts_by look values (stage_inputs stage)) bundle are (texts_count (stage_inputs stage)) e
+  given_fits stage bundle are e =
+      told_fits stage (texts_by look values (stage_inputs stage)) bundle are (texts_count (stage_inputs stage)) e
 
 module _ (S : StageParts) (laws : AreStages S) where
   -- each stage of a chain makes what is right
@@ -63,5 +65,6 @@ module _ (S : StageParts) (laws : AreStages S) where
         All-head,
         given_fits,
         All-tail,
-        visits_right values hand are all stages visits (All-tail (Contains (staged S values)) stage stages run) placed.1,
+        visits_right values hand are all stages visits (All-tail (Contains (staged S values)) stage stages run)
+            placed.1,
       )

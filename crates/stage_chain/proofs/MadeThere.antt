@@ -34,7 +34,8 @@ module _ (folder : Folder) where
   one_there : (file : FileId) (found : Option (List ℕ)) (lacks : Bool) (there more : List MadeFile)
       → is_lacking file found ≡ false
       → joined (there ++ found_one file found) (cond lacks None (Some more))
-      ≡ joined there (cond (is_lacking file found || lacks) None (Some (found_file file (ok_or found (cause.Missing file)) more)))
+      ≡ joined there
+      (cond (is_lacking file found || lacks) None (Some (found_file file (ok_or found (cause.Missing file)) more)))
   one_there file (Some bytes) true there more h = refl
   one_there file (Some bytes) false there more h =
       ap Some (append_assoc there (record { file = file; text = bytes } ∷ []) more)
@@ -51,8 +52,11 @@ module _ (folder : Folder) where
       ≡ all_there folder files
   there_more files i d found there inside is kept so_far =
       let file = get_or files i d in
-      one_there file found (list_any (λ file. is_lacking file (text file)) (drop (i + 1) files)) there (files_by (made_in folder) (drop (i + 1) files)) kept
-      ∙ ap (λ found. joined there (cond (is_lacking file found || list_any (λ file. is_lacking file (text file)) (drop (i + 1) files)) None (Some (found_file file (ok_or found (cause.Missing file)) (files_by (made_in folder) (drop (i + 1) files)))))) is
+      one_there file found (list_any (λ file. is_lacking file (text file)) (drop (i + 1) files)) there
+      (files_by (made_in folder) (drop (i + 1) files)) kept
+      ∙ ap (λ found. joined there
+      (cond (is_lacking file found || list_any (λ file. is_lacking file (text file)) (drop (i + 1) files)) None
+      (Some (found_file file (ok_or found (cause.Missing file)) (files_by (made_in folder) (drop (i + 1) files)))))) is
       ∙ sym (at_drop_more (λ rest. joined there (all_there folder rest)) files i d inside)
       ∙ so_far
 

@@ -4,7 +4,7 @@ use Rattle.std.proofs.Common.{false, cond, not, ltb, All, Contains, List, [], �
 use Rattle.std.proofs.Common.{Option, Some, None, Result, Ok, Err, refl, ap, sym, subst, ◌∙◌, arith}
 use Rattle.std.specs.List.{list_all, list_any}
 use Rattle.std.specs.Str.{bytes_eq}
-use Rattle.std.proofs.lemmas.Bool.{and_parts, ltb-true}
+use Rattle.std.proofs.lemmas.Bool.{and_parts, ltb-true, or_parts}
 use Rattle.std.proofs.lemmas.List.Elements.{All-cons, All-contains, Contains-append_cases}
 use Rattle.std.proofs.lemmas.List.Folds.{list_all-map, list_any-append}
 use Rattle.plan_files.specs.Folder.{Folder}
@@ -35,41 +35,15 @@ use Rattle.stage_chain.specs.States.{lacks_input}
 use Rattle.stage_chain.specs.Laws.{AreStages}
 use Rattle.stage_chain.proofs.Differing.{all_filter, not_among}
 use Rattle.stage_chain.proofs.Keeping.{solve_makes}
-use Rattle.stage_chain.proofs.MadeTexts.{names_of, neither, text_nowhere}
-use Rattle.stage_chain.proofs.Placed.{own_within}
+use Rattle.stage_chain.proofs.MadeTexts.{names_of, or_missing, or_text, text_both, text_nowhere}
+use Rattle.stage_chain.proofs.FoundAmongAllMade.{own_within}
 use Rattle.stage_chain.proofs.Visits.{bundle_stage}
-
--- ---- the text of a file among files that were made, and others after them
-
-abbrev or_text : Result (List ℕ) Cause → Result (List ℕ) Cause → Result (List ℕ) Cause
-or_text (Ok text) other = Ok text
-or_text (Err why) other = other
-
-text_both : (made more : List MadeFile) (file : FileId)
-    → made_text (made ++ more) file ≡ or_text (made_text made file) (made_text more file)
-text_both [] more file = refl
-text_both (other ∷ made) more file = by (is_file other.file file) (text_both made more file)
-  where
-    by : (here : Bool) → made_text (made ++ more) file ≡ or_text (made_text made file) (made_text more file)
-        → cond here (Ok other.text) (made_text (made ++ more) file) ≡ or_text (cond here (Ok other.text) (made_text made file)) (made_text more file)
-    by true rest = refl
-    by false rest = rest
-
-or_missing : (made : List MadeFile) (file : FileId)
-    → or_text (made_text made file) (Err (cause.Missing file)) ≡ made_text made file
-or_missing [] file = refl
-or_missing (other ∷ made) file = by (is_file other.file file) (or_missing made file)
-  where
-    by : (here : Bool) → or_text (made_text made file) (Err (cause.Missing file)) ≡ made_text made file
-        → or_text (cond here (Ok other.text) (made_text made file)) (Err (cause.Missing file)) ≡ cond here (Ok other.text) (made_text made file)
-    by true rest = refl
-    by false rest = rest
 
 none_all : {X : Type 0} (p : X → Bool) (xs : List X) → list_any p xs ≡ false
     → list_all (λ x. not (p x)) xs ≡ true
 none_all p [] none = refl
 none_all p (x ∷ xs) none =
-    let parts = neither _ _ none in
+    let parts = or_parts _ _ none in
     by (p x) parts.0 (none_all p xs parts.1)
   where
     by : (b : Bool) → b ≡ false → list_all (λ x. not (p x)) xs ≡ true
@@ -81,8 +55,11 @@ none_all p (x ∷ xs) none =
 none_else : (at : Stage) (made : List MadeFile) (file : FileId) → MakesAs at (ids_of made)
     → is_one_of (stage_makes at) file ≡ false → made_text made file ≡ Err (cause.Missing file)
 none_else at made file makes none =
-    let apart = list_all-map (λ name. not (bytes_eq (file_name file) name)) file_name (stage_makes at) ∙ none_all (is_file file) (stage_makes at) none in
-    text_nowhere made file (not_among (names_of made) (file_name file) (own_within at made makes (λ name. not (bytes_eq (file_name file) name)) apart))
+    let apart = list_all-map (λ name. not (bytes_eq (file_name file) name)) file_name (stage_makes at)
+    ∙ none_all (is_file file) (stage_makes at) none in
+    text_nowhere made file
+    (not_among (names_of made) (file_name file)
+    (own_within at made makes (λ name. not (bytes_eq (file_name file) name)) apart))
 
 -- ---- what is known of the stages before one, and what the next run made there
 
@@ -104,21 +81,23 @@ module _ (folder : Folder) where
       → texts_by (input_text folder known.kept) values inputs ≡ texts_of values folder before inputs
   texts_alike values known before alike [] none = refl
   texts_alike values known before alike (file ∷ inputs) none =
-      let parts = neither _ _ none in
+      let parts = or_parts _ _ none in
       let input = chosen values file in
-      ap (λ text. with_text text (texts_by (input_text folder known.kept) values inputs)) (from_same (origin_of input) known.kept before input (alike.same input parts.0))
+      ap (λ text. with_text text (texts_by (input_text folder known.kept) values inputs))
+      (from_same (origin_of input) known.kept before input (alike.same input parts.0))
       ∙ ap (with_text (input_text folder before input)) (texts_alike values known before alike inputs parts.1)
 
   held_alike : (known : KnownFiles) (before made : List MadeFile) → IsAlike known before
       → IsAlike (record { kept = known.kept ++ made; lost = known.lost }) (before ++ made)
   held_alike known before made alike = grind (arith, text_both)
 
-  lost_alike : (known : KnownFiles) (before made : List MadeFile) (place at : Stage) → stage_makes at ≡ stage_makes place
+  lost_alike : (known : KnownFiles) (before made : List MadeFile) (place at : Stage)
+      → stage_makes at ≡ stage_makes place
       → MakesAs at (ids_of made) → IsAlike known before
       → IsAlike (record { kept = known.kept; lost = known.lost ++ stage_makes place }) (before ++ made)
   lost_alike known before made place at own makes alike = record {
     same = λ file out.
-        let parts = neither _ _ (sym (list_any-append (is_file file) known.lost (stage_makes place)) ∙ out) in
+        let parts = or_parts _ _ (sym (list_any-append (is_file file) known.lost (stage_makes place)) ∙ out) in
         let none = none_else at made file makes (ap (λ files. is_one_of files file) own ∙ parts.1) in
         alike.same file parts.0
         ∙ sym (text_both before made file ∙ ap (or_text (made_text before file)) none ∙ or_missing before file);
@@ -142,7 +121,8 @@ module _ (solve : BundleParts → Result Made Refusal) (values : List ℤ) (fold
   all_later before [] rise = λ k d inside. absurd (omega (arith, inside))
   all_later before (at ∷ stages) rise =
       let parts = and_parts _ _ rise in
-      by (bundle_told values at (texts_of values folder before (stage_inputs at))) refl parts.0 (λ made. all_later (before ++ made) stages parts.1)
+      by (bundle_told values at (texts_of values folder before (stage_inputs at))) refl parts.0
+      (λ made. all_later (before ++ made) stages parts.1)
     where
       rest : Visit → Trace
       rest visit = chain_from solve values folder (before ++ visit.made.files) stages
@@ -155,12 +135,14 @@ module _ (solve : BundleParts → Result Made Refusal) (values : List ℤ) (fold
       by (Err why) is here more = λ k d inside. absurd (omega (arith, inside))
       by (Ok bundle) is here more =
           let own : bundle.stage ≡ at = bundle_stage values at _ bundle is in
-          let later : IsLater bundle = subst (λ own. place < stage_place own) (sym own) (ltb-true place (stage_place at) here) in
+          let later : IsLater bundle =
+          subst (λ own. place < stage_place own) (sym own) (ltb-true place (stage_place at) here) in
           tries later (solve bundle)
         where
           tries : IsLater bundle → (result : Result Made Refusal)
               → All IsLater (handed (go_on (solved solve values folder bundle result) rest))
-          tries later (Ok made) = All-cons IsLater bundle (handed (rest (record { bundle = bundle; made = made }))) later (more made.files)
+          tries later (Ok made) =
+              All-cons IsLater bundle (handed (rest (record { bundle = bundle; made = made }))) later (more made.files)
           tries later (Err reason) = All-cons IsLater bundle [] later (λ k d inside. absurd (omega (arith, inside)))
 
 module _ (S : StageParts) (laws : AreStages S) (folder : Folder) (values : List ℤ) where
@@ -178,8 +160,11 @@ module _ (S : StageParts) (laws : AreStages S) (folder : Folder) (values : List 
 
   no_bundle : (known : KnownFiles) (places : List Stage) → AllTell S folder values [] known places
   no_bundle known [] = tt
-  no_bundle known (place ∷ places) =
-      ((λ bundle given own. absurd (omega (arith, given.1))), no_bundle (known_with known place (holding_in S folder values known place)) places)
+  no_bundle known (place ∷ places) = (
+    (λ bundle given own. absurd (omega (arith, given.1))),
+    no_bundle
+        (known_with known place (holding_in S folder values known place)) places,
+  )
 
   -- a bundle more, of a stage before them
   one_more : (bundle : BundleParts) (more : List BundleParts) (known : KnownFiles) (places : List Stage)
@@ -192,7 +177,8 @@ module _ (S : StageParts) (laws : AreStages S) (folder : Folder) (values : List 
         (λ other given own.
             ⊎_elim
             (λ first.
-            let same : stage_place bundle.stage ≡ stage_place (S.placed values place) = ap (λ (b : BundleParts). stage_place b.stage) (only_one bundle other first) ∙ ap stage_place own in
+            let same : stage_place bundle.stage ≡ stage_place (S.placed values place) =
+            ap (λ (b : BundleParts). stage_place b.stage) (only_one bundle other first) ∙ ap stage_place own in
             absurd (omega (arith, before, same)))
             (λ behind. tell.0 other behind own)
             (Contains-append_cases (bundle ∷ []) more other given)),
@@ -221,7 +207,8 @@ module _ (S : StageParts) (laws : AreStages S) (folder : Folder) (values : List 
             → (here ≡ holding.Unknown) ⊎ (here ≡ held (kept_in folder bundle))
         by true is = inl (rw (runs, is) refl)
         by false is =
-            let told : bundle_by (input_text folder known.kept) values at ≡ Ok bundle = ap (bundle_told values at) (texts_alike folder values known before alike (stage_inputs at) is) ∙ given in
+            let told : bundle_by (input_text folder known.kept) values at ≡ Ok bundle = ap (bundle_told values at)
+            (texts_alike folder values known before alike (stage_inputs at) is) ∙ given in
             inr (rw (runs, is) (ap (λ told. held (kept_of folder told)) told))
 
     -- it tells of that bundle, and of what the next run makes of it
@@ -238,7 +225,8 @@ module _ (S : StageParts) (laws : AreStages S) (folder : Folder) (values : List 
         → (here ≡ holding.Unknown) ⊎ (here ≡ held (kept_in folder bundle)) → IsTold bundle made.files
     told_here bundle made own is = ⊎_elim unknown (by (kept_in folder bundle) refl)
       where
-        lost : IsAlike folder (record { kept = known.kept; lost = known.lost ++ stage_makes place }) (before ++ made.files)
+        lost : IsAlike folder (record { kept = known.kept; lost = known.lost ++ stage_makes place })
+            (before ++ made.files)
         lost = lost_alike folder known before made.files place at (laws.placed values place).makes
             (subst (λ own. MakesAs own (ids_of made.files)) own (solve_makes S laws folder bundle made is)) alike
 
@@ -265,7 +253,8 @@ module _ (S : StageParts) (laws : AreStages S) (folder : Folder) (values : List 
   all_tell [] known before rise alike = tt
   all_tell (place ∷ places) known before rise alike =
       let parts = and_parts _ _ rise in
-      by (is_to_run values (S.placed values place)) refl parts.0 (λ known before alike. all_tell places known before parts.1 alike)
+      by (is_to_run values (S.placed values place)) refl parts.0
+      (λ known before alike. all_tell places known before parts.1 alike)
     where
       at : Stage
       at = S.placed values place
@@ -274,20 +263,26 @@ module _ (S : StageParts) (laws : AreStages S) (folder : Folder) (values : List 
       Rest = (known : KnownFiles) (before : List MadeFile) → IsAlike folder known before
           → AllTell S folder values (handed (chain_on before places)) known places
 
-      later_run : AreLater at places → list_all (λ other. ltb (stage_place at) (stage_place other)) (to_run values (placed places)) ≡ true
-      later_run later = all_filter (λ other. ltb (stage_place at) (stage_place other)) (is_to_run values) (placed places) later
+      later_run : AreLater at places
+          → list_all (λ other. ltb (stage_place at) (stage_place other)) (to_run values (placed places)) ≡ true
+      later_run later =
+          all_filter (λ other. ltb (stage_place at) (stage_place other)) (is_to_run values) (placed places) later
 
       -- no bundle of the stages behind is its own
       not_own : AreLater at places → (before : List MadeFile) (bundle : BundleParts)
           → Contains (handed (chain_on before places)) bundle → bundle.stage ≡ at → ⊥
       not_own later before bundle given own =
-          let behind = All-contains (IsLater solve values folder (stage_place at)) _ bundle (all_later solve values folder (stage_place at) before (to_run values (placed places)) (later_run later)) given in
+          let behind = All-contains (IsLater solve values folder (stage_place at)) _ bundle
+          (all_later solve values folder (stage_place at) before (to_run values (placed places)) (later_run later))
+          given in
           absurd (omega (arith, behind, ap stage_place own))
 
       run : (told : Result BundleParts Cause)
           → bundle_told values at (texts_of values folder before (stage_inputs at)) ≡ told
           → is_to_run values at ≡ true → AreLater at places → Rest
-          → AllTell S folder values (handed (go_on (tried solve values folder told) (λ visit. chain_on (before ++ visit.made.files) places))) known (place ∷ places)
+          → AllTell S folder values
+          (handed (go_on (tried solve values folder told) (λ visit. chain_on (before ++ visit.made.files) places)))
+          known (place ∷ places)
       run (Err why) is runs later rest = no_bundle known (place ∷ places)
       run (Ok bundle) is runs later rest = tries (solve bundle) refl
         where
@@ -297,25 +292,35 @@ module _ (S : StageParts) (laws : AreStages S) (folder : Folder) (values : List 
           own_later : AreLater bundle.stage places
           own_later = subst (λ own. AreLater own places) (sym own) later
 
-          is_held : (holding_in S folder values known place ≡ holding.Unknown) ⊎ (holding_in S folder values known place ≡ held (kept_in folder bundle))
+          is_held : (holding_in S folder values known place ≡ holding.Unknown)
+              ⊎ (holding_in S folder values known place ≡ held (kept_in folder bundle))
           is_held = held_here known before place alike bundle runs is
 
           tries : (result : Result Made Refusal) → solve bundle ≡ result
-              → AllTell S folder values (handed (go_on (solved solve values folder bundle result) (λ visit. chain_on (before ++ visit.made.files) places))) known (place ∷ places)
+              → AllTell S folder values
+              (handed
+              (go_on (solved solve values folder bundle result)
+              (λ visit. chain_on (before ++ visit.made.files) places))) known (place ∷ places)
           tries (Ok made) solves =
               let told = told_here known before place alike bundle made own solves is_held in (
                 (λ other given other_own. ⊎_elim
-                    (λ first. subst (Tells folder (holding_in S folder values known place)) (only_one bundle other first) told.tells)
+                    (λ first. subst (Tells folder (holding_in S folder values known place))
+                    (only_one bundle other first) told.tells)
                     (λ behind. absurd (not_own later (before ++ made.files) other behind other_own))
-                    (Contains-append_cases (bundle ∷ []) (handed (chain_on (before ++ made.files) places)) other given)),
+                    (Contains-append_cases (bundle ∷ []) (handed (chain_on (before ++ made.files) places)) other
+                    given)),
                 one_more bundle _ _ places own_later (rest _ (before ++ made.files) told.after),
               )
           tries (Err reason) solves =
               grind (arith, only_one, refused_here, is_held, one_more, own_later, no_bundle)
 
       by : (runs : Bool) → is_to_run values at ≡ runs → AreLater at places → Rest
-          → AllTell S folder values (handed (chain_from solve values folder before (cond runs (at ∷ to_run values (placed places)) (to_run values (placed places))))) known (place ∷ places)
-      by true runs later rest = run (bundle_told values at (texts_of values folder before (stage_inputs at))) refl runs later rest
+          → AllTell S folder values
+          (handed
+          (chain_from solve values folder before
+          (cond runs (at ∷ to_run values (placed places)) (to_run values (placed places))))) known (place ∷ places)
+      by true runs later rest =
+          run (bundle_told values at (texts_of values folder before (stage_inputs at))) refl runs later rest
       by false runs later rest =
           let off = off_here known before place alike runs in (
             (λ bundle given own. absurd (not_own later before bundle given own)),

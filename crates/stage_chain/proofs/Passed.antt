@@ -41,7 +41,8 @@ module _ (S : StageParts) (laws : AreStages S) where
         → IfSome contents (λ folder. told ≡ cond (lacks_file folder stage) None (Some (standing folder stage)))
         → found ≡ S.verdict values bundle some
         → (Makes some → IfNone found (S.Satisfies values bundle some)) → result ≡ Ok found
-        → IfSome contents (λ folder. IfOk result (λ found. IfNone found (S.Satisfies values bundle (standing folder stage))))
+        → IfSome contents
+        (λ folder. IfOk result (λ found. IfNone found (S.Satisfies values bundle (standing folder stage))))
     told_there None told some found result same h is right e = tt
     told_there (Some folder) told some found result same h is right e = grind arith
 
@@ -61,11 +62,6 @@ module _ (S : StageParts) (laws : AreStages S) where
     abbrev pub RestStands : List Stage → List Stage → Folder → Type 0
     RestStands stages rest folder = AllStand S folder values rest → AllStand S folder values stages
 
-    pub rest_start : (contents : Option Folder) (stages : List Stage)
-        → IfSome contents (RestStands stages stages)
-    rest_start None stages = tt
-    rest_start (Some folder) stages = λ stand. stand
-
     pub rest_next : (contents now : Option Folder) (stages : List Stage) (i : ℕ) (d : Stage)
         (found : Option Finding) → i < length stages → now ≡ contents
         → IfSome now (λ folder. IfNone found (RunsStand S folder values (get_or stages i d)))
@@ -74,15 +70,18 @@ module _ (S : StageParts) (laws : AreStages S) where
     rest_next contents now stages i d (Some found) inside same stands none rest = absurd (cc)
     rest_next None now stages i d None inside same stands none rest = tt
     rest_next (Some folder) now stages i d None inside same stands none rest =
-        let here : RunsStand S folder values (get_or stages i d) = subst (λ now. IfSome now (λ folder. RunsStand S folder values (get_or stages i d))) same stands in
-        λ more. rest (subst (AllStand S folder values) (sym (at_drop_more (λ rest. rest) stages i d inside)) (here, more))
+        let here : RunsStand S folder values (get_or stages i d) =
+        subst (λ now. IfSome now (λ folder. RunsStand S folder values (get_or stages i d))) same stands in
+        λ more. rest
+        (subst (AllStand S folder values) (sym (at_drop_more (λ rest. rest) stages i d inside)) (here, more))
 
     pub rest_end : (contents : Option Folder) (stages all : List Stage) (i : ℕ) → length stages ≤ i
         → stages ≡ all → IfSome contents (RestStands stages (drop i stages))
         → IfSome contents (λ folder. AllStand S folder values all)
     rest_end None stages all i past own rest = tt
     rest_end (Some folder) stages all i past own rest =
-        subst (AllStand S folder values) own (rest (subst (AllStand S folder values) (sym (at_drop_all (λ rest. rest) stages i past)) tt))
+        subst (AllStand S folder values) own
+        (rest (subst (AllStand S folder values) (sym (at_drop_all (λ rest. rest) stages i past)) tt))
 
   pub told_passes : (contents now : Option Folder) (values : List ℤ)
       (result : Result (Option Finding) ChainFault) → now ≡ contents

@@ -37,7 +37,7 @@ use Rattle.stage_chain.proofs.HandAlone.{path_is_hand, config_is_hand}
 use Rattle.stage_chain.proofs.MadeLists.{made_list}
 use Rattle.stage_chain.proofs.MadeRight.{visits_right}
 use Rattle.stage_chain.proofs.MadeTexts.{names_of, text_nowhere}
-use Rattle.stage_chain.proofs.Placed.{ArePlaced, made_looks}
+use Rattle.stage_chain.proofs.FoundAmongAllMade.{ArePlaced, made_looks}
 use Rattle.stage_chain.proofs.Traces.{traced, chain, stages_run, are_visits, are_placed, run_staged}
 use Rattle.stage_chain.proofs.Visits.{IsHalt, AreVisits}
 use Rattle.stage_chain.specs.Laws.{AreRightOver}
@@ -63,7 +63,8 @@ hand_names optional file is Long = is
 there_text : (made : List MadeFile) (file : FileId)
     → is_among (file_name file) (names_of made) ≡ true → NoText (made_text made file)
 there_text [] file h = absurd (false≢true h)
-there_text (other ∷ made) file h = by (bytes_eq (name_of other) (file_name file)) (same_way (file_name file) (name_of other)) (there_text made file) h
+there_text (other ∷ made) file h =
+    by (bytes_eq (name_of other) (file_name file)) (same_way (file_name file) (name_of other)) (there_text made file) h
   where
     by : (here : Bool) → bytes_eq (file_name file) (name_of other) ≡ here
         → (is_among (file_name file) (names_of made) ≡ true → NoText (made_text made file))
@@ -127,7 +128,9 @@ texts_names : (values : List ℤ) (hand : Folder) (made : List MadeFile) (inputs
 texts_names values hand made [] h = tt
 texts_names values hand made (file ∷ inputs) h =
     let parts = and_parts _ _ h in
-    both_names (input_text hand made (chosen values file)) (texts_by (input_text hand made) values inputs) (there_names hand made (chosen values file) (chosen_there values made file parts.0)) (texts_names values hand made inputs parts.1)
+    both_names (input_text hand made (chosen values file)) (texts_by (input_text hand made) values inputs)
+    (there_names hand made (chosen values file) (chosen_there values made file parts.0))
+    (texts_names values hand made inputs parts.1)
 
 told_names : (values : List ℤ) (stage : Stage) (texts : Result (List (List ℕ)) Cause) (why : Cause)
     → NoText texts → bundle_told values stage texts ≡ Err why → NamesHand (Some why)
@@ -142,7 +145,8 @@ done_of (stage ∷ stages) (visit ∷ visits) = stage ∷ done_of stages visits
 done_of _ _ = []
 
 module _ (S : StageParts) (laws : AreStages S) where
-  record IsEnded (values : List ℤ) (hand : Folder) (before : List MadeFile) (stages : List Stage) (visits : List Visit) (halt : Halt) : Type 0 where
+  record IsEnded (values : List ℤ) (hand : Folder) (before : List MadeFile) (stages : List Stage)
+      (visits : List Visit) (halt : Halt) : Type 0 where
     stage : Stage
     rest : List Stage
     split : stages ≡ done_of stages visits ++ stage ∷ rest
@@ -154,7 +158,14 @@ module _ (S : StageParts) (laws : AreStages S) where
       → IsEnded values hand before stages visits halt
   ended_by values hand before [] [] halt are = absurd are
   ended_by values hand before [] (visit ∷ visits) halt are = absurd are
-  ended_by values hand before (stage ∷ stages) [] halt are = record { stage = stage; rest = stages; split = refl; halts = subst (λ made. IsHalt S.run values hand made stage halt) (sym (append-nil before)) are }
+  ended_by values hand before (stage ∷ stages) [] halt are =
+      record {
+        stage = stage;
+        rest = stages;
+        split = refl;
+        halts =
+            subst (λ made. IsHalt S.run values hand made stage halt) (sym (append-nil before)) are;
+      }
   ended_by values hand before (stage ∷ stages) (visit ∷ visits) halt are =
       grind (
         arith,
@@ -170,7 +181,8 @@ none_before : (stage : Stage) (stages : List Stage)
 none_before stage [] h = refl
 none_before stage (other ∷ stages) h =
     let parts = and_parts _ _ h in
-    let not : ltb (stage_place other) (stage_place stage) ≡ false = le-ltb _ _ (let below = ltb-true (stage_place stage) (stage_place other) parts.0 in omega (arith, below)) in
+    let not : ltb (stage_place other) (stage_place stage) ≡ false =
+    le-ltb _ _ (let below = ltb-true (stage_place stage) (stage_place other) parts.0 in omega (arith, below)) in
     rw not (none_before stage stages parts.1)
 
 all_pass : (p : Stage → Bool) (stages : List Stage) → list_all p (filter p stages) ≡ true
@@ -197,11 +209,15 @@ module _ (values : List ℤ) where
       → filter in_time stages ≡ done ++ stage ∷ rest
       → (ltb (stage_place first) (stage_place stage) ≡ true) × (in_time first ≡ true)
   not_late first stages done stage rest above e =
-      let below : list_all (λ other. ltb (stage_place first) (stage_place other)) (done ++ stage ∷ rest) ≡ true = ap (list_all (λ other. ltb (stage_place first) (stage_place other))) (sym e) ∙ all_filter (λ other. ltb (stage_place first) (stage_place other)) in_time stages above in
-      let runs : list_all in_time (done ++ stage ∷ rest) ≡ true = ap (list_all in_time) (sym e) ∙ all_pass in_time stages in
+      let below : list_all (λ other. ltb (stage_place first) (stage_place other)) (done ++ stage ∷ rest) ≡ true =
+      ap (list_all (λ other. ltb (stage_place first) (stage_place other))) (sym e)
+      ∙ all_filter (λ other. ltb (stage_place first) (stage_place other)) in_time stages above in
+      let runs : list_all in_time (done ++ stage ∷ rest) ≡ true =
+      ap (list_all in_time) (sym e) ∙ all_pass in_time stages in
       let lower = of_middle (λ other. ltb (stage_place first) (stage_place other)) done stage rest below in
       let less = ltb-true (stage_place first) (stage_place stage) lower in
-      let last = leb-true (stage_place stage) (stage_place (last_stage_of values)) (of_middle in_time done stage rest runs) in
+      let last =
+      leb-true (stage_place stage) (stage_place (last_stage_of values)) (of_middle in_time done stage rest runs) in
       (lower, le-leb (stage_place first) (stage_place (last_stage_of values)) (omega (arith, less, last)))
 
   ran_before : (stages done : List Stage) (stage : Stage) (rest : List Stage) → rising stages ≡ true
@@ -284,8 +300,10 @@ module _ (S : StageParts) (laws : AreStages S) where
     done_there (stage ∷ stages) [] placed = refl
     done_there (stage ∷ stages) (visit ∷ visits) placed =
         let own = placed.0 in
-        let ids : list_all is_made (ids_of visit.made.files) ≡ true = ap (λ some. list_all is_made (ids_of some)) (sym own.found ∙ made_looks hand all stage) ∙ found_made (stage_makes stage) in
-        all_both is_made (always_made stage) (flat_map always_made (done_of stages visits)) ((made_list stage (ids_of visit.made.files) own.made_as).always is_made ids) (done_there stages visits placed.1)
+        let ids : list_all is_made (ids_of visit.made.files) ≡ true = ap (λ some. list_all is_made (ids_of some))
+        (sym own.found ∙ made_looks hand all stage) ∙ found_made (stage_makes stage) in
+        all_both is_made (always_made stage) (flat_map always_made (done_of stages visits))
+        ((made_list stage (ids_of visit.made.files) own.made_as).always is_made ids) (done_there stages visits placed.1)
 
 -- ---- what one stage takes of those before it
 
@@ -306,13 +324,16 @@ among_through (file ∷ some) names name h k =
     by false is h here rest = rest h
 
 all_there : (made : List MadeFile) (some inputs : List FileId)
-    → list_all (λ file. not (is_earlier (origin_of file)) || is_among (file_name file) (map file_name some)) inputs ≡ true
+    → list_all (λ file. not (is_earlier (origin_of file)) || is_among (file_name file) (map file_name some)) inputs
+    ≡ true
     → list_all (λ file. is_among (file_name file) (names_of made)) some ≡ true
     → list_all (is_there made) inputs ≡ true
 all_there made some [] h k = refl
 all_there made some (file ∷ inputs) h k =
     let parts = and_parts _ _ h in
-    and_from _ _ (either (not (is_earlier (origin_of file))) (λ h. among_through some (names_of made) (file_name file) h k) parts.0) (all_there made some inputs parts.1 k)
+    and_from _ _
+    (either (not (is_earlier (origin_of file))) (λ h. among_through some (names_of made) (file_name file) h k)
+    parts.0) (all_there made some inputs parts.1 k)
   where
     either : {b c : Bool} (a : Bool) → (b ≡ true → c ≡ true) → (a || b) ≡ true → (a || c) ≡ true
     either true h e = refl
@@ -323,12 +344,16 @@ module _ (S : StageParts) (laws : AreStages S) where
 
   halt_names : (values : List ℤ) (hand : Folder) (all : List MadeFile) (stage : Stage) (halt : Halt)
       → needs (staged S values) stage ≡ true
-      → list_all (λ file. is_among (file_name file) (names_of all)) (flat_map always_made (before_stage (staged S values) stage)) ≡ true
+      → list_all (λ file. is_among (file_name file) (names_of all))
+      (flat_map always_made (before_stage (staged S values) stage)) ≡ true
       → AreRightOver S values (looked (input_text hand all)) (before_stage (staged S values) stage)
       → IsHalt S.run values hand all stage halt → NamesHand (Some halt.cause)
   halt_names values hand all stage halt need there right halts =
       let look = input_text hand all in
-      ⊎_elim (λ none. told_names values stage (texts_by look values (stage_inputs stage)) halt.cause (texts_names values hand all (stage_inputs stage) (all_there all (flat_map always_made (before_stage (staged S values) stage)) (stage_inputs stage) need there)) none)
+      ⊎_elim (λ none. told_names values stage (texts_by look values (stage_inputs stage)) halt.cause
+      (texts_names values hand all (stage_inputs stage)
+      (all_there all (flat_map always_made (before_stage (staged S values) stage)) (stage_inputs stage) need there))
+      none)
       (λ refused.
       let same = bundle_looked look values stage refused.bundle refused.given in
       let names = laws.refuses values (looked look) stage refused.reason right (ap S.run same ∙ refused.solved) in
@@ -345,17 +370,25 @@ module _ (S : StageParts) (laws : AreStages S) where
       let all = files_of visits in
       let stages = stages_run S laws values in
       let ended = ended_by S laws values hand [] stages visits halt are in
-      let before : before_stage (staged S values) ended.stage ≡ done_of stages visits = ran_before values (staged S values) (done_of stages visits) ended.stage ended.rest (laws.lists values).rise ended.split in
-      let need = of_middle (needs (staged S values)) (done_of stages visits) ended.stage ended.rest (ap (list_all (needs (staged S values))) (sym ended.split) ∙ all_filter (needs (staged S values)) (in_time values) (staged S values) (laws.lists values).given) in
+      let before : before_stage (staged S values) ended.stage ≡ done_of stages visits = ran_before values
+      (staged S values) (done_of stages visits) ended.stage ended.rest (laws.lists values).rise ended.split in
+      let need = of_middle (needs (staged S values)) (done_of stages visits) ended.stage ended.rest
+      (ap (list_all (needs (staged S values))) (sym ended.split)
+      ∙ all_filter (needs (staged S values)) (in_time values) (staged S values) (laws.lists values).given) in
       halt_names values hand all ended.stage halt need
-      (ap (λ some. list_all (λ file. is_among (file_name file) (names_of all)) (flat_map always_made some)) before ∙ done_there S laws values hand all stages visits placed)
-      (subst (AreRightOver S values (looked (input_text hand all))) (sym before) (done_right S laws values hand all stages visits placed right)) ended.halts
+      (ap (λ some. list_all (λ file. is_among (file_name file) (names_of all)) (flat_map always_made some)) before
+      ∙ done_there S laws values hand all stages visits placed)
+      (subst (AreRightOver S values (looked (input_text hand all))) (sym before)
+      (done_right S laws values hand all stages visits placed right)) ended.halts
 
   pub refuses_hand : (hand : Folder) → RefusesHand S hand
   unfolding RefusesHand
   refuses_hand hand = traced S laws hand (λ trace. NamesHand (cause_of trace.halt))
-      (λ reason is. subst (λ settings. IfErr settings (ConfigNames is_hand)) is (config_names is_hand path_is_hand (look_in hand) config_is_hand))
+      (λ reason is. subst (λ settings. IfErr settings (ConfigNames is_hand)) is
+      (config_names is_hand path_is_hand (look_in hand) config_is_hand))
       (λ values is.
       let visits = (chain S laws values hand).visits in
-      chain_names values hand visits (chain S laws values hand).halt (visits_right S laws values hand (effective_settings (look_in hand) values is) (files_of visits) (stages_run S laws values) visits (run_staged S laws values) (are_placed S laws values hand))
+      chain_names values hand visits (chain S laws values hand).halt
+      (visits_right S laws values hand (effective_settings (look_in hand) values is) (files_of visits)
+      (stages_run S laws values) visits (run_staged S laws values) (are_placed S laws values hand))
       (are_visits S laws values hand) (are_placed S laws values hand))

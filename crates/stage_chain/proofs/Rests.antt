@@ -1,5 +1,5 @@
 -- A chain is what was made so far, and then the rest of it.
-use Rattle.std.specs.Prelude.{ℕ, ◌≡◌, ◌+◌, List, ◌++◌}
+use Rattle.std.specs.Prelude.{ℕ, ◌≡◌, ◌+◌, ◌++◌}
 use Rattle.std.specs.List.{sum_by}
 use Rattle.plan_files.specs.Folder.{Folder}
 use Rattle.stage_chain.specs.Built.{files_of}

@@ -30,7 +30,8 @@ module _ (S : StageParts) (values : List ℤ) (look : FileId → List ℕ) where
           → (is_one place places ≡ true → IsRightOver S values look (S.placed values place))
           → (same || is_one place places) ≡ true → IsRightOver S values look (S.placed values place)
       by true own rest among =
-          subst (λ at. IsRightOver S values look (S.placed values at)) (same_stage first place ((bytes_eq-Decides (keep_name first) (keep_name place)).0 own)) right.0
+          subst (λ at. IsRightOver S values look (S.placed values at))
+          (same_stage first place ((bytes_eq-Decides (keep_name first) (keep_name place)).0 own)) right.0
       by false own rest among = rest among
 
   module _ (point : (place : Stage) → stage_place (S.placed values place) ≡ stage_place place) where
@@ -39,11 +40,13 @@ module _ (S : StageParts) (values : List ℤ) (look : FileId → List ℕ) where
         → before_stage (map (S.placed values) places) at ≡ map (S.placed values) (before_stage places at)
     before_placed at [] = refl
     before_placed at (place ∷ places) =
-        by (ltb (stage_place (S.placed values place)) (stage_place at)) (ltb (stage_place place) (stage_place at)) (ap (λ n. ltb n (stage_place at)) (point place)) (before_placed at places)
+        by (ltb (stage_place (S.placed values place)) (stage_place at)) (ltb (stage_place place) (stage_place at))
+        (ap (λ n. ltb n (stage_place at)) (point place)) (before_placed at places)
       where
         by : (b c : Bool) → b ≡ c
             → before_stage (map (S.placed values) places) at ≡ map (S.placed values) (before_stage places at)
-            → cond b (S.placed values place ∷ before_stage (map (S.placed values) places) at) (before_stage (map (S.placed values) places) at)
+            → cond b (S.placed values place ∷ before_stage (map (S.placed values) places) at)
+            (before_stage (map (S.placed values) places) at)
             ≡ map (S.placed values) (cond c (place ∷ before_stage places at) (before_stage places at))
         by true true e rest = ap (λ more. S.placed values place ∷ more) rest
         by false false e rest = rest
@@ -55,4 +58,5 @@ module _ (S : StageParts) (values : List ℤ) (look : FileId → List ℕ) where
         → (place : Stage) → is_one place (before_stage S.places at) ≡ true
         → IsRightOver S values look (S.placed values place)
     right_before at right place is =
-        place_right (before_stage S.places at) (subst (AreRightOver S values look) (before_placed at S.places) right) place is
+        place_right (before_stage S.places at) (subst (AreRightOver S values look) (before_placed at S.places) right)
+        place is

@@ -27,14 +27,16 @@ pub told_wish : (contents now : Option Folder) (all writes new left rest : List 
     → IfSome contents (λ folder. new ++ unmet folder rest ≡ unmet folder all)
 told_wish None now all writes new left rest wish same is more so_far = tt
 told_wish (Some folder) now all writes new left rest wish same is more so_far =
-    let here : new ≡ writes ++ unmet folder (wish ∷ []) = subst (λ now. IfSome now (λ folder. new ≡ writes ++ unmet folder (wish ∷ []))) same more in
+    let here : new ≡ writes ++ unmet folder (wish ∷ []) =
+    subst (λ now. IfSome now (λ folder. new ≡ writes ++ unmet folder (wish ∷ []))) same more in
     ap (λ new. new ++ unmet folder rest) here
     ∙ append_assoc writes (unmet folder (wish ∷ [])) (unmet folder rest)
     ∙ ap (λ more. writes ++ more) (by (is_met folder wish))
     ∙ ap (λ left. writes ++ unmet folder left) (sym is) ∙ so_far
   where
     by : (met : Bool)
-        → cond (not met) (wish ∷ []) [] ++ unmet folder rest ≡ cond (not met) (wish ∷ unmet folder rest) (unmet folder rest)
+        → cond (not met) (wish ∷ []) [] ++ unmet folder rest
+        ≡ cond (not met) (wish ∷ unmet folder rest) (unmet folder rest)
     by true = refl
     by false = refl
 
@@ -43,10 +45,12 @@ pub outside_wish : (all writes new left rest : List Write) (wish : Write) → le
     → ((test : List ℕ → Bool) → AreOutside test all → AreOutside test (writes ++ left))
     → (test : List ℕ → Bool) → AreOutside test all → AreOutside test (new ++ rest)
 outside_wish all writes new left rest wish is more so_far = λ test out.
-    let here : AreOutside test (writes ++ wish ∷ rest) = subst (λ left. AreOutside test (writes ++ left)) is (so_far test out) in
+    let here : AreOutside test (writes ++ wish ∷ rest) =
+    subst (λ left. AreOutside test (writes ++ left)) is (so_far test out) in
     ⊎_elim
     (λ same. subst (λ new. AreOutside test (new ++ rest)) (sym same) (passed test writes here))
-    (λ pushed. subst (λ new. AreOutside test (new ++ rest)) (sym pushed) (subst (AreOutside test) (sym (append_assoc writes (wish ∷ []) rest)) here))
+    (λ pushed. subst (λ new. AreOutside test (new ++ rest)) (sym pushed)
+    (subst (AreOutside test) (sym (append_assoc writes (wish ∷ []) rest)) here))
     more
   where
     passed : (test : List ℕ → Bool) (writes : List Write) → AreOutside test (writes ++ wish ∷ rest)
@@ -59,7 +63,8 @@ pub outside_wishes : (all writes left : List Write) → left ≡ []
     → ((test : List ℕ → Bool) → AreOutside test all → AreOutside test (writes ++ left))
     → (test : List ℕ → Bool) → AreOutside test all → AreOutside test writes
 outside_wishes all writes left none so_far = λ test out.
-    subst (AreOutside test) (append-nil writes) (subst (λ left. AreOutside test (writes ++ left)) none (so_far test out))
+    subst (AreOutside test) (append-nil writes)
+    (subst (λ left. AreOutside test (writes ++ left)) none (so_far test out))
 
 pub nothing_left : (left : List Write) → length left ≡ 0 → left ≡ []
 nothing_left [] none = refl
@@ -72,19 +77,25 @@ pub written_outside : (list both writes more : List Write) → list ≡ both →
 written_outside list both writes more own is first second =
     subst (AreOutside is_hand) (sym (own ∙ is)) (outside_both is_hand writes more first second)
 
-module _ (told new : Option Folder) (mid now : Option (List Write)) (writes : List Write) (out : AreOutside is_hand writes) where
-  pub all_hand : (contents : Option Folder) → told ≡ contents → AreApplied writes told new mid now → SameHand contents new
+module _ (told new : Option Folder) (mid now : Option (List Write)) (writes : List Write)
+    (out : AreOutside is_hand writes) where
+  pub all_hand : (contents : Option Folder) → told ≡ contents → AreApplied writes told new mid now
+      → SameHand contents new
   all_hand contents same all = subst (λ old. SameHand old new) same (applied_hand writes told new mid now out all)
 
-  pub some_hand : (contents : Option Folder) (fault : FileFault) → told ≡ contents → AreCutShort fault writes told new mid now
+  pub some_hand : (contents : Option Folder) (fault : FileFault) → told ≡ contents
+      → AreCutShort fault writes told new mid now
       → SameHand contents new
   some_hand contents fault same cut =
       subst (λ old. SameHand old new) same (cut_hand fault writes told new mid now out cut)
 
-  pub all_added : (before : Option (List Write)) → mid ≡ before → AreApplied writes told new mid now → AddsNoHandFile before now
-  all_added before same all = subst (λ noted. AddsNoHandFile noted now) same (record { added = writes; noted = all.noted; apart = out })
+  pub all_added : (before : Option (List Write)) → mid ≡ before → AreApplied writes told new mid now
+      → AddsNoHandFile before now
+  all_added before same all =
+      subst (λ noted. AddsNoHandFile noted now) same (record { added = writes; noted = all.noted; apart = out })
 
-  pub some_added : (before : Option (List Write)) (fault : FileFault) → mid ≡ before → AreCutShort fault writes told new mid now
+  pub some_added : (before : Option (List Write)) (fault : FileFault) → mid ≡ before
+      → AreCutShort fault writes told new mid now
       → AddsNoHandFile before now
   some_added before fault same cut = grind (arith, outside_front)
 
@@ -102,4 +113,5 @@ module _ (S : StageParts) (laws : AreStages S) where
   -- nor do the writes of made files
   pub wishes_told : (wishes : List Write) (made files : List MadeFile) → wishes ≡ writes_for S made
       → made ≡ files → AreNoHandFiles files → AreOutside is_hand wishes
-  wishes_told wishes made files is same none = subst (AreOutside is_hand) (sym (is ∙ ap (writes_for S) same)) (made_outside S laws files none)
+  wishes_told wishes made files is same none =
+      subst (AreOutside is_hand) (sym (is ∙ ap (writes_for S) same)) (made_outside S laws files none)

@@ -39,7 +39,9 @@ module _ (S : StageParts) (laws : AreStages S) where
   pub settled : (contents now : Option Folder) (values : List ℤ) (new : SoFar) (before count : ℕ)
       (result : Result (Unit {0}) ChainEnd) → now ≡ contents
       → IfSome contents (λ folder. ConfigGives (effective (look_in folder)) (Ok values))
-      → IfSome now (λ folder. ChainGives S folder (chain_from (solve_over S folder) values folder [] (to_run values (staged S values))) new before count result)
+      → IfSome now
+      (λ folder. ChainGives S folder
+      (chain_from (solve_over S folder) values folder [] (to_run values (staged S values))) new before count result)
       → IfSome contents (λ folder. ChainGives S folder (trace_over S folder folder) new before count result)
   unfolding trace_over
   settled None now values new before count result same told h = tt

@@ -22,7 +22,9 @@ use Rattle.stage_chain.specs.declared.state.StatesEnd.TheVariants as end
 use Rattle.stage_chain.specs.declared.state.StatesOutcome.{StatesOutcome}
 use Rattle.stage_chain.specs.Chain.{is_file}
 use Rattle.stage_chain.specs.Ends.{has_failed}
-use Rattle.stage_chain.specs.States.{KnownFiles, TellsStates, UntoldAs, known_with, nothing_known, stands_as, state_by, state_line, state_lines, states_end, states_end_under, states_of, states_under, text_among}
+use Rattle.stage_chain.specs.States.{KnownFiles, TellsStates, UntoldAs, known_with, nothing_known}
+use Rattle.stage_chain.specs.States.{stands_as, state_by, state_line, state_lines, states_end}
+use Rattle.stage_chain.specs.States.{states_end_under, states_of, states_under, text_among}
 use Rattle.stage_chain.specs.StageParts.{StageParts}
 use Rattle.stage_chain.specs.Laws.{AreStages}
 
@@ -35,7 +37,8 @@ pub text_next : (made : List MadeFile) (i : ℕ) (other : MadeFile) (file : File
     ≡ cond (is_file other.file file) (Some other.text) (text_among (drop (i + 1) made) file)
 text_next made i other file there =
     at_drop_more (λ rest. text_among rest file) made i other (slice_get_within made i other there)
-    ∙ ap (λ (first : MadeFile). text_among (first ∷ drop (i + 1) made) file) (get_or_from_slice_get made i other other there)
+    ∙ ap (λ (first : MadeFile). text_among (first ∷ drop (i + 1) made) file)
+    (get_or_from_slice_get made i other other there)
 
 module _ (made : List MadeFile) where
   -- those before the rest stand as they were made
@@ -72,7 +75,8 @@ module _ (S : StageParts) (laws : AreStages S) where
         let line : longer ≡ lines ++ line_at folder known stage = rw same at more in
         ap (λ known. longer ++ state_lines S folder values known (drop (i + 1) stages)) here
         ∙ ap (λ lines. lines ++ state_lines S folder values (known_at folder known stage) (drop (i + 1) stages)) line
-        ∙ append_assoc lines (line_at folder known stage) (state_lines S folder values (known_at folder known stage) (drop (i + 1) stages))
+        ∙ append_assoc lines (line_at folder known stage)
+        (state_lines S folder values (known_at folder known stage) (drop (i + 1) stages))
         ∙ sym (at_drop_more (λ rest. lines ++ state_lines S folder values known rest) stages i d inside)
         ∙ so_far
 
@@ -99,7 +103,8 @@ module _ (S : StageParts) (laws : AreStages S) where
       (result : Result StatesOutcome ChainFault) → now ≡ contents
       → IfSome contents (λ folder. ConfigGives (effective (look_in folder)) (Ok values))
       → IfOk result (λ outcome. outcome.end ≡ end.Told)
-      → IfSome now (λ folder. IfOk result (λ outcome. outcome.report ≡ state_lines S folder values nothing_known S.places))
+      → IfSome now
+      (λ folder. IfOk result (λ outcome. outcome.report ≡ state_lines S folder values nothing_known S.places))
       → IfSome contents (λ folder. IfOk result (TellsStates S folder))
   settled_states None now values result same told ends h = tt
   settled_states (Some folder) now values (Err fault) same told ends h = tt

@@ -1,5 +1,5 @@
 -- Where a run is stopped, the files that people write are as before, and what is kept is honest.
-use Rattle.std.proofs.Common.{◌≡◌, List, ◌∷◌, [], ◌++◌, Option, Some, None, IfSome, refl, ap, subst, ⊎_elim}
+use Rattle.std.proofs.Common.{◌≡◌, ◌+◌, ◌≤◌, List, ◌∷◌, [], ◌++◌, Option, Some, None, refl, ap, subst, ⊎_elim}
 use Rattle.std.proofs.lemmas.Option.{same_Some}
 use Rattle.plan_files.specs.declared.file_fault.FileFault.TheVariants.{Failed}
 use Rattle.plan_files.specs.declared.write.Write.{Write}
@@ -11,6 +11,8 @@ use Rattle.command_line.specs.declared.mode.Mode.{Mode}
 use Rattle.command_line.specs.declared.mode.Mode.TheVariants as mode
 use Rattle.stage_chain.specs.Hand.{hand_of, is_hand}
 use Rattle.stage_chain.specs.Kept.{IsKeptHonest}
+use Rattle.stage_chain.specs.RunSays.{SeenFiles, StaysSafe}
+use Rattle.stage_chain.specs.Runs.{run_over, started}
 use Rattle.stage_chain.specs.Stopped.{AddsHarmless, IsFirstTorn, IsSafeFrom, IsStopped, StopsSafely}
 use Rattle.stage_chain.proofs.HandKept.{applied_hand, cut_hand}
 use Rattle.stage_chain.proofs.Stopping.{stopped_honest, stopped_removed}
@@ -25,9 +27,13 @@ stopped_hand writes read left apart stopped =
     by : (rest : List Write) → IsFirstTorn rest (folder_after stopped.made read) left
         → AreOutside is_hand (stopped.made ++ rest) → hand_of left ≡ hand_of read
     by [] same apart =
-        same_Some (hand_of left) (hand_of read) (applied_hand stopped.made (Some read) (Some left) None None (outside_front is_hand stopped.made [] apart) (record { folder = ap Some same; noted = refl }))
+        same_Some (hand_of left) (hand_of read)
+        (applied_hand stopped.made (Some read) (Some left) None None (outside_front is_hand stopped.made [] apart)
+        (record { folder = ap Some same; noted = refl }))
     by (next ∷ rest) torn apart =
-        same_Some (hand_of left) (hand_of read) (cut_hand Failed (stopped.made ++ next ∷ rest) (Some read) (Some left) None None apart (record { made = stopped.made; next = next; rest = rest; split = refl; noted = refl; folder = torn }))
+        same_Some (hand_of left) (hand_of read)
+        (cut_hand Failed (stopped.made ++ next ∷ rest) (Some read) (Some left) None None apart
+        (record { made = stopped.made; next = next; rest = rest; split = refl; noted = refl; folder = torn }))
 
 module _ (S : StageParts) (laws : AreStages S) where
   stops : (by : Mode) (folder : Folder) (left : Option Folder) (before now : Option (List Write))
@@ -44,21 +50,15 @@ module _ (S : StageParts) (laws : AreStages S) where
       each mode.Make stands stopped honest =
           stopped_honest S laws h.added folder stands h.harmless stopped honest
       each mode.Fresh stands stopped from =
-          ⊎_elim (stopped_honest S laws h.added folder stands h.harmless stopped) (stopped_removed S laws h.added folder stands h.harmless stopped) from
+          ⊎_elim (stopped_honest S laws h.added folder stands h.harmless stopped)
+          (stopped_removed S laws h.added folder stands h.harmless stopped) from
 
-  module _ (contents left : Option Folder) (before now : Option (List Write)) (h : IfSome contents (λ folder. AddsHarmless S folder left before now)) where
-    pub stops_safely : (by : Mode) → IfSome contents (λ folder. StopsSafely S by folder before now)
-    stops_safely by = each contents h
-      where
-        each : (contents : Option Folder) → IfSome contents (λ folder. AddsHarmless S folder left before now)
-            → IfSome contents (λ folder. StopsSafely S by folder before now)
-        each None h = tt
-        each (Some folder) h = stops by folder left before now h
-
-    pub keeps_honest : IfSome contents (λ folder. IsKeptHonest S folder → IfSome left (IsKeptHonest S))
-    keeps_honest = each contents h
-      where
-        each : (contents : Option Folder) → IfSome contents (λ folder. AddsHarmless S folder left before now)
-            → IfSome contents (λ folder. IsKeptHonest S folder → IfSome left (IsKeptHonest S))
-        each None h = tt
-        each (Some folder) h = h.keep
+  -- so a run stays safe whose writes are harmless
+  pub stays_safe : (by : Mode) (old new : SeenFiles) (folder : Folder)
+      → AddsHarmless S folder new.contents old.writes new.writes
+      → new.steps ≤ old.steps + (run_over S (started by folder)).work → StaysSafe S by old new folder
+  stays_safe by old new folder h most = record {
+    keeps_honest = h.keep;
+    stops = stops by folder new.contents old.writes new.writes h;
+    no_more_steps = most;
+  }

@@ -1,7 +1,7 @@
 -- The writes of a run are harmless, and so it may be stopped anywhere.
 use Rattle.std.proofs.Common.{arith, ◌≡◌, ℕ, ℤ, Bool, true, false, cond, not, is_some, List, []}
-use Rattle.std.proofs.Common.{◌∷◌, ◌++◌, map, filter, take, drop, Option, Some, None, IfSome, IfErr}
-use Rattle.std.proofs.Common.{OnOk, Result, Ok, Err, refl, ap, sym, subst, ◌∙◌, inl, ⊎_elim}
+use Rattle.std.proofs.Common.{◌∷◌, ◌++◌, map, filter, take, drop, Option, Some, None, IfSome}
+use Rattle.std.proofs.Common.{Ok, refl, ap, sym, subst, ◌∙◌, inl, ⊎_elim}
 use Rattle.std.proofs.Common.{append-nil}
 use Rattle.std.specs.Option.{option_map}
 use Rattle.std.specs.Str.{bytes_eq}
@@ -27,25 +27,19 @@ use Rattle.stage_keep.specs.EntryReading.{read_entry}
 use Rattle.stage_keep.specs.Honest.{IsHonest}
 use Rattle.stage_keep.proofs.EntriesRead.{entries_are_read_back}
 use Rattle.stage_keep.proofs.Honesty.{fronts_are_honest, read_is_honest}
-use Rattle.stage_chain.specs.declared.cause.Cause.{Cause}
 use Rattle.stage_chain.specs.declared.outcome.ChainFault.{ChainFault}
 use Rattle.stage_chain.specs.declared.outcome.ChainFault.TheVariants as fault
 use Rattle.command_line.specs.declared.mode.Mode.{Mode}
 use Rattle.command_line.specs.declared.mode.Mode.TheVariants as mode
-use Rattle.stage_chain.specs.declared.outcome.Outcome.{Outcome}
 use Rattle.stage_chain.specs.Built.{files_of}
 use Rattle.stage_chain.specs.Chain.{Halt, Visit, input_text}
 use Rattle.stage_chain.specs.Ends.{file_fault_of}
 use Rattle.stage_chain.specs.Hand.{hand_of, is_hand, keep_names}
 use Rattle.stage_chain.specs.Kept.{HasEntry, HaveEntries, IsKeptHonest, entry_put, kept_in}
 use Rattle.stage_chain.specs.Kept.{made_over, new_entries, new_entry, solve_over, trace_over}
-use Rattle.stage_chain.specs.Progress.{EndGives, SoFar}
 use Rattle.stage_chain.specs.Runs.{AreNotAll, entries_over, is_met, name_of, put_of}
 use Rattle.stage_chain.specs.Runs.{removed, unmet, writes_for, writes_of}
 use Rattle.stage_chain.specs.Stopped.{AddsHarmless, AreHarmless, IsHarmless}
-use Rattle.stage_chain.proofs.BothModes.{IsCleared}
-use Rattle.stage_chain.proofs.HandAlone.{over_alone}
-use Rattle.stage_chain.proofs.HandKept.{writes_outside}
 use Rattle.stage_chain.proofs.KeptAfter.{built_apart_of, bytes_for, not_kept, same_stage}
 use Rattle.stage_chain.proofs.Keeping.{solve_makes}
 use Rattle.stage_chain.proofs.MadeRight.{given_fits}
@@ -78,9 +72,11 @@ module _ (S : StageParts) (laws : AreStages S) where
       by front [] whole =
           let same : bytes_for visit ≡ front = whole ∙ append-nil front in
           read_is_honest S.run visit.bundle visit.made front fits
-          (ap (read_entry visit.bundle.stage) (sym same) ∙ entries_are_read_back visit.bundle.stage (entry_for visit.bundle visit.made) entry) is
+          (ap (read_entry visit.bundle.stage) (sym same)
+          ∙ entries_are_read_back visit.bundle.stage (entry_for visit.bundle visit.made) entry) is
       by front (byte ∷ behind) whole =
-          fronts_are_honest S.run visit.bundle.stage (entry_for visit.bundle visit.made) front (byte ∷ behind) entry whole (some_behind byte behind)
+          fronts_are_honest S.run visit.bundle.stage (entry_for visit.bundle visit.made) front (byte ∷ behind) entry
+          whole (some_behind byte behind)
 
   -- ---- the writes of made files
 
@@ -134,21 +130,26 @@ module _ (S : StageParts) (laws : AreStages S) where
             → AreHarmless S (cond (is_some kept) [] (entry_put visit.bundle visit.made ∷ []))
         by (Some made) is = tt
         by None is = (
-          entry_harmless visit (given_fits (input_text hand before) values at visit.bundle are visited.0.given) (have.0 is) (not_kept S laws keep visit is visited.0.solved),
+          entry_harmless visit (given_fits (input_text hand before) values at visit.bundle are visited.0.given)
+              (have.0 is) (not_kept S laws keep visit is visited.0.solved),
           tt,
         )
 
-  run_harmless : (folder : Folder) → HaveEntries folder (trace_over S folder (hand_of folder)).visits
+  pub run_harmless : (folder : Folder) → HaveEntries folder (trace_over S folder (hand_of folder)).visits
       → AreHarmless S (writes_of S folder)
   unfolding writes_of entries_over made_over
   run_harmless folder have =
       let visits = (trace_over S folder (hand_of folder)).visits in
       let apart = are_apart S laws folder (hand_of folder) in
       harmless_both S laws (unmet folder (writes_for S (files_of visits))) (new_entries folder visits)
-      (wishes_harmless folder (files_of visits) (λ at. apart.within (λ name. not (bytes_eq (keep_name at) name)) (built_apart_of S laws at)))
-      (traced_over S laws folder (hand_of folder) (λ trace. HaveEntries folder trace.visits → AreHarmless S (new_entries folder trace.visits))
+      (wishes_harmless folder (files_of visits)
+      (λ at. apart.within (λ name. not (bytes_eq (keep_name at) name)) (built_apart_of S laws at)))
+      (traced_over S laws folder (hand_of folder)
+      (λ trace. HaveEntries folder trace.visits → AreHarmless S (new_entries folder trace.visits))
       (λ reason is _. tt)
-      (λ values is have. entries_harmless folder values (effective_settings (look_in (hand_of folder)) values is) (hand_of folder) [] (stages_run S laws values) _ _ (by_visits S laws (solve_over S folder) (solve_makes S laws folder) values (hand_of folder)) have)
+      (λ values is have. entries_harmless folder values (effective_settings (look_in (hand_of folder)) values is)
+      (hand_of folder) [] (stages_run S laws values) _ _
+      (by_visits S laws (solve_over S folder) (solve_makes S laws folder) values (hand_of folder)) have)
       have)
 
 -- ---- what a call adds
@@ -158,7 +159,7 @@ no_more None = refl
 no_more (Some writes) = ap Some (sym (append-nil writes))
 
 module _ (S : StageParts) (laws : AreStages S) where
-  adds_none : (folder : Folder) (left : Option Folder) (before now : Option (List Write))
+  pub adds_none : (folder : Folder) (left : Option Folder) (before now : Option (List Write))
       → left ≡ Some folder → now ≡ before → AddsHarmless S folder left before now
   adds_none folder left before now same kept = record {
     added = [];
@@ -173,14 +174,16 @@ module _ (S : StageParts) (laws : AreStages S) where
   kept_all None honest = tt
   kept_all (Some left) honest = honest
 
-  module _ (writes : List Write) (folder : Folder) (left : Option Folder) (before now : Option (List Write)) (harmless : AreHarmless S writes) (apart : AreOutside is_hand writes) where
-    adds_all : AreApplied writes (Some folder) left before now → AddsHarmless S folder left before now
+  module _ (writes : List Write) (folder : Folder) (left : Option Folder) (before now : Option (List Write))
+      (harmless : AreHarmless S writes) (apart : AreOutside is_hand writes) where
+    pub adds_all : AreApplied writes (Some folder) left before now → AddsHarmless S folder left before now
     adds_all all = record {
       added = writes;
       noted = all.noted;
       harmless = harmless;
       apart = apart;
-      keep = λ honest. subst (λ left. IfSome left (IsKeptHonest S)) (sym all.folder) (λ at. made_honest S laws at writes folder harmless (inl (honest at)));
+      keep = λ honest. subst (λ left. IfSome left (IsKeptHonest S)) (sym all.folder)
+          (λ at. made_honest S laws at writes folder harmless (inl (honest at)));
     }
 
     adds_cut : (failed : ChainFault)
@@ -193,7 +196,9 @@ module _ (S : StageParts) (laws : AreStages S) where
           noted = cut.noted;
           harmless = parts.0;
           apart = outside_front is_hand cut.made (cut.next ∷ cut.rest) (subst (AreOutside is_hand) cut.split apart);
-          keep = λ honest. kept_all left (λ at. by failed at parts.1.0 cut.folder (made_honest S laws at cut.made folder parts.0 (inl (honest at))));
+          keep = λ honest. kept_all left
+              (λ at. by failed at parts.1.0 cut.folder
+              (made_honest S laws at cut.made folder parts.0 (inl (honest at))));
         }
       where
         by : (failed : ChainFault) (at : Stage) → IsHarmless S cut.next
@@ -204,83 +209,39 @@ module _ (S : StageParts) (laws : AreStages S) where
         by fault.NoMemory at next same honest =
             subst (λ left. IfSome left (IsHonestAt S laws at)) (sym same) honest
 
-    adds_some : (fault : ChainFault) → AreNotAll fault writes (Some folder) left before now
+    pub adds_some : (fault : ChainFault) → AreNotAll fault writes (Some folder) left before now
         → AddsHarmless S folder left before now
     adds_some fault h =
         ⊎_elim (λ same. adds_none folder left before now same.0 same.1) (adds_cut fault) h
 
-  -- a call that only read
-  pub read_adds : (contents left : Option Folder) (before now : Option (List Write)) → left ≡ contents
-      → now ≡ before → IfSome contents (λ folder. AddsHarmless S folder left before now)
-  read_adds None left before now same kept = tt
-  read_adds (Some folder) left before now same kept = adds_none folder left before now same kept
-
-  -- a run over what is kept, whether it finished or not
-  pub run_adds : (contents left : Option Folder) (before now : Option (List Write)) (so_far : SoFar)
-      (why : Option Cause) (first last : ℕ) (result : Result Outcome ChainFault)
-      → IfSome contents (λ folder. EndGives S folder (trace_over S folder folder) so_far first last (Ok why))
-      → IfSome contents (λ folder. OnOk result (AreApplied (writes_of S folder) (Some folder) left before now))
-      → IfSome contents (λ folder. IfErr result (λ fault. AreNotAll fault (writes_of S folder) (Some folder) left before now))
-      → IfSome contents (λ folder. AddsHarmless S folder left before now)
-  run_adds None left before now so_far why first last result ends all some = tt
-  run_adds (Some folder) left before now so_far why first last result ends all some = by result all some
-    where
-      harmless : AreHarmless S (writes_of S folder)
-      harmless = run_harmless S laws folder (subst (λ trace. HaveEntries folder trace.visits) (sym (over_alone S laws folder folder)) ends.1.have)
-
-      by : (result : Result Outcome ChainFault)
-          → OnOk result (AreApplied (writes_of S folder) (Some folder) left before now)
-          → IfErr result (λ fault. AreNotAll fault (writes_of S folder) (Some folder) left before now)
-          → AddsHarmless S folder left before now
-      by (Ok outcome) all some =
-          adds_all (writes_of S folder) folder left before now harmless (writes_outside S laws folder) all
-      by (Err fault) all some =
-          adds_some (writes_of S folder) folder left before now harmless (writes_outside S laws folder) fault some
-
   -- ---- the removals, and then the run
 
-  removed_harmless : (by : Mode) (folder : Folder) → AreHarmless S (removed by folder)
+  pub removed_harmless : (by : Mode) (folder : Folder) → AreHarmless S (removed by folder)
   removed_harmless mode.Make folder = tt
   removed_harmless mode.Fresh folder =
-      some_harmless S laws (λ write. not (is_met folder write)) (map Removal keep_names) (removals_harmless S laws keep_names)
+      some_harmless S laws (λ write. not (is_met folder write)) (map Removal keep_names)
+      (removals_harmless S laws keep_names)
 
-removed_outside : (by : Mode) (folder : Folder) → AreOutside is_hand (removed by folder)
+pub removed_outside : (by : Mode) (folder : Folder) → AreOutside is_hand (removed by folder)
 removed_outside mode.Make folder = tt
 removed_outside mode.Fresh folder =
-    outside_some (λ write. not (is_met folder write)) is_hand (map Removal keep_names) (removals_told (map Removal keep_names) refl)
+    outside_some (λ write. not (is_met folder write)) is_hand (map Removal keep_names)
+    (removals_told (map Removal keep_names) refl)
 
 module _ (S : StageParts) (laws : AreStages S) where
-  module _ (by : Mode) (contents left : Option Folder) (before now : Option (List Write)) where
-    pub cleared_adds : (fault : ChainFault)
-        → IfSome contents (λ folder. AreNotAll fault (removed by folder) (Some folder) left before now)
-        → IfSome contents (λ folder. AddsHarmless S folder left before now)
-    cleared_adds fault h = each contents h
-      where
-        each : (contents : Option Folder)
-            → IfSome contents (λ folder. AreNotAll fault (removed by folder) (Some folder) left before now)
-            → IfSome contents (λ folder. AddsHarmless S folder left before now)
-        each None h = tt
-        each (Some folder) h =
-            adds_some S laws (removed by folder) folder left before now (removed_harmless S laws by folder) (removed_outside by folder) fault h
-
-    pub both_add : (mid : Option Folder) (noted : Option (List Write)) → IsCleared by contents mid before noted
-        → IfSome mid (λ folder. AddsHarmless S folder left noted now)
-        → IfSome contents (λ folder. AddsHarmless S folder left before now)
-    both_add mid noted cleared h = each contents cleared
-      where
-        both : (folder : Folder) → AreApplied (removed by folder) (Some folder) mid before noted
-            → AddsHarmless S (folder_after (removed by folder) folder) left noted now
-            → AddsHarmless S folder left before now
-        both folder first more = record {
-          added = removed by folder ++ more.added;
-          noted = more.noted ∙ ap (option_map (λ writes. writes ++ more.added)) first.noted ∙ noted_both before (removed by folder) more.added;
-          harmless = harmless_both S laws (removed by folder) more.added (removed_harmless S laws by folder) more.harmless;
-          apart = outside_both is_hand (removed by folder) more.added (removed_outside by folder) more.apart;
-          keep = λ honest. more.keep (λ at. made_honest S laws at (removed by folder) folder (removed_harmless S laws by folder) (inl (honest at)));
-        }
-
-        each : (contents : Option Folder) → IsCleared by contents mid before noted
-            → IfSome contents (λ folder. AddsHarmless S folder left before now)
-        each None cleared = tt
-        each (Some folder) cleared = both folder cleared
-            (subst (λ mid. IfSome mid (λ folder. AddsHarmless S folder left noted now)) cleared.folder h)
+  pub both_add : (by : Mode) (folder : Folder) (mid left : Option Folder) (before noted now : Option (List Write))
+      → AreApplied (removed by folder) (Some folder) mid before noted
+      → AddsHarmless S (folder_after (removed by folder) folder) left noted now
+      → AddsHarmless S folder left before now
+  both_add by folder mid left before noted now first more = record {
+    added = removed by folder ++ more.added;
+    noted =
+        more.noted ∙ ap (option_map (λ writes. writes ++ more.added)) first.noted
+        ∙ noted_both before (removed by folder) more.added;
+    harmless =
+        harmless_both S laws (removed by folder) more.added (removed_harmless S laws by folder) more.harmless;
+    apart = outside_both is_hand (removed by folder) more.added (removed_outside by folder) more.apart;
+    keep = λ honest. more.keep
+        (λ at. made_honest S laws at (removed by folder) folder (removed_harmless S laws by folder)
+        (inl (honest at)));
+  }

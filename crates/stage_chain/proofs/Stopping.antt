@@ -6,7 +6,7 @@ use Rattle.std.specs.List.{list_any}
 use Rattle.std.specs.Str.{bytes_eq}
 use Rattle.std.specs.FinMap as files
 use Rattle.std.proofs.Math.Seq.{take-length}
-use Rattle.std.proofs.lemmas.Bool.{false≢true}
+use Rattle.std.proofs.lemmas.Bool.{false≢true, or_cases}
 use Rattle.std.proofs.lemmas.Slice.Eq.{bytes_eq-Decides}
 use Rattle.plan_files.specs.declared.write.Write.{Write}
 use Rattle.plan_files.specs.declared.write.Write.TheVariants.{Put, Removal}
@@ -42,7 +42,8 @@ module _ (S : StageParts) (laws : AreStages S) where
       → (keep_name at ≡ write_name write → (bytes : List ℕ) → left_by write ≡ Some bytes → IsHonest S.run at bytes)
       → IsHonestAt at base → IsHonestAt at (after_write write base)
   after_honest at write base put honest = λ bytes there.
-      left_honest at (write_name write) (bytes_eq (keep_name at) (write_name write)) (files.get base (keep_name at)) (left_by write) refl put honest bytes
+      left_honest at (write_name write) (bytes_eq (keep_name at) (write_name write)) (files.get base (keep_name at))
+      (left_by write) refl put honest bytes
       (sym (get_written write base (keep_name at)) ∙ there)
 
 some_same : (xs ys : List ℕ) → Some xs ≡ Some ys → xs ≡ ys
@@ -56,12 +57,14 @@ module _ (S : StageParts) (laws : AreStages S) where
       → IsHarmless S (Put name bytes) → IsHonestAt S laws at base
       → IsHonestAt S laws at (after_write (Put name (take kept bytes)) base)
   front_honest at name bytes kept base harmless honest =
-      after_honest S laws at (Put name (take kept bytes)) base (λ same front is. subst (IsHonest S.run at) (some_same (take kept bytes) front is) (harmless at kept same)) honest
+      after_honest S laws at (Put name (take kept bytes)) base
+      (λ same front is. subst (IsHonest S.run at) (some_same (take kept bytes) front is) (harmless at kept same)) honest
 
   whole_honest : (at : Stage) (write : Write) (base : Folder) → IsHarmless S write → IsHonestAt S laws at base
       → IsHonestAt S laws at (after_write write base)
   whole_honest at (Put name bytes) base harmless honest =
-      subst (λ text. IsHonestAt S laws at (after_write (Put name text) base)) (take-length bytes) (front_honest at name bytes (length bytes) base harmless honest)
+      subst (λ text. IsHonestAt S laws at (after_write (Put name text) base)) (take-length bytes)
+      (front_honest at name bytes (length bytes) base harmless honest)
   whole_honest at (Removal name) base harmless honest =
       after_honest S laws at (Removal name) base (λ same bytes is. absurd (none_some bytes is)) honest
 
@@ -72,7 +75,8 @@ module _ (S : StageParts) (laws : AreStages S) where
       grind (arith, ⊎_elim, front_honest)
   torn_honest at (Removal name) base left harmless torn honest =
       ⊎_elim (λ same. subst (λ left. IfSome left (IsHonestAt S laws at)) (sym same) honest)
-      (λ gone. subst (λ left. IfSome left (IsHonestAt S laws at)) (sym gone) (whole_honest at (Removal name) base tt honest))
+      (λ gone. subst (λ left. IfSome left (IsHonestAt S laws at)) (sym gone)
+      (whole_honest at (Removal name) base tt honest))
       torn
 
   -- ---- after some writes
@@ -85,14 +89,12 @@ module _ (S : StageParts) (laws : AreStages S) where
       → IsHonestAt S laws at (after_write write base)
   removed_honest at (Put name bytes) base is = absurd (false≢true is)
   removed_honest at (Removal name) base is = λ bytes there.
-      absurd (none_some bytes (sym (get_written (Removal name) base (keep_name at) ∙ ap (λ here. cond here None (files.get base (keep_name at))) own) ∙ there))
+      absurd (none_some bytes
+      (sym (get_written (Removal name) base (keep_name at)
+      ∙ ap (λ here. cond here None (files.get base (keep_name at))) own) ∙ there))
     where
       own : bytes_eq (keep_name at) name ≡ true
       own = (bytes_eq-Decides (keep_name at) name).1 (sym ((bytes_eq-Decides name (keep_name at)).0 is))
-
-either : (a b : Bool) → (a || b) ≡ true → (a ≡ true) ⊎ (b ≡ true)
-either true b e = inl refl
-either false b e = inr e
 
 module _ (S : StageParts) (laws : AreStages S) where
   pub made_honest : (at : Stage) (made : List Write) (base : Folder) → AreHarmless S made
@@ -102,7 +104,8 @@ module _ (S : StageParts) (laws : AreStages S) where
   made_honest at (write ∷ made) base harmless trusted =
       made_honest at made (after_write write base) harmless.1 (⊎_elim
       (λ honest. inl (whole_honest S laws at write base harmless.0 honest))
-      (λ some. ⊎_elim (λ own. inl (removed_honest S laws at write base own)) (λ later. inr later) (either (removes_kept at write) (list_any (removes_kept at) made) some))
+      (λ some. ⊎_elim (λ own. inl (removed_honest S laws at write base own)) (λ later. inr later)
+      (or_cases (removes_kept at write) (list_any (removes_kept at) made) some))
       trusted)
 
   pub harmless_both : (writes more : List Write) → AreHarmless S writes → AreHarmless S more

@@ -24,8 +24,8 @@ use Rattle.stage_chain.specs.Runs.{name_of}
 use Rattle.stage_chain.proofs.Differing.{all_both, all_parts, Differ}
 use Rattle.stage_chain.proofs.Differing.{none_differ, differ_swap, differing_parts}
 use Rattle.stage_chain.proofs.Differing.{parts_differing}
-use Rattle.stage_chain.proofs.Placed.{names_more, ArePlaced, visits_placed, visits_differ}
-use Rattle.stage_chain.proofs.Placed.{visits_within}
+use Rattle.stage_chain.proofs.FoundAmongAllMade.{names_more, ArePlaced, visits_placed, visits_differ}
+use Rattle.stage_chain.proofs.FoundAmongAllMade.{visits_within}
 use Rattle.stage_chain.proofs.Visits.{AreVisits, chain_visits}
 use Rattle.stage_chain.specs.StageLists.{differing, differs_from}
 use Rattle.stage_chain.specs.StageParts.{StageParts}
@@ -48,8 +48,10 @@ module _ (S : StageParts) (laws : AreStages S) where
 
   -- the same of a chain over a keep
   pub traced_over : (keep hand : Folder) (P : Trace → Type 0)
-      → ((reason : ConfigFault) → effective (look_in hand) ≡ Err reason → P (chain_under S (solve_over S keep) (Err reason) hand))
-      → ((values : List ℤ) → effective (look_in hand) ≡ Ok values → P (chain_under S (solve_over S keep) (Ok values) hand))
+      → ((reason : ConfigFault) → effective (look_in hand) ≡ Err reason
+      → P (chain_under S (solve_over S keep) (Err reason) hand))
+      → ((values : List ℤ) → effective (look_in hand) ≡ Ok values
+      → P (chain_under S (solve_over S keep) (Ok values) hand))
       → P (trace_over S keep hand)
   unfolding trace_over
   traced_over keep hand P refused run = by (effective (look_in hand)) refl
@@ -66,7 +68,8 @@ module _ (p : Stage → Bool) where
       → list_all q (names_made_by (filter p stages)) ≡ true
   some_within q [] h = refl
   some_within q (stage ∷ stages) h =
-      let parts = all_parts q (map file_name (stage_makes stage)) (names_made_by stages) (ap (list_all q) (sym (names_more stage stages)) ∙ h) in
+      let parts = all_parts q (map file_name (stage_makes stage)) (names_made_by stages)
+      (ap (list_all q) (sym (names_more stage stages)) ∙ h) in
       by (p stage) parts.0 (some_within q stages parts.1)
     where
       by : (b : Bool) → list_all q (map file_name (stage_makes stage)) ≡ true
@@ -83,7 +86,8 @@ module _ (p : Stage → Bool) where
   some_differ (stage ∷ stages) h =
       let names = map file_name (stage_makes stage) in
       let parts = differing_parts names (names_made_by stages) (ap differing (sym (names_more stage stages)) ∙ h) in
-      let apart = differ_swap (names_made_by (filter p stages)) names (some_within (differs_from names) stages (differ_swap names (names_made_by stages) parts.apart)) in
+      let apart = differ_swap (names_made_by (filter p stages)) names
+      (some_within (differs_from names) stages (differ_swap names (names_made_by stages) parts.apart)) in
       by (p stage) parts.front (some_differ stages parts.back) apart
     where
       by : (b : Bool) → differing (map file_name (stage_makes stage)) ≡ true
@@ -92,7 +96,8 @@ module _ (p : Stage → Bool) where
           → differing (names_made_by (cond b (stage ∷ filter p stages) (filter p stages))) ≡ true
       by true own rest apart =
           ap differing (names_more stage (filter p stages))
-          ∙ parts_differing (map file_name (stage_makes stage)) (names_made_by (filter p stages)) (record { front = own; back = rest; apart = apart })
+          ∙ parts_differing (map file_name (stage_makes stage)) (names_made_by (filter p stages))
+          (record { front = own; back = rest; apart = apart })
       by false own rest apart = rest
 
 module _ (S : StageParts) (laws : AreStages S) where
@@ -104,7 +109,9 @@ module _ (S : StageParts) (laws : AreStages S) where
 
   -- each of them is one that runs in a place
   pub run_staged : (values : List ℤ) → All (Contains (staged S values)) (stages_run values)
-  run_staged values = All-filter (λ stage. leb (stage_place stage) (stage_place (last_stage_of values))) (Contains (staged S values)) (staged S values) (All-contains_itself (staged S values))
+  run_staged values =
+      All-filter (λ stage. leb (stage_place stage) (stage_place (last_stage_of values))) (Contains (staged S values))
+      (staged S values) (All-contains_itself (staged S values))
 
   -- the stages that run in some places make the files of the places
   names_staged : (values : List ℤ) (places : List Stage)
@@ -118,9 +125,13 @@ module _ (S : StageParts) (laws : AreStages S) where
   staged_within values p h = ap (list_all p) (names_staged values S.places) ∙ h
 
   run_differ : (values : List ℤ) → differing (names_made_by (stages_run values)) ≡ true
-  run_differ values = some_differ (λ stage. leb (stage_place stage) (stage_place (last_stage_of values))) (staged S values) (laws.lists values).files_differ
+  run_differ values =
+      some_differ (λ stage. leb (stage_place stage) (stage_place (last_stage_of values))) (staged S values)
+      (laws.lists values).files_differ
 
-  module _ (solve : BundleParts → Result Made Refusal) (makes : (bundle : BundleParts) (made : Made) → solve bundle ≡ Ok made → MakesAs bundle.stage (ids_of made.files)) (values : List ℤ) (hand : Folder) where
+  module _ (solve : BundleParts → Result Made Refusal)
+      (makes : (bundle : BundleParts) (made : Made) → solve bundle ≡ Ok made
+      → MakesAs bundle.stage (ids_of made.files)) (values : List ℤ) (hand : Folder) where
     abbrev pub chain_by : Trace
     chain_by = chain_under S solve (Ok values) hand
 
@@ -129,16 +140,23 @@ module _ (S : StageParts) (laws : AreStages S) where
 
     -- its visits are placed among all that it made
     pub by_placed : ArePlaced solve makes values hand (files_of chain_by.visits) (stages_run values) chain_by.visits
-    by_placed = visits_placed solve makes values hand [] (files_of chain_by.visits) (stages_run values) chain_by.visits chain_by.halt by_visits (run_differ values) (none_differ (names_made_by (stages_run values))) refl
+    by_placed =
+        visits_placed solve makes values hand [] (files_of chain_by.visits) (stages_run values) chain_by.visits
+        chain_by.halt by_visits (run_differ values) (none_differ (names_made_by (stages_run values))) refl
 
     -- the names of these differ
     pub by_differ : differing (map name_of (files_of chain_by.visits)) ≡ true
-    by_differ = visits_differ solve makes values hand [] (stages_run values) chain_by.visits chain_by.halt by_visits (run_differ values)
+    by_differ =
+        visits_differ solve makes values hand [] (stages_run values) chain_by.visits chain_by.halt by_visits
+        (run_differ values)
 
     -- what holds of all names that the built stages make holds of them
     pub by_within : (p : List ℕ → Bool) → list_all p (names_made_by S.places) ≡ true
         → list_all p (map name_of (files_of chain_by.visits)) ≡ true
-    by_within p h = visits_within solve makes values hand p [] (stages_run values) chain_by.visits chain_by.halt by_visits (some_within (λ stage. leb (stage_place stage) (stage_place (last_stage_of values))) p (staged S values) (staged_within values p h))
+    by_within p h =
+        visits_within solve makes values hand p [] (stages_run values) chain_by.visits chain_by.halt by_visits
+        (some_within (λ stage. leb (stage_place stage) (stage_place (last_stage_of values))) p (staged S values)
+        (staged_within values p h))
 
   -- the same of a chain from scratch
   module _ (values : List ℤ) (hand : Folder) where

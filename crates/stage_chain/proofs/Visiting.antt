@@ -1,8 +1,6 @@
 -- One stage of a chain is run.
 use Rattle.std.proofs.Common.{◌≡◌, ℕ, ℤ, List, [], ◌∷◌, Option, Some, None, IfSome, Result, Ok, Err}
 use Rattle.std.proofs.Common.{refl, ap, sym, ◌∙◌, subst, arith}
-use Rattle.plan_files.specs.declared.file_fault.FileFault.{FileFault}
-use Rattle.plan_files.specs.declared.file_fault.FileFault.TheVariants as file_fault
 use Rattle.plan_files.specs.Folder.{Folder}
 use Rattle.giv_files.specs.declared.made.Made.{Made}
 use Rattle.giv_files.specs.declared.made.MadeFile.{MadeFile}
@@ -14,7 +12,7 @@ use Rattle.stage_chain.specs.declared.chain_end.ChainEnd.TheVariants as end
 use Rattle.stage_chain.specs.declared.cause.Cause.{Cause}
 use Rattle.stage_chain.specs.declared.cause.Cause.TheVariants as cause
 use Rattle.stage_chain.specs.Chain.{Visit, Halt, texts_of, bundle_told, solved, tried, visit_of}
-use Rattle.stage_chain.specs.Ends.{Gives, end_of_file}
+use Rattle.stage_chain.specs.Ends.{Gives}
 use Rattle.stage_chain.specs.Kept.{entry_put, kept_in, new_entry, solve_over, work_over}
 use Rattle.stage_chain.specs.Progress.{SoFar, with_made, MakingGives, VisitGives, visit_work}
 use Rattle.stage_chain.specs.StageParts.{StageParts}
@@ -65,31 +63,30 @@ module _ (S : StageParts) (laws : AreStages S) where
     visit_is folder bundle told = ap (tried (solve_over S folder) values folder) told
 
     -- an input is not there, or a file failed
-    ungiven : (folder : Folder) (why : ChainEnd) (count : ℕ) → Gives {T = BundleParts} (told_in folder) (Err why) → VisitGives S folder (visit_in folder) old old count count (Err why)
+    ungiven : (folder : Folder) (why : ChainEnd) (count : ℕ) → Gives {T = BundleParts} (told_in folder) (Err why)
+        → VisitGives S folder (visit_in folder) old old count count (Err why)
     unfolding visit_of
     ungiven folder (end.Stopped why) count told =
-        let none : visit_work S folder (visit_in folder) ≡ 0 = ap (λ told. visit_work S folder (tried (solve_over S folder) values folder told)) told in
-        (record { cause = why; given = None }, ap (tried (solve_over S folder) values folder) told, refl, refl, omega (arith, none))
+        let none : visit_work S folder (visit_in folder) ≡ 0 =
+        ap (λ told. visit_work S folder (tried (solve_over S folder) values folder told)) told in (
+          record { cause = why; given = None },
+          ap (tried (solve_over S folder) values folder) told,
+          refl,
+          refl,
+          omega
+              (arith, none),
+        )
     ungiven folder end.FileFault count told = (omega arith, omega arith)
     ungiven folder end.NoMemory count told = (omega arith, omega arith)
 
-    pub not_given : (contents : Option Folder) (made : List MadeFile) (why : ChainEnd) (count : ℕ) (result : Result (Unit {0}) ChainEnd) → made ≡ old.files → IfSome contents (λ folder. Gives {T =
+    pub not_given : (contents : Option Folder) (made : List MadeFile) (why : ChainEnd) (count : ℕ)
+        (result : Result (Unit {0}) ChainEnd) → made ≡ old.files → IfSome contents (λ folder. Gives {T =
         BundleParts} (told_with made folder) (Err why)) → result ≡ Err why
         → IfSome contents (λ folder. VisitGives S folder (visit_in folder) old old count count result)
     not_given None made why count result same told e = tt
-    not_given (Some folder) made why count result same told e = rw e (ungiven folder why count (subst (λ files. Gives {T = BundleParts} (told_with files folder) (Err why)) same told))
-
-    -- what is kept could not be read
-    not_read : (folder : Folder) (fault : FileFault) (count : ℕ)
-        → VisitGives S folder (visit_in folder) old old count count (Err (end_of_file fault))
-    not_read folder file_fault.Failed count = (omega arith, omega arith)
-    not_read folder file_fault.NoMemory count = (omega arith, omega arith)
-
-    pub is_unread : (contents : Option Folder) (fault : FileFault) (count : ℕ)
-        (result : Result (Unit {0}) ChainEnd) → result ≡ Err (end_of_file fault)
-        → IfSome contents (λ folder. VisitGives S folder (visit_in folder) old old count count result)
-    is_unread None fault count result e = tt
-    is_unread (Some folder) fault count result e = rw e (not_read folder fault count)
+    not_given (Some folder) made why count result same told e =
+        rw e (ungiven folder why count
+        (subst (λ files. Gives {T = BundleParts} (told_with files folder) (Err why)) same told))
 
     -- the stage is kept
     pub is_kept : (contents now : Option Folder) (files : List MadeFile) (bundle : BundleParts)
@@ -101,11 +98,14 @@ module _ (S : StageParts) (laws : AreStages S) where
     is_kept None now files bundle made count same here told kept more = tt
     is_kept (Some folder) now files bundle made count same here given found more =
         let told : told_in folder ≡ Ok bundle = ap (λ files. told_with files folder) (sym same) ∙ given in
-        let kept : kept_in folder bundle ≡ Some made = sym (subst (λ now. IfSome now (λ folder. Some made ≡ kept_in folder bundle)) here found) in
-        let none : visit_work S folder (visit_in folder) ≡ 0 = given_work_is folder bundle told ∙ kept_work folder bundle made kept in
+        let kept : kept_in folder bundle ≡ Some made =
+        sym (subst (λ now. IfSome now (λ folder. Some made ≡ kept_in folder bundle)) here found) in
+        let none : visit_work S folder (visit_in folder) ≡ 0 =
+        given_work_is folder bundle told ∙ kept_work folder bundle made kept in
         let old_entry : new_entry folder (record { bundle = bundle; made = made }) ≡ [] = rw kept refl in (
           record { bundle = bundle; made = made },
-          visit_is folder bundle told ∙ ap (solved (solve_over S folder) values folder bundle) (kept_solve folder bundle made kept),
+          visit_is folder bundle told
+              ∙ ap (solved (solve_over S folder) values folder bundle) (kept_solve folder bundle made kept),
           more ∙ ap (with_made old made) (sym old_entry),
           (λ not. absurd (never made (sym kept ∙ not))),
           omega (arith, none),
@@ -114,40 +114,40 @@ module _ (S : StageParts) (laws : AreStages S) where
         never : (made : Made) → Some made ≡ None → ⊥
         never made e = cc
 
-    -- memory was refused where it was to be added
-    pub is_cut : (contents : Option Folder) (count : ℕ) (result : Result (Unit {0}) ChainEnd)
-        → result ≡ Err end.NoMemory
-        → IfSome contents (λ folder. VisitGives S folder (visit_in folder) old new count count result)
-    is_cut None count result e = tt
-    is_cut (Some folder) count result e = rw e (omega arith, omega arith)
-
     -- the stage is not kept, and made, or it refuses what it is given
     making : (folder : Folder) (bundle : BundleParts) (before now : ℕ)
         (result : Result (Unit {0}) ChainEnd) → told_in folder ≡ Ok bundle
         → kept_in folder bundle ≡ None → MakingGives S bundle old new before now result
         → VisitGives S folder (visit_in folder) old new before now result
     making folder bundle before now (Ok _) told none (made, is, more, back, count) =
-        let work : visit_work S folder (visit_in folder) ≡ S.work bundle = given_work_is folder bundle told ∙ made_work folder bundle none in
-        let entry : new_entry folder (record { bundle = bundle; made = made }) ≡ entry_put bundle made ∷ [] = rw none refl in (
+        let work : visit_work S folder (visit_in folder) ≡ S.work bundle =
+        given_work_is folder bundle told ∙ made_work folder bundle none in
+        let entry : new_entry folder (record { bundle = bundle; made = made }) ≡ entry_put bundle made ∷ [] =
+        rw none refl in (
           record { bundle = bundle; made = made },
-          visit_is folder bundle told ∙ ap (solved (solve_over S folder) values folder bundle) (made_solve folder bundle none ∙ is),
+          visit_is folder bundle told
+              ∙ ap (solved (solve_over S folder) values folder bundle) (made_solve folder bundle none ∙ is),
           more ∙ ap (with_made old made) (sym entry),
           (λ _. back),
           omega (arith, count, work),
         )
     making folder bundle before now (Err (end.Stopped why)) told none (reason, is, own, more, count) =
-        let work : visit_work S folder (visit_in folder) ≡ S.work bundle = given_work_is folder bundle told ∙ made_work folder bundle none in (
+        let work : visit_work S folder (visit_in folder) ≡ S.work bundle =
+        given_work_is folder bundle told ∙ made_work folder bundle none in (
           record { cause = cause.Refused bundle.stage reason; given = Some bundle },
-          visit_is folder bundle told ∙ ap (solved (solve_over S folder) values folder bundle) (made_solve folder bundle none ∙ is),
+          visit_is folder bundle told
+              ∙ ap (solved (solve_over S folder) values folder bundle) (made_solve folder bundle none ∙ is),
           sym own,
           more,
           omega (arith, count, work),
         )
     making folder bundle before now (Err end.FileFault) told none (least, most) =
-        let work : visit_work S folder (visit_in folder) ≡ S.work bundle = given_work_is folder bundle told ∙ made_work folder bundle none in
+        let work : visit_work S folder (visit_in folder) ≡ S.work bundle =
+        given_work_is folder bundle told ∙ made_work folder bundle none in
         (least, omega (arith, work, most))
     making folder bundle before now (Err end.NoMemory) told none (least, most) =
-        let work : visit_work S folder (visit_in folder) ≡ S.work bundle = given_work_is folder bundle told ∙ made_work folder bundle none in
+        let work : visit_work S folder (visit_in folder) ≡ S.work bundle =
+        given_work_is folder bundle told ∙ made_work folder bundle none in
         (least, omega (arith, work, most))
 
     pub is_making : (contents now : Option Folder) (files : List MadeFile) (bundle : BundleParts)

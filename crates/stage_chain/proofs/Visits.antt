@@ -17,7 +17,9 @@ use Rattle.stage_chain.specs.Chain.{solved, go_on, visit_of, chain_from}
 pub bundle_stage : (values : List ℤ) (stage : Stage) (texts : Result (List (List ℕ)) Cause)
     (bundle : BundleParts) → bundle_told values stage texts ≡ Ok bundle → bundle.stage ≡ stage
 bundle_stage values stage (Err why) bundle e = absurd (cc)
-bundle_stage values stage (Ok texts) bundle e = let same : bundle_for values stage texts ≡ bundle = cc in sym (ap (λ (b : BundleParts). b.stage) same)
+bundle_stage values stage (Ok texts) bundle e =
+    let same : bundle_for values stage texts ≡ bundle = cc in
+    sym (ap (λ (b : BundleParts). b.stage) same)
 
 module _ (solve : BundleParts → Result Made Refusal) (values : List ℤ) (hand : Folder) where
   -- what a stage is given, where so many files were made before it
@@ -77,4 +79,6 @@ module _ (solve : BundleParts → Result Made Refusal) (values : List ℤ) (hand
       → AreVisitsOf before stages (chain_from solve values hand before stages)
   unfolding visit_of
   chain_visits before [] = tt
-  chain_visits before (stage ∷ stages) = tried_visits before stage stages (given_to before stage) _ refl (λ visit. chain_visits (before ++ visit.made.files) stages)
+  chain_visits before (stage ∷ stages) =
+      tried_visits before stage stages (given_to before stage) _ refl
+      (λ visit. chain_visits (before ++ visit.made.files) stages)

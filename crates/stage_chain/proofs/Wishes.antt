@@ -1,11 +1,11 @@
 -- Writes that change something leave what all of them leave, and then nothing is left to change.
-use Rattle.std.proofs.Common.{arith, ◌≡◌, ℕ, Bool, true, false, cond, not, ◌||◌, List, [], ◌∷◌}
+use Rattle.std.proofs.Common.{arith, ◌≡◌, ℕ, Bool, true, false, cond, not, List, [], ◌∷◌}
 use Rattle.std.proofs.Common.{◌++◌, map, filter, Option, Some, None, refl, ap, sym, ◌∙◌}
 use Rattle.std.specs.Prelude.{⊤}
 use Rattle.std.specs.List.{list_all}
 use Rattle.std.specs.Str.{bytes_eq}
 use Rattle.std.specs.FinMap as files
-use Rattle.std.proofs.lemmas.Bool.{false≢true, and_parts, and_from}
+use Rattle.std.proofs.lemmas.Bool.{false≢true, and_parts, and_from, not-true, or_parts}
 use Rattle.std.proofs.lemmas.Slice.Eq.{bytes_eq-Decides}
 use Rattle.plan_files.specs.declared.write.Write.{Write}
 use Rattle.plan_files.specs.Changes.{after_write, folder_after, left_by, write_name}
@@ -35,7 +35,9 @@ same_own (Some there) = (bytes_eq-Decides there there).1 refl
 -- a write that is met changes nothing
 met_stays : (write : Write) (folder : Folder) → is_met folder write ≡ true
     → after_write write folder ≡ folder
-met_stays write folder met = same_folder (after_write write folder) folder (λ name. get_written write folder name ∙ by name (bytes_eq name (write_name write)) refl)
+met_stays write folder met =
+    same_folder (after_write write folder) folder
+    (λ name. get_written write folder name ∙ by name (bytes_eq name (write_name write)) refl)
   where
     by : (name : List ℕ) (here : Bool) → bytes_eq name (write_name write) ≡ here
         → cond here (left_by write) (files.get folder name) ≡ files.get folder name
@@ -54,10 +56,6 @@ alike_own : (folder : Folder) (names : List (List ℕ)) → Alike folder folder 
 alike_own folder [] = tt
 alike_own folder (name ∷ names) = (refl, alike_own folder names)
 
-turned : (b : Bool) → not b ≡ true → b ≡ false
-turned true e = absurd (false≢true e)
-turned false e = refl
-
 -- and still after a write under another name
 pub alike_after : (write : Write) (folder other : Folder) (names : List (List ℕ))
     → differs_from names (write_name write) ≡ true → Alike folder other names
@@ -65,7 +63,7 @@ pub alike_after : (write : Write) (folder other : Folder) (names : List (List �
 alike_after write folder other [] out h = tt
 alike_after write folder other (name ∷ names) out h =
     let parts = and_parts _ _ out in
-    let apart : bytes_eq name (write_name write) ≡ false = same_way name (write_name write) ∙ turned _ parts.0 in (
+    let apart : bytes_eq name (write_name write) ≡ false = same_way name (write_name write) ∙ not-true _ parts.0 in (
       get_written write folder name ∙ ap (λ here. cond here (left_by write) (files.get folder name)) apart ∙ h.0,
       alike_after write folder other names parts.1 h.1,
     )
@@ -77,14 +75,17 @@ unmet_from base [] folder h k = refl
 unmet_from base (write ∷ writes) folder h k =
     let parts = and_parts _ _ h in
     by (is_met base write) refl (unmet_from base writes folder parts.1 k.1)
-    (unmet_from base writes (after_write write folder) parts.1 (alike_after write folder base (names_in writes) parts.0 k.1))
+    (unmet_from base writes (after_write write folder) parts.1
+    (alike_after write folder base (names_in writes) parts.0 k.1))
   where
     by : (met : Bool) → is_met base write ≡ met
         → folder_after (unmet base writes) folder ≡ folder_after writes folder
         → folder_after (unmet base writes) (after_write write folder) ≡ folder_after writes (after_write write folder)
-        → folder_after (cond (not met) (write ∷ unmet base writes) (unmet base writes)) folder ≡ folder_after writes (after_write write folder)
+        → folder_after (cond (not met) (write ∷ unmet base writes) (unmet base writes)) folder
+        ≡ folder_after writes (after_write write folder)
     by true is here there =
-        here ∙ ap (folder_after writes) (sym (met_stays write folder (ap (λ found. same_bytes found (left_by write)) k.0 ∙ is)))
+        here ∙ ap (folder_after writes)
+        (sym (met_stays write folder (ap (λ found. same_bytes found (left_by write)) k.0 ∙ is)))
     by false is here there = there
 
 -- Writes with different names leave what those of them leave that change something.
@@ -93,16 +94,12 @@ pub unmet_leaves : (writes : List Write) (folder : Folder) → differing (names_
 unmet_leaves writes folder h = unmet_from folder writes folder h (alike_own folder (names_in writes))
 
 -- under other names all is as before
-neither : (a b : Bool) → (a || b) ≡ false → (a ≡ false) × (b ≡ false)
-neither true b e = absurd (false≢true (sym e))
-neither false b e = (refl, e)
-
 pub get_behind : (writes : List Write) (folder : Folder) (name : List ℕ)
     → is_among name (names_in writes) ≡ false
     → files.get (folder_after writes folder) name ≡ files.get folder name
 get_behind [] folder name out = refl
 get_behind (write ∷ writes) folder name out =
-    let parts = neither _ _ out in
+    let parts = or_parts _ _ out in
     get_behind writes (after_write write folder) name parts.1
     ∙ get_written write folder name
     ∙ ap (λ here. cond here (left_by write) (files.get folder name)) parts.0
@@ -118,9 +115,11 @@ pub met_after : (writes : List Write) (folder : Folder) → differing (names_in 
 met_after [] folder h = tt
 met_after (write ∷ writes) folder h =
     let parts = and_parts _ _ h in (
-      get_behind writes (after_write write folder) (write_name write) (not_among (names_in writes) (write_name write) parts.0)
+      get_behind writes (after_write write folder) (write_name write)
+          (not_among (names_in writes) (write_name write) parts.0)
           ∙ get_written write folder (write_name write)
-          ∙ ap (λ here. cond here (left_by write) (files.get folder (write_name write))) ((bytes_eq-Decides (write_name write) (write_name write)).1 refl),
+          ∙ ap (λ here. cond here (left_by write) (files.get folder (write_name write)))
+          ((bytes_eq-Decides (write_name write) (write_name write)).1 refl),
       met_after writes (after_write write folder) parts.1,
     )
 
@@ -180,7 +179,8 @@ module _ (p : Write → Bool) where
           (not_among (names_in more) (write_name write) parts.0, all_once more parts.1)
   once_some (write ∷ writes) more h =
       let parts = and_parts _ _ h in
-      by (p write) (all_some (λ other. not (bytes_eq (write_name write) other)) writes more parts.0) (once_some writes more parts.1)
+      by (p write) (all_some (λ other. not (bytes_eq (write_name write) other)) writes more parts.0)
+      (once_some writes more parts.1)
     where
       by : (b : Bool) → differs_from (names_in (filter p writes ++ more)) (write_name write) ≡ true
           → IsOnce (filter p writes ++ more)

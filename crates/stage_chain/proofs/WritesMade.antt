@@ -8,13 +8,6 @@ use Rattle.stage_chain.specs.Runs.{names_besides, put_of, writes_for}
 use Rattle.stage_chain.specs.StageParts.{StageParts}
 use Rattle.stage_chain.specs.Laws.{AreStages}
 
--- told of any removals, since those of the built stages compute to a large term
-joined : (removals_of : List MadeFile → List Write) (made some : List MadeFile)
-    (puts removed writes : List Write) → some ≡ made → puts ≡ map put_of made
-    → removed ≡ removals_of some → writes ≡ puts ++ removed
-    → writes ≡ map put_of made ++ removals_of made
-joined removals_of made some puts removed writes same are gone all = grind arith
-
 module _ (S : StageParts) (laws : AreStages S) where
   pub joined_writes : (made some : List MadeFile) (puts removed writes : List Write) → some ≡ made
       → puts ≡ map put_of made → removed ≡ map Removal (names_besides some (names_made_by S.places))

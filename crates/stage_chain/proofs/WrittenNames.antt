@@ -110,7 +110,8 @@ some_apart : (p : Stage → Bool) (stages : List Stage) → differing (map keep_
 some_apart p [] h = refl
 some_apart p (stage ∷ stages) h =
     let parts = and_parts _ _ h in
-    by (p stage) (some_keep p (λ other. not (bytes_eq (keep_name stage) other)) stages parts.0) (some_apart p stages parts.1)
+    by (p stage) (some_keep p (λ other. not (bytes_eq (keep_name stage) other)) stages parts.0)
+    (some_apart p stages parts.1)
   where
     by : (b : Bool) → differs_from (map keep_name (filter p stages)) (keep_name stage) ≡ true
         → differing (map keep_name (filter p stages)) ≡ true
@@ -120,7 +121,9 @@ some_apart p (stage ∷ stages) h =
 
 module _ (S : StageParts) (laws : AreStages S) where
   pub run_apart : (values : List ℤ) → differing (map keep_name (stages_run S laws values)) ≡ true
-  run_apart values = some_apart (λ stage. leb (stage_place stage) (stage_place (last_stage_of values))) (staged S values) (laws.lists values).keeps_differ
+  run_apart values =
+      some_apart (λ stage. leb (stage_place stage) (stage_place (last_stage_of values))) (staged S values)
+      (laws.lists values).keeps_differ
 
 -- ---- the names of new entries
 
@@ -158,7 +161,8 @@ module _ (S : StageParts) (laws : AreStages S) where
     entries_within q before (stage ∷ stages) (visit ∷ visits) halt are h =
         let parts = and_parts _ _ h in
         let own : visit.bundle.stage ≡ stage = bundle_stage values stage _ visit.bundle are.0.given in
-        all_new q keep visit (new_entries keep visits) (ap (λ s. q (keep_name s)) own ∙ parts.0) (entries_within q (before ++ visit.made.files) stages visits halt are.1 parts.1)
+        all_new q keep visit (new_entries keep visits) (ap (λ s. q (keep_name s)) own ∙ parts.0)
+        (entries_within q (before ++ visit.made.files) stages visits halt are.1 parts.1)
 
     -- and they differ
     pub entries_differ : (before : List MadeFile) (stages : List Stage) (visits : List Visit)
@@ -170,9 +174,11 @@ module _ (S : StageParts) (laws : AreStages S) where
     entries_differ before (stage ∷ stages) (visit ∷ visits) halt are h =
         let parts = and_parts _ _ h in
         let own : visit.bundle.stage ≡ stage = bundle_stage values stage _ visit.bundle are.0.given in
-        let out : differs_from (map keep_name stages) (keep_name visit.bundle.stage) ≡ true = ap (λ s. differs_from (map keep_name stages) (keep_name s)) own ∙ parts.0 in
+        let out : differs_from (map keep_name stages) (keep_name visit.bundle.stage) ≡ true =
+        ap (λ s. differs_from (map keep_name stages) (keep_name s)) own ∙ parts.0 in
         differ_new keep visit (new_entries keep visits)
-        (entries_within (λ other. not (bytes_eq (keep_name visit.bundle.stage) other)) (before ++ visit.made.files) stages visits halt are.1 out)
+        (entries_within (λ other. not (bytes_eq (keep_name visit.bundle.stage) other)) (before ++ visit.made.files)
+        stages visits halt are.1 out)
         (entries_differ (before ++ visit.made.files) stages visits halt are.1 parts.1)
 
 all_own : (stages : List Stage) → list_all is_kept_name (map keep_name stages) ≡ true
@@ -198,8 +204,12 @@ module _ (S : StageParts) (laws : AreStages S) where
       (λ values is. record {
         within = by_within S laws (solve_over S keep) (solve_makes S laws keep) values hand;
         differ = by_differ S laws (solve_over S keep) (solve_makes S laws keep) values hand;
-        kept = entries_within S laws keep values hand is_kept_name [] (stages_run S laws values) _ _ (by_visits S laws (solve_over S keep) (solve_makes S laws keep) values hand) (all_own (stages_run S laws values));
-        entries = entries_differ S laws keep values hand [] (stages_run S laws values) _ _ (by_visits S laws (solve_over S keep) (solve_makes S laws keep) values hand) (run_apart S laws values);
+        kept = entries_within S laws keep values hand is_kept_name [] (stages_run S laws values) _ _
+            (by_visits S laws (solve_over S keep) (solve_makes S laws keep) values hand)
+            (all_own (stages_run S laws values));
+        entries =
+            entries_differ S laws keep values hand [] (stages_run S laws values) _ _
+            (by_visits S laws (solve_over S keep) (solve_makes S laws keep) values hand) (run_apart S laws values);
       })
 
 -- ---- the names of the writes of made files
@@ -232,7 +242,8 @@ besides_apart made (name ∷ names) =
   where
     by : (b : Bool) → is_among name (map name_of made) ≡ b
         → list_all (λ name. not (is_among name (map name_of made))) (names_besides made names) ≡ true
-        → list_all (λ name. not (is_among name (map name_of made))) (cond (not b) (name ∷ names_besides made names) (names_besides made names)) ≡ true
+        → list_all (λ name. not (is_among name (map name_of made)))
+        (cond (not b) (name ∷ names_besides made names) (names_besides made names)) ≡ true
     by true is rest = rest
     by false is rest = and_from _ _ (ap not is) rest
 
@@ -240,7 +251,8 @@ pub each_among : (names all : List (List ℕ))
     → list_all (λ name. is_among name (names ++ all)) all ≡ true
 each_among names [] = refl
 each_among names (name ∷ all) =
-    and_from _ _ (here names) (ap (λ some. list_all (λ n. is_among n some) all) (joined names) ∙ each_among (names ++ name ∷ []) all)
+    and_from _ _ (here names)
+    (ap (λ some. list_all (λ n. is_among n some) all) (joined names) ∙ each_among (names ++ name ∷ []) all)
   where
     here : (names : List (List ℕ)) → is_among name (names ++ name ∷ all) ≡ true
     here [] = ap (λ b. b || is_among name all) ((bytes_eq-Decides name name).1 refl)
@@ -262,11 +274,16 @@ module _ (S : StageParts) (laws : AreStages S) where
   files_differ made h =
       let besides = names_besides made (names_made_by S.places) in
       ap differing (map-append write_name (map put_of made) (map Removal besides)
-      ∙ ap (λ names. names ++ names_in (map Removal besides)) (names_map made) ∙ ap (λ names. map name_of made ++ names) (names_removed besides))
+      ∙ ap (λ names. names ++ names_in (map Removal besides)) (names_map made)
+      ∙ ap (λ names. map name_of made ++ names) (names_removed besides))
       ∙ parts_differing (map name_of made) besides (record {
         front = h;
-        back = differ_some (λ name. not (is_among name (map name_of made))) (names_made_by S.places) laws.list.files_differ;
-        apart = differ_swap besides (map name_of made) (apart_by (λ name. is_among name (map name_of made)) besides (map name_of made) (besides_apart made (names_made_by S.places)) (each_among [] (map name_of made)));
+        back = differ_some (λ name. not (is_among name (map name_of made))) (names_made_by S.places)
+            laws.list.files_differ;
+        apart =
+            differ_swap besides (map name_of made)
+            (apart_by (λ name. is_among name (map name_of made)) besides (map name_of made)
+            (besides_apart made (names_made_by S.places)) (each_among [] (map name_of made)));
       })
 
   -- what holds of all that the built stages make holds of them
@@ -282,11 +299,17 @@ module _ (S : StageParts) (laws : AreStages S) where
       → Differ (names_in (writes_for S (files_of visits))) (names_in (new_entries keep visits))
   files_apart keep visits apart =
       apart_by is_kept_name (names_in (writes_for S (files_of visits))) (names_in (new_entries keep visits))
-      (files_within (λ name. not (is_kept_name name)) (files_of visits) laws.list.no_keep (apart.within (λ name. not (is_kept_name name)) laws.list.no_keep)) apart.kept
+      (files_within (λ name. not (is_kept_name name)) (files_of visits) laws.list.no_keep
+      (apart.within (λ name. not (is_kept_name name)) laws.list.no_keep)) apart.kept
 
   pub all_differ : (keep : Folder) (visits : List Visit) → AreApart S laws keep visits
       → differing (names_in (writes_for S (files_of visits) ++ new_entries keep visits)) ≡ true
   all_differ keep visits apart =
       ap differing (map-append write_name (writes_for S (files_of visits)) (new_entries keep visits))
       ∙ parts_differing (names_in (writes_for S (files_of visits))) (names_in (new_entries keep visits))
-      (record { front = files_differ (files_of visits) apart.differ; back = apart.entries; apart = files_apart keep visits apart })
+      (record {
+        front = files_differ (files_of visits) apart.differ;
+        back = apart.entries;
+        apart =
+            files_apart keep visits apart;
+      })

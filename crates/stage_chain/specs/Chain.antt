@@ -14,10 +14,9 @@ use Rattle.giv_files.specs.declared.made.Made.{Made}
 use Rattle.giv_files.specs.declared.made.MadeFile.{MadeFile}
 use Rattle.tables.specs.declared.refusal.Refusal.{Refusal}
 use Rattle.giv_files.specs.declared.stage.Stage.{Stage}
-use Rattle.giv_files.specs.declared.stage.Stage.TheVariants as stage
 use Rattle.tables.specs.FileNames.{file_name}
 use Rattle.giv_files.specs.Settings.{BundleParts}
-use Rattle.giv_files.specs.Stages.{stage_inputs, stage_tag}
+use Rattle.giv_files.specs.Stages.{stage_inputs, stage_row, stage_tag}
 use Rattle.config_keys.specs.Config.{value_at, part_of, last_stage_of}
 use Rattle.config_keys.specs.Items.{look_in}
 use Rattle.stage_chain.specs.declared.origin.Origin.{Origin}
@@ -39,21 +38,7 @@ origin_of file.PinnedTree = origin.Optional
 origin_of file.PinnedPotential = origin.Optional
 origin_of file.EventDelays = origin.Optional
 origin_of file.ActivityDelays = origin.Optional
-origin_of file.Load = origin.Earlier
-origin_of file.PoolCost = origin.Earlier
-origin_of file.Concept = origin.Earlier
-origin_of file.Tree = origin.Earlier
-origin_of file.EventsP = origin.Earlier
-origin_of file.ActivitiesP = origin.Earlier
-origin_of file.TimesP = origin.Earlier
-origin_of file.EventsX = origin.Earlier
-origin_of file.ActivitiesX = origin.Earlier
-origin_of file.Trips = origin.Earlier
-origin_of file.Schedule = origin.Earlier
-origin_of file.Potential = origin.Earlier
-origin_of file.Disposed = origin.Earlier
-origin_of file.Reasons = origin.Earlier
-origin_of file.Statistic = origin.Earlier
+origin_of file = origin.Earlier
 
 -- the text of a hand file, which may be left out or not
 abbrev pub hand_text : Bool → FileId → Got → Result (List ℕ) Cause
@@ -184,10 +169,7 @@ handed trace = map (λ visit. visit.bundle) trace.visits ++ handed_end trace.hal
 -- the place of a stage in the order of places, which is that of the enum; a pinned stage runs in that of
 -- the plain one
 abbrev pub stage_place : Stage → ℕ
-stage_place stage.PinnedConcept = stage_tag stage.Concept
-stage_place stage.PinnedTimetable = stage_tag stage.Timetable
-stage_place stage.PinnedVehicles = stage_tag stage.Vehicles
-stage_place at = stage_tag at
+stage_place stage = stage_tag (stage_row stage).place
 
 -- a stage is to run: it does not come after the last stage that the settings name
 abbrev pub is_to_run : List ℤ → Stage → Bool

@@ -11,8 +11,7 @@ use Rattle.giv_files.specs.declared.made.MadeFile.{MadeFile}
 use Rattle.giv_files.specs.declared.stage.Stage.{Stage}
 use Rattle.tables.specs.FileNames.{file_name}
 use Rattle.giv_files.specs.Settings.{BundleParts}
-use Rattle.giv_files.specs.StageNames.{stage_name}
-use Rattle.giv_files.specs.Stages.{stage_makes}
+use Rattle.giv_files.specs.Stages.{stage_makes, stage_name}
 use Rattle.config_keys.specs.declared.config_end.ConfigEnd.{ConfigEnd}
 use Rattle.config_keys.specs.declared.config_end.ConfigEnd.TheVariants as config
 use Rattle.config_keys.specs.declared.config_fault.ConfigFault.{ConfigFault}

@@ -1,5 +1,6 @@
 pub mod Built
 pub mod Chain
+pub mod ChainLaws
 pub mod Checks
 pub mod Ends
 pub mod Findings
@@ -12,6 +13,7 @@ pub mod Passing
 pub mod Progress
 pub mod Reports
 pub mod Right
+pub mod RunSays
 pub mod Runs
 pub mod StageLists
 pub mod StageParts

@@ -55,8 +55,12 @@ module _ (S : StageParts) where
   -- what making a stage gives that is not kept: it is made, and its entry is new, or it
   -- refuses what it is given; after a fault the count rose by at most its work
   abbrev pub MakingGives : BundleParts → SoFar → SoFar → ℕ → ℕ → Result (Unit {0}) ChainEnd → Type 0
-  MakingGives bundle old new before now (Ok _) = (made : Made) × (S.run bundle ≡ Ok made) × (new ≡ with_made old made (entry_put bundle made ∷ [])) × HasEntry (record { bundle = bundle; made = made }) × (now ≡ before + S.work bundle)
-  MakingGives bundle old new before now (Err (end.Stopped why)) = (reason : Refusal) × (S.run bundle ≡ Err reason) × (why ≡ cause.Refused bundle.stage reason) × (new ≡ old) × (now ≡ before + S.work bundle)
+  MakingGives bundle old new before now (Ok _) =
+      (made : Made) × (S.run bundle ≡ Ok made) × (new ≡ with_made old made (entry_put bundle made ∷ []))
+      × HasEntry (record { bundle = bundle; made = made }) × (now ≡ before + S.work bundle)
+  MakingGives bundle old new before now (Err (end.Stopped why)) =
+      (reason : Refusal) × (S.run bundle ≡ Err reason) × (why ≡ cause.Refused bundle.stage reason) × (new ≡ old)
+      × (now ≡ before + S.work bundle)
   MakingGives bundle old new before now (Err end.FileFault) =
       (before ≤ now) × (now ≤ before + S.work bundle)
   MakingGives bundle old new before now (Err end.NoMemory) =
@@ -85,8 +89,11 @@ module _ (S : StageParts) where
     -- most its work
     abbrev pub VisitGives : Result Visit Halt → SoFar → SoFar → ℕ → ℕ → Result (Unit {0}) ChainEnd
         → Type 0
-    VisitGives told old new before now (Ok _) = (visit : Visit) × (told ≡ Ok visit) × (new ≡ with_visit old visit) × (kept_in keep visit.bundle ≡ None → HasEntry visit) × (now ≡ before + visit_work told)
-    VisitGives told old new before now (Err (end.Stopped why)) = (halt : Halt) × (told ≡ Err halt) × (halt.cause ≡ why) × (new ≡ old) × (now ≡ before + visit_work told)
+    VisitGives told old new before now (Ok _) =
+        (visit : Visit) × (told ≡ Ok visit) × (new ≡ with_visit old visit)
+        × (kept_in keep visit.bundle ≡ None → HasEntry visit) × (now ≡ before + visit_work told)
+    VisitGives told old new before now (Err (end.Stopped why)) =
+        (halt : Halt) × (told ≡ Err halt) × (halt.cause ≡ why) × (new ≡ old) × (now ≡ before + visit_work told)
     VisitGives told old new before now (Err end.FileFault) =
         (before ≤ now) × (now ≤ before + visit_work told)
     VisitGives told old new before now (Err end.NoMemory) =

@@ -7,7 +7,7 @@ use Rattle.giv_files.specs.declared.stage.Stage.{Stage}
 use Rattle.tables.specs.CountedTexts.{counted_text}
 use Rattle.tables.specs.FileNames.{file_name}
 use Rattle.giv_files.specs.Keys.{key_name}
-use Rattle.giv_files.specs.StageNames.{stage_name}
+use Rattle.giv_files.specs.Stages.{stage_name}
 use Rattle.tables.specs.WhyTexts.{why_text}
 use Rattle.config_keys.specs.declared.config_fault.ConfigFault.{ConfigFault}
 use Rattle.config_keys.specs.declared.config_fault.ConfigFault.TheVariants as fault

@@ -49,7 +49,8 @@ files_by look (file ∷ files) = found_file file (look file) (files_by look file
 module _ (S : StageParts) where
   -- A stage is one of those that run under the settings; what it is given by what is found of each
   -- file, and those of its files that are found, are right.
-  pub record StandsRight (look : FileId → Result (List ℕ) Cause) (values : List ℤ) (bundle : BundleParts) (made : List MadeFile) : Type 0 where
+  pub record StandsRight (look : FileId → Result (List ℕ) Cause) (values : List ℤ) (bundle : BundleParts)
+      (made : List MadeFile) : Type 0 where
     pub runs : Contains (staged S values) bundle.stage
     pub given : bundle_by look values bundle.stage ≡ Ok bundle
     pub found : files_by look (stage_makes bundle.stage) ≡ made

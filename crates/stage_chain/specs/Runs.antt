@@ -130,7 +130,8 @@ pub record IsOutcome (run : RunParts) (outcome : Outcome) : Type 0 where
 
 module _ (S : StageParts) where
   -- the folder and the writes that a finished run leaves
-  pub record IsLeft (mode : Mode) (read : Folder) (left : Option Folder) (before now : Option (List Write)) : Type 0 where
+  pub record IsLeft (mode : Mode) (read : Folder) (left : Option Folder) (before now : Option (List Write)) : Type
+      0 where
     pub folder : left ≡ Some (after S (started mode read))
     pub writes : now ≡ option_map (λ writes. writes ++ (removed mode read ++ writes_of S (started mode read))) before
 

@@ -1,13 +1,12 @@
 -- What holds of a list of stages that can run one after the other.
 use Rattle.std.specs.Prelude.{ℕ, ◌≡◌, ltb, not, ◌&&◌, ◌||◌, Bool, true, false, List, [], ◌∷◌, ◌++◌, map, filter}
 use Rattle.std.specs.List.{list_all, flat_map}
+use Rattle.std.specs.Option.{option_map_or}
 use Rattle.std.specs.Str.{bytes_eq}
 use Rattle.tables.specs.declared.file_id.FileId.{FileId}
-use Rattle.tables.specs.declared.file_id.FileId.TheVariants as file
 use Rattle.giv_files.specs.declared.stage.Stage.{Stage}
-use Rattle.giv_files.specs.declared.stage.Stage.TheVariants as stage
 use Rattle.tables.specs.FileNames.{file_name}
-use Rattle.giv_files.specs.Stages.{stage_inputs, stage_makes}
+use Rattle.giv_files.specs.Stages.{stage_inputs, stage_makes, stage_row}
 use Rattle.stage_keep.specs.Entries.{keep_name}
 use Rattle.stage_chain.specs.declared.origin.Origin.{Origin}
 use Rattle.stage_chain.specs.declared.origin.Origin.TheVariants as origin
@@ -35,10 +34,8 @@ before_stage stages stage = filter (λ other. ltb (stage_place other) (stage_pla
 
 -- the files that a stage makes wherever it is made
 abbrev pub always_made : Stage → List FileId
-always_made stage.Concept = file.Concept ∷ []
-always_made stage.PinnedConcept = file.Concept ∷ []
-always_made stage.PinnedVehicles = file.Schedule ∷ []
-always_made stage = stage_makes stage
+always_made stage =
+    option_map_or (λ file. file ∷ []) (stage_row stage).alone (stage_makes stage)
 
 -- an input is what a stage before makes
 unfoldable pub is_earlier : Origin → Bool
@@ -48,7 +45,10 @@ is_earlier origin.Optional = false
 
 -- each input of a stage that people do not write is made wherever the stages before it are made
 abbrev pub needs : List Stage → Stage → Bool
-needs stages stage = list_all (λ file. not (is_earlier (origin_of file)) || is_among (file_name file) (map file_name (flat_map always_made (before_stage stages stage)))) (stage_inputs stage)
+needs stages stage =
+    list_all
+    (λ file. not (is_earlier (origin_of file)) || is_among (file_name file)
+    (map file_name (flat_map always_made (before_stage stages stage)))) (stage_inputs stage)
 
 -- the name under which some stage keeps
 abbrev pub is_kept_name : List ℕ → Bool

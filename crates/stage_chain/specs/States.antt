@@ -11,8 +11,7 @@ use Rattle.giv_files.specs.declared.made.MadeFile.{MadeFile}
 use Rattle.giv_files.specs.declared.stage.Stage.{Stage}
 use Rattle.tables.specs.FileNames.{file_name}
 use Rattle.giv_files.specs.Settings.{BundleParts}
-use Rattle.giv_files.specs.StageNames.{stage_name}
-use Rattle.giv_files.specs.Stages.{stage_inputs, stage_makes}
+use Rattle.giv_files.specs.Stages.{stage_inputs, stage_makes, stage_name}
 use Rattle.config_keys.specs.declared.config_end.ConfigEnd.{ConfigEnd}
 use Rattle.config_keys.specs.declared.config_end.ConfigEnd.TheVariants as config
 use Rattle.config_keys.specs.declared.config_fault.ConfigFault.{ConfigFault}
@@ -155,6 +154,9 @@ module _ (S : StageParts) where
 
 -- what is told where settings could not be read; other ends are handed on
 abbrev pub UntoldAs : ConfigEnd → Result StatesOutcome ChainFault → Type 0
-UntoldAs (config.Refused reason) result = (has_failed result ≡ false) × IfOk result (λ outcome. (outcome.end ≡ end.BadInput) × (outcome.report ≡ line_of (cause_text (cause.BadConfig reason))))
+UntoldAs (config.Refused reason) result =
+    (has_failed result ≡ false)
+    × IfOk result
+    (λ outcome. (outcome.end ≡ end.BadInput) × (outcome.report ≡ line_of (cause_text (cause.BadConfig reason))))
 UntoldAs config.FileFault result = result ≡ Err fault.FileFault
 UntoldAs config.NoMemory result = result ≡ Err fault.NoMemory

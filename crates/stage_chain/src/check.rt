@@ -1,9 +1,7 @@
 // A check of the files of a dataset.
 ghost use Rattle.std.specs.Prelude.{◌≡◌, IfSome, IfOk, IfNone};
 ghost use Rattle.stage_chain.specs.declared.checked.CheckEnd.TheVariants as ends;
-ghost use Rattle.command_line.specs.declared.mode.Mode.{Mode};
-ghost use Rattle.stage_chain.specs.Passing.{AllStand, PassesIn, RunsPass, RunsStand};
-ghost use Rattle.plan_files.specs.Folder.{Folder};
+ghost use Rattle.stage_chain.specs.Passing.{AllStand, PassesIn, RunsStand};
 ghost use Rattle.plan_files.specs.Reads.{OnlyReads};
 ghost use Rattle.config_keys.specs.Items.{look_in};
 ghost use Rattle.config_keys.specs.Values.{effective};
@@ -34,7 +32,6 @@ pub fn check_chain<S: Stages, F: Files>(
     ensures outcome { IfSome (F.contents files.old) (λ folder. IfOk result (IsCheck S.parts folder)) }
     ensures passes { IfSome (F.contents files.old) (λ folder.
         IfOk result (λ outcome. outcome.end ≡ ends.Passed → PassesIn S.parts folder)) }
-    ensures runs_pass { (mode : Mode) (folder : Folder) → RunsPass S.parts mode folder }
     ensures only_reads { OnlyReads F.contents F.writes F.faults files.old files.new
         (has_failed result) }
 {

@@ -19,20 +19,7 @@ use std::alloc::Global;
 pub(crate) fn keep_name(stage: Stage) -> &'static str
     ensures { result.now ≡ keep_name stage }
 {
-    match stage {
-        Stage::Load => "keep/load.keep",
-        Stage::Cost => "keep/cost.keep",
-        Stage::Concept => "keep/concept.keep",
-        Stage::Ean => "keep/ean.keep",
-        Stage::Timetable => "keep/timetable.keep",
-        Stage::Rollout => "keep/rollout.keep",
-        Stage::Vehicles => "keep/vehicles.keep",
-        Stage::Disposition => "keep/disposition.keep",
-        Stage::Statistic => "keep/statistic.keep",
-        Stage::PinnedConcept => "keep/pinned-concept.keep",
-        Stage::PinnedTimetable => "keep/pinned-timetable.keep",
-        Stage::PinnedVehicles => "keep/pinned-vehicles.keep",
-    }
+    stage.row().kept
 }
 
 /// What is kept of what a stage is given.

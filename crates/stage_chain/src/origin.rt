@@ -34,21 +34,7 @@ pub(crate) fn origin_of(file: FileId) -> Origin
         | FileId::ActivityDelays
         | FileId::PinnedTree
         | FileId::PinnedPotential => Origin::Optional,
-        FileId::Load
-        | FileId::PoolCost
-        | FileId::Concept
-        | FileId::Tree
-        | FileId::EventsP
-        | FileId::ActivitiesP
-        | FileId::TimesP
-        | FileId::EventsX
-        | FileId::ActivitiesX
-        | FileId::Trips
-        | FileId::Schedule
-        | FileId::Potential
-        | FileId::Disposed
-        | FileId::Reasons
-        | FileId::Statistic => Origin::Earlier,
+        _ => Origin::Earlier,
     }
 }
 

@@ -1,20 +1,15 @@
 // A run of the chain over the files of a dataset.
-ghost use Rattle.std.specs.Prelude.{◌≡◌, ◌≤◌, ◌+◌, ◌++◌, [], IfSome, IfOk, IfErr, OnOk, Some};
+ghost use Rattle.std.specs.Prelude.{◌≡◌, ◌≤◌, ◌++◌, IfSome, IfOk, IfErr, OnOk, Some};
 ghost use Rattle.plan_files.specs.Applied.{AreApplied};
 ghost use Rattle.plan_files.specs.Counts.{Counts};
-ghost use Rattle.plan_files.specs.Folder.{Folder};
 ghost use Rattle.plan_files.specs.Reads.{OnlyReads};
-ghost use Rattle.plan_files.specs.Others.{AreOutside};
+ghost use Rattle.stage_chain.specs.ChainLaws.{ChainLaws};
 ghost use Rattle.stage_chain.specs.Ends.{has_failed};
-ghost use Rattle.stage_chain.specs.Hand.{hand_of, is_hand};
-ghost use Rattle.stage_chain.specs.Kept.{HaveEntries, IsKeptHonest, KeepsNothing, trace_over};
+ghost use Rattle.stage_chain.specs.Kept.{trace_over};
 ghost use Rattle.stage_chain.specs.Progress.{EndGives, NamesNoHand, nothing};
 ghost use Rattle.stage_chain.specs.Reports.{last_line, end_of};
-ghost use Rattle.stage_chain.specs.Right.{IsLeftRight, MadeFilesAreRight, RefusesHand};
-ghost use Rattle.stage_chain.specs.Runs.{AddsNoHandFile, AreNotAll, FreshKeeps, IsFromScratch, IsLeft};
-ghost use Rattle.stage_chain.specs.Runs.{IsOnce, IsOutcome, IsUnfinished, SameHand, run_over};
-ghost use Rattle.stage_chain.specs.Runs.{Trusts, started, unmet, writes_for, writes_of};
-ghost use Rattle.stage_chain.specs.Stopped.{AddsHarmless, StopsSafely};
+ghost use Rattle.stage_chain.specs.RunSays.{KeptRunSays, RunSays, seen_files};
+ghost use Rattle.stage_chain.specs.Runs.{AddsNoHandFile, AreNotAll, SameHand, unmet, writes_for};
 
 use crate::cause::Cause;
 use crate::chain::run_built;
@@ -42,55 +37,11 @@ pub fn run_chain<S: Stages, F: Files, L: Ledger>(
     mode: Mode,
     steps: &mut Steps<L>,
 ) -> Result<Outcome, ChainFault>
-    // What a run over a folder makes, tells and leaves, whatever is kept there.
-    ensures outcome { IfSome (F.contents files.old) (λ folder.
-        IfOk result (IsOutcome (run_over S.parts (started mode folder)))) }
-    ensures left { IfSome (F.contents files.old) (λ folder.
-        OnOk result (IsLeft S.parts mode folder
-        (F.contents files.new) (F.writes files.old) (F.writes files.new))) }
-    ensures work { IfSome (F.contents files.old) (λ folder.
-        OnOk result (steps.new ≡ steps.old + (run_over S.parts (started mode folder)).work)) }
-    ensures once { (folder : Folder) → IsOnce (writes_of S.parts folder) }
-
-    // Where what is kept is honest, and in a fresh run, that is what is made from scratch. It is
-    // right over the files in the folder that is left, and a refusal names files that people write.
-    ensures from_scratch { (folder : Folder) → Trusts S.parts mode folder
-        → IsFromScratch S.parts (run_over S.parts (started mode folder)) (hand_of folder) }
-    ensures made_files_are_right { (folder : Folder) → MadeFilesAreRight S.parts folder }
-    ensures left_is_right { IfSome (F.contents files.old) (λ folder.
-        OnOk result (Trusts S.parts mode folder → IsLeftRight S.parts folder (F.contents files.new))) }
-    ensures refusal { (folder : Folder) → RefusesHand S.parts (hand_of folder) }
-
-    // What is kept stays honest. Before a fresh run it need not be.
-    ensures keep { IfSome (F.contents files.old) (λ folder.
-        OnOk result (Trusts S.parts mode folder → IfSome (F.contents files.new) (IsKeptHonest S.parts))) }
-
-    ensures keeps_honest { IfSome (F.contents files.old) (λ folder.
-        IsKeptHonest S.parts folder → IfSome (F.contents files.new) (IsKeptHonest S.parts)) }
-
-    // A folder without keep files is honest, and after a fresh run there are the new entries alone.
-    ensures empty_keep { (folder : Folder) → KeepsNothing folder → IsKeptHonest S.parts folder }
-    ensures fresh_keep { (folder : Folder) → FreshKeeps S.parts folder }
-
-    // Wherever the writes that it added are stopped, the next one perhaps in part, that is so.
-    ensures stops { IfSome (F.contents files.old) (λ folder.
-        StopsSafely S.parts mode folder (F.writes files.old) (F.writes files.new)) }
-
-    // A further run over what is left writes nothing.
-    ensures again { IfSome (F.contents files.old) (λ folder.
-        OnOk result (IfSome (F.contents files.new) (λ left. writes_of S.parts left ≡ []))) }
-
-    // What a fault leaves.
-    ensures unfinished { IfSome (F.contents files.old) (λ folder.
-        IfErr result (λ fault. IsUnfinished S.parts mode fault folder
-        (F.contents files.new) (F.writes files.old) (F.writes files.new))) }
-    ensures no_more { IfSome (F.contents files.old) (λ folder.
-        steps.new ≤ steps.old + (run_over S.parts (started mode folder)).work) }
-    ensures no_less { steps.old ≤ steps.new }
-    ensures outside { (folder : Folder) → AreOutside is_hand (writes_of S.parts folder) }
-    ensures writes_no_hand_file { AddsNoHandFile (F.writes files.old) (F.writes files.new) }
-    ensures hand { SameHand (F.contents files.old) (F.contents files.new) }
-    ensures faults { Counts (has_failed result) (F.faults files.old) (F.faults files.new) }
+    // What this run says, and what holds of runs over all folders.
+    ensures says { RunSays S.parts mode
+        (seen_files F.contents F.writes F.faults files.old steps.old)
+        (seen_files F.contents F.writes F.faults files.new steps.new) result }
+    ensures laws { ChainLaws S.parts }
 {
     clear(alloc, files, mode)?;
     run_kept::<S, F, L>(alloc, files, steps)
@@ -102,26 +53,9 @@ fn run_kept<S: Stages, F: Files, L: Ledger>(
     files: &mut F,
     steps: &mut Steps<L>,
 ) -> Result<Outcome, ChainFault>
-    ensures outcome { IfSome (F.contents files.old) (λ folder.
-        IfOk result (IsOutcome (run_over S.parts folder))) }
-    ensures left { IfSome (F.contents files.old) (λ folder. OnOk result (AreApplied
-        (writes_of S.parts folder) (Some folder)
-        (F.contents files.new) (F.writes files.old) (F.writes files.new))) }
-    ensures entries { IfSome (F.contents files.old) (λ folder.
-        OnOk result (HaveEntries folder (trace_over S.parts folder folder).visits)) }
-    ensures harmless { IfSome (F.contents files.old) (λ folder. AddsHarmless S.parts folder
-        (F.contents files.new) (F.writes files.old) (F.writes files.new)) }
-    ensures work { IfSome (F.contents files.old) (λ folder.
-        OnOk result (steps.new ≡ steps.old + (run_over S.parts folder).work)) }
-    ensures unfinished { IfSome (F.contents files.old) (λ folder.
-        IfErr result (λ fault. AreNotAll fault (writes_of S.parts folder) (Some folder)
-        (F.contents files.new) (F.writes files.old) (F.writes files.new))) }
-    ensures no_more { IfSome (F.contents files.old) (λ folder.
-        steps.new ≤ steps.old + (run_over S.parts folder).work) }
-    ensures no_less { steps.old ≤ steps.new }
-    ensures writes_no_hand_file { AddsNoHandFile (F.writes files.old) (F.writes files.new) }
-    ensures hand { SameHand (F.contents files.old) (F.contents files.new) }
-    ensures faults { Counts (has_failed result) (F.faults files.old) (F.faults files.new) }
+    ensures { KeptRunSays S.parts
+        (seen_files F.contents F.writes F.faults files.old steps.old)
+        (seen_files F.contents F.writes F.faults files.new steps.new) result }
 {
     let mut progress = Progress::new(alloc);
     let cause = run_to_end::<S, F, L>(alloc, files, steps, &mut progress)?;

@@ -64,12 +64,7 @@ pub trait Stages {
 pub(crate) fn place_of(stage: Stage) -> usize
     ensures { result ≡ stage_place stage }
 {
-    match stage {
-        Stage::PinnedConcept => Stage::Concept.place(),
-        Stage::PinnedTimetable => Stage::Timetable.place(),
-        Stage::PinnedVehicles => Stage::Vehicles.place(),
-        other => other.place(),
-    }
+    stage.row().place.place()
 }
 
 /// The stages that run in the places under the settings of a dataset.

@@ -2,8 +2,7 @@
 ghost use Rattle.std.specs.Prelude.{◌≡◌, ◌++◌, IfSome, IfOk, OnOk};
 ghost use Rattle.std.specs.List.{list_all};
 ghost use Rattle.std.specs.Option.{option_copied};
-ghost use Rattle.plan_files.specs.Folder.{Folder, has_failed};
-ghost use Rattle.stage_chain.specs.NextRuns.{TellsNext};
+ghost use Rattle.plan_files.specs.Folder.{has_failed};
 ghost use Rattle.plan_files.specs.Reads.{OnlyReads};
 ghost use Rattle.giv_files.specs.Stages.{stage_makes};
 ghost use Rattle.stage_chain.specs.declared.state.StatesEnd.TheVariants as ends;
@@ -39,7 +38,6 @@ pub fn stage_states<S: Stages, F: Files>(
 ) -> Result<StatesOutcome, ChainFault>
     ensures outcome { IfSome (F.contents files.old) (λ folder.
         IfOk result (TellsStates S.parts folder)) }
-    ensures next { (folder : Folder) → TellsNext S.parts folder }
     ensures only_reads { OnlyReads F.contents F.writes F.faults files.old files.new
         (has_broken result) }
 {

@@ -1,5 +1,7 @@
 -- The plans that a run leaves are feasible, and best where certificates stand beside them.
-use Rattle.std.proofs.Common.{◌≡◌, ℕ, ℤ, Bool, true, false, cond, not, is_some, List, [], ◌∷◌, ◌++◌, map, Option, Some, None, IfSome, IfOk, Result, Ok, Err, Contains, ◌⊎◌, inl, inr, ⊎_elim, refl, ap, subst, sym, ◌∙◌, nat_cmp}
+use Rattle.std.proofs.Common.{◌≡◌, ℕ, ℤ, Bool, true, false, cond, not, is_some, List, [], ◌∷◌, ◌++◌}
+use Rattle.std.proofs.Common.{map, Option, Some, None, IfSome, IfOk, Result, Ok, Err, Contains, ◌⊎◌}
+use Rattle.std.proofs.Common.{inl, inr, ⊎_elim, refl, ap, subst, sym, ◌∙◌, nat_cmp}
 use Rattle.std.specs.Cmp.Lexicographic.{slice_cmp}
 use Rattle.std.specs.FinMap as files
 use Rattle.std.specs.List.{list_all}
@@ -22,7 +24,6 @@ use Rattle.giv_files.specs.Stages.{stage_inputs, stage_makes}
 use Rattle.config_keys.specs.declared.config_fault.ConfigFault.{ConfigFault}
 use Rattle.config_keys.specs.Items.{look_in}
 use Rattle.config_keys.specs.Values.{effective}
-use Rattle.pesp_search.specs.RightTimetables.{TimetableFilesAreRight}
 use Rattle.vehicle_flow.specs.RightSchedules.{ScheduleIsRight}
 use Rattle.vehicle_flow.specs.RightVehicles.{VehicleFilesAreRight, VehiclesAreRight}
 use Rattle.delay_management.specs.RightDispositions.{DispositionFilesAreRight}
@@ -39,7 +40,7 @@ use Rattle.stage_chain.specs.StageParts.{staged}
 use Rattle.stage_chain.proofs.BothModes.{honest_start, started_hand}
 use Rattle.stage_chain.proofs.Differing.{all_both, not_among}
 use Rattle.stage_chain.proofs.Left.{other_with}
-use Rattle.stage_chain.proofs.LeftRight.{files_are, settings_after}
+use Rattle.stage_chain.proofs.FilesLeftAreRight.{files_are, settings_after}
 use Rattle.stage_chain.proofs.Looked.{bundle_looked, front_given, looked}
 use Rattle.planning_stages.specs.Places.{is_pinned}
 use Rattle.planning_stages.specs.Planning.{planning, stage_model}
@@ -47,12 +48,13 @@ use Rattle.planning_stages.proofs.ConceptLaws.{concept_right_by}
 use Rattle.planning_stages.proofs.Laws.{planning_laws}
 use Rattle.planning_stages.proofs.TimetableLaws.{times_right_by}
 use Rattle.planning_stages.proofs.VehicleLaws.{schedule_right_by}
-use Rattle.planning_stages.specs.Models.{DispositionPasses}
-use Rattle.stage_driver.specs.BestPlans.{ConceptIsCheapest, DispositionIsEarliest, IsMarkedUnlessPinned, PlansAreBest, ScheduleIsCheapest}
-use Rattle.stage_driver.specs.FeasiblePlans.{ConceptIsFeasible, PlansAreFeasible, ScheduleIsFeasible, TimetableIsFeasible}
-use Rattle.stage_driver.specs.PlanningChain.{IsLeftRight, Trusts, made, made_part}
+use Rattle.stage_driver.specs.BestPlans.{ConceptIsCheapest, DispositionIsEarliest}
+use Rattle.stage_driver.specs.BestPlans.{IsMarkedUnlessPinned, PlansAreBest, ScheduleIsCheapest}
+use Rattle.stage_driver.specs.FeasiblePlans.{ConceptIsFeasible, PlansAreFeasible}
+use Rattle.stage_driver.specs.FeasiblePlans.{ScheduleIsFeasible, TimetableIsFeasible}
+use Rattle.stage_driver.specs.PlanningChain.{Trusts, made, made_part}
 use Rattle.stage_driver.specs.PlansThere.{each_stage, is_there}
-use Rattle.stage_driver.proofs.Planned.{left_right, part_left}
+use Rattle.stage_driver.proofs.Planned.{chain_laws, part_left}
 use Rattle.stage_driver.proofs.PlansStand.{ConceptHolds, ScheduleHolds, concept_holds, disposition_holds}
 use Rattle.stage_driver.proofs.PlansStand.{potentials_there, schedule_holds, timetable_holds}
 
@@ -79,7 +81,9 @@ not_pinned : (values : List ℤ) → is_pinned values key.PinVehicles ≡ false
 unfolding is_other
 not_pinned values plain runs =
     false≢true (All-contains (λ at. is_other at ≡ true) (staged planning values) stage.PinnedVehicles
-    (AllPass-from_list_all is_other (staged planning values) (staged_others values (is_pinned values key.PinConcept) (is_pinned values key.PinTimetable) (is_pinned values key.PinVehicles) refl refl refl plain)) runs)
+    (AllPass-from_list_all is_other (staged planning values)
+    (staged_others values (is_pinned values key.PinConcept) (is_pinned values key.PinTimetable)
+    (is_pinned values key.PinVehicles) refl refl refl plain)) runs)
 
 -- ---- a file that stands in the folder that is left was made by a stage
 
@@ -117,7 +121,8 @@ module _ (Holds : Type 0) (file : FileId) where
       → HoldsOr (files_of visits)
   visits_or look values [] right each = inr refl
   visits_or look values (visit ∷ visits) right each =
-      both_or visit.made.files (files_of visits) (each visit.bundle visit.made.files right.0) (visits_or look values visits right.1 each)
+      both_or visit.made.files (files_of visits) (each visit.bundle visit.made.files right.0)
+      (visits_or look values visits right.1 each)
 
 -- what stands in a folder under the name of a file that stages make was made
 made_there : (some : List MadeFile) (folder : Folder) (name : List ℕ)
@@ -132,7 +137,11 @@ made_there some folder name own same there = by (is_among name (map name_of some
 
     by : (among : Bool) → is_among name (map name_of some) ≡ among → among ≡ true
     by true is = refl
-    by false is = absurd (false≢true (ap is_some (sym (files.get-empty (slice_cmp nat_cmp) name) ∙ sym (other_with some files.empty name is) ∙ ap (λ folder. files.get folder name) (sym same) ∙ part) ∙ there))
+    by false is =
+        absurd (false≢true
+        (ap is_some
+        (sym (files.get-empty (slice_cmp nat_cmp) name) ∙ sym (other_with some files.empty name is)
+        ∙ ap (λ folder. files.get folder name) (sym same) ∙ part) ∙ there))
 
 -- ---- each place by the stage that ran there
 
@@ -160,8 +169,11 @@ module _ (folder : Folder) (values : List ℤ) (settled : effective (look_in fol
       → Right (cond pinned stage.PinnedConcept stage.Concept) bundle some
       → ConceptHolds folder values settled
   concept_by pinned bundle more inputs given some found right =
-      let own = concept_right_by values (looked look) pinned some (over_looked (cond pinned stage.PinnedConcept stage.Concept) bundle some given right) in
-      concept_holds folder values settled (given_to stage.Concept) (front_given look values (cond pinned stage.PinnedConcept stage.Concept) stage.Concept more bundle inputs given) own.inputs own.text own.tree (found ∙ own.each)
+      let own = concept_right_by values (looked look) pinned
+      some (over_looked (cond pinned stage.PinnedConcept stage.Concept) bundle some given right) in
+      concept_holds folder values settled (given_to stage.Concept)
+      (front_given look values (cond pinned stage.PinnedConcept stage.Concept) stage.Concept more bundle inputs given)
+      own.inputs own.text own.tree (found ∙ own.each)
       (record { frequencies = own.frequencies; reads = own.reads; feasible = own.feasible; marked = own.marked })
 
   times_by : (pinned : Bool) (bundle : BundleParts) (more : List FileId)
@@ -171,8 +183,11 @@ module _ (folder : Folder) (values : List ℤ) (settled : effective (look_in fol
       → Right (cond pinned stage.PinnedTimetable stage.Timetable) bundle some
       → TimetableIsFeasible folder
   times_by pinned bundle more inputs given some found right =
-      let own = times_right_by values (looked look) pinned some (over_looked (cond pinned stage.PinnedTimetable stage.Timetable) bundle some given right) in
-      timetable_holds folder values settled (given_to stage.Timetable) (front_given look values (cond pinned stage.PinnedTimetable stage.Timetable) stage.Timetable more bundle inputs given) own.inputs own.text (found ∙ own.one)
+      let own = times_right_by values (looked look) pinned
+      some (over_looked (cond pinned stage.PinnedTimetable stage.Timetable) bundle some given right) in
+      timetable_holds folder values settled (given_to stage.Timetable)
+      (front_given look values (cond pinned stage.PinnedTimetable stage.Timetable) stage.Timetable more bundle inputs
+      given) own.inputs own.text (found ∙ own.one)
       (record { times = own.times; reads = own.reads; timetable = own.timetable })
 
   schedule_by : (pinned : Bool) (bundle : BundleParts) (more : List FileId)
@@ -182,8 +197,11 @@ module _ (folder : Folder) (values : List ℤ) (settled : effective (look_in fol
       → Right (cond pinned stage.PinnedVehicles stage.Vehicles) bundle some
       → ScheduleHolds folder values settled
   schedule_by pinned bundle more inputs given some found right =
-      let own = schedule_right_by values (looked look) pinned some (over_looked (cond pinned stage.PinnedVehicles stage.Vehicles) bundle some given right) in
-      schedule_holds folder values settled (given_to stage.Vehicles) (front_given look values (cond pinned stage.PinnedVehicles stage.Vehicles) stage.Vehicles more bundle inputs given)
+      let own = schedule_right_by values (looked look) pinned
+      some (over_looked (cond pinned stage.PinnedVehicles stage.Vehicles) bundle some given right) in
+      schedule_holds folder values settled (given_to stage.Vehicles)
+      (front_given look values (cond pinned stage.PinnedVehicles stage.Vehicles) stage.Vehicles more bundle inputs
+      given)
       (subst (ScheduleIsRight (given_to stage.Vehicles)) (sym found) own.right)
 
   disposition_by : (bundle : BundleParts) → bundle_by look values stage.Disposition ≡ Ok bundle
@@ -220,38 +238,66 @@ module _ (folder : Folder) (values : List ℤ) (settled : effective (look_in fol
 
   concept_or : (at : Stage) → AtOr (ConceptHolds folder values settled) file.Concept at
   unfolding planning
-  concept_or stage.Concept = λ bundle some runs given found right. inl (concept_by false bundle [] refl given some found right)
-  concept_or stage.PinnedConcept = λ bundle some runs given found right. inl (concept_by true bundle (file.PinnedConcept ∷ file.PinnedTree ∷ []) refl given some found right)
-  concept_or at = λ bundle some runs given found right. inr (subst (NoneHas file.Concept) found (found_differ look file.Concept (stage_makes at) refl))
+  concept_or stage.Concept =
+      λ bundle some runs given found right. inl (concept_by false bundle [] refl given some found right)
+  concept_or stage.PinnedConcept =
+      λ bundle some runs given found right. inl
+      (concept_by true bundle (file.PinnedConcept ∷ file.PinnedTree ∷ []) refl given some found right)
+  concept_or at =
+      λ bundle some runs given found right. inr
+      (subst (NoneHas file.Concept) found (found_differ look file.Concept (stage_makes at) refl))
 
   tree_or : (at : Stage) → AtOr (ConceptHolds folder values settled) file.Tree at
   unfolding planning
-  tree_or stage.Concept = λ bundle some runs given found right. inl (concept_by false bundle [] refl given some found right)
-  tree_or stage.PinnedConcept = λ bundle some runs given found right. inl (concept_by true bundle (file.PinnedConcept ∷ file.PinnedTree ∷ []) refl given some found right)
-  tree_or at = λ bundle some runs given found right. inr (subst (NoneHas file.Tree) found (found_differ look file.Tree (stage_makes at) refl))
+  tree_or stage.Concept =
+      λ bundle some runs given found right. inl (concept_by false bundle [] refl given some found right)
+  tree_or stage.PinnedConcept =
+      λ bundle some runs given found right. inl
+      (concept_by true bundle (file.PinnedConcept ∷ file.PinnedTree ∷ []) refl given some found right)
+  tree_or at =
+      λ bundle some runs given found right. inr
+      (subst (NoneHas file.Tree) found (found_differ look file.Tree (stage_makes at) refl))
 
   times_or : (at : Stage) → AtOr (TimetableIsFeasible folder) file.TimesP at
   unfolding planning
-  times_or stage.Timetable = λ bundle some runs given found right. inl (times_by false bundle [] refl given some found right)
-  times_or stage.PinnedTimetable = λ bundle some runs given found right. inl (times_by true bundle (file.PinnedTimes ∷ []) refl given some found right)
-  times_or at = λ bundle some runs given found right. inr (subst (NoneHas file.TimesP) found (found_differ look file.TimesP (stage_makes at) refl))
+  times_or stage.Timetable =
+      λ bundle some runs given found right. inl (times_by false bundle [] refl given some found right)
+  times_or stage.PinnedTimetable =
+      λ bundle some runs given found right. inl
+      (times_by true bundle (file.PinnedTimes ∷ []) refl given some found right)
+  times_or at =
+      λ bundle some runs given found right. inr
+      (subst (NoneHas file.TimesP) found (found_differ look file.TimesP (stage_makes at) refl))
 
   schedule_or : (at : Stage) → AtOr (ScheduleHolds folder values settled) file.Schedule at
   unfolding planning
-  schedule_or stage.Vehicles = λ bundle some runs given found right. inl (schedule_by false bundle [] refl given some found right)
-  schedule_or stage.PinnedVehicles = λ bundle some runs given found right. inl (schedule_by true bundle (file.PinnedSchedule ∷ file.PinnedPotential ∷ []) refl given some found right)
-  schedule_or at = λ bundle some runs given found right. inr (subst (NoneHas file.Schedule) found (found_differ look file.Schedule (stage_makes at) refl))
+  schedule_or stage.Vehicles =
+      λ bundle some runs given found right. inl (schedule_by false bundle [] refl given some found right)
+  schedule_or stage.PinnedVehicles =
+      λ bundle some runs given found right. inl
+      (schedule_by true bundle (file.PinnedSchedule ∷ file.PinnedPotential ∷ []) refl given some found right)
+  schedule_or at =
+      λ bundle some runs given found right. inr
+      (subst (NoneHas file.Schedule) found (found_differ look file.Schedule (stage_makes at) refl))
 
   potentials_or : (at : Stage) → AtOr (ScheduleHolds folder values settled) file.Potential at
   unfolding planning
-  potentials_or stage.Vehicles = λ bundle some runs given found right. inl (schedule_by false bundle [] refl given some found right)
-  potentials_or stage.PinnedVehicles = λ bundle some runs given found right. inl (schedule_by true bundle (file.PinnedSchedule ∷ file.PinnedPotential ∷ []) refl given some found right)
-  potentials_or at = λ bundle some runs given found right. inr (subst (NoneHas file.Potential) found (found_differ look file.Potential (stage_makes at) refl))
+  potentials_or stage.Vehicles =
+      λ bundle some runs given found right. inl (schedule_by false bundle [] refl given some found right)
+  potentials_or stage.PinnedVehicles =
+      λ bundle some runs given found right. inl
+      (schedule_by true bundle (file.PinnedSchedule ∷ file.PinnedPotential ∷ []) refl given some found right)
+  potentials_or at =
+      λ bundle some runs given found right. inr
+      (subst (NoneHas file.Potential) found (found_differ look file.Potential (stage_makes at) refl))
 
   disposed_or : (at : Stage) → AtOr (DispositionIsEarliest folder) file.Disposed at
   unfolding planning stage_model
-  disposed_or stage.Disposition = λ bundle some runs given found right. inl (disposition_by bundle given some found right)
-  disposed_or at = λ bundle some runs given found right. inr (subst (NoneHas file.Disposed) found (found_differ look file.Disposed (stage_makes at) refl))
+  disposed_or stage.Disposition =
+      λ bundle some runs given found right. inl (disposition_by bundle given some found right)
+  disposed_or at =
+      λ bundle some runs given found right. inr
+      (subst (NoneHas file.Disposed) found (found_differ look file.Disposed (stage_makes at) refl))
 
   -- where no schedule is pinned, potentials are there
   abbrev IsMarked : Type 0
@@ -260,8 +306,11 @@ module _ (folder : Folder) (values : List ℤ) (settled : effective (look_in fol
   marked_or : (at : Stage) → AtOr IsMarked file.Schedule at
   unfolding planning stage_model
   marked_or stage.Vehicles = λ bundle some runs given found right. inl (λ plain. marked_by bundle some found right)
-  marked_or stage.PinnedVehicles = λ bundle some runs given found right. inl (λ plain. absurd (not_pinned values plain runs))
-  marked_or at = λ bundle some runs given found right. inr (subst (NoneHas file.Schedule) found (found_differ look file.Schedule (stage_makes at) refl))
+  marked_or stage.PinnedVehicles =
+      λ bundle some runs given found right. inl (λ plain. absurd (not_pinned values plain runs))
+  marked_or at =
+      λ bundle some runs given found right. inr
+      (subst (NoneHas file.Schedule) found (found_differ look file.Schedule (stage_makes at) refl))
 
   -- the same of all stages that were made
   all_or : (Holds : Type 0) (name : FileId) → ((at : Stage) → AtOr Holds name at) → (visits : List Visit)
@@ -276,13 +325,17 @@ record PlansHold (folder : Folder) : Type 0 where
   pub feasible : PlansAreFeasible each_stage folder
   pub best : PlansAreBest each_stage folder
 
-module _ (folder : Folder) (visits : List Visit) (same : made_part folder ≡ with_files (files_of visits) files.empty) where
+module _ (folder : Folder) (visits : List Visit)
+    (same : made_part folder ≡ with_files (files_of visits) files.empty) where
   -- what holds, or else no file that was made has a name, holds where one stands there
   taken : (Holds : Type 0) (name : FileId) → is_among (file_name name) (names_made_by planning.places) ≡ true
       → HoldsOr Holds name (files_of visits) → is_there folder name ≡ true → Holds
   taken Holds name own made there =
       ⊎_elim (λ holds. holds)
-      (λ none. absurd (false≢true (sym (not_among (map name_of (files_of visits)) (file_name name) none) ∙ made_there (files_of visits) folder (file_name name) own same there))) made
+      (λ none.
+      absurd (false≢true
+      (sym (not_among (map name_of (files_of visits)) (file_name name) none)
+      ∙ made_there (files_of visits) folder (file_name name) own same there))) made
 
   settled_hold : (values : List ℤ) → effective (look_in folder) ≡ Ok values
       → AllStandRight planning (text_in folder) values visits → PlansHold folder
@@ -292,20 +345,29 @@ module _ (folder : Folder) (visits : List Visit) (same : made_part folder ≡ wi
       let tree = all_or folder values settled _ file.Tree (tree_or folder values settled) visits right in
       let times = all_or folder values settled _ file.TimesP (times_or folder values settled) visits right in
       let schedule = all_or folder values settled _ file.Schedule (schedule_or folder values settled) visits right in
-      let potentials = all_or folder values settled _ file.Potential (potentials_or folder values settled) visits right in
+      let potentials =
+      all_or folder values settled _ file.Potential (potentials_or folder values settled) visits right in
       let disposed = all_or folder values settled _ file.Disposed (disposed_or folder values settled) visits right in
       let marked = all_or folder values settled _ file.Schedule (marked_or folder values settled) visits right in
       record {
         feasible = record {
           concept = λ stands. (taken (ConceptHolds folder values settled) file.Concept refl concept stands.1).feasible;
           timetable = λ stands. taken (TimetableIsFeasible folder) file.TimesP refl times stands.1;
-          schedule = λ stands. (taken (ScheduleHolds folder values settled) file.Schedule refl schedule stands.1).feasible;
+          schedule =
+              λ stands. (taken (ScheduleHolds folder values settled) file.Schedule refl schedule stands.1).feasible;
         };
         best = record {
-          concept = λ stands. (taken (ConceptHolds folder values settled) file.Tree refl tree stands.1).cheapest stands.1;
-          schedule = λ stands. (taken (ScheduleHolds folder values settled) file.Potential refl potentials stands.1).cheapest stands.1;
+          concept =
+              λ stands. (taken (ConceptHolds folder values settled) file.Tree refl tree stands.1).cheapest stands.1;
+          schedule =
+              λ stands. (taken (ScheduleHolds folder values settled) file.Potential refl potentials stands.1).cheapest
+              stands.1;
           disposition = λ stands. taken (DispositionIsEarliest folder) file.Disposed refl disposed stands.1;
-          marked = λ stands. subst (λ settings. IfOk settings (λ values. is_pinned values key.PinVehicles ≡ false → is_there folder file.Potential ≡ true)) (sym settled)
+          marked =
+              λ stands.
+              subst (λ settings. IfOk settings
+              (λ values. is_pinned values key.PinVehicles ≡ false → is_there folder file.Potential ≡ true))
+              (sym settled)
               (taken (IsMarked folder values settled) file.Schedule refl marked stands.1);
         };
       }
@@ -314,7 +376,8 @@ module _ (folder : Folder) (visits : List Visit) (same : made_part folder ≡ wi
   none_hold : visits ≡ [] → PlansHold folder
   unfolding planning
   none_hold none =
-      let none_or : (Holds : Type 0) (name : FileId) → HoldsOr Holds name (files_of visits) = λ Holds name. inr (ap (λ visits. differs_from (map name_of (files_of visits)) (file_name name)) none) in
+      let none_or : (Holds : Type 0) (name : FileId) → HoldsOr Holds name (files_of visits) =
+      λ Holds name. inr (ap (λ visits. differs_from (map name_of (files_of visits)) (file_name name)) none) in
       record {
         feasible = record {
           concept = λ stands. taken (ConceptIsFeasible folder) file.Concept refl (none_or _ file.Concept) stands.1;
@@ -323,8 +386,10 @@ module _ (folder : Folder) (visits : List Visit) (same : made_part folder ≡ wi
         };
         best = record {
           concept = λ stands. taken (ConceptIsCheapest folder) file.Tree refl (none_or _ file.Tree) stands.1;
-          schedule = λ stands. taken (ScheduleIsCheapest folder) file.Potential refl (none_or _ file.Potential) stands.1;
-          disposition = λ stands. taken (DispositionIsEarliest folder) file.Disposed refl (none_or _ file.Disposed) stands.1;
+          schedule =
+              λ stands. taken (ScheduleIsCheapest folder) file.Potential refl (none_or _ file.Potential) stands.1;
+          disposition =
+              λ stands. taken (DispositionIsEarliest folder) file.Disposed refl (none_or _ file.Disposed) stands.1;
           marked = λ stands. taken (IsMarkedUnlessPinned folder) file.Schedule refl (none_or _ file.Schedule) stands.1;
         };
       }
@@ -344,18 +409,23 @@ module _ (by : Mode) (read : Folder) (trusts : Trusts by read) where
 
   left_files : made_part left_folder ≡ with_files (files_of (trace_of planning hand).visits) files.empty
   left_files =
-      subst (λ hand. made_part left_folder ≡ with_files (made hand).files files.empty) (sym (started_hand by read)) (part_left by read (Some left_folder) trusts refl)
+      subst (λ hand. made_part left_folder ≡ with_files (made hand).files files.empty) (sym (started_hand by read))
+      (part_left by read (Some left_folder) trusts refl)
       ∙ ap (λ some. with_files some files.empty) (files_are planning planning_laws hand (trace_of planning hand) refl)
 
   plans_hold : PlansHold left_folder
   unfolding MadeFilesAreRight
-  plans_hold = by_settings (effective (look_in left_folder)) refl (left_right (started by read) (honest_start planning planning_laws by read trusts))
+  plans_hold =
+      by_settings (effective (look_in left_folder)) refl
+      (chain_laws.made_files_are_right (started by read) (honest_start planning planning_laws by read trusts))
     where
       by_settings : (settings : Result (List ℤ) ConfigFault) → effective (look_in left_folder) ≡ settings
-          → IfOk settings (λ values. AllStandRight planning (text_in left_folder) values (trace_of planning hand).visits)
+          → IfOk settings
+          (λ values. AllStandRight planning (text_in left_folder) values (trace_of planning hand).visits)
           → PlansHold left_folder
       by_settings (Err reason) is right =
-          none_hold left_folder (trace_of planning hand).visits left_files (refused_none hand reason (sym (settings_after planning planning_laws (started by read)) ∙ is))
+          none_hold left_folder (trace_of planning hand).visits left_files
+          (refused_none hand reason (sym (settings_after planning planning_laws (started by read)) ∙ is))
       by_settings (Ok values) is right =
           settled_hold left_folder (trace_of planning hand).visits left_files values is right
 

@@ -1,16 +1,14 @@
 -- The plans of a folder that passes a check are feasible, and best where certificates stand beside them.
-use Rattle.std.proofs.Common.{◌≡◌, ℤ, Bool, true, false, List, [], ◌∷◌, ◌++◌, Option, Some, None, IfSome, IfOk, Result, Ok, Err, ap, subst, sym, ◌∙◌}
+use Rattle.std.proofs.Common.{◌≡◌, ℤ, Bool, true, false, List, [], ◌∷◌, ◌++◌, take, drop, Option}
+use Rattle.std.proofs.Common.{Some, None, IfSome, IfOk, Result, Ok, Err, ap, subst, sym, ◌∙◌}
 use Rattle.plan_files.specs.Folder.{Folder}
-use Rattle.tables.specs.declared.file_id.FileId.{FileId}
 use Rattle.tables.specs.declared.file_id.FileId.TheVariants as file
 use Rattle.giv_files.specs.declared.key.Key.TheVariants as key
 use Rattle.giv_files.specs.declared.stage.Stage.{Stage}
 use Rattle.giv_files.specs.declared.stage.Stage.TheVariants as stage
 use Rattle.giv_files.specs.Settings.{BundleParts}
-use Rattle.config_keys.specs.Items.{look_in}
-use Rattle.config_keys.specs.Values.{effective}
+use Rattle.giv_files.specs.Stages.{places}
 use Rattle.vehicle_flow.specs.RightSchedules.{ScheduleIsRight}
-use Rattle.vehicle_flow.specs.RightVehicles.{VehiclesAreRight}
 use Rattle.vehicle_flow.proofs.PinnedOver.{plain_schedule}
 use Rattle.stage_chain.specs.declared.checked.CheckEnd.TheVariants as ends
 use Rattle.stage_chain.specs.declared.checked.CheckOutcome.{CheckOutcome}
@@ -61,24 +59,31 @@ module _ (folder : Folder) (passes : PassesIn folder) where
   concept_passed : is_run_in folder stage.Concept ≡ true → ConceptHolds folder values passes.settled
   unfolding planning stage_model
   concept_passed counts =
-      let own = stood stage.Concept (stand_at (stage.Load ∷ stage.Cost ∷ []) stage.Concept (stage.Ean ∷ stage.Timetable ∷ stage.Rollout ∷ stage.Vehicles ∷ stage.Disposition ∷ stage.Statistic ∷ []) passes.stand) counts in
+      let stand = stand_at (take 2 places) stage.Concept (drop 3 places) passes.stand in
+      let own = stood stage.Concept stand counts in
       let model : ConceptPasses (given_to stage.Concept) (standing folder stage.Concept) = own.model in
-      concept_holds folder values passes.settled (given_to stage.Concept) own.given model.inputs model.text model.tree model.each model.passes
+      concept_holds folder values passes.settled (given_to stage.Concept) own.given model.inputs model.text model.tree
+      model.each model.passes
 
   times_passed : is_run_in folder stage.Timetable ≡ true → TimetableIsFeasible folder
   unfolding planning stage_model
   times_passed counts =
-      let own = stood stage.Timetable (stand_at (stage.Load ∷ stage.Cost ∷ stage.Concept ∷ stage.Ean ∷ []) stage.Timetable (stage.Rollout ∷ stage.Vehicles ∷ stage.Disposition ∷ stage.Statistic ∷ []) passes.stand) counts in
+      let stand = stand_at (take 4 places) stage.Timetable (drop 5 places) passes.stand in
+      let own = stood stage.Timetable stand counts in
       let model : TimetablePasses (given_to stage.Timetable) (standing folder stage.Timetable) = own.model in
-      timetable_holds folder values passes.settled (given_to stage.Timetable) own.given model.inputs model.text model.one model.passes
+      timetable_holds folder values passes.settled (given_to stage.Timetable) own.given model.inputs model.text
+      model.one model.passes
 
   vehicles_stood : is_run_in folder stage.Vehicles ≡ true → Stood stage.Vehicles
   unfolding planning
-  vehicles_stood counts = stood stage.Vehicles (stand_at (stage.Load ∷ stage.Cost ∷ stage.Concept ∷ stage.Ean ∷ stage.Timetable ∷ stage.Rollout ∷ []) stage.Vehicles (stage.Disposition ∷ stage.Statistic ∷ []) passes.stand) counts
+  vehicles_stood counts =
+      let stand = stand_at (take 6 places) stage.Vehicles (drop 7 places) passes.stand in
+      stood stage.Vehicles stand counts
 
   -- what its model says, by whether the schedule is pinned
   vehicles_model : (own : Stood stage.Vehicles)
-      → (schedule_judged (is_pinned values key.PinVehicles)).Satisfies (given_to stage.Vehicles) (standing folder stage.Vehicles)
+      → (schedule_judged (is_pinned values key.PinVehicles)).Satisfies (given_to stage.Vehicles)
+      (standing folder stage.Vehicles)
   unfolding planning stage_model
   vehicles_model own = own.model
 
@@ -91,17 +96,22 @@ module _ (folder : Folder) (passes : PassesIn folder) where
   schedule_passed : is_run_in folder stage.Vehicles ≡ true → ScheduleHolds folder values passes.settled
   schedule_passed counts =
       let own = vehicles_stood counts in
-      schedule_holds folder values passes.settled (given_to stage.Vehicles) own.given (bare (is_pinned values key.PinVehicles) (vehicles_model own))
+      schedule_holds folder values passes.settled (given_to stage.Vehicles) own.given
+      (bare (is_pinned values key.PinVehicles) (vehicles_model own))
 
   marked_passed : is_run_in folder stage.Vehicles ≡ true → IsMarkedUnlessPinned folder
   marked_passed counts =
-      subst (λ settings. IfOk settings (λ values. is_pinned values key.PinVehicles ≡ false → is_there folder file.Potential ≡ true)) (sym passes.settled)
-      (λ plain. potentials_there folder values passes.settled (given_to stage.Vehicles) (subst (λ pinned. (schedule_judged pinned).Satisfies (given_to stage.Vehicles) (standing folder stage.Vehicles)) plain (vehicles_model (vehicles_stood counts))))
+      subst (λ settings. IfOk settings
+      (λ values. is_pinned values key.PinVehicles ≡ false → is_there folder file.Potential ≡ true)) (sym passes.settled)
+      (λ plain. potentials_there folder values passes.settled (given_to stage.Vehicles)
+      (subst (λ pinned. (schedule_judged pinned).Satisfies (given_to stage.Vehicles) (standing folder stage.Vehicles))
+      plain (vehicles_model (vehicles_stood counts))))
 
   disposition_passed : is_run_in folder stage.Disposition ≡ true → DispositionIsEarliest folder
   unfolding planning stage_model
   disposition_passed counts =
-      let own = stood stage.Disposition (stand_at (stage.Load ∷ stage.Cost ∷ stage.Concept ∷ stage.Ean ∷ stage.Timetable ∷ stage.Rollout ∷ stage.Vehicles ∷ []) stage.Disposition (stage.Statistic ∷ []) passes.stand) counts in
+      let stand = stand_at (take 7 places) stage.Disposition (drop 8 places) passes.stand in
+      let own = stood stage.Disposition stand counts in
       let model : DispositionPasses (given_to stage.Disposition) (standing folder stage.Disposition) = own.model in
       disposition_holds folder values passes.settled (given_to stage.Disposition) own.given model
 
@@ -140,7 +150,8 @@ module _ (contents : Option Folder) (result : Result CheckOutcome ChainFault) wh
       by (Some folder) (Ok outcome) passed = λ is. more folder (passed is)
 
   pub feasible_found : WherePassed PassesIn → WherePassed (λ folder. PlansAreFeasible (is_run_in folder) folder)
-  feasible_found passed = also_passed PassesIn (λ folder. PlansAreFeasible (is_run_in folder) folder) feasible_passed passed
+  feasible_found passed =
+      also_passed PassesIn (λ folder. PlansAreFeasible (is_run_in folder) folder) feasible_passed passed
 
   pub best_found : WherePassed PassesIn → WherePassed (λ folder. PlansAreBest (is_run_in folder) folder)
   best_found passed = also_passed PassesIn (λ folder. PlansAreBest (is_run_in folder) folder) best_passed passed

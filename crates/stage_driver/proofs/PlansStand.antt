@@ -1,5 +1,7 @@
 -- What the models of the stages say of the files that stand in a folder, as promises of its plans.
-use Rattle.std.proofs.Common.{◌≡◌, ℕ, ℤ, Bool, true, false, is_some, List, [], ◌∷◌, map, length, Option, Some, None, IfSome, Result, Ok, Err, option_to_list, refl, ap, sym, ◌∙◌, arith}
+use Rattle.std.proofs.Common.{◌≡◌, ℕ, ℤ, true, is_some, List, [], ◌∷◌, map, length}
+use Rattle.std.proofs.Common.{Option, Some, None, IfSome, Ok, option_to_list, refl, ap}
+use Rattle.std.proofs.Common.{sym, ◌∙◌, arith}
 use Rattle.std.proofs.lemmas.Int.{ints}
 use Rattle.std.specs.FinMap as files
 use Rattle.std.specs.Option.{ok_or}
@@ -42,7 +44,8 @@ second_of (one ∷ more) = first_of more
 
 -- one of two files that may be found
 abbrev found_two : FileId → FileId → Option (List ℕ) → Option (List ℕ) → List MadeFile
-found_two one two text other = found_file one (ok_or text (cause.Missing one)) (found_file two (ok_or other (cause.Missing two)) [])
+found_two one two text other =
+    found_file one (ok_or text (cause.Missing one)) (found_file two (ok_or other (cause.Missing two)) [])
 
 -- a file that is there where its text is
 abbrev that_one : FileId → Option (List ℕ) → List MadeFile
@@ -119,7 +122,8 @@ module _ (folder : Folder) (values : List ℤ) (settled : effective (look_in fol
       record {
         feasible = own;
         cheapest = λ there. where_there tree _ passes.marked (sym (ap is_some found.1) ∙ there)
-            (λ text marks. record { own = own; cheapest = λ other feasible. omega (arith, ints, marks.cheapest other feasible) });
+            (λ text marks.
+            record { own = own; cheapest = λ other feasible. omega (arith, ints, marks.cheapest other feasible) });
       }
 
   pub timetable_holds : (bundle : BundleParts)
@@ -147,8 +151,12 @@ module _ (folder : Folder) (values : List ℤ) (settled : effective (look_in fol
   pub schedule_holds : (bundle : BundleParts) → bundle_by (text_in folder) values stage.Vehicles ≡ Ok bundle
       → ScheduleIsRight bundle (standing folder stage.Vehicles) → ScheduleHolds
   schedule_holds bundle given right =
-      let found = two_found file.Schedule file.Potential (λ same. cc) (there file.Schedule) (there file.Potential) right.schedule right.potentials
-      (right.each ∙ ap (λ more. record { file = file.Schedule; text = right.schedule } ∷ more) (potentials_are right.potentials)) in
+      let found =
+      two_found file.Schedule file.Potential (λ same. cc) (there file.Schedule) (there file.Potential)
+      right.schedule right.potentials
+      (right.each
+      ∙ ap (λ more. record { file = file.Schedule; text = right.schedule } ∷ more)
+      (potentials_are right.potentials)) in
       let own : ScheduleIsFeasible folder = record {
         there = record {
           bundle = bundle;
@@ -175,7 +183,9 @@ module _ (folder : Folder) (values : List ℤ) (settled : effective (look_in fol
       given = record { values = values; settled = settled; given = given };
       faultless = passes.inputs;
       text = passes.times;
-      stands = (two_found file.Disposed file.Reasons (λ same. cc) (there file.Disposed) (there file.Reasons) passes.times (Some passes.reasons) passes.both).0;
+      stands =
+          (two_found file.Disposed file.Reasons (λ same. cc) (there file.Disposed) (there file.Reasons) passes.times
+          (Some passes.reasons) passes.both).0;
       times = passes.passes.times;
       reads = passes.passes.times_read;
     };
@@ -186,4 +196,6 @@ module _ (folder : Folder) (values : List ℤ) (settled : effective (look_in fol
   pub potentials_there : (bundle : BundleParts) → VehiclesAreRight bundle (standing folder stage.Vehicles)
       → is_there folder file.Potential ≡ true
   potentials_there bundle right =
-      ap is_some (two_found file.Schedule file.Potential (λ same. cc) (there file.Schedule) (there file.Potential) right.schedule (Some right.potentials) right.both).1
+      ap is_some
+      (two_found file.Schedule file.Potential (λ same. cc) (there file.Schedule) (there file.Potential) right.schedule
+      (Some right.potentials) right.both).1

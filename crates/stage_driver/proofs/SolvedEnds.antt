@@ -20,7 +20,8 @@ use Rattle.planning_stages.specs.Searches.{HasNoSolution, IsSpent}
 use Rattle.planning_stages.proofs.Laws.{planning_laws}
 use Rattle.planning_stages.proofs.SearchEnds.{can_end, ends_none, ends_spent, none_ends, spent_ends_so}
 use Rattle.stage_driver.specs.PlanningChain.{made, run_over}
-use Rattle.stage_driver.specs.SolvedEnds.{CanBeDone, EndsAsSolved, EndsAsSolvedOver, SomeHanded, SomeMade, handed_in, handed_over}
+use Rattle.stage_driver.specs.SolvedEnds.{CanBeDone, EndsAsSolved, EndsAsSolvedOver, SomeHanded}
+use Rattle.stage_driver.specs.SolvedEnds.{SomeMade, handed_in, handed_over}
 
 -- ---- by why a chain ends early
 
@@ -53,7 +54,8 @@ module _ (hand : Folder) where
   -- what is handed to a stage
   module _ (bundle : BundleParts) (given : Contains (handed_in hand) bundle) where
     handed_so : IsHanded planning.run (trace_of planning hand).halt bundle
-    handed_so = All-contains (IsHanded planning.run (trace_of planning hand).halt) (handed_in hand) bundle ends.all given
+    handed_so =
+        All-contains (IsHanded planning.run (trace_of planning hand).halt) (handed_in hand) bundle ends.all given
 
     -- where its stage refuses it, the chain ends so
     refused_end : (reason : Refusal) → (stage_model bundle.stage).run bundle ≡ Err reason
@@ -63,14 +65,23 @@ module _ (hand : Folder) where
   some_none : (at : Stage) → why ≡ Some (cause.Refused at refusal.NoSolution) → SomeHanded HasNoSolution hand
   some_none at is =
       let one = ends.one at refusal.NoSolution is in
-      let bundle = one.bundle in
-      (bundle, one.given, ends_none bundle (handed_so bundle one.given).fits bundle.stage refl (sym (ran bundle) ∙ one.refused))
+      let bundle = one.bundle in (
+        bundle,
+        one.given,
+        ends_none bundle (handed_so bundle one.given).fits bundle.stage refl
+            (sym (ran bundle) ∙ one.refused),
+      )
 
-  some_spent : (at : Stage) (entries : ℕ) → why ≡ Some (cause.Refused at (refusal.Spent entries)) → SomeHanded IsSpent hand
+  some_spent : (at : Stage) (entries : ℕ) → why ≡ Some (cause.Refused at (refusal.Spent entries))
+      → SomeHanded IsSpent hand
   some_spent at entries is =
       let one = ends.one at (refusal.Spent entries) is in
-      let bundle = one.bundle in
-      (bundle, one.given, ends_spent bundle (handed_so bundle one.given).fits bundle.stage refl entries (sym (ran bundle) ∙ one.refused))
+      let bundle = one.bundle in (
+        bundle,
+        one.given,
+        ends_spent bundle (handed_so bundle one.given).fits bundle.stage refl entries
+            (sym (ran bundle) ∙ one.refused),
+      )
 
   -- a chain that can be done has no other end
   done_by : CanBeDone hand → (halted : Option Cause) → why ≡ halted → (made hand).end ≡ end.Done
@@ -90,7 +101,9 @@ module _ (hand : Folder) where
 pub ends_as_solved : (hand : Folder) → EndsAsSolved hand
 ends_as_solved hand = record {
   none = λ is. let halt = at_none (why hand) (sym (end_is hand) ∙ is) in some_none hand halt.0 halt.1;
-  none_comes = λ some. refused_end hand some.0 some.1 refusal.NoSolution (none_ends some.0 (handed_so hand some.0 some.1).fits some.0.stage refl some.2);
+  none_comes =
+      λ some. refused_end hand some.0 some.1 refusal.NoSolution
+      (none_ends some.0 (handed_so hand some.0 some.1).fits some.0.stage refl some.2);
   spent = λ is. let halt = at_spent (why hand) (sym (end_is hand) ∙ is) in some_spent hand halt.0 halt.1 halt.2;
   spent_comes = λ some.
       let spent = spent_ends_so some.0 (handed_so hand some.0 some.1).fits some.0.stage refl some.2 in
@@ -120,7 +133,8 @@ module _ (folder : Folder) where
   handed_to : (bundle : BundleParts) → Contains (handed_over folder) bundle
       → IsHanded (solve_over planning folder) (trace_over planning folder (hand_of folder)).halt bundle
   handed_to bundle given =
-      All-contains (IsHanded (solve_over planning folder) (trace_over planning folder (hand_of folder)).halt) (handed_over folder) bundle ends_over.all given
+      All-contains (IsHanded (solve_over planning folder) (trace_over planning folder (hand_of folder)).halt)
+      (handed_over folder) bundle ends_over.all given
 
   -- a stage that is not kept and refuses what it is handed ends the run so
   refused_over : (bundle : BundleParts) → Contains (handed_over folder) bundle → kept_in folder bundle ≡ None
@@ -128,29 +142,45 @@ module _ (folder : Folder) where
       → (run_over folder).end ≡ end_of (Some (cause.Refused bundle.stage reason))
   unfolding solve_over
   refused_over bundle given none reason is =
-      end_over ∙ ap end_of ((handed_to bundle given).refused reason (ap (λ kept. kept_or kept (planning.run bundle)) none ∙ ran bundle ∙ is))
+      end_over
+      ∙ ap end_of
+      ((handed_to bundle given).refused reason (ap (λ kept. kept_or kept (planning.run bundle)) none ∙ ran bundle ∙ is))
 
   one_none : (at : Stage) → why_over ≡ Some (cause.Refused at refusal.NoSolution) → SomeMade HasNoSolution folder
   unfolding solve_over
   one_none at is =
       let one = ends_over.one at refusal.NoSolution is in
       let bundle = one.bundle in
-      let own = refused_itself (kept_in folder bundle) (planning.run bundle) refusal.NoSolution one.refused in
-      (bundle, one.given, own.0, ends_none bundle (handed_to bundle one.given).fits bundle.stage refl (sym (ran bundle) ∙ own.1))
+      let own = refused_itself (kept_in folder bundle) (planning.run bundle) refusal.NoSolution one.refused in (
+        bundle,
+        one.given,
+        own.0,
+        ends_none bundle (handed_to bundle one.given).fits bundle.stage refl
+            (sym (ran bundle) ∙ own.1),
+      )
 
-  one_spent : (at : Stage) (entries : ℕ) → why_over ≡ Some (cause.Refused at (refusal.Spent entries)) → SomeMade IsSpent folder
+  one_spent : (at : Stage) (entries : ℕ) → why_over ≡ Some (cause.Refused at (refusal.Spent entries))
+      → SomeMade IsSpent folder
   unfolding solve_over
   one_spent at entries is =
       let one = ends_over.one at (refusal.Spent entries) is in
       let bundle = one.bundle in
-      let own = refused_itself (kept_in folder bundle) (planning.run bundle) (refusal.Spent entries) one.refused in
-      (bundle, one.given, own.0, ends_spent bundle (handed_to bundle one.given).fits bundle.stage refl entries (sym (ran bundle) ∙ own.1))
+      let own = refused_itself (kept_in folder bundle) (planning.run bundle) (refusal.Spent entries) one.refused in (
+        bundle,
+        one.given,
+        own.0,
+        ends_spent bundle (handed_to bundle one.given).fits bundle.stage refl entries
+            (sym (ran bundle) ∙ own.1),
+      )
 
 pub ends_as_solved_over : (folder : Folder) → EndsAsSolvedOver folder
 ends_as_solved_over folder = record {
   none = λ is. let halt = at_none (why_over folder) (sym (end_over folder) ∙ is) in one_none folder halt.0 halt.1;
-  none_comes = λ some. refused_over folder some.0 some.1 some.2 refusal.NoSolution (none_ends some.0 (handed_to folder some.0 some.1).fits some.0.stage refl some.3);
-  spent = λ is. let halt = at_spent (why_over folder) (sym (end_over folder) ∙ is) in one_spent folder halt.0 halt.1 halt.2;
+  none_comes =
+      λ some. refused_over folder some.0 some.1 some.2 refusal.NoSolution
+      (none_ends some.0 (handed_to folder some.0 some.1).fits some.0.stage refl some.3);
+  spent = λ is. let halt =
+      at_spent (why_over folder) (sym (end_over folder) ∙ is) in one_spent folder halt.0 halt.1 halt.2;
   spent_comes = λ some.
       let spent = spent_ends_so some.0 (handed_to folder some.0 some.1).fits some.0.stage refl some.3 in
       refused_over folder some.0 some.1 some.2 (refusal.Spent spent.0) spent.1;

@@ -1,13 +1,11 @@
 // A check of the files of a dataset.
 ghost use Rattle.std.specs.Prelude.{◌≡◌, IfSome, IfOk};
-ghost use Rattle.plan_files.specs.Folder.{Folder};
 ghost use Rattle.plan_files.specs.Reads.{OnlyReads};
 ghost use Rattle.stage_chain.specs.declared.checked.CheckEnd.TheVariants as ends;
-ghost use Rattle.command_line.specs.declared.mode.Mode.{Mode};
 ghost use Rattle.stage_chain.specs.Ends.{has_failed};
 ghost use Rattle.stage_driver.specs.BestPlans.{PlansAreBest};
 ghost use Rattle.stage_driver.specs.FeasiblePlans.{PlansAreFeasible};
-ghost use Rattle.stage_driver.specs.PlanningChain.{IsCheck, PassesIn, RunsPass};
+ghost use Rattle.stage_driver.specs.PlanningChain.{IsCheck, PassesIn};
 ghost use Rattle.stage_driver.specs.PlansThere.{is_run_in};
 
 use crate::planning::Planning;
@@ -31,8 +29,6 @@ pub fn check_chain<F: Files>(alloc: Global, files: &mut F) -> Result<CheckOutcom
     ensures best { IfSome (F.contents files.old) (λ folder.
         IfOk result (λ outcome. outcome.end ≡ ends.Passed →
         PlansAreBest (is_run_in folder) folder)) }
-
-    ensures runs_pass { (mode : Mode) (folder : Folder) → RunsPass mode folder }
     ensures only_reads { OnlyReads F.contents F.writes F.faults files.old files.new
         (has_failed result) }
 {

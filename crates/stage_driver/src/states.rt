@@ -1,9 +1,8 @@
 // What is kept of the planning stages.
 ghost use Rattle.std.specs.Prelude.{IfSome, IfOk};
-ghost use Rattle.plan_files.specs.Folder.{Folder};
 ghost use Rattle.plan_files.specs.Reads.{OnlyReads};
 ghost use Rattle.stage_chain.specs.Ends.{has_failed as has_broken};
-ghost use Rattle.stage_driver.specs.PlanningChain.{TellsNext, TellsStates};
+ghost use Rattle.stage_driver.specs.PlanningChain.{TellsStates};
 
 use crate::planning::Planning;
 use plan_files::Files;
@@ -15,7 +14,6 @@ use std::alloc::Global;
 pub fn stage_states<F: Files>(alloc: Global, files: &mut F) -> Result<StatesOutcome, ChainFault>
     ensures outcome { IfSome (F.contents files.old) (λ folder.
         IfOk result (TellsStates folder)) }
-    ensures next { (folder : Folder) → TellsNext folder }
     ensures only_reads { OnlyReads F.contents F.writes F.faults files.old files.new
         (has_broken result) }
 {

@@ -1,5 +1,5 @@
 -- Blocks at the front of bytes.
-use Rattle.std.proofs.Common.{◌≡◌, ◌≢◌, ℕ, ◌<◌, ◌≤◌, ◌+◌, ◌^◌, List, [], ◌∷◌, ◌++◌, length, take}
+use Rattle.std.proofs.Common.{◌≡◌, ◌≢◌, ℕ, ◌<◌, ◌≤◌, ◌+◌, ◌^◌, List, [], ◌∷◌, ◌++◌, length}
 use Rattle.std.proofs.Common.{drop, get_or, refl, ap, sym, subst, ◌∙◌, arith, All, Bool, true}
 use Rattle.std.proofs.Common.{false, not, cond, eqb, nat_eq, nat_le, zero, suc, Option, Some, None}
 use Rattle.std.proofs.Common.{decimal, codes, slice_get, append_assoc, inl, inr, ◌⊎◌, unwrap_or}
@@ -39,12 +39,10 @@ pub end_place : (line rest : List ℕ) → All (λ byte. byte ≢ 10) line
     → position (λ byte. eqb byte 10) (line ++ 10 ∷ rest) ≡ Some (length line)
 end_place line rest none =
     let whole = length-append line (10 ∷ rest) in
-    let at : prefix_len (λ byte. not (eqb byte 10)) (line ++ 10 ∷ rest) ≡ length line =
-    prefix_len_is (λ byte. not (eqb byte 10)) (line ++ 10 ∷ rest) (length line) 0
-    (omega (arith, whole))
+    let at : prefix_len (λ byte. not (eqb byte 10)) (line ++ 10 ∷ rest) ≡ length line = prefix_len_is
+    (λ byte. not (eqb byte 10)) (line ++ 10 ∷ rest) (length line) 0 (omega (arith, whole))
     (λ k before. rw (get_or_append_left line (10 ∷ rest) 0 k before)
-    (ap not (ne_eqb (get_or line k 0) 10 (none k 0 before))))
-    (λ within. rw (get_or-append_seam line 10 rest 0) refl) in
+    (ap not (ne_eqb (get_or line k 0) 10 (none k 0 before)))) (λ within. rw (get_or-append_seam line 10 rest 0) refl) in
     rw at (rw whole (rw (past (length line) (length rest)) refl))
   where
     past : (n m : ℕ) → nat_le (suc n) (n + suc m) ≡ true
@@ -114,11 +112,6 @@ sized : (head bytes : List ℕ) (size : ℕ) (block : List ℕ × List ℕ)
     → block_of_size head bytes size ≡ Some block → StandsAt head bytes size
 sized head bytes size block = by (behind (opening head size) bytes) refl
   where
-    enough : (rest : List ℕ) (b : Bool) → nat_le size (length rest) ≡ b
-        → cond b (Some (take size rest, drop size rest)) None ≡ Some block → size ≤ length rest
-    enough rest true is found = grind (arith, nat_tests)
-    enough rest false is found = cc
-
     by : (found : Option (List ℕ)) → behind (opening head size) bytes ≡ found
         → option_and_then (cut size) found ≡ Some block
         → (rest : List ℕ) × (bytes ≡ opening head size ++ rest) × (size ≤ length rest)

@@ -37,8 +37,7 @@ pub block_back : (head text rest : List ℕ)
 block_back head text rest short =
     let line = opening head (length text) in
     let whole = append_assoc line text rest in
-    let low : length text < 2 ^ 64 =
-    omega (arith, short, length-append (line ++ text) rest, length-append line text) in
+    let low : length text < 2 ^ 64 = omega (arith, short, length-append (line ++ text) rest, length-append line text) in
     block_is head ((line ++ text) ++ rest) short (length text)
     (λ n more small at. same_size head n (length text) more (text ++ rest) small low (sym at ∙ whole))
     ∙ ap (λ (bytes : List ℕ). block_of_size head bytes (length text)) whole
@@ -59,8 +58,7 @@ texts_back [] short = refl
 texts_back (b ∷ blocks) short =
     let more = flat_map block_bytes blocks ++ last_line in
     let whole = append_assoc (block_bytes b) (flat_map block_bytes blocks) last_line in
-    let less : length (block_bytes b ++ more) < 2 ^ 64 =
-    subst (λ (l : List ℕ). length l < 2 ^ 64) whole short in
+    let less : length (block_bytes b ++ more) < 2 ^ 64 = subst (λ (l : List ℕ). length l < 2 ^ 64) whole short in
     ap (λ (bytes : List ℕ). texts_at (b.head ∷ heads_in blocks) bytes) whole
     ∙ block_some b.head (heads_in blocks) (block_bytes b ++ more) b.text more
     (block_back b.head b.text more less)
@@ -174,7 +172,8 @@ texts_told (head ∷ heads) bytes texts = by (block_at head bytes) refl
         → ((more : List ℕ) (some : List (List ℕ)) → texts_at heads more ≡ Some some
         → (length some ≡ length heads)
         × (more ≡ flat_map block_bytes (blocks_of heads some) ++ last_line))
-        → option_and_then (λ (b : List ℕ × List ℕ). option_map (λ all. b.0 ∷ all) (texts_at heads b.1)) block ≡ Some texts
+        → option_and_then (λ (b : List ℕ × List ℕ). option_map (λ all. b.0 ∷ all) (texts_at heads b.1)) block
+        ≡ Some texts
         → (length texts ≡ suc (length heads))
         × (bytes ≡ flat_map block_bytes (blocks_of (head ∷ heads) texts) ++ last_line)
     by None none each is = cc

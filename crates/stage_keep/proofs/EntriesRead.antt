@@ -12,8 +12,11 @@ use Rattle.giv_files.specs.declared.stage.Stage.{Stage}
 use Rattle.giv_files.specs.MadeLists.{MakesAs, ids_of, made_lists}
 use Rattle.giv_files.specs.Settings.{BundleParts, Fits}
 use Rattle.giv_files.specs.Stages.{stage_inputs}
-use Rattle.stage_keep.specs.Entries.{Block, EntryParts, IsEntryOf, block_bytes, entry_blocks, entry_bytes, entry_for, first_line, input_block, last_line, made_block, made_head}
-use Rattle.stage_keep.specs.EntryReading.{ReadsEntry, behind, entry_of, entry_with, heads, made_file, read_entry, texts_at}
+use Rattle.stage_keep.specs.Entries.{Block, EntryParts, IsEntryOf, block_bytes, entry_blocks}
+use Rattle.stage_keep.specs.Entries.{entry_bytes, entry_for, first_line, input_block, last_line}
+use Rattle.stage_keep.specs.Entries.{made_block, made_head}
+use Rattle.stage_keep.specs.EntryReading.{ReadsEntry, behind, entry_of, entry_with, heads}
+use Rattle.stage_keep.specs.EntryReading.{made_file, read_entry, texts_at}
 use Rattle.stage_keep.proofs.EntryLaws.{EntriesAreReadBack, FrontsAreNone, ReadingIsExact}
 use Rattle.stage_keep.proofs.Blocks.{front_back, front_is}
 use Rattle.stage_keep.proofs.BlocksTold.{blocks_of, found_in, heads_in, texts_back, texts_of, texts_told}
@@ -72,10 +75,8 @@ blocks_entry at files (s ∷ T) size =
     let F = map made_head files in
     let n = length (stage_inputs at) in
     let many : length I ≡ n = length-map (stage_inputs at) (λ (_ : FileId). codes "input") in
-    let all : length (I ++ F) ≡ n + length files =
-    length-append I F ∙ (λ j. many j + length-map files made_head j) in
-    let one : length (drop (n + length files) T) ≡ 1 =
-    length-drop (n + length files) T ∙ omega (arith, size) in
+    let all : length (I ++ F) ≡ n + length files = length-append I F ∙ (λ j. many j + length-map files made_head j) in
+    let one : length (drop (n + length files) T) ≡ 1 = length-drop (n + length files) T ∙ omega (arith, size) in
     let next : (k : ℕ) → suc k ≡ 1 + k = λ k. omega arith in
     let made : blocks_of F (drop (length I) T) ≡ map made_block (map made_file (zip files (drop (1 + n) (s ∷ T)))) =
     ap (λ k. blocks_of F (drop k T)) many ∙ blocks_made files (drop n T)

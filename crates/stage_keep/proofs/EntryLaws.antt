@@ -1,13 +1,13 @@
 -- What holds of entries, whatever is kept in them.
-use Rattle.std.specs.Prelude.{◌≡◌, ◌≢◌, ◌<◌, ◌^◌, length, ℕ, List, [], ◌++◌, true, Option, Some, None, Result, Ok}
+use Rattle.std.specs.Prelude.{◌≡◌, ◌≢◌, ◌<◌, ◌^◌, length, ℕ, List, [], ◌++◌, Option, Some, None}
+use Rattle.std.specs.Prelude.{Result, Ok}
 use Rattle.giv_files.specs.declared.made.Made.{Made}
 use Rattle.tables.specs.declared.refusal.Refusal.{Refusal}
 use Rattle.giv_files.specs.declared.stage.Stage.{Stage}
 use Rattle.giv_files.specs.Settings.{BundleParts, Fits}
-use Rattle.giv_files.specs.MadeLists.{MakesAs, ids_of}
-use Rattle.stage_keep.specs.Entries.{EntryParts, IsEntryOf, entry_bytes, entry_for}
+use Rattle.stage_keep.specs.Entries.{EntryParts, IsEntryOf, entry_bytes}
 use Rattle.stage_keep.specs.EntryReading.{ReadsEntry, read_entry}
-use Rattle.stage_keep.specs.Honest.{IsHonest, IsHonestKeep, matches, kept_for}
+use Rattle.stage_keep.specs.Honest.{IsHonest, IsHonestKeep, kept_for}
 
 -- where entries of one stage stand at the front of the same bytes, they are the same entry
 abbrev pub EntriesStandApart : Type 0
@@ -30,21 +30,7 @@ abbrev pub FrontsAreNone : Type 0
 FrontsAreNone = (stage : Stage) (entry : EntryParts) (front behind : List ℕ) → IsEntryOf stage entry
     → entry_bytes stage entry ≡ front ++ behind → behind ≢ [] → read_entry stage front ≡ None
 
--- what is written of a bundle is an entry of its stage, and of that bundle
-abbrev pub WrittenIsEntry : Type 0
-WrittenIsEntry = (bundle : BundleParts) (made : Made)
-    → Fits bundle → MakesAs bundle.stage (ids_of made.files)
-    → length (entry_bytes bundle.stage (entry_for bundle made)) < 2 ^ 64
-    → IsEntryOf bundle.stage (entry_for bundle made) × (matches (entry_for bundle made) bundle ≡ true)
-
--- what is written of a bundle and what its stage makes of it is honest
-abbrev pub WrittenIsHonest : Type 0
-WrittenIsHonest = (makes : BundleParts → Result Made Refusal) (bundle : BundleParts) (made : Made)
-    → Fits bundle → MakesAs bundle.stage (ids_of made.files)
-    → length (entry_bytes bundle.stage (entry_for bundle made)) < 2 ^ 64 → makes bundle ≡ Ok made
-    → IsHonest makes bundle.stage (entry_bytes bundle.stage (entry_for bundle made))
-
--- and so is a front part of it
+-- a front part of an entry is honest
 abbrev pub FrontsAreHonest : Type 0
 FrontsAreHonest = (makes : BundleParts → Result Made Refusal) (stage : Stage) (entry : EntryParts)
     (front behind : List ℕ) → IsEntryOf stage entry

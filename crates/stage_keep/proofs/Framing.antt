@@ -9,7 +9,8 @@ use Rattle.std.proofs.lemmas.Bool.{and_parts}
 use Rattle.std.proofs.lemmas.Slice.Eq.{bytes_eq-Decides}
 use Rattle.giv_files.specs.Settings.{BundleParts}
 use Rattle.giv_files.specs.SettingsText.{settings_text}
-use Rattle.stage_keep.specs.Entries.{EntryParts, block_bytes, entry_bytes, entry_front, input_block, last_line, made_block}
+use Rattle.stage_keep.specs.Entries.{EntryParts, block_bytes, entry_bytes, entry_front, input_block}
+use Rattle.stage_keep.specs.Entries.{last_line, made_block}
 use Rattle.stage_keep.specs.EntryReading.{ReadsEntry, read_entry}
 use Rattle.stage_keep.specs.Honest.{held_for, kept_for, matches}
 use Rattle.stage_keep.proofs.EntriesRead.{reading_is_exact}
@@ -26,19 +27,15 @@ pub framed : (bundle : BundleParts) (entry : EntryParts) → entry.settings ≡ 
 unfolding entry_bytes behind_settings
 framed bundle entry same = grind arith
 
--- bytes without such ends are no entry of the bundle
-pub unframed_is_unkept : (bundle : BundleParts) (bytes : List ℕ) → length bytes < 2 ^ 64
-    → ((middle : List ℕ) → bytes ≢ entry_front bundle ++ middle ++ last_line)
+-- bytes that are the bytes of no entry of the bundle are not kept for it
+pub none_kept : (bundle : BundleParts) (bytes : List ℕ) → length bytes < 2 ^ 64
+    → ((entry : EntryParts) → matches entry bundle ≡ true → bytes ≡ entry_bytes bundle.stage entry → ⊥)
     → kept_for bundle (Some bytes) ≡ None
-unframed_is_unkept bundle bytes short lacks = by (read_entry bundle.stage bytes) refl
+none_kept bundle bytes short never = by (read_entry bundle.stage bytes) refl
   where
     held : (entry : EntryParts) (b : Bool) → matches entry bundle ≡ b
         → bytes ≡ entry_bytes bundle.stage entry → cond b (Some entry.made) None ≡ None
-    held entry true same is =
-        let both = and_parts (bytes_eq entry.settings (settings_text bundle.settings))
-        (pointwise bytes_eq entry.inputs bundle.inputs) same in
-        let text = (bytes_eq-Decides entry.settings (settings_text bundle.settings)).0 both.0 in
-        absurd (lacks (behind_settings entry) (is ∙ framed bundle entry text))
+    held entry true same is = absurd (never entry same is)
     held entry false same is = refl
 
     by : (found : Option EntryParts) → read_entry bundle.stage bytes ≡ found
@@ -48,3 +45,13 @@ unframed_is_unkept bundle bytes short lacks = by (read_entry bundle.stage bytes)
         let told = subst (λ found. ReadsEntry bundle.stage bytes found) at
         (reading_is_exact bundle.stage bytes short) in
         held entry (matches entry bundle) refl told.1
+
+-- bytes without such ends are no entry of the bundle
+pub unframed_is_unkept : (bundle : BundleParts) (bytes : List ℕ) → length bytes < 2 ^ 64
+    → ((middle : List ℕ) → bytes ≢ entry_front bundle ++ middle ++ last_line)
+    → kept_for bundle (Some bytes) ≡ None
+unframed_is_unkept bundle bytes short lacks = none_kept bundle bytes short (λ entry same is.
+    let both = and_parts (bytes_eq entry.settings (settings_text bundle.settings))
+    (pointwise bytes_eq entry.inputs bundle.inputs) same in
+    let text = (bytes_eq-Decides entry.settings (settings_text bundle.settings)).0 both.0 in
+    lacks (behind_settings entry) (is ∙ framed bundle entry text))

@@ -1,4 +1,5 @@
--- What is written is honest, fronts of it are, and what an honest keep holds is made.
+-- What is read as an entry of what was made is honest, and so is a front of it; what an honest keep
+-- holds is made.
 use Rattle.std.proofs.Common.{arith, ◌≡◌, ℕ, List, refl, ap, sym, subst, ◌∙◌, Bool, true, false}
 use Rattle.std.proofs.Common.{cond, Option, Some, None, option_and_then, Result, Ok}
 use Rattle.std.specs.Cmp.Lexicographic.{pointwise}
@@ -12,11 +13,11 @@ use Rattle.giv_files.specs.MadeLists.{MakesAs, ids_of}
 use Rattle.giv_files.specs.Settings.{BundleParts, Fits, SettingsFit}
 use Rattle.giv_files.specs.SettingsText.{settings_text}
 use Rattle.giv_files.proofs.SettingsTold.{text_tells}
-use Rattle.stage_keep.specs.Entries.{EntryParts, entry_bytes, entry_for}
+use Rattle.stage_keep.specs.Entries.{EntryParts, entry_for}
 use Rattle.stage_keep.specs.EntryReading.{read_entry}
 use Rattle.stage_keep.specs.Honest.{IsHonest, held_for, kept_for, matches}
-use Rattle.stage_keep.proofs.EntryLaws.{FrontsAreHonest, HonestIsMade, WrittenIsEntry, WrittenIsHonest}
-use Rattle.stage_keep.proofs.EntriesRead.{entries_are_read_back, entry_fits, fronts_are_none, read_makes}
+use Rattle.stage_keep.proofs.EntryLaws.{FrontsAreHonest, HonestIsMade}
+use Rattle.stage_keep.proofs.EntriesRead.{fronts_are_none, read_makes}
 
 pub texts_decide : (xs ys : List (List ℕ)) → (pointwise bytes_eq xs ys ≡ true → xs ≡ ys)
     × (xs ≡ ys → pointwise bytes_eq xs ys ≡ true)
@@ -25,10 +26,6 @@ texts_decide xs ys = slice_eq-Decides bytes_eq-Decides xs ys (pointwise bytes_eq
 -- the entry of a bundle is one of it
 pub own_entry : (bundle : BundleParts) (made : Made) → matches (entry_for bundle made) bundle ≡ true
 own_entry bundle made = grind (arith, bytes_eq-Decides, texts_decide)
-
-pub written_is_entry : WrittenIsEntry
-written_is_entry bundle made fits makes short =
-    (entry_fits bundle made fits makes short, own_entry bundle made)
 
 -- where the entry of a bundle is read back, it is what is kept of that bundle
 pub own_kept : (bundle : BundleParts) (made : Made) (bytes : List ℕ)
@@ -79,11 +76,6 @@ read_is_honest makes bundle made bytes fits back is = λ entry other read stage 
     ap makes (same_bundle bundle other made fits also stage
     (ap (λ e. matches e other) own ∙ matching))
     ∙ is ∙ ap (λ e. Ok e.made) own
-
-pub written_is_honest : WrittenIsHonest
-written_is_honest makes bundle made fits of short is =
-    read_is_honest makes bundle made (entry_bytes bundle.stage (entry_for bundle made)) fits
-    (entries_are_read_back bundle.stage (entry_for bundle made) (entry_fits bundle made fits of short)) is
 
 pub fronts_are_honest : FrontsAreHonest
 fronts_are_honest makes stage entry front more of whole some = λ other bundle read at fits matching.

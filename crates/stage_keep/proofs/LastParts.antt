@@ -1,7 +1,7 @@
 -- What is kept of a bundle is what stands behind its front in the entry.
 use Rattle.std.proofs.Common.{◌≡◌, ◌≢◌, ◌<◌, ◌^◌, ◌+◌, ℕ, suc, List, [], ◌∷◌, ◌++◌, length, map}
-use Rattle.std.proofs.Common.{take, drop, get_or, codes, refl, ap, sym, subst, ◌∙◌, arith, Bool}
-use Rattle.std.proofs.Common.{true, false, cond, Option, Some, None, option_map, option_and_then}
+use Rattle.std.proofs.Common.{take, drop, get_or, codes, refl, ap, sym, subst, ◌∙◌, arith}
+use Rattle.std.proofs.Common.{cond, Option, Some, None, option_map, option_and_then}
 use Rattle.std.proofs.Common.{slice_get, append_assoc, IfOk, IfSome, Result, Ok, Err}
 use Rattle.std.specs.List.{cons_option, filter_map, flat_map, zip}
 use Rattle.std.specs.Cmp.Lexicographic.{pointwise}
@@ -20,14 +20,18 @@ use Rattle.giv_files.specs.MadeLists.{MakesAs, ids_of, made_lists}
 use Rattle.giv_files.specs.Settings.{BundleParts, Fits}
 use Rattle.giv_files.specs.SettingsText.{settings_text}
 use Rattle.giv_files.specs.Stages.{stage_inputs}
-use Rattle.stage_keep.specs.Entries.{Block, EntryParts, block_bytes, entry_bytes, entry_for, entry_front, first_line, given_front, input_block, last_line, made_block, made_head}
-use Rattle.stage_keep.specs.EntryReading.{ReadsEntry, entry_of, entry_with, heads, last_heads, made_file, made_of, made_with, read_entry, read_made, texts_at}
-use Rattle.stage_keep.specs.Honest.{held_for, kept_for, matches}
+use Rattle.stage_keep.specs.Entries.{Block, EntryParts, block_bytes, entry_bytes, entry_for}
+use Rattle.stage_keep.specs.Entries.{entry_front, first_line, given_front, input_block, last_line}
+use Rattle.stage_keep.specs.Entries.{made_block, made_head}
+use Rattle.stage_keep.specs.EntryReading.{entry_of, entry_with, heads, last_heads}
+use Rattle.stage_keep.specs.EntryReading.{made_file, made_of, made_with, read_entry, read_made}
+use Rattle.stage_keep.specs.EntryReading.{texts_at}
+use Rattle.stage_keep.specs.Honest.{held_for, kept_for}
 use Rattle.stage_keep.proofs.Blocks.{front_is}
 use Rattle.stage_keep.proofs.BlocksTold.{block_back, found_in, heads_in, texts_of, texts_told}
 use Rattle.stage_keep.proofs.EntriesApart.{input_texts}
-use Rattle.stage_keep.proofs.EntriesRead.{const_heads, ids_zip, reading_is_exact}
-use Rattle.stage_keep.proofs.Framing.{behind_settings, framed}
+use Rattle.stage_keep.proofs.EntriesRead.{const_heads, ids_zip}
+use Rattle.stage_keep.proofs.Framing.{behind_settings, framed, none_kept}
 use Rattle.stage_keep.proofs.Honesty.{own_entry, texts_decide}
 use Rattle.stage_keep.proofs.Reading.{block_some}
 
@@ -46,8 +50,7 @@ texts_over [] heads rest short = sym (option_map_id (texts_at heads rest))
 texts_over (b ∷ blocks) heads rest short =
     let more = flat_map block_bytes blocks ++ rest in
     let whole = append_assoc (block_bytes b) (flat_map block_bytes blocks) rest in
-    let less : length (block_bytes b ++ more) < 2 ^ 64 =
-    subst (λ (l : List ℕ). length l < 2 ^ 64) whole short in
+    let less : length (block_bytes b ++ more) < 2 ^ 64 = subst (λ (l : List ℕ). length l < 2 ^ 64) whole short in
     ap (λ (bytes : List ℕ). texts_at (b.head ∷ (heads_in blocks ++ heads)) bytes) whole
     ∙ block_some b.head (heads_in blocks ++ heads) (block_bytes b ++ more) b.text more
     (block_back b.head b.text more less)
@@ -85,8 +88,7 @@ entry_split bundle files more fits =
     let next : suc n ≡ 1 + n = omega arith in
     let front : take n (inputs ++ more) ≡ inputs =
     ap (λ k. take k (inputs ++ more)) (sym fits.inputs) ∙ take-append_seam inputs more in
-    let back : drop (1 + n) (s ∷ (inputs ++ more)) ≡ more =
-    ap (λ k. drop k (s ∷ (inputs ++ more))) (sym next)
+    let back : drop (1 + n) (s ∷ (inputs ++ more)) ≡ more = ap (λ k. drop k (s ∷ (inputs ++ more))) (sym next)
     ∙ ap (λ k. drop k (inputs ++ more)) (sym fits.inputs) ∙ drop-append_seam inputs more in
     let report : get_or (s ∷ (inputs ++ more)) (1 + n + length files) [] ≡ get_or more (length files) [] =
     sym (get_or-drop (1 + n) (s ∷ (inputs ++ more)) (length files) [])
@@ -109,7 +111,8 @@ entry_over bundle rest fits short files =
     let less : length (blocks ++ rest) < 2 ^ 64 =
     omega (arith, short, ap (λ (l : List ℕ). length l) whole, length-append first (blocks ++ rest)) in
     ap (λ (bytes : List ℕ). entry_with bundle.stage bytes files) whole
-    ∙ ap (λ found. option_map (entry_of bundle.stage files) (option_and_then (texts_at (heads bundle.stage files)) found))
+    ∙ ap (λ found. option_map (entry_of bundle.stage files)
+    (option_and_then (texts_at (heads bundle.stage files)) found))
     (front_is first (blocks ++ rest))
     ∙ ap (λ (hs : List (List ℕ)). option_map (entry_of bundle.stage files) (texts_at hs (blocks ++ rest)))
     (heads_split bundle files fits)
@@ -162,7 +165,8 @@ fronted bundle entry same each =
     let last : Block = record { head = codes "report"; text = entry.made.report } in
     let made = flat_map block_bytes (map made_block entry.made.files ++ last ∷ []) in
     let parted : behind_settings entry ≡ own ++ made =
-    ap (flat_map block_bytes) (append_assoc (map input_block entry.inputs) (map made_block entry.made.files) (last ∷ []))
+    ap (flat_map block_bytes)
+    (append_assoc (map input_block entry.inputs) (map made_block entry.made.files) (last ∷ []))
     ∙ flat_map-append block_bytes (map input_block entry.inputs) (map made_block entry.made.files ++ last ∷ [])
     ∙ ap (λ (inputs : List (List ℕ)). flat_map block_bytes (map input_block inputs) ++ made) each in (
       made ++ last_line,
@@ -175,25 +179,12 @@ fronted bundle entry same each =
 -- bytes without that front are no entry of the bundle
 pub unfronted_is_unkept : (bundle : BundleParts) (bytes : List ℕ) → length bytes < 2 ^ 64
     → ((rest : List ℕ) → bytes ≢ given_front bundle ++ rest) → kept_for bundle (Some bytes) ≡ None
-unfronted_is_unkept bundle bytes short lacks = by (read_entry bundle.stage bytes) refl
-  where
-    held : (entry : EntryParts) (b : Bool) → matches entry bundle ≡ b
-        → bytes ≡ entry_bytes bundle.stage entry → cond b (Some entry.made) None ≡ None
-    held entry true same is =
-        let both = and_parts (bytes_eq entry.settings (settings_text bundle.settings))
-        (pointwise bytes_eq entry.inputs bundle.inputs) same in
-        let text = (bytes_eq-Decides entry.settings (settings_text bundle.settings)).0 both.0 in
-        let at = fronted bundle entry text ((texts_decide entry.inputs bundle.inputs).0 both.1) in
-        absurd (lacks at.0 (is ∙ at.1))
-    held entry false same is = refl
-
-    by : (found : Option EntryParts) → read_entry bundle.stage bytes ≡ found
-        → option_and_then (held_for bundle) found ≡ None
-    by None at = refl
-    by (Some entry) at =
-        let told = subst (λ found. ReadsEntry bundle.stage bytes found) at
-        (reading_is_exact bundle.stage bytes short) in
-        held entry (matches entry bundle) refl told.1
+unfronted_is_unkept bundle bytes short lacks = none_kept bundle bytes short (λ entry same is.
+    let both = and_parts (bytes_eq entry.settings (settings_text bundle.settings))
+    (pointwise bytes_eq entry.inputs bundle.inputs) same in
+    let text = (bytes_eq-Decides entry.settings (settings_text bundle.settings)).0 both.0 in
+    let at = fronted bundle entry text ((texts_decide entry.inputs bundle.inputs).0 both.1) in
+    lacks at.0 (is ∙ at.1))
 
 -- ---- what is read is made of files that the stage makes
 
@@ -207,7 +198,8 @@ made_told rest files made = by (texts_at (last_heads files) rest) refl
     by (Some texts) at found =
         let each = (texts_told (last_heads files) rest texts at).0 in
         subst (λ m. ids_of m.files ≡ files) (same_Some (made_of files texts) made found)
-        (ids_zip files texts (omega (arith, each, length-append (map made_head files) (codes "report" ∷ []), length-map files made_head)))
+        (ids_zip files texts
+        (omega (arith, each, length-append (map made_head files) (codes "report" ∷ []), length-map files made_head)))
 
 made_makes : (at : Stage) (rest : List ℕ) (made : Made) → read_made at rest ≡ Some made
     → MakesAs at (ids_of made.files)

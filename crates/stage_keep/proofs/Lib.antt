@@ -6,8 +6,8 @@ mod EntryLaws
 pub mod Framing
 pub mod Honesty
 pub mod LastParts
-mod Parts
 mod Pieces
+mod PlacesInLastPart
 mod Reading
 mod Tried
 mod Writing

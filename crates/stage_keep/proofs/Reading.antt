@@ -3,7 +3,8 @@ use Rattle.std.proofs.Common.{◌≡◌, ℕ, ◌<◌, ◌≤◌, ◌+◌, ◌-�
 use Rattle.std.proofs.Common.{take, drop, get_or, refl, ap, sym, ◌∙◌, arith, Option, Some, None}
 use Rattle.std.proofs.Common.{option_map, slice_get, append_assoc, if◌then◌else◌, codes, cond, Bool}
 use Rattle.std.proofs.Common.{true, false, option_and_then, append-nil, drop-drop}
-use Rattle.std.specs.List.{filter_map, zip}
+use Rattle.std.specs.List.{cons_option, filter_map, zip}
+use Rattle.std.specs.Option.{option_to_list}
 use Rattle.std.specs.Str.{bytes_eq}
 use Rattle.std.specs.List.{drop-map, take-map}
 use Rattle.std.proofs.lemmas.List.{get_or-drop, get_or-map, length-drop, map-append, take_all, take_more}
@@ -13,11 +14,11 @@ use Rattle.tables.specs.declared.file_id.FileId.{FileId}
 use Rattle.giv_files.specs.declared.made.Made.{Made}
 use Rattle.giv_files.specs.declared.made.MadeFile.{MadeFile}
 use Rattle.giv_files.specs.declared.stage.Stage.{Stage}
-use Rattle.giv_files.specs.declared.stage.Stage.TheVariants as stage
 use Rattle.giv_files.specs.MadeLists.{made_lists}
 use Rattle.giv_files.specs.Stages.{stage_inputs, stage_makes}
 use Rattle.stage_keep.specs.Entries.{EntryParts, last_line}
-use Rattle.stage_keep.specs.EntryReading.{block_at, entry_of, entry_with, made_file, made_with, read_entry, read_made, texts_at}
+use Rattle.stage_keep.specs.EntryReading.{block_at, entry_of, entry_with, made_file, made_with}
+use Rattle.stage_keep.specs.EntryReading.{read_entry, read_made, texts_at}
 
 -- one input more has its head
 pub head_more : (files : List FileId) (i : ℕ) (d : FileId) → i < length files
@@ -63,13 +64,15 @@ pub block_some : (head : List ℕ) (heads : List (List ℕ)) (bytes text more : 
     → texts_at (head ∷ heads) bytes ≡ option_map (λ texts. text ∷ texts) (texts_at heads more)
 unfolding texts_at
 block_some head heads bytes text more is =
-    ap (option_and_then (λ (block : List ℕ × List ℕ). option_map (λ texts. block.0 ∷ texts) (texts_at heads block.1))) is
+    ap (option_and_then (λ (block : List ℕ × List ℕ). option_map (λ texts. block.0 ∷ texts) (texts_at heads block.1)))
+    is
 
 block_none : (head : List ℕ) (heads : List (List ℕ)) (bytes : List ℕ)
     → block_at head bytes ≡ None → texts_at (head ∷ heads) bytes ≡ None
 unfolding texts_at
 block_none head heads bytes is =
-    ap (option_and_then (λ (block : List ℕ × List ℕ). option_map (λ texts. block.0 ∷ texts) (texts_at heads block.1))) is
+    ap (option_and_then (λ (block : List ℕ × List ℕ). option_map (λ texts. block.0 ∷ texts) (texts_at heads block.1)))
+    is
 
 ended : (so_far : List (List ℕ)) (rest : List ℕ)
     → (if bytes_eq rest last_line then Some so_far else None)
@@ -112,34 +115,36 @@ module _ (heads : List (List ℕ)) (i : ℕ) (so_far : List (List ℕ)) (rest : 
 pub first_found : (at : Stage) (bytes : List ℕ) (entry : EntryParts)
     → entry_with at bytes (stage_makes at) ≡ Some entry → read_entry at bytes ≡ Some entry
 unfolding read_entry
-first_found stage.Concept bytes entry is = rw is refl
-first_found stage.PinnedConcept bytes entry is = rw is refl
-first_found stage.PinnedVehicles bytes entry is = rw is refl
-first_found _ bytes entry is = rw is refl
+first_found at bytes entry is = rw is refl
 
 pub later_found : (at : Stage) (bytes : List ℕ) → entry_with at bytes (stage_makes at) ≡ None
     → slice_get (filter_map (entry_with at bytes) (drop 1 (made_lists at))) 0 ≡ read_entry at bytes
 unfolding read_entry
-later_found stage.Concept bytes is = rw is refl
-later_found stage.PinnedConcept bytes is = rw is refl
-later_found stage.PinnedVehicles bytes is = rw is refl
-later_found _ bytes is = rw is refl
+later_found at bytes is = rw is refl
+
+-- the entry that the bytes are with the one list that is left
+pub one_left : (at : Stage) (bytes : List ℕ) (found : Option FileId) (file : FileId)
+    → drop 1 (made_lists at) ≡ map (λ file. file ∷ []) (option_to_list found) → found ≡ Some file
+    → entry_with at bytes (file ∷ [])
+    ≡ slice_get (filter_map (entry_with at bytes) (drop 1 (made_lists at))) 0
+one_left at bytes found file lists is =
+    by (entry_with at bytes (file ∷ []))
+    ∙ ap (λ (l : List (List FileId)). slice_get (filter_map (entry_with at bytes) l) 0)
+    (sym (lists ∙ ap (λ f. map (λ file. file ∷ []) (option_to_list f)) is))
+  where
+    by : (found : Option EntryParts) → found ≡ slice_get (cons_option found []) 0
+    by None = refl
+    by (Some entry) = refl
 
 pub first_made : (at : Stage) (bytes : List ℕ) (made : Made)
     → made_with bytes (stage_makes at) ≡ Some made → read_made at bytes ≡ Some made
 unfolding read_made
-first_made stage.Concept bytes made is = rw is refl
-first_made stage.PinnedConcept bytes made is = rw is refl
-first_made stage.PinnedVehicles bytes made is = rw is refl
-first_made _ bytes made is = rw is refl
+first_made at bytes made is = rw is refl
 
 pub later_made : (at : Stage) (bytes : List ℕ) → made_with bytes (stage_makes at) ≡ None
     → slice_get (filter_map (made_with bytes) (drop 1 (made_lists at))) 0 ≡ read_made at bytes
 unfolding read_made
-later_made stage.Concept bytes is = rw is refl
-later_made stage.PinnedConcept bytes is = rw is refl
-later_made stage.PinnedVehicles bytes is = rw is refl
-later_made _ bytes is = rw is refl
+later_made at bytes is = rw is refl
 
 -- a block that is found under another view
 pub block_lacks : {B C : Type 0} (f : B → C) (found : Option B) (at : Option C) → found ≡ None
@@ -194,8 +199,7 @@ module _ {B : Type 0} (f : B → List ℕ) (xs : List B) (n m : ℕ) (d : B)
   pub last_text : (back : List B) → back ≡ drop n (take (length xs - 1) (drop 1 xs))
       → f (get_or back m d) ≡ get_or (map f xs) (1 + n + m) []
   last_text back is =
-      let long : length back ≡ length xs - 1 - n =
-      ap (λ l. length l) (is ∙ ap (drop n) behind_first)
+      let long : length back ≡ length xs - 1 - n = ap (λ l. length l) (is ∙ ap (drop n) behind_first)
       ∙ length-drop n (drop 1 xs) ∙ ap (λ k. k - n) (length-drop 1 xs) in
       sym (get_or-map f back m d [] (omega (arith, long, enough)))
       ∙ ap (λ l. get_or l m []) (back_texts back is)

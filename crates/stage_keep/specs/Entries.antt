@@ -6,9 +6,8 @@ use Rattle.giv_files.specs.declared.made.MadeFile.{MadeFile}
 use Rattle.giv_files.specs.declared.stage.Stage.{Stage}
 use Rattle.tables.specs.FileNames.{file_name}
 use Rattle.giv_files.specs.MadeLists.{MakesAs, ids_of}
-use Rattle.giv_files.specs.StageNames.{stage_name}
 use Rattle.giv_files.specs.Settings.{BundleParts}
-use Rattle.giv_files.specs.Stages.{stage_inputs}
+use Rattle.giv_files.specs.Stages.{stage_inputs, stage_name, stage_row}
 use Rattle.giv_files.specs.SettingsText.{settings_text}
 
 -- an entry: the texts that a stage was given, and what it made of them
@@ -92,4 +91,4 @@ given_front bundle = entry_front bundle ++ flat_map block_bytes (map input_block
 
 -- the name of the file in which the entry of a stage is kept
 abbrev pub keep_name : Stage → List ℕ
-keep_name stage = codes "keep/" ++ stage_name stage ++ codes ".keep"
+keep_name stage = (stage_row stage).kept

@@ -33,15 +33,11 @@ pub fn read_made(alloc: Global, stage: Stage, bytes: Vec<u8>) -> Result<Option<M
     }
 }
 
-// The one file that a stage makes where another one is left out that may be.
-fn shorter_list(stage: Stage) -> Option<FileId>
+/// The one file that a stage makes where another one is left out that may be.
+pub(crate) fn shorter_list(stage: Stage) -> Option<FileId>
     ensures { drop 1 (made_lists stage) ≡ map (λ file. file ∷ []) (option_to_list result) }
 {
-    match stage {
-        Stage::Concept | Stage::PinnedConcept => Some(FileId::Concept),
-        Stage::PinnedVehicles => Some(FileId::Schedule),
-        _ => None,
-    }
+    stage.row().alone
 }
 
 // What was made, by the places of its texts.

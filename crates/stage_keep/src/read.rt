@@ -13,6 +13,7 @@ ghost use Rattle.stage_keep.specs.EntryReading.{read_entry, texts_at};
 use crate::block::{behind, block_at};
 use crate::entry::Entry;
 use crate::heads::{first_line, heads};
+use crate::last_part::shorter_list;
 use giv_files::{Made, MadeFile, MadeList, Stage};
 use plan_num::{NoMemory, Text};
 use std::alloc::Global;
@@ -45,11 +46,9 @@ fn shorter_entry(alloc: Global, stage: Stage, bytes: &[u8]) -> Result<Option<Ent
     ensures { IfOk result (λ found. found
         ≡ slice_get (filter_map (entry_with stage bytes.now) (drop 1 (made_lists stage))) 0) }
 {
-    match stage {
-        Stage::Concept => entry_with(alloc, stage, &[FileId::Concept], bytes),
-        Stage::PinnedConcept => entry_with(alloc, stage, &[FileId::Concept], bytes),
-        Stage::PinnedVehicles => entry_with(alloc, stage, &[FileId::Schedule], bytes),
-        _ => Ok(None),
+    match shorter_list(stage) {
+        Some(file) => entry_with(alloc, stage, &[file], bytes),
+        None => Ok(None),
     }
 }
 

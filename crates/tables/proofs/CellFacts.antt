@@ -11,22 +11,28 @@ use Rattle.tables.specs.declared.read_fault.ReadFault.TheVariants as fault
 use Rattle.tables.specs.InnerReading.{CellsGive, CellsLeft}
 use Rattle.tables.specs.Reading.{cell_of, cells_from, errors, values}
 
-prefix_len-map : {X Y : Type 0} (p : Y → Bool) (f : X → Y) (xs : List X) → prefix_len p (map f xs) ≡ prefix_len (λ x. p (f x)) xs
+prefix_len-map : {X Y : Type 0} (p : Y → Bool) (f : X → Y) (xs : List X) → prefix_len p (map f xs)
+    ≡ prefix_len (λ x. p (f x)) xs
 prefix_len-map p f [] = refl
 prefix_len-map p f (x ∷ xs) = ap (λ n. cond (p (f x)) (1 + n) 0) (prefix_len-map p f xs)
 
 -- the first place among images that passes
-pub position-map : {X Y : Type 0} (p : Y → Bool) (f : X → Y) (xs : List X) → position p (map f xs) ≡ position (λ x. p (f x)) xs
+pub position-map : {X Y : Type 0} (p : Y → Bool) (f : X → Y) (xs : List X) → position p (map f xs)
+    ≡ position (λ x. p (f x)) xs
 position-map p f xs = rw (length-map xs f, prefix_len-map (λ y. not (p y)) f xs) refl
 
 -- the cell of the next column, and those after it
-cells_more : (kinds : List ColumnKind) (fields : List (List ℕ)) (i : ℕ) (kind : ColumnKind) → i < length kinds → i < length fields
-    → cells_from (i + 1) (drop i kinds) (drop i fields) ≡ cell_of (get_or kinds i kind) (i + 1) (get_or fields i []) ∷ cells_from (i + 1 + 1) (drop (i + 1) kinds) (drop (i + 1) fields)
+cells_more : (kinds : List ColumnKind) (fields : List (List ℕ)) (i : ℕ) (kind : ColumnKind)
+    → i < length kinds → i < length fields
+    → cells_from (i + 1) (drop i kinds) (drop i fields)
+    ≡ cell_of (get_or kinds i kind) (i + 1) (get_or fields i []) ∷ cells_from (i + 1 + 1)
+    (drop (i + 1) kinds) (drop (i + 1) fields)
 unfolding cells_from
 cells_more kinds fields i kind h k = rw (drop_more kinds i kind h, drop_more fields i [] k) refl
 
 -- after the last column there is none
-cells_done : (kinds : List ColumnKind) (fields : List (List ℕ)) (column i : ℕ) → length kinds ≤ i → cells_from column (drop i kinds) (drop i fields) ≡ []
+cells_done : (kinds : List ColumnKind) (fields : List (List ℕ)) (column i : ℕ) → length kinds ≤ i
+    → cells_from column (drop i kinds) (drop i fields) ≡ []
 unfolding cells_from
 cells_done kinds fields column i h = rw (drop_all i kinds h) refl
 
@@ -52,22 +58,31 @@ unfolding values
 values_none A E = refl
 
 -- a cell that is made goes from those that are left to those that are there
-pub cell_taken : (kinds : List ColumnKind) (fields : List (List ℕ)) (i : ℕ) (kind : ColumnKind) (cell : ℤ) (all : List RowWhy) (old new whole : List ℤ) → i < length kinds → i < length fields
+pub cell_taken : (kinds : List ColumnKind) (fields : List (List ℕ)) (i : ℕ) (kind : ColumnKind)
+    (cell : ℤ) (all : List RowWhy) (old new whole : List ℤ) → i < length kinds → i < length fields
     → cell_of (get_or kinds i kind) (i + 1) (get_or fields i []) ≡ Ok cell → new ≡ old ++ cell ∷ []
-    → errors (cells_from (i + 1) (drop i kinds) (drop i fields)) ≡ all → old ++ values (cells_from (i + 1) (drop i kinds) (drop i fields)) ≡ whole
-    → (errors (cells_from (i + 1 + 1) (drop (i + 1) kinds) (drop (i + 1) fields)) ≡ all) × (new ++ values (cells_from (i + 1 + 1) (drop (i + 1) kinds) (drop (i + 1) fields)) ≡ whole)
+    → errors (cells_from (i + 1) (drop i kinds) (drop i fields)) ≡ all → old
+    ++ values (cells_from (i + 1) (drop i kinds) (drop i fields)) ≡ whole
+    → (errors (cells_from (i + 1 + 1) (drop (i + 1) kinds) (drop (i + 1) fields)) ≡ all)
+    × (new ++ values (cells_from (i + 1 + 1) (drop (i + 1) kinds) (drop (i + 1) fields)) ≡ whole)
 cell_taken kinds fields i kind cell all old new whole h k made pushed left told =
     grind (arith, cells_more, errors_ok, append_assoc, values_ok)
 
 -- a cell that is not made is the first of all errors
-pub cell_refused : (kinds : List ColumnKind) (fields : List (List ℕ)) (i : ℕ) (kind : ColumnKind) (why : RowWhy) (all : List RowWhy) {T : Type 0} (fault : RowWhy → T) → i < length kinds → i < length fields
-    → cell_of (get_or kinds i kind) (i + 1) (get_or fields i []) ≡ Err why → errors (cells_from (i + 1) (drop i kinds) (drop i fields)) ≡ all
+pub cell_refused : (kinds : List ColumnKind) (fields : List (List ℕ)) (i : ℕ) (kind : ColumnKind)
+    (why : RowWhy) (all : List RowWhy) {T : Type 0} (fault : RowWhy → T) → i < length kinds
+    → i < length fields
+    → cell_of (get_or kinds i kind) (i + 1) (get_or fields i []) ≡ Err why
+    → errors (cells_from (i + 1) (drop i kinds) (drop i fields)) ≡ all
     → slice_get (map fault all) 0 ≡ Some (fault why)
 cell_refused kinds fields i kind why all fault h k made left = grind (arith, cells_more, errors_err)
 
 -- after the last column all cells are there
-pub cells_whole : (kinds : List ColumnKind) (fields : List (List ℕ)) (i : ℕ) (all : List RowWhy) (old whole : List ℤ) → length kinds ≤ i
-    → errors (cells_from (i + 1) (drop i kinds) (drop i fields)) ≡ all → old ++ values (cells_from (i + 1) (drop i kinds) (drop i fields)) ≡ whole → (all ≡ []) × (old ≡ whole)
+pub cells_whole : (kinds : List ColumnKind) (fields : List (List ℕ)) (i : ℕ) (all : List RowWhy)
+    (old whole : List ℤ) → length kinds ≤ i
+    → errors (cells_from (i + 1) (drop i kinds) (drop i fields)) ≡ all → old
+    ++ values (cells_from (i + 1) (drop i kinds) (drop i fields)) ≡ whole → (all ≡ [])
+    × (old ≡ whole)
 cells_whole kinds fields i all old whole h left told =
     grind (arith, cells_done, errors_none, append-nil, values_none)
 

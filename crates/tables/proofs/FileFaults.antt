@@ -13,14 +13,10 @@ use Rattle.tables.specs.Reading.{table_of}
 use Rattle.tables.specs.Tables.{TableRow}
 use Rattle.tables.specs.Writing.{InColumns}
 use Rattle.tables.proofs.Inputs.{faults_of_table, refused_limits, refused_rows, no_faults}
-use Rattle.tables.proofs.Ranges.{unmapped, table_in_columns}
+use Rattle.tables.proofs.Ranges.{table_in_columns}
 use Rattle.tables.specs.declared.row_limit.RowLimit.{RowLimit}
 use Rattle.tables.specs.RowsOfTables.{limits_of, too_many_rows}
-
--- nothing stands first in a list that is empty
-pub none_broken : {X : Type 0} (whys : List X) → slice_get whys 0 ≡ None → whys ≡ []
-none_broken [] none = refl
-none_broken (why ∷ whys) none = cc
+use Rattle.plan_num.proofs.Lists.{none_first, unmapped}
 
 -- the cells of a text that was read are in the ranges of their columns
 pub cells_inside : (file : FileId) (kinds : List ColumnKind) (text : List ℕ) (read : Result (List TableRow) StageFault)
@@ -48,7 +44,8 @@ rows_within (Some limit) count rows told is first none = subst (λ some. some �
     kept true fault e = cc
     kept false fault e = refl
 
-module _ {X : Type 0} (limit : Option RowLimit) (rows : List X) (count : ℕ) (told : Option Refusal) (is : count ≡ length rows) (first : told ≡ slice_get (too_many_rows limit count) 0) where
+module _ {X : Type 0} (limit : Option RowLimit) (rows : List X) (count : ℕ) (told : Option Refusal)
+    (is : count ≡ length rows) (first : told ≡ slice_get (too_many_rows limit count) 0) where
   -- so many rows are too many
   pub limit_refuses : (why : Refusal) → told ≡ Some why
       → slice_get (limit_faults (limits_of limit) rows) 0 ≡ Some why
@@ -57,15 +54,18 @@ module _ {X : Type 0} (limit : Option RowLimit) (rows : List X) (count : ℕ) (t
   -- or they are few enough
   pub few_rows : told ≡ None → limit_faults (limits_of limit) rows ≡ []
   few_rows none = limits_are limit rows ∙ sym (ap (too_many_rows limit) is)
-      ∙ none_broken (too_many_rows limit count) (sym first ∙ none)
+      ∙ none_first (too_many_rows limit count) (sym first ∙ none)
 
-module _ {X : Type 0} (input : Input X) (text : List ℕ) (table : List TableRow) (cells : cell_faults input.file input.columns text ≡ []) (is : table ≡ table_of input.columns text) where
+module _ {X : Type 0} (input : Input X) (text : List ℕ) (table : List TableRow)
+    (cells : cell_faults input.file input.columns text ≡ [])
+    (is : table ≡ table_of input.columns text) where
   -- a text whose table is refused by a limit
   pub limits_refuse : (fault : StageFault)
       → Refuses (limit_faults input.limits (records input table)) fault → Refuses
       (input_faults input text) fault
   limits_refuse fault by = subst
-      (λ (all : List Refusal). Refuses all fault) (faults_of_table input text table cells is) (refused_limits input table fault by)
+      (λ (all : List Refusal). Refuses all fault) (faults_of_table input text table cells is)
+      (refused_limits input table fault by)
 
   -- and one whose rows were read, where the file has no rule as a whole
   pub rows_read : {A : Type 0} (P : A → List X → Type 0) → input.table_rules ≡ []
@@ -74,4 +74,5 @@ module _ {X : Type 0} (input : Input X) (text : List ℕ) (table : List TableRow
       → UnlessFault (input_faults input text) (λ made. P made (records_of input text)) read
   rows_read P plain few (Ok made) h = grind (arith, faults_of_table, no_faults)
   rows_read P plain few (Err fault) h = subst
-      (λ (all : List Refusal). Refuses all fault) (faults_of_table input text table cells is) (refused_rows input table fault few h)
+      (λ (all : List Refusal). Refuses all fault) (faults_of_table input text table cells is)
+      (refused_rows input table fault few h)

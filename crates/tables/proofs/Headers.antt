@@ -9,4 +9,5 @@ pub plain_header : (bytes : List ℕ) → list_all (λ byte. not (byte == 10)) b
 plain_header [] e = All-nil (λ (byte : ℕ). byte ≢ 10)
 plain_header (byte ∷ bytes) e =
     let parts = and_parts (not (byte == 10)) (list_all (λ byte. not (byte == 10)) bytes) e in
-    All-cons (λ (byte : ℕ). byte ≢ 10) byte bytes (eqb-false byte 10 (not-true (byte == 10) parts.0)) (plain_header bytes parts.1)
+    All-cons (λ (byte : ℕ). byte ≢ 10) byte bytes
+    (eqb-false byte 10 (not-true (byte == 10) parts.0)) (plain_header bytes parts.1)

@@ -3,11 +3,9 @@ pub mod CellFacts
 pub mod CellTexts
 pub mod FirstFaults
 pub mod FileFaults
-pub mod Found
 pub mod Headers
 pub mod Inputs
 pub mod InTurn
-pub mod Members
 pub mod PlainBytes
 pub mod PlainCells
 pub mod PlainFields

@@ -4,19 +4,21 @@ use Rattle.std.proofs.Common.{length, map, get_or, refl, ap, sym, ◌∙◌, ari
 use Rattle.std.proofs.Common.{false, not, eqb, codes, append-nil, length-append}
 use Rattle.std.specs.List.{list_all, suffix_len, position_or_len, flat_map}
 use Rattle.std.specs.Str.Lines.{strip_carriage_return}
-use Rattle.std.proofs.lemmas.Bool.{eqb-false, ne_eqb}
+use Rattle.std.proofs.lemmas.Bool.{eqb-false, ne_eqb, not-true, and_parts}
 use Rattle.std.proofs.lemmas.List.{take_all}
 use Rattle.std.proofs.lemmas.List.Sums.{prefix_len_is, suffix_len_is, position_or_len_is}
 use Rattle.std.proofs.lemmas.List.Folds.{list_all-append}
 use Rattle.std.proofs.lemmas.List.Splits.{slice_split_none, slice_split_at}
-use Rattle.plan_num.proofs.Digits.{both_passed}
 use Rattle.text_fields.specs.Rows.{is_blank, without_blanks, without_quotes, ends_empty, cleaned, pieces, parts_of, before_comment, row_of}
 use Rattle.tables.specs.Writing.{joined}
 use Rattle.text_fields.proofs.FieldFacts.{space_first}
+use Rattle.plan_num.proofs.Tests.{and_false}
 
 -- a byte that ends no line, no comment and no cell, and is no blank and no quote
 abbrev pub is_plain : ℕ → Bool
-is_plain byte = not (is_blank byte) && (not (byte == 10) && (not (byte == 13) && (not (byte == 34) && (not (byte == 35) && not (byte == 59)))))
+is_plain byte = not (is_blank byte)
+    && (not (byte == 10) && (not (byte == 13)
+    && (not (byte == 34) && (not (byte == 35) && not (byte == 59)))))
 
 -- a byte that ends no line and no comment
 abbrev pub is_quiet : ℕ → Bool
@@ -28,27 +30,30 @@ pub record IsCell (text : List ℕ) : Type 0 where
   pub plain : list_all is_plain text ≡ true
 
 -- what passes a test in each byte passes it at each place
-pub all_at : (test : ℕ → Bool) (text : List ℕ) (i d : ℕ) → list_all test text ≡ true → i < length text → test (get_or text i d) ≡ true
+pub all_at : (test : ℕ → Bool) (text : List ℕ) (i d : ℕ) → list_all test text ≡ true
+    → i < length text → test (get_or text i d) ≡ true
 all_at test [] i d h lt = absurd (omega arith)
-all_at test (byte ∷ text) zero d h lt = (both_passed (test byte) (list_all test text) h).0
-all_at test (byte ∷ text) (suc i) d h lt = all_at test text i d (both_passed (test byte) (list_all test text) h).1 (omega arith)
+all_at test (byte ∷ text) zero d h lt = (and_parts (test byte) (list_all test text) h).0
+all_at test (byte ∷ text) (suc i) d h lt = all_at test text i d
+    (and_parts (test byte) (list_all test text) h).1 (omega arith)
 
 -- a test that follows from another passes where that does
-pub all_weaker : (test other : ℕ → Bool) (text : List ℕ) → ((byte : ℕ) → test byte ≡ true → other byte ≡ true) → list_all test text ≡ true → list_all other text ≡ true
+pub all_weaker : (test other : ℕ → Bool) (text : List ℕ)
+    → ((byte : ℕ) → test byte ≡ true → other byte ≡ true) → list_all test text ≡ true
+    → list_all other text ≡ true
 all_weaker test other [] more h = refl
 all_weaker test other (byte ∷ text) more h =
-    let b = both_passed (test byte) (list_all test text) h in rw (more byte b.0, all_weaker test other text more b.1) refl
-
-was_true : (b : Bool) → not b ≡ true → b ≡ false
-was_true true e = sym e
-was_true false e = refl
+    let b = and_parts (test byte) (list_all test text) h in rw
+    (more byte b.0, all_weaker test other text more b.1) refl
 
 -- what a plain byte is not
-pub plain_is : (byte : ℕ) → is_plain byte ≡ true → (is_blank byte ≡ false) × (eqb byte 10 ≡ false) × (eqb byte 13 ≡ false) × (eqb byte 34 ≡ false) × (eqb byte 35 ≡ false) × (eqb byte 59 ≡ false)
+pub plain_is : (byte : ℕ) → is_plain byte ≡ true → (is_blank byte ≡ false) × (eqb byte 10 ≡ false)
+    × (eqb byte 13 ≡ false) × (eqb byte 34 ≡ false) × (eqb byte 35 ≡ false) × (eqb byte 59 ≡ false)
 plain_is byte h = grind arith
 
 quiet_is : (byte : ℕ) → is_quiet byte ≡ true → (eqb byte 10 ≡ false) × (eqb byte 13 ≡ false) × (eqb byte 35 ≡ false)
-quiet_is byte h = let a = both_passed _ _ h in let b = both_passed _ _ a.1 in (was_true _ a.0, was_true _ b.0, was_true _ b.1)
+quiet_is byte h = let a = and_parts _ _ h in let b = and_parts _ _ a.1 in
+    (not-true _ a.0, not-true _ b.0, not-true _ b.1)
 
 plain_quiet : (byte : ℕ) → is_plain byte ≡ true → is_quiet byte ≡ true
 plain_quiet byte h = let p = plain_is byte h in rw (p.1, p.2, p.4) refl
@@ -76,17 +81,22 @@ abbrev NoEnd : List ℕ → Type 0
 NoEnd text = list_all (λ byte. not (eqb byte 59)) text ≡ true
 
 cell_no_end : (text : List ℕ) → IsCell text → NoEnd text
-cell_no_end text h = all_weaker is_plain (λ byte. not (eqb byte 59)) text (λ byte p. rw (plain_is byte p).5 refl) h.plain
+cell_no_end text h = all_weaker is_plain (λ byte. not (eqb byte 59)) text
+    (λ byte p. rw (plain_is byte p).5 refl) h.plain
 
 -- the texts behind the first, each with a semicolon and a space before it
 abbrev others : List (List ℕ) → List ℕ
 others texts = flat_map (λ more. codes "; " ++ more) texts
 
 -- a line is cut into its texts, with the spaces before them
-cut_cells : (first : List ℕ) (texts : List (List ℕ)) → NoEnd first → AreCells texts → pieces (first ++ others texts) ≡ first ∷ map (λ text. 32 ∷ text) texts
-cut_cells first [] h cells = rw (append-nil first) (slice_split_none (λ byte. eqb byte 59) first (λ k d lt. was_true _ (all_at (λ byte. not (eqb byte 59)) first k d h lt)))
+cut_cells : (first : List ℕ) (texts : List (List ℕ)) → NoEnd first → AreCells texts
+    → pieces (first ++ others texts) ≡ first ∷ map (λ text. 32 ∷ text) texts
+cut_cells first [] h cells = rw (append-nil first)
+    (slice_split_none (λ byte. eqb byte 59) first
+    (λ k d lt. not-true _ (all_at (λ byte. not (eqb byte 59)) first k d h lt)))
 cut_cells first (text ∷ texts) h cells =
-    slice_split_at (λ byte. eqb byte 59) first 59 (32 ∷ text ++ others texts) (λ k d lt. was_true _ (all_at (λ byte. not (eqb byte 59)) first k d h lt)) refl
+    slice_split_at (λ byte. eqb byte 59) first 59 (32 ∷ text ++ others texts)
+    (λ k d lt. not-true _ (all_at (λ byte. not (eqb byte 59)) first k d h lt)) refl
     ∙ ap (λ (more : List (List ℕ)). first ∷ more) (cut_cells (32 ∷ text) texts (cell_no_end text cells.0) cells.1)
 
 unblank_cells : (texts : List (List ℕ)) → AreCells texts → map without_blanks (map (λ text. 32 ∷ text) texts) ≡ texts
@@ -101,20 +111,18 @@ last_place : (n : ℕ) → suc (suc n) - 1 ≡ suc (suc n - 1)
 last_place n = omega arith
 
 -- the last text has a byte
-last_some : (texts : List (List ℕ)) → AreCells texts → 0 < length texts → 0 < length (get_or texts (length texts - 1) [])
+last_some : (texts : List (List ℕ)) → AreCells texts → 0 < length texts
+    → 0 < length (get_or texts (length texts - 1) [])
 last_some [] h some = absurd (omega arith)
 last_some (text ∷ []) h some = h.0.some
 last_some (text ∷ next ∷ texts) h some = rw (last_place (length texts)) (last_some (next ∷ texts) h.1 (omega arith))
-
-and_false : (a : Bool) → (a && false) ≡ false
-and_false true = refl
-and_false false = refl
 
 kept_last : (texts : List (List ℕ)) → AreCells texts → 0 < length texts → ends_empty texts ≡ false
 kept_last texts h some = grind (arith, last_some, ne_eqb, get_or, and_false)
 
 -- the fields of a line of cells are their texts
-pub cells_cleaned : (first : List ℕ) (texts : List (List ℕ)) → IsCell first → AreCells texts → cleaned (pieces (joined (first ∷ texts))) ≡ first ∷ texts
+pub cells_cleaned : (first : List ℕ) (texts : List (List ℕ)) → IsCell first → AreCells texts
+    → cleaned (pieces (joined (first ∷ texts))) ≡ first ∷ texts
 unfolding cleaned joined
 cells_cleaned first texts h cells =
     grind (arith, cut_cells, cell_no_end, cell_unblanked, unblank_cells, kept_last, unquote_cells)
@@ -123,29 +131,48 @@ cells_cleaned first texts h cells =
 others_quiet : (texts : List (List ℕ)) → AreCells texts → list_all is_quiet (others texts) ≡ true
 others_quiet [] h = refl
 others_quiet (text ∷ texts) h =
-    rw (list_all-append is_quiet text (others texts), all_weaker is_plain is_quiet text plain_quiet h.0.plain, others_quiet texts h.1) refl
+    rw (
+      list_all-append is_quiet text
+          (others texts),
+      all_weaker is_plain is_quiet text plain_quiet h.0.plain,
+      others_quiet texts h.1,
+    )
+    refl
 
-pub cells_quiet : (first : List ℕ) (texts : List (List ℕ)) → IsCell first → AreCells texts → list_all is_quiet (joined (first ∷ texts)) ≡ true
+pub cells_quiet : (first : List ℕ) (texts : List (List ℕ)) → IsCell first → AreCells texts
+    → list_all is_quiet (joined (first ∷ texts)) ≡ true
 unfolding joined
-cells_quiet first texts h cells = rw (list_all-append is_quiet first (others texts), all_weaker is_plain is_quiet first plain_quiet h.plain, others_quiet texts cells) refl
+cells_quiet first texts h cells = rw (
+  list_all-append is_quiet first
+      (others texts),
+  all_weaker is_plain is_quiet first plain_quiet h.plain,
+  others_quiet texts
+      cells,
+) refl
 
 -- and is not blank
 begins_plain : (first rest : List ℕ) → IsCell first → list_all is_blank (first ++ rest) ≡ false
 begins_plain [] rest h = let none = h.some in absurd (omega arith)
-begins_plain (byte ∷ first) rest h = rw (plain_is byte (both_passed (is_plain byte) (list_all is_plain first) h.plain).0).0 refl
+begins_plain (byte ∷ first) rest h = rw
+    (plain_is byte (and_parts (is_plain byte) (list_all is_plain first) h.plain).0).0 refl
 
 -- nothing of a quiet line is a comment
 no_comment : (line : List ℕ) → list_all is_quiet line ≡ true → before_comment line ≡ line
 no_comment line h =
     let none : position_or_len (λ byte. eqb byte 35) line ≡ length line =
-    position_or_len_is (λ byte. eqb byte 35) line (length line) 0 (omega arith) (λ k lt. (quiet_is (get_or line k 0) (all_at is_quiet line k 0 h lt)).2) (λ lt. absurd (omega arith)) in
+    position_or_len_is (λ byte. eqb byte 35) line (length line) 0 (omega arith)
+    (λ k lt. (quiet_is (get_or line k 0) (all_at is_quiet line k 0 h lt)).2)
+    (λ lt. absurd (omega arith)) in
     rw none (take_all (length line) line (omega arith))
 
 -- and no carriage return
-last_quiet : (line : List ℕ) → list_all is_quiet line ≡ true → 0 < length line → eqb (get_or line (length line - 1) 0) 13 ≡ false
-last_quiet line h some = (quiet_is (get_or line (length line - 1) 0) (all_at is_quiet line (length line - 1) 0 h (omega arith))).1
+last_quiet : (line : List ℕ) → list_all is_quiet line ≡ true → 0 < length line
+    → eqb (get_or line (length line - 1) 0) 13 ≡ false
+last_quiet line h some = (quiet_is (get_or line (length line - 1) 0)
+    (all_at is_quiet line (length line - 1) 0 h (omega arith))).1
 
-pub quiet_stripped : (line : List ℕ) → list_all is_quiet line ≡ true → 0 < length line → strip_carriage_return line ≡ line
+pub quiet_stripped : (line : List ℕ) → list_all is_quiet line ≡ true → 0 < length line
+    → strip_carriage_return line ≡ line
 quiet_stripped line h some = rw (last_quiet line h some) refl
 
 -- a line of cells has a byte
@@ -165,7 +192,9 @@ cells_row number first texts h cells =
 
 -- a line ends at its line feed
 pub line_cut : (line rest : List ℕ) → All (λ byte. byte ≢ 10) line → parts_of (line ++ 10 ∷ rest) ≡ line ∷ parts_of rest
-line_cut line rest h = slice_split_at (λ byte. eqb byte 10) line 10 rest (λ k d lt. ne_eqb (get_or line k d) 10 (h k d lt)) refl
+line_cut line rest h = slice_split_at (λ byte. eqb byte 10) line 10 rest
+    (λ k d lt. ne_eqb (get_or line k d) 10 (h k d lt)) refl
 
 pub quiet_line : (line : List ℕ) → list_all is_quiet line ≡ true → All (λ byte. byte ≢ 10) line
-quiet_line line h = λ k d lt. eqb-false (get_or line k d) 10 (quiet_is (get_or line k d) (all_at is_quiet line k d h lt)).0
+quiet_line line h = λ k d lt. eqb-false (get_or line k d) 10
+    (quiet_is (get_or line k d) (all_at is_quiet line k d h lt)).0

@@ -4,6 +4,7 @@ use Rattle.tables.specs.declared.column.ColumnKind.{ColumnKind}
 use Rattle.tables.specs.declared.column.ColumnKind.TheVariants as kind
 use Rattle.tables.specs.declared.words.WordTable.{WordTable}
 use Rattle.tables.specs.declared.words.WordTable.TheVariants as table
+use Rattle.plan_num.specs.declared.number.TheConstants.{NUMBER_LIMIT}
 
 -- a whole number from 0 on
 abbrev pub whole : ℕ → ColumnKind
@@ -99,7 +100,7 @@ potential_columns = id ∷ fixed 1000000000000 ∷ fixed 1000000000000 ∷ []
 
 -- the columns of a disposition timetable
 abbrev pub disposed_columns : List ColumnKind
-disposed_columns = id ∷ whole 1000000000000000000 ∷ []
+disposed_columns = id ∷ whole NUMBER_LIMIT ∷ []
 
 -- the columns of the reasons that certify a disposition
 abbrev pub reasons_columns : List ColumnKind

@@ -22,13 +22,15 @@ place_of words field = position (λ word. bytes_eq word field) words
 -- a number that lies in a range, or why there is none
 abbrev pub in_range : ℤ → ℤ → ℕ → Option ℤ → Result ℤ RowWhy
 in_range min max column None = Err (why.NotNumber column)
-in_range min max column (Some number) = if int_le min number && int_le number max then Ok number else Err (why.OutOfRange column)
+in_range min max column (Some number) = if int_le min number
+    && int_le number max then Ok number else Err (why.OutOfRange column)
 
 -- the cell that a field makes in a column, or why it makes none
 unfoldable pub cell_of : ColumnKind → ℕ → List ℕ → Result ℤ RowWhy
 cell_of (kind.Whole min max) column field = in_range min max column (whole_of field)
 cell_of (kind.Fixed min max) column field = in_range min max column (fixed_of field)
-cell_of (kind.Word words) column field = ok_or (option_map pos (place_of (table_words words) field)) (why.UnknownWord column)
+cell_of (kind.Word words) column field = ok_or (option_map pos (place_of (table_words words) field))
+    (why.UnknownWord column)
 cell_of kind.Skip column field = Ok (pos 0)
 
 -- what fields make, column by column, from a column on
@@ -50,7 +52,8 @@ values (Err error ∷ rest) = values rest
 
 -- each reason for which a row is refused, in order: its number of fields, or those of its columns
 unfoldable pub row_whys : List ColumnKind → Row → List RowWhy
-row_whys kinds row = if length row.fields == length kinds then errors (cells_from 1 kinds row.fields) else why.FieldCount (length row.fields) ∷ []
+row_whys kinds row = if length row.fields == length kinds then errors
+    (cells_from 1 kinds row.fields) else why.FieldCount (length row.fields) ∷ []
 
 -- the faults of a row
 abbrev pub row_faults : List ColumnKind → Row → List RowFault
@@ -62,7 +65,8 @@ table_row kinds row = record { number = row.number; cells = values (cells_from 1
 
 -- every fault of a text as a table of these columns, in order
 unfoldable pub faults : List ColumnKind → List ℕ → List RowFault
-faults kinds text = if has_mark text then record { row = 1; why = why.ByteOrderMark } ∷ [] else flat_map (row_faults kinds) (rows text)
+faults kinds text = if has_mark text then record { row = 1; why = why.ByteOrderMark } ∷ [] else
+    flat_map (row_faults kinds) (rows text)
 
 -- the table of a text without a fault
 unfoldable pub table_of : List ColumnKind → List ℕ → List TableRow

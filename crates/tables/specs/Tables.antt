@@ -9,7 +9,8 @@ pub record TableRow : Type 0 where
 -- the rows of so many cells each, from the numbers of the rows and from their cells one after the other
 unfoldable pub rows_of : ℕ → List ℕ → List ℤ → List TableRow
 rows_of width [] cells = []
-rows_of width (number ∷ numbers) cells = record { number = number; cells = take width cells } ∷ rows_of width numbers (drop width cells)
+rows_of width (number ∷ numbers) cells = record { number = number; cells = take width cells } ∷
+    rows_of width numbers (drop width cells)
 
 -- a row that is not there
 abbrev pub no_row : TableRow

@@ -8,6 +8,7 @@ use Rattle.tables.specs.declared.column.ColumnKind.TheVariants as kind
 use Rattle.tables.specs.Names.{table_words}
 use Rattle.tables.specs.Tables.{TableRow, no_row}
 use Rattle.tables.specs.Reading.{faults, table_of}
+use Rattle.plan_num.specs.declared.number.TheConstants.{NUMBER_LIMIT}
 
 -- the text of a cell in a column
 unfoldable pub cell_text : ColumnKind → ℤ → List ℕ
@@ -44,7 +45,7 @@ table_text header kinds rows = header ++ 10 ∷ flat_map (line_text kinds) rows
 
 -- a range of numbers that can be written and read back
 abbrev pub IsSmall : ℤ → ℤ → Type 0
-IsSmall min max = (neg_ℤ (pos 1000000000000000000) ≤ℤ min) × (max ≤ℤ pos 1000000000000000000)
+IsSmall min max = (neg_ℤ (pos NUMBER_LIMIT) ≤ℤ min) × (max ≤ℤ pos NUMBER_LIMIT)
 
 -- a column that can be written
 abbrev pub CanWrite : ColumnKind → Type 0
@@ -73,4 +74,5 @@ IsHeader header = (slice_get header 0 ≡ Some 35) × All (λ byte. byte ≢ 10)
 
 -- read as a table of these columns, a text has no fault, and these cells
 abbrev pub ReadsBack : List ColumnKind → List TableRow → List ℕ → Type 0
-ReadsBack kinds rows text = (faults kinds text ≡ []) × (map (λ row. row.cells) (table_of kinds text) ≡ map (λ row. row.cells) rows)
+ReadsBack kinds rows text = (faults kinds text ≡ [])
+    × (map (λ row. row.cells) (table_of kinds text) ≡ map (λ row. row.cells) rows)

@@ -1,9 +1,9 @@
 -- What csv is given of the lines at the front of a text.
 use Rattle.std.proofs.Common.{◌≡◌, ◌≢◌, ℕ, ◌+◌, ◌-◌, ◌<◌, ◌≤◌, List, [], ◌∷◌, ◌++◌, length, take, drop}
-use Rattle.std.proofs.Common.{get_or, refl, ap, sym, ◌∙◌, Bool, true, false, eqb, All, arith, not}
+use Rattle.std.proofs.Common.{get_or, refl, ap, sym, ◌∙◌, Bool, true, false, eqb, All, arith}
 use Rattle.std.proofs.Common.{append_assoc, append-nil, length-append, length-take, cond, ne_eqb}
 use Rattle.std.proofs.Common.{eqb-true, add-one, drop-cons, get_or-take, length-drop, filter, ltb}
-use Rattle.std.proofs.Common.{◌||◌, ◌&&◌, one-add, suc, zero, min}
+use Rattle.std.proofs.Common.{◌||◌, one-add, suc, zero, min}
 use Rattle.std.specs.List.{onto_first, position_or_len}
 use Rattle.std.proofs.lemmas.Bool.{eqb-false, false≢true, lt-ltb}
 use Rattle.std.proofs.lemmas.List.{get_or-append-add, take-append-drop, take_rest}

@@ -1,14 +1,11 @@
 -- What csv is given of lines, some of which begin with the sign of a comment.
-use Rattle.std.proofs.Common.{◌≡◌, ◌≢◌, ℕ, ◌+◌, ◌<◌, List, [], ◌∷◌, ◌++◌, length, take, refl, ap, sym}
-use Rattle.std.proofs.Common.{◌∙◌, Bool, true, false, eqb, All, arith, filter, not, ◌&&◌, ◌||◌, cond}
-use Rattle.std.proofs.Common.{slice_index, ltb, ne_eqb, add-zero, ◌≤◌, Bor, Option, Some, None}
+use Rattle.std.proofs.Common.{◌≡◌, ℕ, ◌+◌, ◌<◌, List, [], ◌∷◌, length, refl, ap, sym}
+use Rattle.std.proofs.Common.{◌∙◌, Bool, true, false, eqb, arith, filter}
+use Rattle.std.proofs.Common.{ne_eqb, add-zero, ◌≤◌, Bor, Option, Some, None}
 use Rattle.std.specs.Option.{IfSome, option_copied}
-use Rattle.std.specs.List.{list_all}
 use Rattle.std.specs.Option.{option_copied}
-use Rattle.std.specs.Str.Lines.{strip_carriage_return}
-use Rattle.std.proofs.lemmas.Bool.{eqb-true, eqb-false, false≢true}
-use Rattle.std.proofs.lemmas.List.Elements.{All-cons, All-head, All-tail}
-use Rattle.text_fields.specs.Rows.{before_comment, has_byte, is_blank, parts_left}
+use Rattle.std.proofs.lemmas.Bool.{eqb-true, false≢true}
+use Rattle.text_fields.specs.Rows.{before_comment, has_byte}
 use Rattle.text_fields.specs.Told.{PassesComments, begins, given, handed, is_odd, left_size, told_left}
 use Rattle.text_fields.proofs.ToldFacts.{told_sign}
 use Rattle.text_fields.proofs.HandedLines.{handed_none, told_some}

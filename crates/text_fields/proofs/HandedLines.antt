@@ -1,5 +1,5 @@
 -- What csv is given of one line.
-use Rattle.std.proofs.Common.{◌≡◌, ◌≢◌, ℕ, ◌+◌, ◌<◌, ◌≤◌, List, [], ◌∷◌, ◌++◌, length, refl, Bool, true}
+use Rattle.std.proofs.Common.{◌≡◌, ◌≢◌, ℕ, ◌<◌, ◌≤◌, List, [], ◌∷◌, ◌++◌, length, refl, Bool, true}
 use Rattle.std.proofs.Common.{false, eqb, All, arith, zero, suc, ne_eqb, ap, sym}
 use Rattle.std.proofs.Common.{◌∙◌, ◌-◌, ◌&&◌, ◌||◌, get_or, length-append, ltb, not, one-add}
 use Rattle.std.specs.List.{position_or_len}

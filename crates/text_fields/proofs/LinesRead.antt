@@ -1,10 +1,8 @@
 -- Lines that are read one by one.
-use Rattle.std.proofs.Common.{◌≡◌, ℕ, ◌+◌, ◌-◌, ◌<◌, ◌≤◌, List, [], ◌∷◌, ◌++◌, length, take, drop}
-use Rattle.std.proofs.Common.{map, get_or, refl, ap, sym, ◌∙◌, arith, filter, Bool, true, false}
+use Rattle.std.proofs.Common.{◌≡◌, ℕ, ◌+◌, ◌<◌, ◌≤◌, List, [], ◌∷◌, length, drop}
+use Rattle.std.proofs.Common.{get_or, refl, ap, sym, ◌∙◌, arith, filter, Bool, true, false}
 use Rattle.std.proofs.Common.{length-drop, add-one, drop-cons, suc, drop_of_length-le, Bor, Option}
 use Rattle.std.proofs.Common.{Some, None}
-use Rattle.std.proofs.lemmas.List.{length-append}
-use Rattle.std.proofs.Math.Seq.{get_or-append_seam, take-suc}
 use Rattle.std.proofs.lemmas.List.Splits.{length-slice_split}
 use Rattle.std.proofs.lemmas.List.Sums.{count_by-le-length}
 use Rattle.std.proofs.lemmas.Option.{slice_get-get_or, slice_get_past}
@@ -19,6 +17,7 @@ use Rattle.text_fields.specs.Told.{HasPieces, begins, given, given_after, handed
 use Rattle.text_fields.specs.Handed.{Awaits, ReadsLine}
 use Rattle.text_fields.proofs.GivenFacts.{given_first, given_none}
 use Rattle.text_fields.proofs.HandedLines.{handed_signed}
+use Rattle.plan_num.proofs.Lists.{filter_few}
 
 -- csv gives the pieces of the line after so many, and awaits what is given after it
 pub record ReadsNext (lines : List (List ℕ)) (passed : ℕ) (reader : Reader Handed)
@@ -83,10 +82,6 @@ filter_if : {X : Type 0} (test : X → Bool) (x : X) (xs : List X) (t : Bool) �
     → length (filter test xs) ≤ length xs → length (filter test (x ∷ xs)) ≤ length (x ∷ xs)
 filter_if test x xs true e few = rw e (omega arith)
 filter_if test x xs false e few = rw e (omega arith)
-
-filter_few : {X : Type 0} (test : X → Bool) (xs : List X) → length (filter test xs) ≤ length xs
-filter_few test [] = omega arith
-filter_few test (x ∷ xs) = filter_if test x xs (test x) refl (filter_few test xs)
 
 -- a text has no more lines with a byte than bytes, and one
 pub lines_few : (text : List ℕ) → length (filter has_byte (parts_of text)) ≤ length text + 1

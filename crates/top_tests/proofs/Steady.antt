@@ -7,8 +7,8 @@ use Rattle.lintim_cli.specs.Says.{SaysAlways}
 use Rattle.lintim_cli.specs.Top.{Seen}
 
 module _ (before after : Seen) (result : Status) (always : SaysAlways before after result) where
-  pub no_file_fault : before.faults ≡ 0 → after.faults ≡ 0 → result ≢ status.FileFault
-  no_file_fault first last is = by before.faults after.faults first last (always.file_fault is).raised.rose
+  pub no_file_fault : before.files.faults ≡ 0 → after.files.faults ≡ 0 → result ≢ status.FileFault
+  no_file_fault first last is = by before.files.faults after.files.faults first last (always.file_fault is).raised.rose
     where
       by : (b a : ℕ) → b ≡ 0 → a ≡ 0 → Rose b a → ⊥
       by b a first last (inl less) = omega (arith, first, last, less)

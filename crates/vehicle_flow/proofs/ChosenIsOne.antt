@@ -6,13 +6,16 @@ use Rattle.std.proofs.Common.{eqb-true, eq-eqb}
 use Rattle.std.specs.List.{AllByRecursion, range_with_len}
 use Rattle.std.proofs.lemmas.Bool.{false≢true}
 use Rattle.std.proofs.lemmas.Option.{none-some}
-use Rattle.vehicle_model.specs.Plans.{is_apart, all_lists, all_plans, choices_of, chosen_plan, least_cost, plan_cost, IsChosen, IsCheapest}
+use Rattle.vehicle_model.specs.Plans.{is_apart, all_lists, all_plans, choices_of, chosen_plan}
+use Rattle.vehicle_model.specs.Plans.{least_cost, plan_cost, IsChosen, IsCheapest}
 use Rattle.link_plans.specs.Plans.{next, is_next, ComesNoLater, IsPlan}
 use Rattle.vehicle_model.specs.Trips.{TripsParts, links_of}
 use Rattle.link_plans.specs.Links.{Links}
 use Rattle.vehicle_model.proofs.Following.{links_within}
 use Rattle.link_plans.proofs.Linking.{by_number, next_found, never_next}
-use Rattle.vehicle_flow.proofs.FirstOfLists.{IsIn, AreChoices, AreRising, find_filtered, first_of, all_choices, reduced, filtered_all}
+use Rattle.vehicle_flow.proofs.FirstOfLists.{IsIn, AreChoices, AreRising, find_filtered, first_of}
+use Rattle.vehicle_flow.proofs.FirstOfLists.{all_choices, reduced, filtered_all}
+use Rattle.plan_num.proofs.Tests.{both_true, second_true, first_true}
 
 -- ---- the choices of a trip
 
@@ -80,17 +83,6 @@ module _ (p : ℕ → Bool) where
 
 -- ---- no trip follows two
 
-pub both_true : {a b : Bool} → a ≡ true → b ≡ true → (a && b) ≡ true
-both_true {a} {b} e f = ap (λ c. c && b) e ∙ f
-
-pub front_true : (a b : Bool) → (a && b) ≡ true → a ≡ true
-front_true true b e = refl
-front_true false b e = e
-
-pub back_true : (a b : Bool) → (a && b) ≡ true → b ≡ true
-back_true true b e = e
-back_true false b e = absurd (false≢true e)
-
 abbrev IsOnce : List (Option ℕ) → Type 0
 IsOnce plan = (i other j : ℕ) → next plan i ≡ Some j → next plan other ≡ Some j → i ≡ other
 
@@ -117,19 +109,19 @@ once_where (None ∷ plan) apart (suc i) (suc other) j e f =
     ap suc (once_where plan apart i other j e f)
 once_where (Some k ∷ plan) apart zero zero j e f = refl
 once_where (Some k ∷ plan) apart zero (suc other) j e f =
-    absurd (twice k j e (front_true (not (is_next plan k)) _ apart) (next_found plan other j f))
+    absurd (twice k j e (first_true (not (is_next plan k)) _ apart) (next_found plan other j f))
   where
     twice : (k j : ℕ) → Some k ≡ Some j → not (is_next plan k) ≡ true → is_next plan j ≡ true → ⊥
     twice k j same new is = let at : k ≡ j = cc in
         false≢true (sym (ap not (ap (is_next plan) at ∙ is)) ∙ new)
 once_where (Some k ∷ plan) apart (suc i) zero j e f =
-    absurd (twice k j f (front_true (not (is_next plan k)) _ apart) (next_found plan i j e))
+    absurd (twice k j f (first_true (not (is_next plan k)) _ apart) (next_found plan i j e))
   where
     twice : (k j : ℕ) → Some k ≡ Some j → not (is_next plan k) ≡ true → is_next plan j ≡ true → ⊥
     twice k j same new is = let at : k ≡ j = cc in
         false≢true (sym (ap not (ap (is_next plan) at ∙ is)) ∙ new)
 once_where (Some k ∷ plan) apart (suc i) (suc other) j e f =
-    ap suc (once_where plan (back_true (not (is_next plan k)) _ apart) i other j e f)
+    ap suc (once_where plan (second_true (not (is_next plan k)) _ apart) i other j e f)
 
 -- ---- the plans of trips
 
@@ -216,9 +208,9 @@ module _ (trips : TripsParts) where
     cheapest_where : (other : List (Option ℕ)) → AreChoices (lists 0 n) other
         → (is_apart other && costs_least other) ≡ true → IsCheapest trips other
     cheapest_where other are passes =
-        let same = eqb-true (cost other) (cost plan) (back_true (is_apart other) _ passes) in
+        let same = eqb-true (cost other) (cost plan) (second_true (is_apart other) _ passes) in
         record {
-          possible = plan_where other are (front_true (is_apart other) _ passes);
+          possible = plan_where other are (first_true (is_apart other) _ passes);
           least = λ third fits. omega (arith, same, chosen.cheapest.least third fits);
         }
 

@@ -1,11 +1,15 @@
 -- Of all lists of choices that pass a test, the one that comes first is found first.
-use Rattle.std.proofs.Common.{◌≡◌, ℕ, suc, ◌≤◌, ◌⊎◌, inl, inr, Bool, true, false, cond, ◌&&◌, nat_eq, List, [], ◌∷◌, ◌++◌, map, filter, fold, find, min, Option, Some, None, option_map, refl, ap, sym, ◌∙◌, subst, arith, eqb-true}
+use Rattle.std.proofs.Common.{◌≡◌, ℕ, suc, ◌≤◌, ◌⊎◌, inl, inr, Bool, true, false, cond, ◌&&◌}
+use Rattle.std.proofs.Common.{nat_eq, List, [], ◌∷◌, ◌++◌, map, filter, fold, find, min, Option}
+use Rattle.std.proofs.Common.{Some, None, option_map, refl, ap, sym, ◌∙◌, subst, arith, eqb-true}
 use Rattle.std.specs.List.{AllByRecursion, flat_map, reduce}
 use Rattle.std.specs.Option.{option_or}
 use Rattle.std.proofs.lemmas.List.Folds.{find-append}
 use Rattle.std.proofs.lemmas.Option.{none-some}
 use Rattle.vehicle_model.specs.Plans.{all_lists}
 use Rattle.link_plans.specs.Plans.{ComesNoLater, AreNoLater}
+use Rattle.plan_num.proofs.Lists.{append_all}
+use Rattle.std.proofs.lemmas.Bool.{false_from_ne_true}
 
 -- an item is one of some
 abbrev pub IsIn : List (Option ℕ) → Option ℕ → Type 0
@@ -104,10 +108,6 @@ rest_later : (c : Option ℕ) (rest other : List (Option ℕ)) → AreNoLater (c
 rest_later c rest other first i within same =
     first (suc i) (omega (arith, within)) (ap (λ some. c ∷ some) same)
 
-not_true : (b : Bool) → (b ≡ true → ⊥) → b ≡ false
-not_true true never = absurd (never refl)
-not_true false never = refl
-
 -- the first that passes is the one that comes no later than any
 pub first_of : (lists : List (List (Option ℕ))) (P : List (Option ℕ) → Bool) (plan : List (Option ℕ))
     → AreChoices lists plan → P plan ≡ true → AllByRecursion AreRising lists
@@ -122,16 +122,11 @@ first_of (choices ∷ more) P (c ∷ rest) are passes rising first =
     (first_of more (λ some. P (c ∷ some)) rest are.1 passes rising.1
     (λ other among fits. rest_later c rest other (first (c ∷ other) (are.0, among) fits)))
     (λ b within later. none_of more (λ some. P (b ∷ some))
-    (λ other among. not_true (P (b ∷ other))
+    (λ other among. false_from_ne_true (P (b ∷ other))
     (λ is. later (first (b ∷ other) (within, among) is 0 (omega arith) refl))))
     rising.0
 
 -- ---- what holds of all lists
-
-both_all : {X : Type 0} (P : X → Type 0) (xs ys : List X) → AllByRecursion P xs → AllByRecursion P ys
-    → AllByRecursion P (xs ++ ys)
-both_all P [] ys all more = more
-both_all P (x ∷ xs) ys all more = (all.0, both_all P xs ys all.1 more)
 
 pub all_choices : (lists : List (List (Option ℕ)))
     → AllByRecursion (AreChoices lists) (all_lists lists)
@@ -151,7 +146,7 @@ all_choices (choices ∷ more) = each_of (all_choices more) choices (λ b within
         (flat_map (λ choice. map (λ rest. choice ∷ rest) (all_lists more)) some)
     each_of all [] within = tt
     each_of all (b ∷ some) within =
-        both_all (AreChoices (choices ∷ more)) (map (λ rest. b ∷ rest) (all_lists more)) _
+        append_all (AreChoices (choices ∷ more)) (map (λ rest. b ∷ rest) (all_lists more)) _
         (with_one b (within b (inl refl)) (all_lists more) all)
         (each_of all some (λ c at. within c (inr at)))
 

@@ -17,7 +17,8 @@ use Rattle.link_plans.specs.Potentials.{PotentialParts, AreValid}
 use Rattle.flow_potentials.proofs.Checked.{told_valid}
 use Rattle.vehicle_flow.specs.declared.schedule_fault.ScheduleFault.{ScheduleFault}
 use Rattle.vehicle_flow.specs.declared.schedule_fault.ScheduleFault.TheVariants as rule
-use Rattle.vehicle_flow.specs.ScheduleChecks.{plan_rule, potential_rule, certificate_rules, schedule_fault, IsMark, IsMarked, Passes}
+use Rattle.vehicle_flow.specs.ScheduleChecks.{plan_rule, potential_rule, certificate_rules}
+use Rattle.vehicle_flow.specs.ScheduleChecks.{schedule_fault, IsMark, IsMarked, Passes}
 
 -- ---- the schedule
 
@@ -55,7 +56,8 @@ module _ (trips : TripsParts) (schedule : List ℕ) (potentials : Option (List �
   certificate_left none = ap (λ all. slice_get (or_others (filter_map plan_rule all)
       (certificate_rules trips (plan_of trips schedule) potentials)) 0) none
 
-  module _ (plan : List (Option ℕ)) (none : faults_of_plan trips schedule ≡ []) (is : plan ≡ plan_of trips schedule) where
+  module _ (plan : List (Option ℕ)) (none : faults_of_plan trips schedule ≡ [])
+      (is : plan ≡ plan_of trips schedule) where
     pub judged_plan : {E : Type 0} (result : Result (Option ScheduleFault) E)
         → IfOk result (λ found. found ≡ slice_get (certificate_rules trips plan potentials) 0)
         → IfOk result (λ found. found ≡ schedule_fault trips schedule potentials)

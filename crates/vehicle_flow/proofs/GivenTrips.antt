@@ -35,13 +35,16 @@ module _ (bundle : BundleParts) (own : takes_trips bundle.stage ≡ true) (fits 
   three_texts = omega (arith, (takes bundle.stage own).3, fits.inputs)
 
   pub turnover_few : amount bundle.settings key.VsTurnOverTime ≤ 10000
-  turnover_few = (amount_within bundle.stage bundle.settings key.VsTurnOverTime _ _ fits.settings (takes bundle.stage own).0 refl refl).1
+  turnover_few = (amount_within bundle.stage bundle.settings key.VsTurnOverTime _ _ fits.settings
+      (takes bundle.stage own).0 refl refl).1
 
   pub vehicle_few : amount bundle.settings key.VsVehicleCosts ≤ 1000000000000
-  vehicle_few = (amount_within bundle.stage bundle.settings key.VsVehicleCosts _ _ fits.settings (takes bundle.stage own).1 refl refl).1
+  vehicle_few = (amount_within bundle.stage bundle.settings key.VsVehicleCosts _ _ fits.settings
+      (takes bundle.stage own).1 refl refl).1
 
   pub empty_few : amount bundle.settings key.VsEmptyCosts ≤ 1000000000000
-  empty_few = (amount_within bundle.stage bundle.settings key.VsEmptyCosts _ _ fits.settings (takes bundle.stage own).2 refl refl).1
+  empty_few = (amount_within bundle.stage bundle.settings key.VsEmptyCosts _ _ fits.settings
+      (takes bundle.stage own).2 refl refl).1
 
   pub trips_given : (stops edges trips : List ℕ) (turnover vehicle empty : ℕ)
       → stops ≡ input_text bundle 0 → edges ≡ input_text bundle 1 → trips ≡ input_text bundle 2

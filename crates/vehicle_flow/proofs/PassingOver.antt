@@ -1,5 +1,6 @@
 -- What is known of a schedule of which no rule is broken but that of a certificate.
-use Rattle.std.proofs.Common.{◌≡◌, List, [], ◌∷◌, ℕ, map, slice_get, Option, Some, None, Result, Ok, Err, IfOk, IfNone, IfSome, refl, sym, subst}
+use Rattle.std.proofs.Common.{◌≡◌, List, [], ◌∷◌, ℕ, map, slice_get, Option, Some, None, Result, Ok}
+use Rattle.std.proofs.Common.{Err, IfOk, IfNone, IfSome, refl, sym, subst}
 use Rattle.std.specs.Prelude.{⊤}
 use Rattle.std.proofs.lemmas.Option.{none-some}
 use Rattle.tables.specs.declared.read_fault.RowFault.{RowFault}
@@ -58,7 +59,12 @@ module _ (trips : TripsParts) (schedule : List ℕ) where
   plan_over potentials plan none is possible (Err error) first told = tt
   plan_over potentials plan none is possible (Ok found) first told =
       if_none (passed_over found)
-      (λ marked. (none, subst (IsPlan (links_of trips)) is possible, subst (λ some. IfSome potentials (IsMark trips some)) is marked))
+      (λ marked. (
+        none,
+        subst (IsPlan (links_of trips)) is possible,
+        subst
+            (λ some. IfSome potentials (IsMark trips some)) is marked,
+      ))
       (marks_over plan potentials found first told)
 
 -- over a bundle its files are right then

@@ -19,7 +19,9 @@ use Rattle.flow_potentials.specs.PotentialFaults.{potential_faults}
 use Rattle.link_plans.specs.Potentials.{PotentialParts}
 use Rattle.flow_potentials.specs.PotentialTables.{potentials_of, table_faults}
 use Rattle.vehicle_flow.specs.declared.schedule_fault.ScheduleFault.{ScheduleFault}
-use Rattle.vehicle_flow.specs.PinnedSchedules.{marking_potentials, pinned_vehicles_faults, pinned_vehicles_stage, plan_kept, plan_refusal, refused_as, unless_broken}
+use Rattle.vehicle_flow.specs.PinnedSchedules.{marking_potentials, pinned_vehicles_faults}
+use Rattle.vehicle_flow.specs.PinnedSchedules.{pinned_vehicles_stage, plan_kept, plan_refusal}
+use Rattle.vehicle_flow.specs.PinnedSchedules.{refused_as, unless_broken}
 use Rattle.vehicle_flow.specs.ScheduleChecks.{certificate_rules}
 use Rattle.vehicle_flow.specs.VehicleStage.{trips_in, vehicles_faults}
 use Rattle.vehicle_flow.proofs.FirstRules.{judged_potentials, no_potentials}

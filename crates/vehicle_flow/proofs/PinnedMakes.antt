@@ -23,7 +23,8 @@ use Rattle.vehicle_model.specs.declared.plan_fault.PlanFault.TheVariants as plan
 use Rattle.vehicle_model.specs.ReadSchedules.{plan_faults, plan_of}
 use Rattle.vehicle_model.specs.Trips.{TripsParts, trips_faults}
 use Rattle.link_plans.specs.Potentials.{PotentialParts}
-use Rattle.vehicle_flow.specs.PinnedSchedules.{marking_potentials, pinned_vehicles_faults, pinned_vehicles_stage, plan_kept, plan_refusal}
+use Rattle.vehicle_flow.specs.PinnedSchedules.{marking_potentials, pinned_vehicles_faults}
+use Rattle.vehicle_flow.specs.PinnedSchedules.{pinned_vehicles_stage, plan_kept, plan_refusal}
 use Rattle.vehicle_flow.specs.RightSchedules.{PinnedScheduleIsRight}
 use Rattle.vehicle_flow.specs.VehicleStage.{takes_trips, trips_in, vehicles_faults}
 use Rattle.vehicle_flow.proofs.PinnedReads.{pinned_right}

@@ -24,7 +24,8 @@ pub record HaveSameTrips (bundle other : BundleParts) : Type 0 where
 module _ (bundle other : BundleParts) (same : HaveSameTrips bundle other) where
   pub same_trips : trips_in bundle ≡ trips_in other
   unfolding trips_in
-  same_trips = λ i. trips_of (same.stops i) (same.edges i) (same.rows i) (same.turnover i) (same.vehicle i) (same.empty i)
+  same_trips = λ i. trips_of (same.stops i) (same.edges i) (same.rows i) (same.turnover i) (same.vehicle i)
+      (same.empty i)
 
   pub same_faults : vehicles_faults bundle ≡ vehicles_faults other
   same_faults = λ i. trips_faults (same.stops i) (same.edges i) (same.rows i)
@@ -37,7 +38,8 @@ module _ (bundle other : BundleParts) (same : HaveSameTrips bundle other) where
   unfolding right_over
   pinned_over files pinned = record {
     right = right_over files pinned.right;
-    passes = subst (λ trips. passed_over (schedule_fault trips pinned.right.schedule pinned.right.potentials) ≡ None) same_trips pinned.passes;
+    passes = subst (λ trips. passed_over (schedule_fault trips pinned.right.schedule pinned.right.potentials)
+        ≡ None) same_trips pinned.passes;
     accepted = subst (λ (trips : TripsParts). IsAccepted trips.trips pinned.right.schedule) same_trips pinned.accepted;
   }
 

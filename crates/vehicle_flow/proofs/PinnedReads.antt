@@ -1,5 +1,6 @@
 -- What is made of a planner's schedule is right.
-use Rattle.std.proofs.Common.{◌≡◌, ℕ, List, [], ◌∷◌, length, map, slice_get, Option, Some, None, Ok, refl, ap, sym, subst, arith}
+use Rattle.std.proofs.Common.{◌≡◌, ℕ, List, [], ◌∷◌, length, map, slice_get, Option, Some, None, Ok}
+use Rattle.std.proofs.Common.{refl, ap, sym, subst, arith}
 use Rattle.giv_files.specs.declared.made.Made.{Made}
 use Rattle.giv_files.specs.Settings.{BundleParts}
 use Rattle.giv_files.specs.StageCalls.{input_text}
@@ -14,26 +15,26 @@ use Rattle.vehicle_model.proofs.FaultlessPlans.{faultless_is_plan}
 use Rattle.vehicle_model.proofs.PlanBack.{plan_text_back}
 use Rattle.flow_potentials.specs.PotentialFaults.{potential_faults}
 use Rattle.link_plans.specs.Potentials.{ArePotentials, AreOver, PotentialParts, AreValid}
-use Rattle.flow_potentials.specs.PotentialTables.{potentials_of, potentials_text, table_faults, IsReadBack as IsPotentialBack}
+use Rattle.flow_potentials.specs.PotentialTables.{potentials_of, potentials_text, table_faults}
+use Rattle.flow_potentials.specs.PotentialTables.{IsReadBack as IsPotentialBack}
 use Rattle.flow_potentials.proofs.Checked.{told_cheapest, told_valid}
 use Rattle.flow_potentials.proofs.FaultlessTables.{faultless_potentials}
 use Rattle.flow_potentials.proofs.TablesBack.{text_back}
 use Rattle.vehicle_flow.specs.declared.schedule_fault.ScheduleFault.{ScheduleFault}
 use Rattle.vehicle_flow.specs.declared.schedule_fault.ScheduleFault.TheVariants as rule
-use Rattle.vehicle_flow.specs.PinnedSchedules.{marking_potentials, pinned_vehicles_faults, pinned_vehicles_stage, plan_kept, plan_refusal, unless_broken}
+use Rattle.vehicle_flow.specs.PinnedSchedules.{marking_potentials, pinned_vehicles_faults}
+use Rattle.vehicle_flow.specs.PinnedSchedules.{pinned_vehicles_stage, plan_kept, plan_refusal}
+use Rattle.vehicle_flow.specs.PinnedSchedules.{unless_broken}
 use Rattle.vehicle_flow.specs.RightSchedules.{passed_over, PinnedScheduleIsRight}
 use Rattle.vehicle_flow.specs.ScheduleChecks.{certificate_rules, potential_rule, IsMark}
 use Rattle.vehicle_flow.specs.VehicleStage.{trips_in, vehicles_faults}
 use Rattle.vehicle_flow.proofs.FirstRules.{certificate_left, passes_none}
 use Rattle.vehicle_flow.proofs.ScheduleAccepted.{plan_accepted}
+use Rattle.plan_num.proofs.Lists.{unmapped}
 
 or_none : {X : Type 0} (some others : List X) → or_others some others ≡ [] → (some ≡ []) × (others ≡ [])
 or_none [] others e = (refl, e)
 or_none (x ∷ some) others e = absurd (cc)
-
-none_mapped : {X Y : Type 0} (f : X → Y) (all : List X) → map f all ≡ [] → all ≡ []
-none_mapped f [] e = refl
-none_mapped f (x ∷ all) e = absurd (cc)
 
 module _ (bundle : BundleParts) (none : pinned_vehicles_faults bundle ≡ []) (are : AreTrips (trips_in bundle)) where
   abbrev trips : TripsParts
@@ -46,7 +47,7 @@ module _ (bundle : BundleParts) (none : pinned_vehicles_faults bundle ≡ []) (a
   schedule = plan_text trips plan
 
   given : plan_faults trips (input_text bundle 3) ≡ []
-  given = none_mapped plan_refusal _ (back_none (vehicles_faults bundle) _ none)
+  given = unmapped plan_refusal _ (back_none (vehicles_faults bundle) _ none)
 
   possible : IsPlan (links_of trips) plan
   possible = faultless_is_plan trips (input_text bundle 3) given
@@ -64,10 +65,10 @@ module _ (bundle : BundleParts) (none : pinned_vehicles_faults bundle ≡ []) (a
     rules = or_none _ _ kept
 
     sound : AreOver (length trips.trips) given_ones × ArePotentials given_ones
-    sound = faultless_potentials (length trips.trips) text (none_mapped (λ _. rule.Potentials) _ rules.0)
+    sound = faultless_potentials (length trips.trips) text (unmapped (λ _. rule.Potentials) _ rules.0)
 
     free : None ≡ slice_get (potential_faults (links_of trips) plan given_ones) 0
-    free = ap (λ all. slice_get all 0) (sym (none_mapped potential_rule _ rules.1))
+    free = ap (λ all. slice_get all 0) (sym (unmapped potential_rule _ rules.1))
 
     again : IsPotentialBack given_ones (potentials_text given_ones)
     again = text_back given_ones sound.1 (omega (arith, sound.0.each_u, are.rows.few))
@@ -75,10 +76,12 @@ module _ (bundle : BundleParts) (none : pinned_vehicles_faults bundle ≡ []) (a
     marks : IsMark trips (plan_of trips schedule) (potentials_text given_ones)
     marks = record {
       reads = subst (λ n. table_faults n (potentials_text given_ones) ≡ []) sound.0.each_u again.faultless;
-      valid = subst (λ some. AreValid (links_of trips) some (potentials_of (potentials_text given_ones))) (sym back.same)
+      valid = subst (λ some. AreValid (links_of trips) some (potentials_of (potentials_text given_ones)))
+          (sym back.same)
           (subst (AreValid (links_of trips) plan) (sym again.same)
           ((told_valid trips plan given_ones sound.0 None free).0 refl));
-      cheapest = subst (IsCheapest trips) (sym back.same) (told_cheapest trips plan given_ones sound.0 None free possible refl);
+      cheapest = subst (IsCheapest trips) (sym back.same)
+          (told_cheapest trips plan given_ones sound.0 None free possible refl);
     }
 
   abbrev Right : Option PotentialParts → Type 0
@@ -128,7 +131,8 @@ module _ (bundle : BundleParts) (none : pinned_vehicles_faults bundle ≡ []) (a
       by (first ∷ more) is = alone
 
 -- the law of the stage
-pub pinned_right : (bundle : BundleParts) (made : Made) → AreTrips (trips_in bundle) → pinned_vehicles_stage bundle ≡ Ok made
+pub pinned_right : (bundle : BundleParts) (made : Made) → AreTrips (trips_in bundle)
+    → pinned_vehicles_stage bundle ≡ Ok made
     → PinnedScheduleIsRight bundle made.files
 unfolding pinned_vehicles_stage
 pinned_right bundle made are is =

@@ -11,7 +11,8 @@ use Rattle.event_tables.specs.ExpandedFiles.{expanded_event_ids}
 use Rattle.event_tables.specs.Headers.{schedule_header}
 use Rattle.event_tables.specs.Places.{is_none_of}
 use Rattle.tables.specs.RowsOfTables.{rows_by}
-use Rattle.event_tables.specs.Schedules.{ends_early, goes_back, is_empty_row, is_trip_row, lacks_room, schedule_input, schedule_rules}
+use Rattle.event_tables.specs.Schedules.{ends_early, goes_back, is_empty_row, is_trip_row}
+use Rattle.event_tables.specs.Schedules.{lacks_room, schedule_input, schedule_rules}
 use Rattle.tables.proofs.WrittenColumns.{columns_written}
 use Rattle.event_tables.proofs.CellsBack.{schedule_row_same}
 use Rattle.event_tables.proofs.WrittenRecords.{rows_inside}
@@ -24,7 +25,8 @@ use Rattle.tables.proofs.Accepted.{KeepRules, accepted}
 use Rattle.tables.proofs.Headers.{plain_header}
 use Rattle.tables.proofs.WrittenBack.{written_back}
 use Rattle.link_plans.specs.Plans.{next, IsPlan}
-use Rattle.vehicle_model.specs.Schedules.{dead_between, empty_row, no_trip, plan_rows, plan_text, rows_behind, rows_from, tours, trip_of, trip_row}
+use Rattle.vehicle_model.specs.Schedules.{dead_between, empty_row, no_trip, plan_rows, plan_text}
+use Rattle.vehicle_model.specs.Schedules.{rows_behind, rows_from, tours, trip_of, trip_row}
 use Rattle.vehicle_model.specs.Trips.{TripsParts, AreTrips, links_of}
 use Rattle.link_plans.proofs.Counting.{count, count_most, one_less}
 use Rattle.vehicle_model.proofs.Following.{gain_there, is_link}

@@ -7,11 +7,13 @@ use Rattle.vehicle_model.proofs.TripLinks.{trips_links}
 use Rattle.flow_potentials.proofs.CheapestPlans.{certified_cheapest}
 use Rattle.canonical_potentials.proofs.Rounds.{canonical_is, canonical_small, canonical_valid}
 use Rattle.vehicle_flow.specs.SettledPlans.{IsSettled}
-use Rattle.vehicle_flow.proofs.ChosenIsOne.{all_rising, apart_where, back_true, both_true, chosen_is, front_true, lists, plan_where, where_plan}
+use Rattle.vehicle_flow.proofs.ChosenIsOne.{all_rising, apart_where}
+use Rattle.vehicle_flow.proofs.ChosenIsOne.{chosen_is, lists, plan_where, where_plan}
 use Rattle.link_plans.proofs.ChosenThere.{HasValid, valid_there}
 use Rattle.vehicle_flow.proofs.FirstFound.{found_holds, found_no_later, none_passes}
 use Rattle.vehicle_flow.proofs.FirstOfLists.{AreChoices, all_choices}
 use Rattle.vehicle_flow.proofs.SameGains.{valid_for}
+use Rattle.plan_num.proofs.Tests.{both_true, first_true, second_true}
 
 module _ (trips : TripsParts) (are : AreTrips trips) where
   abbrev n : ℕ
@@ -39,10 +41,10 @@ module _ (trips : TripsParts) (are : AreTrips trips) where
         lists,
         all_choices,
         eqb-true,
-        back_true,
+        second_true,
         cheapest,
         plan_where,
-        front_true,
+        first_true,
         found_no_later,
         all_rising,
         where_plan,
@@ -68,7 +70,10 @@ module _ (trips : TripsParts) (are : AreTrips trips) where
       record {
         are = are;
         chosen = chosen_there;
-        valid = canonical_valid (links_of trips) (trips_links trips are) (chosen_plan trips) certified.potentials possible valid;
-        least = canonical_is (links_of trips) (trips_links trips are) (chosen_plan trips) certified.potentials possible valid;
-        small = canonical_small (links_of trips) (trips_links trips are) (chosen_plan trips) certified.potentials possible valid;
+        valid = canonical_valid (links_of trips) (trips_links trips are)
+            (chosen_plan trips) certified.potentials possible valid;
+        least = canonical_is (links_of trips) (trips_links trips are) (chosen_plan trips) certified.potentials
+            possible valid;
+        small = canonical_small (links_of trips) (trips_links trips are)
+            (chosen_plan trips) certified.potentials possible valid;
       }

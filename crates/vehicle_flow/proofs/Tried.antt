@@ -14,15 +14,17 @@ use Rattle.giv_files.specs.Settings.{BundleParts}
 use Rattle.tables.specs.Writing.{cell_text, cell_texts, joined, table_text}
 use Rattle.plan_num.specs.Number.{spelling_of, value_of, value_at, fixed_of, whole_of}
 use Rattle.plan_num.specs.Print.{digits_at}
-use Rattle.ptn_network.specs.Networks.{by_id, stops_of, network_of, network_faults}
-use Rattle.ptn_network.specs.Walks.{walks_within, least_of, least_sum}
+use Rattle.ptn_network.specs.Networks.{stops_of, network_of, network_faults}
+use Rattle.walks.specs.RisingIds.{by_id}
+use Rattle.walks.specs.Walks.{walks_within, least_of, least_sum}
 use Rattle.vehicle_model.specs.Trips.{trips_of, trips_faults}
 use Rattle.vehicle_model.specs.Plans.{all_lists, is_apart, chosen_plan}
 use Rattle.vehicle_model.specs.Schedules.{tour, rows_behind, rows_from, plan_text}
 use Rattle.vehicle_model.specs.ReadSchedules.{form_faults, links_in, plan_faults, plan_of}
 use Rattle.event_tables.specs.Headers.{schedule_header}
 use Rattle.flow_potentials.specs.PotentialFaults.{potential_faults}
-use Rattle.flow_potentials.specs.PotentialTables.{gaps_from, potentials_text, potentials_of, potential_header, table_faults}
+use Rattle.flow_potentials.specs.PotentialTables.{gaps_from, potentials_text, potentials_of}
+use Rattle.flow_potentials.specs.PotentialTables.{potential_header, table_faults}
 use Rattle.canonical_potentials.specs.Rounds.{canonical, settled}
 use Rattle.vehicle_flow.specs.declared.schedule_fault.ScheduleFault.{ScheduleFault}
 use Rattle.vehicle_flow.specs.declared.schedule_fault.ScheduleFault.TheVariants as rule

@@ -48,7 +48,8 @@ module _ (bundle : BundleParts) (own : bundle.stage ≡ stage.Vehicles) (fits : 
   pub vehicles_are_right : (made : Made) → vehicles_stage bundle ≡ Ok made
       → VehicleFilesAreRight bundle made.files
   vehicles_are_right made is =
-      vehicles_right bundle made (settled_there (trips_in bundle) (are_trips bundle (ap takes_trips own) fits (none_there made is))) is
+      vehicles_right bundle made
+      (settled_there (trips_in bundle) (are_trips bundle (ap takes_trips own) fits (none_there made is))) is
 
   -- what a call gives that meets the stage
   pub right_given : (result : Result Made StageFault) → StageGives (vehicles_stage bundle) result

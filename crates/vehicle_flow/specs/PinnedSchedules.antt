@@ -77,4 +77,5 @@ unfoldable pub pinned_vehicles_stage : BundleParts → Result Made Refusal
 pinned_vehicles_stage bundle =
     let trips = trips_in bundle in
     let plan = plan_of trips (input_text bundle 3) in
-    unless_fault (pinned_vehicles_faults bundle) (plan_kept trips plan (marking_potentials trips plan (input_text bundle 4)))
+    unless_fault (pinned_vehicles_faults bundle)
+    (plan_kept trips plan (marking_potentials trips plan (input_text bundle 4)))

@@ -1,7 +1,8 @@
 // What a schedule breaks over some trips.
 ghost use Rattle.std.specs.Prelude.{◌≡◌, Some, slice_get, IfOk, IfNone, option_copied};
 ghost use Rattle.vehicle_flow.specs.RightSchedules.{passed_over, PassesOver};
-ghost use Rattle.vehicle_flow.specs.ScheduleChecks.{certificate_rules, schedule_fault, IsMark, IsMarked, Passes};
+ghost use Rattle.vehicle_flow.specs.ScheduleChecks.{certificate_rules, schedule_fault, IsMark};
+ghost use Rattle.vehicle_flow.specs.ScheduleChecks.{IsMarked, Passes};
 ghost use Rattle.link_plans.specs.Plans.{IsPlan};
 ghost use Rattle.vehicle_model.specs.Trips.{links_of};
 

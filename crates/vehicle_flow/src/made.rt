@@ -1,7 +1,7 @@
 // What the stage makes of its trips.
-ghost use Rattle.std.specs.Prelude.{◌≡◌, IfOk};
+ghost use Rattle.std.specs.Prelude.{◌≡◌, length, IfOk};
 ghost use Rattle.flow_potentials.specs.PotentialTables.{potentials_text};
-ghost use Rattle.link_plans.specs.Potentials.{AreValid};
+ghost use Rattle.link_plans.specs.Potentials.{AreOver, AreValid};
 ghost use Rattle.canonical_potentials.specs.Rounds.{canonical};
 ghost use Rattle.vehicle_flow.specs.VehicleStage.{vehicles_made};
 ghost use Rattle.vehicle_model.specs.Plans.{chosen_plan};
@@ -10,7 +10,7 @@ ghost use Rattle.vehicle_model.specs.Trips.{links_of};
 
 use crate::cheapest::cheapest_of;
 use crate::report::vehicles_line;
-use assignment::{Solved, canonical_potentials, first_best_plan};
+use assignment::{Potentials, Solved, canonical_potentials, first_best_plan};
 use flow_potentials::{links_of_trips, write_potentials};
 use giv_files::{Made, MadeFile, MadeList};
 use plan_num::{NoMemory, Text};
@@ -31,7 +31,7 @@ pub(crate) fn vehicles_made(alloc: Global, trips: &Trips) -> Result<Made, NoMemo
     })?;
     files.push(MadeFile {
         file: FileId::Potential,
-        text: potentials_text(alloc, trips, &chosen)?,
+        text: potentials_text(alloc, trips, &chosen.potentials)?,
     })?;
     Ok(Made {
         files,
@@ -48,7 +48,6 @@ fn chosen_solution(alloc: Global, trips: &Trips) -> Result<Solved, NoMemory>
     ensures potentials { IfOk result (λ chosen.
         chosen.potentials ≡ canonical (links_of trips.now) chosen.plan) }
 {
-    let _ = trips.len();
     let links = links_of_trips(alloc, trips)?;
     let solved = cheapest_of(alloc, trips, &links)?;
     let plan = first_best_plan(alloc, &links, &solved)?;
@@ -56,12 +55,15 @@ fn chosen_solution(alloc: Global, trips: &Trips) -> Result<Solved, NoMemory>
     Ok(Solved { plan, potentials })
 }
 
-// The text of the potentials of a plan.
-fn potentials_text(alloc: Global, trips: &Trips, solved: &Solved) -> Result<Text, NoMemory>
-    requires { AreValid (links_of trips.now) solved.now.plan solved.now.potentials }
-    ensures { IfOk result (λ text. text ≡ potentials_text solved.now.potentials) }
+/// The text of potentials of all trips, which are few.
+pub(crate) fn potentials_text(
+    alloc: Global,
+    trips: &Trips,
+    potentials: &Potentials,
+) -> Result<Text, NoMemory>
+    requires { AreOver (length trips.now.trips) potentials.now }
+    ensures { IfOk result (λ text. text ≡ potentials_text potentials.now) }
 {
-    // A count tells that there are few trips.
-    let _ = trips.len();
-    write_potentials(alloc, &solved.potentials)
+    trips.are_trips();
+    write_potentials(alloc, potentials)
 }

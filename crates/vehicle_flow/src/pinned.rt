@@ -14,8 +14,9 @@ ghost use Rattle.vehicle_model.specs.ReadSchedules.{plan_faults, plan_of};
 ghost use Rattle.vehicle_model.specs.Trips.{links_of};
 
 use crate::given::given_trips;
+use crate::made::potentials_text;
 use crate::report::pinned_line;
-use flow_potentials::{Potentials, check_potentials, read_potentials, write_potentials};
+use flow_potentials::{Potentials, check_potentials, read_potentials};
 use giv_files::{Bundle, Made, MadeFile, MadeList};
 use plan_num::{Ledger, NoMemory, Steps};
 use std::alloc::Global;
@@ -140,12 +141,10 @@ fn push_potentials(
     requires { IfSome potentials.now (AreOver (length trips.now.trips)) }
     ensures { OnOk result (files.new ≡ files.old ++ potential_files potentials.now) }
 {
-    // A count tells that there are few trips.
-    let _ = trips.len();
     if let Some(potentials) = potentials {
         files.push(MadeFile {
             file: FileId::Potential,
-            text: write_potentials(alloc, potentials)?,
+            text: potentials_text(alloc, trips, potentials)?,
         })?;
     }
     Ok(())

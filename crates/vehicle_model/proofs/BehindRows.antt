@@ -16,15 +16,20 @@ use Rattle.tables.specs.Tables.{TableRow, no_row, row_number}
 use Rattle.vehicle_model.specs.declared.plan_fault.PlanFault.{PlanFault}
 use Rattle.vehicle_model.specs.declared.plan_fault.PlanFault.TheVariants as fault
 use Rattle.link_plans.specs.Plans.{next, IsPlan}
-use Rattle.vehicle_model.specs.ReadSchedules.{nothing_read, one_more, trip_in, begins, row_fits, has_form, first_row, all_come, form_faults, link_of, link_to, links_in, is_late, follow_faults, or_others, row_faults, plan_by, PlanGives}
-use Rattle.vehicle_model.specs.Readers.{ReaderParts, has_come, after_link, after_trip, after_row, CanLink, Knows, IsBehind, unless_late, finished}
+use Rattle.vehicle_model.specs.ReadSchedules.{nothing_read, one_more, trip_in, begins, row_fits}
+use Rattle.vehicle_model.specs.ReadSchedules.{has_form, first_row, all_come, form_faults, link_of}
+use Rattle.vehicle_model.specs.ReadSchedules.{link_to, links_in, is_late, follow_faults, or_others}
+use Rattle.vehicle_model.specs.ReadSchedules.{row_faults, plan_by, PlanGives}
+use Rattle.vehicle_model.specs.Readers.{ReaderParts, has_come, after_link, after_trip, after_row}
+use Rattle.vehicle_model.specs.Readers.{CanLink, Knows, IsBehind, unless_late, finished}
 use Rattle.vehicle_model.specs.Trips.{TripsParts, links_of}
 use Rattle.vehicle_model.proofs.Following.{gain_there}
 use Rattle.vehicle_model.proofs.Reading.{links_can, knows_more}
 
 -- ---- rows of a text
 
-module _ (trips : TripsParts) (rows : List (Numbered ScheduleRow)) (i : ℕ) (reader : ReaderParts) (behind : IsBehind trips rows i reader) where
+module _ (trips : TripsParts) (rows : List (Numbered ScheduleRow)) (i : ℕ) (reader : ReaderParts)
+    (behind : IsBehind trips rows i reader) where
   -- the test of a row, by what was read
   form_is : (row : ScheduleRow) (after : Option ScheduleRow)
       → row_fits trips reader.before reader.last (has_come reader) row after
@@ -53,7 +58,8 @@ module _ (trips : TripsParts) (rows : List (Numbered ScheduleRow)) (i : ℕ) (re
       form = sym (form_is at.row (first_row rest)) ∙ fits
 
       -- one that has it can be read
-      pub can_take : IfSome (link_of (begins reader.before at.row) reader.last (trip_in trips at.row)) (CanLink reader.plan)
+      pub can_take : IfSome (link_of (begins reader.before at.row) reader.last (trip_in trips at.row))
+          (CanLink reader.plan)
       can_take = links_can trips behind.read behind.links reader behind.knows at.row (first_row rest) form
 
       links_here : links_in trips nothing_read (map (λ one. one.row) rows)
@@ -101,8 +107,10 @@ module _ (trips : TripsParts) (rows : List (Numbered ScheduleRow)) (i : ℕ) (re
 
     faults_all : row_faults trips rows
         ≡ or_others (cond (all_come trips (has_come reader)) [] (fault.Trips 0 ∷ [])) (follow_faults trips behind.links)
-    faults_all = ap (λ all. or_others all (follow_faults trips (links_in trips nothing_read (map (λ one. one.row) rows)))) forms_all
-        ∙ ap (λ links. or_others (cond (all_come trips (has_come reader)) [] (fault.Trips 0 ∷ [])) (follow_faults trips links)) links_all
+    faults_all = ap (λ all. or_others all
+        (follow_faults trips (links_in trips nothing_read (map (λ one. one.row) rows)))) forms_all
+        ∙ ap (λ links. or_others (cond (all_come trips (has_come reader)) [] (fault.Trips 0 ∷ []))
+        (follow_faults trips links)) links_all
 
     abbrev plan : List (Option ℕ)
     plan = plan_by (length trips.trips) (links_in trips nothing_read (map (λ one. one.row) rows))
@@ -155,7 +163,12 @@ pub without_numbers : (table : List TableRow)
     ≡ records_by schedule_row table
 without_numbers table = map-map (λ (at : Numbered ScheduleRow). at.row) row_of table
 
-module _ (trips : TripsParts) (table : List TableRow) (i : ℕ) (reader : ReaderParts) (behind : IsBehind trips (numbered_by schedule_row table) i reader) (within : i < length table) (row : ScheduleRow) (after : Option ScheduleRow) (row_is : row ≡ schedule_row (get_or table i no_row).cells) (after_is : after ≡ option_map (λ (row : TableRow). schedule_row row.cells) (slice_get table (i + 1))) where
+module _ (trips : TripsParts) (table : List TableRow) (i : ℕ) (reader : ReaderParts)
+    (behind : IsBehind trips (numbered_by schedule_row table) i reader) (within : i < length table)
+    (row : ScheduleRow) (after : Option ScheduleRow)
+    (row_is : row ≡ schedule_row (get_or table i no_row).cells)
+    (after_is : after ≡ option_map (λ (row : TableRow). schedule_row row.cells)
+    (slice_get table (i + 1))) where
   abbrev rows : List (Numbered ScheduleRow)
   rows = numbered_by schedule_row table
 
@@ -171,7 +184,8 @@ module _ (trips : TripsParts) (table : List TableRow) (i : ℕ) (reader : Reader
   fits_here : (b : Bool) → row_fits trips reader.before reader.last (has_come reader) row after ≡ b
       → row_fits trips reader.before reader.last (has_come reader) at.row (first_row (drop (i + 1) rows)) ≡ b
   fits_here b fits =
-      ap (λ some. row_fits trips reader.before reader.last (has_come reader) some (first_row (drop (i + 1) rows))) (sym row_is)
+      ap (λ some. row_fits trips reader.before reader.last (has_come reader) some
+      (first_row (drop (i + 1) rows))) (sym row_is)
       ∙ ap (row_fits trips reader.before reader.last (has_come reader) row) (first_after table (i + 1) ∙ sym after_is)
       ∙ fits
 
@@ -184,7 +198,8 @@ module _ (trips : TripsParts) (table : List TableRow) (i : ℕ) (reader : Reader
 
   module _ (fits : row_fits trips reader.before reader.last (has_come reader) row after ≡ true) where
     pub table_can : IfSome (link_of (begins reader.before row) reader.last (trip_in trips row)) (CanLink reader.plan)
-    table_can = subst (λ some. IfSome (link_of (begins reader.before some) reader.last (trip_in trips some)) (CanLink reader.plan))
+    table_can = subst (λ some. IfSome (link_of (begins reader.before some) reader.last (trip_in trips some))
+        (CanLink reader.plan))
         (sym row_is)
         (can_take trips rows i reader behind at (drop (i + 1) rows) rest_is (fits_here true fits))
 
@@ -202,7 +217,8 @@ behind_none trips all reader knows =
     record { read = nothing_read; links = []; knows = knows; forms = refl; linked = refl }
 
 -- behind all rows of a table
-module _ (trips : TripsParts) (table : List TableRow) (i : ℕ) (reader : ReaderParts) (behind : IsBehind trips (numbered_by schedule_row table) i reader) (past : length table ≤ i) where
+module _ (trips : TripsParts) (table : List TableRow) (i : ℕ) (reader : ReaderParts)
+    (behind : IsBehind trips (numbered_by schedule_row table) i reader) (past : length table ≤ i) where
   pub table_ends : (read : Result (List (Option ℕ)) PlanFault) → read ≡ finished trips reader
       → PlanGives (row_faults trips (numbered_by schedule_row table))
       (plan_by (length trips.trips) (links_in trips nothing_read (records_by schedule_row table))) read

@@ -11,7 +11,8 @@ use Rattle.link_plans.proofs.Counting.{count, but_one, all_count, one_less}
 use Rattle.vehicle_model.proofs.Following.{links_within, gain_there}
 use Rattle.link_plans.proofs.Linking.{some_of}
 use Rattle.link_plans.proofs.Linking.{never_next}
-use Rattle.link_plans.proofs.Totals.{links_from, gains_from, minutes_from, gains_more, minutes_more, alone_count, alone_minutes, linked_count, linked_minutes}
+use Rattle.link_plans.proofs.Totals.{links_from, gains_from, minutes_from, gains_more, minutes_more}
+use Rattle.link_plans.proofs.Totals.{alone_count, alone_minutes, linked_count, linked_minutes}
 
 -- ---- vehicles and links are as many as trips
 
@@ -123,7 +124,8 @@ pub record AreSumsBefore (trips : TripsParts) (plan : List (Option ℕ)) (i link
   pub few : links ≤ i
   pub small : minutes ≤ i * 10000000000000
 
-module _ (trips : TripsParts) (plan : List (Option ℕ)) (i links minutes : ℕ) (sums : AreSumsBefore trips plan i links minutes) where
+module _ (trips : TripsParts) (plan : List (Option ℕ)) (i links minutes : ℕ)
+    (sums : AreSumsBefore trips plan i links minutes) where
   module _ (within : i < length plan) where
     pub over_link : (j value : ℕ) → next plan i ≡ Some j → link_minutes trips i j ≡ Some value
         → value ≤ 10000000000000 → AreSumsBefore trips plan (i + 1) (links + 1) (minutes + value)

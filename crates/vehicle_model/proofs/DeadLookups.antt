@@ -8,11 +8,12 @@ use Rattle.std.proofs.lemmas.List.Elements.{All-push}
 use Rattle.std.proofs.lemmas.List.FromFn.{get_or-range_with_len, length-range_with_len}
 use Rattle.std.proofs.lemmas.Option.{slice_get-map, slice_get-get_or, get_or_from_slice_get, same_Some}
 use Rattle.event_tables.specs.declared.trip.Trip.{Trip}
-use Rattle.ptn_network.specs.Networks.{NetworkParts}
-use Rattle.ptn_network.specs.Walks.{edge_time, least_sum, IsLeastSum}
+use Rattle.walks.specs.Networks.{NetworkParts}
+use Rattle.walks.specs.Walks.{edge_time, least_sum, IsLeastSum}
 use Rattle.vehicle_model.specs.DeadTables.{DeadTable, AreTimesFrom, HasTimesFrom, IsDeadTable, AreDeadMinutes}
 use Rattle.vehicle_model.specs.Schedules.{no_trip}
 use Rattle.vehicle_model.specs.Trips.{start_stop, end_stop}
+use Rattle.plan_num.proofs.Lists.{back_again}
 
 -- the stop of one trip more
 pub stops_more : {X : Type 0} (f : X → ℕ) (xs : List X) (i : ℕ) (d : X) (stops : List ℕ) (stop : ℕ)
@@ -31,10 +32,6 @@ within_more n stops stop new before here added =
 
 -- ---- looking up
 
-least_back : (least : Option ℕ) → option_map unsigned_abs (option_map pos least) ≡ least
-least_back None = refl
-least_back (Some sum) = refl
-
 pub time_at : (network : NetworkParts) (from to : ℕ) (times : List (Option ℤ)) (at : Option ℤ)
     → AreTimesFrom network from times → to < length network.stops → slice_get times to ≡ Some at
     → (option_map unsigned_abs at ≡ least_sum network edge_time from to)
@@ -47,13 +44,14 @@ time_at network from to times at are within here =
     ∙ ap Some (get_or-range_with_len 0 (length network.stops) to 0 within ∙ omega arith) in
     let is : Some at ≡ Some (told to) =
     sym here ∙ ap (λ some. slice_get some to) are.sums ∙ slice_get-map told stops to ∙ ap (option_map told) place in (
-      ap (option_map unsigned_abs) (same_Some at (told to) is) ∙ least_back (least_sum network edge_time from to),
+      ap (option_map unsigned_abs) (same_Some at (told to) is) ∙ back_again (least_sum network edge_time from to),
       subst (λ some. IsLeastSum network.edges edge_time from to (option_map unsigned_abs some))
           (get_or_from_slice_get times to at None here) (are.least to within),
     )
 
 -- what is found in a table for two trips
-pub record IsFound (network : NetworkParts) (trips : List Trip) (i j from to : ℕ) (times : List (Option ℤ)) : Type 0 where
+pub record IsFound (network : NetworkParts) (trips : List Trip) (i j from to : ℕ) (times : List (Option ℤ)) :
+    Type 0 where
   pub from_is : from ≡ end_stop network (get_or trips i no_trip)
   pub to_is : to ≡ start_stop network (get_or trips j no_trip)
   pub within : to < length network.stops
@@ -78,7 +76,12 @@ found network trips table i j is in_ends in_starts from to from_is to_is at at_i
 }
   where
     inside : from < length table.times
-    inside = omega (arith, is.size, subst (λ stop. stop < length network.stops) (sym from_is) (is.ends_within i from in_ends))
+    inside = omega (
+      arith,
+      is.size,
+      subst (λ stop. stop < length network.stops) (sym from_is)
+          (is.ends_within i from in_ends),
+    )
 
     same : get_or table.times from None ≡ at
     same = get_or_default table.times from None at inside ∙ sym at_is
@@ -93,7 +96,8 @@ told network trips i j from to times at minutes is here told_as =
     record {
       value = told_as ∙ found_at.0 ∙ ap (λ stop. least_sum network edge_time stop to) is.from_is
           ∙ ap (least_sum network edge_time (end_stop network (get_or trips i no_trip))) is.to_is;
-      least = subst (λ stop. IsLeastSum network.edges edge_time (end_stop network (get_or trips i no_trip)) stop minutes) is.to_is
+      least = subst (λ stop. IsLeastSum network.edges edge_time (end_stop network (get_or trips i no_trip))
+          stop minutes) is.to_is
           (subst (λ stop. IsLeastSum network.edges edge_time stop to minutes) is.from_is
           (subst (IsLeastSum network.edges edge_time from to) (sym told_as) found_at.1));
     }

@@ -15,7 +15,10 @@ use Rattle.tables.specs.RowsOfTables.{records_by, numbered_by}
 use Rattle.vehicle_model.specs.declared.plan_fault.PlanFault.{PlanFault}
 use Rattle.vehicle_model.specs.declared.plan_fault.PlanFault.TheVariants as fault
 use Rattle.vehicle_model.specs.DrivenSchedules.{IsScheduleOf, Drives, IsLateIn, IsPlanOf, ReadsWhatIsDriven}
-use Rattle.vehicle_model.specs.ReadSchedules.{Reading, nothing_read, one_more, has_seen, has_form, first_row, all_come, form_faults, links_in, is_late, follow_faults, or_others, row_faults, plan_faults, plan_by, plan_of, PlanGives}
+use Rattle.vehicle_model.specs.ReadSchedules.{Reading, nothing_read, one_more, has_seen, has_form}
+use Rattle.vehicle_model.specs.ReadSchedules.{first_row, all_come, form_faults, links_in, is_late}
+use Rattle.vehicle_model.specs.ReadSchedules.{follow_faults, or_others, row_faults, plan_faults}
+use Rattle.vehicle_model.specs.ReadSchedules.{plan_by, plan_of, PlanGives}
 use Rattle.vehicle_model.specs.Trips.{TripsParts, AreTrips, link_minutes}
 use Rattle.vehicle_model.proofs.BehindRows.{without_numbers}
 use Rattle.vehicle_model.proofs.DrivenBack.{vehicles_read}
@@ -24,6 +27,7 @@ use Rattle.vehicle_model.proofs.DrivenNext.{plan_is, none_driven, link_driven}
 use Rattle.vehicle_model.proofs.DrivenPlans.{each_once, all_fresh}
 use Rattle.vehicle_model.proofs.PlanBack.{formed_faultless}
 use Rattle.vehicle_model.proofs.PlanRead.{AreFormed}
+use Rattle.plan_num.proofs.Lists.{unmapped}
 
 -- ---- rows without a fault of form
 
@@ -105,10 +109,6 @@ or_none : {X : Type 0} (xs ys : List X) → or_others xs ys ≡ [] → (xs ≡ [
 or_none [] ys e = (refl, e)
 or_none (x ∷ xs) ys e = cc
 
-map_none : {X Y : Type 0} (f : X → Y) (xs : List X) → map f xs ≡ [] → xs ≡ []
-map_none f [] e = refl
-map_none f (x ∷ xs) e = cc
-
 or_first : {X : Type 0} (xs ys : List X) (x : X) → slice_get (or_others xs ys) 0 ≡ Some x
     → (slice_get xs 0 ≡ Some x) ⊎ ((xs ≡ []) × (slice_get ys 0 ≡ Some x))
 or_first [] ys x e = inr (refl, e)
@@ -151,7 +151,8 @@ module _ (trips : TripsParts) (are : AreTrips trips) (text : List ℕ) where
   numbered = numbered_by schedule_row (table_of schedule_columns text)
 
   -- rows without a fault of form are the schedule of vehicles
-  schedule_is : form_faults trips nothing_read numbered ≡ [] → (vehicles : List (List ℕ)) × IsScheduleOf trips vehicles rows
+  schedule_is : form_faults trips nothing_read numbered ≡ []
+      → (vehicles : List (List ℕ)) × IsScheduleOf trips vehicles rows
   schedule_is none =
       let it = vehicles_of trips rows (subst (AreFormed trips nothing_read)
       (without_numbers (table_of schedule_columns text)) (faultless_formed trips nothing_read numbered none)) in (
@@ -180,15 +181,16 @@ module _ (trips : TripsParts) (are : AreTrips trips) (text : List ℕ) where
       → ReadsWhatIsDriven trips text (Ok plan)
   unfolding plan_faults plan_of
   taken plan none same =
-      let parts = or_none (map (λ first. fault.Row first) (faults schedule_columns text)) (row_faults trips numbered) none in
+      let parts = or_none (map (λ first. fault.Row first) (faults schedule_columns text))
+      (row_faults trips numbered) none in
       let rows_none = or_none (form_faults trips nothing_read numbered)
       (follow_faults trips (links_in trips nothing_read (map (λ at. at.row) numbered))) parts.1 in
       let it = schedule_is rows_none.0 in
       let links = links_are it.0 it.1 in
-      let in_times = map_none (λ (link : ℕ × ℕ). fault.Follow link.1) (filter (is_late trips) (driven_links it.0))
+      let in_times = unmapped (λ (link : ℕ × ℕ). fault.Follow link.1) (filter (is_late trips) (driven_links it.0))
       (ap (follow_faults trips) (sym links) ∙ rows_none.1) in (
         it.0,
-        record { table = map_none (λ first. fault.Row first) (faults schedule_columns text) parts.0; schedule = it.1 },
+        record { table = unmapped (λ first. fault.Row first) (faults schedule_columns text) parts.0; schedule = it.1 },
         All-weaker (λ driven. (i j : ℕ) → Drives driven i j → is_late trips (i, j) ≡ false)
             (λ driven. (i j : ℕ) → Drives driven i j → is_some (link_minutes trips i j) ≡ true)
             (λ driven none_late i j drives. in_time (link_minutes trips i j) (none_late i j drives))
@@ -213,7 +215,7 @@ module _ (trips : TripsParts) (are : AreTrips trips) (text : List ℕ) where
         | inl at ↦ record { told = inl at }
         | inr rest ↦ record {
           told = inr (
-            map_none (λ first. fault.Row first) (faults schedule_columns text) rest.0,
+            unmapped (λ first. fault.Row first) (faults schedule_columns text) rest.0,
             or_first (form_faults trips nothing_read numbered)
                 (follow_faults trips (links_in trips nothing_read (map (λ at. at.row) numbered))) why rest.1,
           );

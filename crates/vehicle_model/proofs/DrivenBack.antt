@@ -9,15 +9,20 @@ use Rattle.std.proofs.lemmas.List.Elements.{All-tail}
 use Rattle.event_tables.specs.declared.schedule_row.ScheduleRow.{ScheduleRow}
 use Rattle.event_tables.specs.Schedules.{is_trip_row, is_empty_row}
 use Rattle.vehicle_model.specs.DrivenSchedules.{as_told}
-use Rattle.vehicle_model.specs.ReadSchedules.{Reading, nothing_read, one_more, trip_in, begins, last_vehicle, follows_empty, is_new, is_ride, trip_fits, empty_fits, has_seen, has_form, link_of, link_to, links_in}
+use Rattle.vehicle_model.specs.ReadSchedules.{Reading, nothing_read, one_more, trip_in, begins}
+use Rattle.vehicle_model.specs.ReadSchedules.{last_vehicle, follows_empty, is_new, is_ride}
+use Rattle.vehicle_model.specs.ReadSchedules.{trip_fits, empty_fits, has_seen, has_form, link_of}
+use Rattle.vehicle_model.specs.ReadSchedules.{link_to, links_in}
 use Rattle.vehicle_model.specs.Schedules.{trip_row, empty_row, rows_behind, rows_from}
 use Rattle.vehicle_model.specs.Trips.{TripsParts, AreTrips}
-use Rattle.vehicle_model.proofs.DrivenForms.{AreFresh, AreBusy, links_behind, driven_links, empty_repeats, more_is, none_more}
+use Rattle.vehicle_model.proofs.DrivenForms.{AreFresh, AreBusy, links_behind, driven_links}
+use Rattle.vehicle_model.proofs.DrivenForms.{empty_repeats, more_is, none_more}
 use Rattle.vehicle_model.proofs.DrivenRows.{trip_told, told_kind, IsRideRow, told_ride}
 use Rattle.vehicle_model.proofs.PlanRead.{AreFormed}
 use Rattle.vehicle_model.proofs.Reading.{no_link}
-use Rattle.vehicle_model.proofs.Repeated.{both_true, same_number, repeats}
+use Rattle.vehicle_model.proofs.Repeated.{same_number, repeats}
 use Rattle.vehicle_model.proofs.Tours.{has}
+use Rattle.plan_num.proofs.Tests.{later_true, both_true}
 
 first_is : {X : Type 0} {x y : X} {xs ys : List X} → x ∷ xs ≡ y ∷ ys → x ≡ y
 first_is e = cc
@@ -33,10 +38,6 @@ some_is e = cc
 
 either_true : {a : Bool} (b : Bool) → a ≡ true → (a || b) ≡ true
 either_true {a} b e = ap (λ c. c || b) e
-
-second_true : (a : Bool) {b : Bool} → b ≡ true → (a || b) ≡ true
-second_true true e = refl
-second_true false e = e
 
 module _ (trips : TripsParts) (are : AreTrips trips) where
   -- rows have the form that is due, and some links
@@ -117,12 +118,14 @@ module _ (trips : TripsParts) (are : AreTrips trips) where
       (one_row (record { before = Some ride; seen = i ∷ seen }) (record { before = Some row; seen = j ∷ i ∷ seen })
       row rows (Some (i, j)) links
       (trip_formed (record { before = Some ride; seen = i ∷ seen }) before.vehicle (before.number + 2) j row
-      (slice_get rows 0) is within new (second_true (begins (Some ride) (trip_row trips before.vehicle (before.number + 2) j))
+      (slice_get rows 0) is within new
+      (later_true (begins (Some ride) (trip_row trips before.vehicle (before.number + 2) j))
       (both_true it.empty (both_true (ap (λ v. before.vehicle == v) it.vehicle_is ∙ same_number before.vehicle)
       (ap (λ k. (before.number + 2) == (k + 1)) it.number_is ∙ two_on)))))
       (more_is trips (record { before = Some ride; seen = i ∷ seen }) row j found)
       (ap (λ at. link_to trips (record { before = Some ride; seen = i ∷ seen }) at) is
-      ∙ ap (λ b. link_of b (Some i) (trip_in trips (trip_row trips before.vehicle (before.number + 2) j))) (not_begun it)
+      ∙ ap (λ b. link_of b (Some i) (trip_in trips (trip_row trips before.vehicle (before.number + 2) j)))
+      (not_begun it)
       ∙ ap (link_of false (Some i)) (repeats trips are j within)) rest)
     where
       two_on : ((before.number + 2) == ((before.number + 1) + 1)) ≡ true
@@ -200,7 +203,8 @@ module _ (trips : TripsParts) (are : AreTrips trips) where
   vehicles_read (row ∷ rows) ([] ∷ vehicles) busy fresh told = absurd (omega (arith, busy 0 [] (omega arith)))
   vehicles_read (row ∷ rows) ((j ∷ more) ∷ vehicles) busy fresh told =
       let is = row_is row 1 1 j (first_is told) in
-      begun nothing_read 1 j row rows (links_behind j more ++ driven_links vehicles) refl (first_is told) fresh.0 fresh.1
+      begun nothing_read 1 j row rows (links_behind j more ++ driven_links vehicles) refl
+      (first_is told) fresh.0 fresh.1
       (rest_read rows row j [] more vehicles (ap is_trip_row is)
       (All-tail (λ driven. 0 < length driven) (j ∷ more) vehicles busy) fresh.2
       (rest_is told ∙ sym (behind_is row 1 1 j more vehicles is)))

@@ -4,18 +4,22 @@ use Rattle.std.proofs.Common.{List, [], ◌∷◌, ◌++◌, length, map, slice_
 use Rattle.std.proofs.Common.{flat_map, refl, ap, sym, ◌∙◌, subst, arith, inl, inr, position}
 use Rattle.std.specs.List.{concat, list_all, range_with_len}
 use Rattle.std.specs.Option.{option_to_list}
-use Rattle.std.proofs.lemmas.Bool.{false≢true, eqb-true, and_parts, ne_eqb, cases_Bool}
+use Rattle.std.proofs.lemmas.Bool.{false≢true, eqb-true, and_parts, ne_eqb, cases_Bool, not-true}
 use Rattle.std.proofs.lemmas.List.Elements.{All-nil, All-cons}
 use Rattle.std.proofs.lemmas.Option.{none-some}
 use Rattle.event_tables.specs.declared.schedule_row.ScheduleRow.{ScheduleRow}
 use Rattle.event_tables.specs.Schedules.{is_trip_row, is_empty_row}
 use Rattle.vehicle_model.specs.DrivenSchedules.{as_told}
-use Rattle.vehicle_model.specs.ReadSchedules.{Reading, nothing_read, one_more, trip_in, last_vehicle, begins, is_next_row, follows_trip, follows_empty, is_new, is_ride, leads_to, trip_fits, empty_fits, last_seen, has_seen, has_form, same_run}
+use Rattle.vehicle_model.specs.ReadSchedules.{Reading, nothing_read, one_more, trip_in}
+use Rattle.vehicle_model.specs.ReadSchedules.{last_vehicle, begins, is_next_row, follows_trip}
+use Rattle.vehicle_model.specs.ReadSchedules.{follows_empty, is_new, is_ride, leads_to, trip_fits}
+use Rattle.vehicle_model.specs.ReadSchedules.{empty_fits, last_seen, has_seen, has_form, same_run}
 use Rattle.vehicle_model.specs.Schedules.{trip_row, empty_row, rows_behind, rows_from}
 use Rattle.vehicle_model.specs.Trips.{TripsParts}
 use Rattle.vehicle_model.proofs.DrivenRows.{trip_found, trip_row_is, trip_told, ride_told}
 use Rattle.vehicle_model.proofs.PlanRead.{AreFormed}
 use Rattle.vehicle_model.proofs.Tours.{has}
+use Rattle.plan_num.proofs.Tests.{only_true}
 
 -- each of some trips is there and not among those before it, and with all of them every trip has come
 abbrev pub AreFresh : ℕ → List ℕ → List ℕ → Type 0
@@ -72,11 +76,7 @@ module _ (trips : TripsParts) where
   new_is : (has_come : ℕ → Bool) (at : Option ℕ) → is_new has_come at ≡ true
       → (j : ℕ) × ((at ≡ Some j) × (has_come j ≡ false))
   new_is has_come None h = cc
-  new_is has_come (Some j) h = (j, (refl, not_true (has_come j) h))
-    where
-      not_true : (b : Bool) → not b ≡ true → b ≡ false
-      not_true true h = cc
-      not_true false h = refl
+  new_is has_come (Some j) h = (j, (refl, not-true (has_come j) h))
 
   due : (read : Reading) (row : ScheduleRow) (after : Option ScheduleRow) → is_empty_row row ≡ false
       → has_form trips read row after ≡ true → IsDue read row
@@ -186,7 +186,7 @@ module _ (trips : TripsParts) where
       let leads = and_parts ((row.vehicle == ride.vehicle) && is_trip_row row) _ parts.1 in
       let kinds = and_parts (row.vehicle == ride.vehicle) (is_trip_row row) leads.0 in
       let row_vehicle : row.vehicle ≡ ride.vehicle = eqb-true row.vehicle ride.vehicle kinds.0 in
-      let trip : is_empty_row row ≡ false = not_false (is_empty_row row) kinds.1 in
+      let trip : is_empty_row row ≡ false = not-true (is_empty_row row) kinds.1 in
       let it = due (record { before = Some ride; seen = i ∷ seen }) row after trip drives in
       let place : follows_empty (Some ride) row ≡ true =
       second (begins (Some ride) row) it.place (not_begun row_vehicle) in
@@ -211,10 +211,6 @@ module _ (trips : TripsParts) where
             ∙ ap (λ k. trip_row trips before.vehicle k it.j) number;
       }
     where
-      not_false : (b : Bool) → not b ≡ true → b ≡ false
-      not_false true h = cc
-      not_false false h = refl
-
       second : (a : Bool) {b : Bool} → (a || b) ≡ true → a ≡ false → b ≡ true
       second true h e = cc
       second false h e = h
@@ -269,12 +265,8 @@ module _ (trips : TripsParts) where
   begins_there : (before row : ScheduleRow) → is_trip_row before ≡ true
       → (begins (Some before) row || follows_empty (Some before) row) ≡ true → begins (Some before) row ≡ true
   begins_there before row kind place = first (begins (Some before) row) place
-      (ap (λ b. b && is_next_row before row) (not_true (is_empty_row before) kind))
+      (ap (λ b. b && is_next_row before row) (not-true (is_empty_row before) kind))
     where
-      not_true : (b : Bool) → not b ≡ true → b ≡ false
-      not_true true h = cc
-      not_true false h = refl
-
       first : (a : Bool) {b : Bool} → (a || b) ≡ true → b ≡ false → a ≡ true
       first true h e = refl
       first false h e = cc
@@ -325,11 +317,7 @@ module _ (trips : TripsParts) where
         ∙ (and_parts (row.circulation == row.vehicle) _ formed.0).1)).0)
     | inr trip ↦
         let it = due nothing_read row (slice_get rows 0) trip formed.0 in
-        begun nothing_read row rows it (only (begins None row) it.place)
+        begun nothing_read row rows it (only_true (begins None row) it.place)
         (rest_of rows row it.j [] (ap not trip)
         (subst (λ at. AreFormed trips at rows) (more_is nothing_read row it.j it.repeated) formed.1))
   ]
-    where
-      only : (a : Bool) → (a || false) ≡ true → a ≡ true
-      only true h = refl
-      only false h = h

@@ -13,9 +13,12 @@ use Rattle.vehicle_model.specs.DrivenSchedules.{Drives, IsPlanOf}
 use Rattle.link_plans.specs.Plans.{next}
 use Rattle.vehicle_model.specs.ReadSchedules.{plan_by}
 use Rattle.vehicle_model.proofs.DrivenForms.{AreFresh, AreBusy, links_behind, driven_links}
-use Rattle.vehicle_model.proofs.DrivenPlans.{after, fresh_after, after_none, after_seen, after_at, has_first, has_more, apart_from, seen_apart, front_apart}
+use Rattle.vehicle_model.proofs.DrivenPlans.{after, fresh_after, after_none, after_seen, after_at}
+use Rattle.vehicle_model.proofs.DrivenPlans.{has_first, has_more, apart_from, seen_apart}
+use Rattle.vehicle_model.proofs.DrivenPlans.{front_apart}
 use Rattle.link_plans.proofs.Linking.{none_next}
 use Rattle.vehicle_model.proofs.Tours.{has}
+use Rattle.plan_num.proofs.Tests.{not_both}
 
 -- a plan with some links more
 abbrev linked : List (Option ℕ) → List (ℕ × ℕ) → List (Option ℕ)
@@ -40,10 +43,7 @@ behind_other (j ∷ more) i plan p ne none =
     ∙ get_or-set_other plan i p (Some j) None ne
 
 other_than : (seen : List ℕ) (i p : ℕ) → has seen p ≡ true → has seen i ≡ false → p ≢ i
-other_than seen i p h e same = not_same (sym (ap (has seen) same) ∙ h) e
-  where
-    not_same : {b : Bool} → b ≡ true → b ≡ false → ⊥
-    not_same {b} f g = cc
+other_than seen i p h e same = not_both (sym (ap (has seen) same) ∙ h) e
 
 module _ (n : ℕ) where
   -- behind a trip of a vehicle

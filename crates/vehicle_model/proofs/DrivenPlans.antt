@@ -11,6 +11,7 @@ use Rattle.vehicle_model.specs.DrivenSchedules.{AreEachOnce}
 use Rattle.vehicle_model.proofs.DrivenForms.{AreFresh}
 use Rattle.link_plans.proofs.Linking.{by_number}
 use Rattle.vehicle_model.proofs.Tours.{has, all_in_range}
+use Rattle.plan_num.proofs.Tests.{later_true, not_both}
 
 -- ---- each trip once
 
@@ -89,17 +90,10 @@ all_fresh n numbers are = once_fresh n numbers [] are.below are.once
 -- ---- what was seen does not come again
 
 pub has_more : (seen : List ℕ) (j p : ℕ) → has seen p ≡ true → has (j ∷ seen) p ≡ true
-has_more seen j p h = later (p == j) h
-  where
-    later : (b : Bool) {c : Bool} → c ≡ true → (b || c) ≡ true
-    later true e = refl
-    later false e = e
+has_more seen j p h = later_true (p == j) h
 
 pub has_first : (seen : List ℕ) (j : ℕ) → has (j ∷ seen) j ≡ true
 has_first seen j = ap (λ b. b || has seen j) (eq-eqb j j refl)
-
-not_both : {b : Bool} → b ≡ true → b ≡ false → ⊥
-not_both e f = false≢true (sym f ∙ e)
 
 -- a number that is not among some is none of them
 pub apart_from : (j p : ℕ) (more : List ℕ) → has (j ∷ more) p ≡ false → (p ≢ j) × (has more p ≡ false)

@@ -17,7 +17,8 @@ use Rattle.vehicle_model.specs.DrivenSchedules.{is_nowhere, at_once, as_told}
 use Rattle.vehicle_model.specs.ReadSchedules.{same_end, same_run, trip_in, leaves, takes, goes_to, is_ride}
 use Rattle.vehicle_model.specs.Schedules.{no_trip, trip_of, dead_between, empty_ride, trip_row, empty_row}
 use Rattle.vehicle_model.specs.Trips.{TripsParts}
-use Rattle.vehicle_model.proofs.Repeated.{both_true, end_itself}
+use Rattle.vehicle_model.proofs.Repeated.{end_itself}
+use Rattle.plan_num.proofs.Tests.{both_true}
 
 -- ---- rows that have the same cells
 
@@ -158,7 +159,8 @@ module _ (trips : TripsParts) where
   made_ride : (i j : ℕ) → is_ride trips i
       (empty_ride (trip_of trips i) (trip_of trips j) (unwrap_or (dead_between trips i j) 0)) (Some j) ≡ true
   made_ride i j = both_true
-      {a = leaves (trip_of trips i) (empty_ride (trip_of trips i) (trip_of trips j) (unwrap_or (dead_between trips i j) 0))}
+      {a = leaves (trip_of trips i)
+      (empty_ride (trip_of trips i) (trip_of trips j) (unwrap_or (dead_between trips i j) 0))}
       (both_true (end_itself (trip_of trips i).end) refl) goes
     where
       goes : goes_to (dead_between trips i j) (trip_of trips j)

@@ -13,7 +13,9 @@ use Rattle.tables.specs.Reading.{faults, table_of}
 use Rattle.vehicle_model.specs.declared.plan_fault.PlanFault.{PlanFault}
 use Rattle.vehicle_model.specs.declared.plan_fault.PlanFault.TheVariants as fault
 use Rattle.link_plans.specs.Plans.{IsPlan}
-use Rattle.vehicle_model.specs.ReadSchedules.{all_come, first_row, links_in, nothing_read, or_others, plan_by, plan_faults, plan_of, PlanGives, row_faults, row_fits}
+use Rattle.vehicle_model.specs.ReadSchedules.{all_come, first_row, links_in, nothing_read}
+use Rattle.vehicle_model.specs.ReadSchedules.{or_others, plan_by, plan_faults, plan_of, PlanGives}
+use Rattle.vehicle_model.specs.ReadSchedules.{row_faults, row_fits}
 use Rattle.vehicle_model.specs.Readers.{ReaderParts, IsBehind, has_come, unless_late}
 use Rattle.vehicle_model.specs.Trips.{TripsParts, links_of}
 use Rattle.vehicle_model.proofs.BehindRows.{behind_none, ends, plan_ends, refused, taken, without_numbers}
@@ -61,9 +63,11 @@ module _ (trips : TripsParts) (rows : List (Numbered ScheduleRow)) (none : row_f
           → IsPlan (links_of trips) plan
       by [] is go = by_end reader (all_come trips (has_come reader)) reader.late
           (ends trips rows i reader behind is) (plan_ends trips rows i reader behind)
-      by (at ∷ rest) is go = one (row_fits trips reader.before reader.last (has_come reader) at.row (first_row rest)) refl
+      by (at ∷ rest) is go =
+          one (row_fits trips reader.before reader.last (has_come reader) at.row (first_row rest)) refl
         where
-          one : (fits : Bool) → row_fits trips reader.before reader.last (has_come reader) at.row (first_row rest) ≡ fits
+          one : (fits : Bool) → row_fits trips reader.before reader.last (has_come reader) at.row
+              (first_row rest) ≡ fits
               → IsPlan (links_of trips) plan
           one false fits = absurd (none_first _ _ none (refused trips rows i reader behind at rest is fits))
           one true fits = go _ (taken trips rows i reader behind at rest is fits (i + 1) (behind_one i rows at rest is))

@@ -6,11 +6,12 @@ use Rattle.std.proofs.lemmas.Bool.{false≢true, leb-true, le-leb}
 use Rattle.std.proofs.lemmas.Int.{ints}
 use Rattle.std.proofs.lemmas.Option.{none-some, same_Some, slice_get-get_or, slice_get_within, get_or_from_slice_get}
 use Rattle.event_tables.specs.declared.trip.Trip.{Trip}
-use Rattle.ptn_network.specs.declared.edge.Edge.{Edge}
-use Rattle.ptn_network.specs.Walks.{edge_time, IsLeastSum}
+use Rattle.walks.specs.declared.edge.Edge.{Edge}
+use Rattle.walks.specs.Walks.{edge_time, IsLeastSum}
 use Rattle.link_plans.proofs.Linking.{some_of}
 use Rattle.vehicle_model.specs.Schedules.{trip_of, no_trip, dead_between}
-use Rattle.vehicle_model.specs.Trips.{TripsParts, AreTrips, MayFollow, start_stop, end_stop, if_in_time, link_between, link_minutes, gain_of, links_of}
+use Rattle.vehicle_model.specs.Trips.{TripsParts, AreTrips, MayFollow, start_stop, end_stop}
+use Rattle.vehicle_model.specs.Trips.{if_in_time, link_between, link_minutes, gain_of, links_of}
 
 -- the trip of a number
 pub trip_at : (trips : TripsParts) (i : ℕ) → i < length trips.trips
@@ -133,8 +134,10 @@ one_least edges weight from to None least none is = absurd (none is.0.0 is.0.1)
 one_least edges weight from to (Some other) least has is =
     ap Some (omega (arith, has.1 is.0.0 is.0.1, is.1 has.0.0 has.0.1, is.0.2, has.0.2))
 
-module _ (trips : TripsParts) (i j : ℕ) (from : i < length trips.trips) (to : j < length trips.trips) (least : IsLeastSum trips.network.edges edge_time
-    (end_stop trips.network (trip_of trips i)) (start_stop trips.network (trip_of trips j)) (dead_between trips i j)) where
+module _ (trips : TripsParts) (i j : ℕ) (from : i < length trips.trips) (to : j < length trips.trips)
+    (least : IsLeastSum trips.network.edges edge_time
+    (end_stop trips.network (trip_of trips i)) (start_stop trips.network (trip_of trips j))
+    (dead_between trips i j)) where
   -- a link that has minutes may follow
   pub may_follow : (minutes : ℕ) → link_minutes trips i j ≡ Some minutes → MayFollow trips i j minutes
   may_follow minutes e = grind (arith, is_link, trip_at)

@@ -17,7 +17,9 @@ use Rattle.event_tables.proofs.CellsBack.{schedule_row_same}
 use Rattle.event_tables.proofs.WrittenRecords.{rows_inside, reads_as}
 use Rattle.vehicle_model.specs.declared.plan_fault.PlanFault.TheVariants as fault
 use Rattle.link_plans.specs.Plans.{IsPlan}
-use Rattle.vehicle_model.specs.ReadSchedules.{Reading, nothing_read, one_more, form_faults, links_in, or_others, row_faults, plan_by, plan_faults, plan_of, IsReadBack}
+use Rattle.vehicle_model.specs.ReadSchedules.{Reading, nothing_read, one_more, form_faults}
+use Rattle.vehicle_model.specs.ReadSchedules.{links_in, or_others, row_faults, plan_by, plan_faults}
+use Rattle.vehicle_model.specs.ReadSchedules.{plan_of, IsReadBack}
 use Rattle.vehicle_model.specs.Schedules.{plan_rows, plan_text}
 use Rattle.vehicle_model.specs.Trips.{TripsParts, AreTrips, links_of}
 use Rattle.vehicle_model.proofs.BehindRows.{without_numbers}

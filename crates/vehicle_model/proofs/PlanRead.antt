@@ -9,13 +9,19 @@ use Rattle.std.proofs.lemmas.Bool.{ne_eqb}
 use Rattle.event_tables.specs.declared.schedule_row.ScheduleRow.{ScheduleRow}
 use Rattle.event_tables.specs.Schedules.{is_trip_row}
 use Rattle.link_plans.specs.Plans.{next, IsPlan}
-use Rattle.vehicle_model.specs.ReadSchedules.{Reading, nothing_read, one_more, trip_in, begins, last_vehicle, follows_trip, follows_empty, is_new, leaves, goes_to, is_ride, leads_to, last_seen, has_seen, has_form, all_come, link_of, link_to, links_in, is_late}
-use Rattle.vehicle_model.specs.Schedules.{trip_of, dead_between, empty_ride, trip_row, empty_row, rows_behind, rows_from, plan_rows, tours}
+use Rattle.vehicle_model.specs.ReadSchedules.{Reading, nothing_read, one_more, trip_in, begins}
+use Rattle.vehicle_model.specs.ReadSchedules.{last_vehicle, follows_trip, follows_empty, is_new}
+use Rattle.vehicle_model.specs.ReadSchedules.{leaves, goes_to, is_ride, leads_to, last_seen}
+use Rattle.vehicle_model.specs.ReadSchedules.{has_seen, has_form, all_come, link_of, link_to}
+use Rattle.vehicle_model.specs.ReadSchedules.{links_in, is_late}
+use Rattle.vehicle_model.specs.Schedules.{trip_of, dead_between, empty_ride, trip_row, empty_row}
+use Rattle.vehicle_model.specs.Schedules.{rows_behind, rows_from, plan_rows, tours}
 use Rattle.vehicle_model.specs.Trips.{TripsParts, AreTrips, links_of}
 use Rattle.vehicle_model.proofs.Following.{gain_there}
 use Rattle.vehicle_model.proofs.Reading.{no_link}
-use Rattle.vehicle_model.proofs.Repeated.{both_true, same_number, end_itself, repeats}
+use Rattle.vehicle_model.proofs.Repeated.{same_number, end_itself, repeats}
 use Rattle.vehicle_model.proofs.Tours.{IsFresh, AreBehind, AreTours, tours_are}
+use Rattle.plan_num.proofs.Tests.{later_true, both_true}
 
 -- each row has the form that is due, and behind all of them every trip has come
 abbrev pub AreFormed : TripsParts → Reading → List ScheduleRow → Type 0
@@ -29,7 +35,8 @@ with_link plan None = plan
 with_link plan (Some link) = slice_set plan link.0 (Some link.1)
 
 -- rows are read without a fault, and their links make a plan
-pub record AreRead (trips : TripsParts) (plan : List (Option ℕ)) (read : Reading) (linked : List (Option ℕ)) (rows : List ScheduleRow) : Type 0 where
+pub record AreRead (trips : TripsParts) (plan : List (Option ℕ)) (read : Reading) (linked : List (Option ℕ))
+    (rows : List ScheduleRow) : Type 0 where
   pub formed : AreFormed trips read rows
   pub linked_all : fold (λ plan link. slice_set plan link.0 (Some link.1)) linked (links_in trips read rows) ≡ plan
   pub in_time : filter (is_late trips) (links_in trips read rows) ≡ []
@@ -70,10 +77,6 @@ read_row trips plan read linked row rows link form is in_time rest = record {
 either_true : {a : Bool} (b : Bool) → a ≡ true → (a || b) ≡ true
 either_true {a} b e = ap (λ c. c || b) e
 
-second_true : (a : Bool) {b : Bool} → b ≡ true → (a || b) ≡ true
-second_true true e = refl
-second_true false e = e
-
 module _ (trips : TripsParts) (plan : List (Option ℕ)) (are : AreTrips trips) (is : IsPlan (links_of trips) plan) where
   abbrev n : ℕ
   n = length plan
@@ -97,7 +100,8 @@ module _ (trips : TripsParts) (plan : List (Option ℕ)) (are : AreTrips trips) 
       ap (λ at. record { before = Some (trip_row trips vehicle number i); seen = option_to_list at ++ read.seen })
       (trip_is vehicle number i within)
 
-  ride_leaves : (i j minutes : ℕ) → leaves (trip_of trips i) (empty_ride (trip_of trips i) (trip_of trips j) minutes) ≡ true
+  ride_leaves : (i j minutes : ℕ) → leaves (trip_of trips i)
+      (empty_ride (trip_of trips i) (trip_of trips j) minutes) ≡ true
   ride_leaves i j minutes = both_true (end_itself (trip_of trips i).end) refl
 
   ride_goes : (i j : ℕ) → goes_to (dead_between trips i j) (trip_of trips j)
@@ -106,13 +110,15 @@ module _ (trips : TripsParts) (plan : List (Option ℕ)) (are : AreTrips trips) 
 
   ride_formed : (read : Reading) (before : ScheduleRow) (vehicle number i j : ℕ) → read.before ≡ Some before
       → is_trip_row before ≡ true → before.vehicle ≡ vehicle → before.number ≡ number → last_seen read ≡ Some i → j < n
-      → has_form trips read (empty_row trips vehicle (number + 1) i j) (Some (trip_row trips vehicle (number + 2) j)) ≡ true
+      → has_form trips read (empty_row trips vehicle (number + 1) i j)
+      (Some (trip_row trips vehicle (number + 2) j)) ≡ true
   ride_formed read before vehicle number i j before_is kind vehicle_is number_is last within =
       both_true (same_number vehicle) (both_true
       (ap (λ at. follows_trip at (empty_row trips vehicle (number + 1) i j)) before_is
       ∙ both_true kind (both_true (ap (λ v. vehicle == v) vehicle_is ∙ same_number vehicle)
       (ap (λ k. (number + 1) == (k + 1)) number_is ∙ same_number (number + 1))))
-      (ap (λ at. leads_to trips at (empty_row trips vehicle (number + 1) i j) (Some (trip_row trips vehicle (number + 2) j))) last
+      (ap (λ at. leads_to trips at (empty_row trips vehicle (number + 1) i j)
+      (Some (trip_row trips vehicle (number + 2) j))) last
       ∙ both_true (both_true (same_number vehicle) refl)
       (ap (is_ride trips i (empty_row trips vehicle (number + 1) i j).run) (trip_is vehicle (number + 2) j within)
       ∙ both_true (ride_leaves i j (unwrap_or (dead_between trips i j) 0)) (ride_goes i j))))
@@ -136,20 +142,23 @@ module _ (trips : TripsParts) (plan : List (Option ℕ)) (are : AreTrips trips) 
       let row : ScheduleRow = trip_row trips vehicle (number + 2) j in
       let read : Reading = record { before = Some before; seen = i ∷ seen } in
       let riding : Reading = record { before = Some ride; seen = i ∷ seen } in
-      let apart : begins (Some ride) row ≡ false = ap (λ b. b && ((number + 2) == 1)) (ne_eqb vehicle (vehicle + 1) (λ e. one_apart e)) in
+      let apart : begins (Some ride) row ≡ false = ap (λ b. b && ((number + 2) == 1))
+      (ne_eqb vehicle (vehicle + 1) (λ e. one_apart e)) in
       let number_more : (number + 2) ≡ ((number + 1) + 1) = omega arith in
       read_row trips plan read linked ride (row ∷ (rows_behind trips vehicle (number + 2) j more ++ rows)) None
       (ride_formed read before vehicle number i j refl kind vehicle_is number_is refl fresh.within)
       (no_link (begins (Some before) ride) (Some i))
       tt
       (read_row trips plan riding linked row (rows_behind trips vehicle (number + 2) j more ++ rows) (Some (i, j))
-      (trip_formed riding vehicle (number + 2) j (slice_get (rows_behind trips vehicle (number + 2) j more ++ rows) 0) fresh
-      (second_true (begins (Some ride) row) (both_true (same_number vehicle)
+      (trip_formed riding vehicle (number + 2) j
+      (slice_get (rows_behind trips vehicle (number + 2) j more ++ rows) 0) fresh
+      (later_true (begins (Some ride) row) (both_true (same_number vehicle)
       (ap (λ k. (number + 2) == k) (sym number_more) ∙ same_number (number + 2)))))
       (ap (λ b. link_of b (Some i) (trip_in trips row)) apart
       ∙ ap (link_of false (Some i)) (trip_is vehicle (number + 2) j fresh.within))
       (ap not (sym (gain_there trips i j) ∙ is.follow i j next_is))
-      (subst (λ some. AreRead trips plan some (slice_set linked i (Some j)) (rows_behind trips vehicle (number + 2) j more ++ rows))
+      (subst (λ some. AreRead trips plan some (slice_set linked i (Some j))
+      (rows_behind trips vehicle (number + 2) j more ++ rows))
       (sym (seen_is riding vehicle (number + 2) j fresh.within))
       (vehicle_read Rest rows vehicle rest more (number + 2) j (i ∷ seen) (slice_set linked i (Some j)) row
       refl refl refl are_behind.2)))
@@ -169,12 +178,15 @@ module _ (trips : TripsParts) (plan : List (Option ℕ)) (are : AreTrips trips) 
       let row : ScheduleRow = trip_row trips vehicle 1 i in
       let starts : begins read.before row ≡ true =
       both_true (ap (λ v. vehicle == v) next_one ∙ same_number vehicle) refl in
-      read_row trips plan read linked row (rows_behind trips vehicle 1 i trip_numbers ++ rows_from trips (vehicle + 1) more) None
-      (trip_formed read vehicle 1 i (slice_get (rows_behind trips vehicle 1 i trip_numbers ++ rows_from trips (vehicle + 1) more) 0)
+      read_row trips plan read linked row (rows_behind trips vehicle 1 i trip_numbers ++ rows_from trips
+      (vehicle + 1) more) None
+      (trip_formed read vehicle 1 i
+      (slice_get (rows_behind trips vehicle 1 i trip_numbers ++ rows_from trips (vehicle + 1) more) 0)
       are_tours.0 (either_true (follows_empty read.before row) starts))
       (ap (λ b. link_of b (last_seen read) (trip_in trips row)) starts)
       tt
-      (subst (λ some. AreRead trips plan some linked (rows_behind trips vehicle 1 i trip_numbers ++ rows_from trips (vehicle + 1) more))
+      (subst (λ some. AreRead trips plan some linked
+      (rows_behind trips vehicle 1 i trip_numbers ++ rows_from trips (vehicle + 1) more))
       (sym (seen_is read vehicle 1 i are_tours.0.within))
       (vehicle_read (λ all links. AreTours n plan all links more) (rows_from trips (vehicle + 1) more) vehicle
       (λ behind links same rest. tours_read more (vehicle + 1) behind links (ap (λ v. v + 1) same) rest)

@@ -15,7 +15,8 @@ use Rattle.tables.proofs.Ranges.{table_in_columns}
 use Rattle.vehicle_model.specs.declared.plan_fault.PlanFault.{PlanFault}
 use Rattle.vehicle_model.specs.declared.plan_fault.PlanFault.TheVariants as fault
 use Rattle.vehicle_model.specs.PlanFaults.{fault_of}
-use Rattle.vehicle_model.specs.ReadSchedules.{nothing_read, links_in, or_others, row_faults, plan_by, plan_faults, plan_of, PlanGives}
+use Rattle.vehicle_model.specs.ReadSchedules.{nothing_read, links_in, or_others, row_faults}
+use Rattle.vehicle_model.specs.ReadSchedules.{plan_by, plan_faults, plan_of, PlanGives}
 use Rattle.vehicle_model.specs.Trips.{TripsParts}
 
 first_row_fault : (all : List RowFault) (others : List PlanFault) (first : RowFault)

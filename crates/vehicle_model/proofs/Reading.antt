@@ -6,7 +6,7 @@ use Rattle.std.proofs.Common.{option_map, refl, ap, sym, ◌∙◌, subst, arith
 use Rattle.std.proofs.Common.{get_or-set_same, get_or-set_other}
 use Rattle.std.specs.List.{list_any}
 use Rattle.std.specs.Option.{option_to_list}
-use Rattle.std.proofs.lemmas.Bool.{false≢true, ne_eqb, or_parts}
+use Rattle.std.proofs.lemmas.Bool.{false≢true, ne_eqb, or_parts, not-true}
 use Rattle.std.proofs.lemmas.List.{length-set, length-replicate, append-nil}
 use Rattle.std.proofs.lemmas.List.Sums.{fold_push}
 use Rattle.std.proofs.lemmas.List.Quantifiers.{position-Some}
@@ -14,11 +14,15 @@ use Rattle.std.proofs.lemmas.Option.{none-some, same_Some}
 use Rattle.event_tables.specs.declared.schedule_row.ScheduleRow.{ScheduleRow}
 use Rattle.event_tables.specs.Schedules.{is_empty_row}
 use Rattle.link_plans.specs.Plans.{next, is_next, AreSuccessors}
-use Rattle.vehicle_model.specs.ReadSchedules.{Reading, nothing_read, one_more, trip_in, begins, is_new, last_seen, has_seen, row_fits, has_form, same_run, link_of, link_to, plan_by, is_late}
-use Rattle.vehicle_model.specs.Readers.{ReaderParts, late_after, after_link, after_trip, after_row, late_of, CanLink, Knows}
+use Rattle.vehicle_model.specs.ReadSchedules.{Reading, nothing_read, one_more, trip_in, begins}
+use Rattle.vehicle_model.specs.ReadSchedules.{is_new, last_seen, has_seen, row_fits, has_form}
+use Rattle.vehicle_model.specs.ReadSchedules.{same_run, link_of, link_to, plan_by, is_late}
+use Rattle.vehicle_model.specs.Readers.{ReaderParts, late_after, after_link, after_trip, after_row}
+use Rattle.vehicle_model.specs.Readers.{late_of, CanLink, Knows}
 use Rattle.vehicle_model.specs.Schedules.{no_trip}
 use Rattle.vehicle_model.specs.Trips.{TripsParts, link_minutes}
-use Rattle.link_plans.proofs.Linking.{by_number, none_next, none_linked, next_in, next_before, not_linked, linked, never_next}
+use Rattle.link_plans.proofs.Linking.{by_number, none_next, none_linked, next_in, next_before}
+use Rattle.link_plans.proofs.Linking.{not_linked, linked, never_next}
 
 -- ---- before all rows
 
@@ -95,11 +99,7 @@ new_trip trips before last come row after j fits is = split (is_empty_row row) r
   where
     told : (at : Option ℕ) → at ≡ Some j → is_new come at ≡ true → come j ≡ false
     told None e h = absurd (none-some j e)
-    told (Some i) e h = ap come (sym (same_Some i j e)) ∙ not_true (come i) h
-      where
-        not_true : (b : Bool) → not b ≡ true → b ≡ false
-        not_true true h = cc
-        not_true false h = refl
+    told (Some i) e h = ap come (sym (same_Some i j e)) ∙ not-true (come i) h
 
     split : (b : Bool) → is_empty_row row ≡ b → come j ≡ false
     split true e = absurd (none-some j (sym (ap (λ b. cond b None (position (same_run row.run) trips.trips)) e) ∙ is))
@@ -127,7 +127,8 @@ no_link false (Some i) = refl
 
 -- ---- a row more
 
-module _ (trips : TripsParts) (read : Reading) (links : List (ℕ × ℕ)) (reader : ReaderParts) (knows : Knows trips read links reader) where
+module _ (trips : TripsParts) (read : Reading) (links : List (ℕ × ℕ)) (reader : ReaderParts)
+    (knows : Knows trips read links reader) where
   count : ℕ
   count = length trips.trips
 
@@ -166,7 +167,14 @@ module _ (trips : TripsParts) (read : Reading) (links : List (ℕ × ℕ)) (read
         grind (arith, length-set, trip_within, come_more, same_Some, or_parts, false≢true, eq-eqb)
 
     pub alone : Knows trips (record { before = Some row; seen = j ∷ read.seen }) (links ++ [])
-        (record { before = Some row; last = Some j; come = slice_set reader.come j true; plan = reader.plan; late = reader.late })
+        (record {
+          before = Some row;
+          last = Some j;
+          come = slice_set reader.come j true;
+          plan =
+              reader.plan;
+          late = reader.late;
+        })
     alone = grind (arith, comes, append-nil)
 
     module _ (i : ℕ) (last : reader.last ≡ Some i) where
@@ -197,12 +205,14 @@ module _ (trips : TripsParts) (read : Reading) (links : List (ℕ × ℕ)) (read
           (λ none one k e.
           let parts = none_late trips i j reader.late none in
           elim (next_before reader.plan i j within one k e) as (λ _. is_some (link_minutes trips one k) ≡ true) [
-            | inl at ↦ ap (λ n. is_some (link_minutes trips n k)) at.0 ∙ ap (λ n. is_some (link_minutes trips i n)) at.1 ∙ parts.1
+            | inl at ↦ ap (λ n. is_some (link_minutes trips n k)) at.0
+                ∙ ap (λ n. is_some (link_minutes trips i n)) at.1 ∙ parts.1
             | inr was ↦ knows.follow parts.0 one k was
           ])
 
   -- a row without a trip
-  pub passed : (row : ScheduleRow) → Knows trips (record { before = Some row; seen = read.seen }) (links ++ []) (after_row row reader)
+  pub passed : (row : ScheduleRow) → Knows trips (record { before = Some row; seen = read.seen }) (links ++ [])
+      (after_row row reader)
   passed row = grind (arith, append-nil)
 
   -- ---- by cases

@@ -11,9 +11,7 @@ use Rattle.event_tables.specs.declared.trip.TripEnd.{TripEnd}
 use Rattle.vehicle_model.specs.ReadSchedules.{same_end, same_run}
 use Rattle.vehicle_model.specs.Schedules.{no_trip, trip_of}
 use Rattle.vehicle_model.specs.Trips.{TripsParts, AreTrips}
-
-pub both_true : {a b : Bool} → a ≡ true → b ≡ true → (a && b) ≡ true
-both_true {a} {b} e f = ap (λ c. c && b) e ∙ f
+use Rattle.plan_num.proofs.Tests.{both_true}
 
 pub same_number : (n : ℕ) → (n == n) ≡ true
 same_number n = eq-eqb n n refl
@@ -41,7 +39,8 @@ repeats trips are i within = position_at (same_run (trip_of trips i)) trips.trip
     starts : List ℕ
     starts = map (λ (trip : Trip). trip.start.event) trips.trips
 
-    start_at : (k : ℕ) → k < length trips.trips → get_or (map (λ (trip : Trip). trip.start.event) trips.trips) k 0 ≡ (trip_of trips k).start.event
+    start_at : (k : ℕ) → k < length trips.trips → get_or (map (λ (trip : Trip). trip.start.event) trips.trips)
+        k 0 ≡ (trip_of trips k).start.event
     start_at k inside = get_or-map (λ (trip : Trip). trip.start.event) trips.trips k no_trip 0 inside
 
     apart : (k : ℕ) → k < i → (b : Bool) → same_run (trip_of trips i) (trip_of trips k) ≡ b → b ≡ false

@@ -11,7 +11,8 @@ use Rattle.tables.specs.Columns.{trips_columns, schedule_columns}
 use Rattle.tables.specs.Writing.{InColumns}
 use Rattle.vehicle_model.specs.Plans.{starts}
 use Rattle.link_plans.specs.Plans.{next, is_next, IsPlan}
-use Rattle.vehicle_model.specs.Schedules.{trip_of, no_trip, dead_between, tour, tours, trip_row, empty_row, rows_behind, rows_from, plan_rows}
+use Rattle.vehicle_model.specs.Schedules.{trip_of, no_trip, dead_between, tour, tours, trip_row}
+use Rattle.vehicle_model.specs.Schedules.{empty_row, rows_behind, rows_from, plan_rows}
 use Rattle.vehicle_model.specs.Trips.{TripsParts, AreTrips, links_of}
 use Rattle.link_plans.proofs.Counting.{count_most}
 use Rattle.vehicle_model.proofs.Following.{is_link, gain_there}
@@ -56,7 +57,32 @@ module _ (trips : TripsParts) (plan : List (Option ℕ)) (are : AreTrips trips) 
               (1, omega arith, refl),
               (
                 before.1.1.1.1.0,
-                (before.1.1.1.1.1.0, (before.1.1.1.1.1.1.0, (before.1.1.1.1.1.1.1.0, (after.0, (after.1.0, (after.1.1.0, ((omega (arith, ints), omega (arith, ints, soon, after.1.1.1.0.1)), ((omega (arith, ints), omega (arith, ints)), tt)))))))),
+                (
+                  before.1.1.1.1.1.0,
+                  (
+                    before.1.1.1.1.1.1.0,
+                    (
+                      before.1.1.1.1.1.1.1.0,
+                      (
+                        after.0,
+                        (
+                          after.1.0,
+                          (
+                            after.1.1.0,
+                            (
+                              (
+                                omega (arith, ints),
+                                omega
+                                    (arith, ints, soon, after.1.1.1.0.1),
+                              ),
+                              ((omega (arith, ints), omega (arith, ints)), tt),
+                            ),
+                          ),
+                        ),
+                      ),
+                    ),
+                  ),
+                ),
               ),
             ),
           ),

@@ -15,6 +15,7 @@ use Rattle.link_plans.proofs.Counting.{count, one_less, count_most}
 use Rattle.vehicle_model.proofs.Following.{links_within, gain_there, starts_later}
 use Rattle.link_plans.proofs.Linking.{some_of}
 use Rattle.link_plans.proofs.Linking.{by_number, next_found, followed, none_next, next_is, next_in}
+use Rattle.plan_num.proofs.Tests.{both_true, not_both}
 
 -- whether a trip is among some
 abbrev pub has : List ℕ → ℕ → Bool
@@ -70,9 +71,6 @@ has_cases : {P : Type 0} (seen : List ℕ) (i k : ℕ) → has (i ∷ seen) k �
 has_cases seen i k h same was =
     by_number k i same (λ apart. was (sym (has_other seen i k apart) ∙ h))
 
-not_both : {b : Bool} → b ≡ true → b ≡ false → ⊥
-not_both e f = false≢true (sym f ∙ e)
-
 by_bool : {P : Type 0} (b : Bool) → (b ≡ true → P) → (b ≡ false → P) → P
 by_bool true yes_it no_it = yes_it refl
 by_bool false yes_it no_it = no_it refl
@@ -88,11 +86,8 @@ tour_first plan (suc fuel) i some = grind arith
 pub all_in_range : (p : ℕ → Bool) (from k : ℕ) → ((i : ℕ) → from ≤ i → i < from + k → p i ≡ true)
     → list_all p (range_with_len from k) ≡ true
 all_in_range p from zero each = refl
-all_in_range p from (suc k) each = both (each from (omega arith) (omega arith))
+all_in_range p from (suc k) each = both_true (each from (omega arith) (omega arith))
     (all_in_range p (from + 1) k (λ i low high. each i (omega (arith, low)) (omega (arith, high))))
-  where
-    both : {a b : Bool} → a ≡ true → b ≡ true → (a && b) ≡ true
-    both {a} {b} e f = ap (λ c. c && b) e ∙ f
 
 -- plans that agree at each trip
 same_plans : (some other : List (Option ℕ)) → length some ≡ length other
@@ -174,7 +169,8 @@ module _ (trips : TripsParts) (plan : List (Option ℕ)) (are : AreTrips trips) 
             ]);
         size = length-set linked i (Some j) ∙ it.size;
         same = λ p h. has_cases seen i p h
-            (λ at. ap (next (slice_set linked i (Some j))) at ∙ next_is linked i j inside ∙ sym e ∙ sym (ap (next plan) at))
+            (λ at. ap (next (slice_set linked i (Some j))) at ∙ next_is linked i j inside ∙ sym e
+            ∙ sym (ap (next plan) at))
             (λ was. next_in linked i j inside p (λ at. not_both (sym (ap (has seen) at) ∙ was) it.new) ∙ it.same p was);
         none = λ p h.
             let parts = or_parts (p == i) (has seen p) h in
@@ -206,11 +202,13 @@ module _ (trips : TripsParts) (plan : List (Option ℕ)) (are : AreTrips trips) 
       step (next plan i) refl (λ j e. tour_behind Rest base fuel (i ∷ seen) (slice_set linked i (Some j)) j
       (goes_on seen linked i it j e)
       (omega (arith, enough, one_left n (i ∷ seen) j (next_within i j e).1 (fresh seen linked i it j e)))
-      (λ s h. has_other (i ∷ seen) j s (λ at. not_both (next_found plan i j e) (sym (ap (is_next plan) at) ∙ h)) ∙ firsts s h)
+      (λ s h. has_other (i ∷ seen) j s
+      (λ at. not_both (next_found plan i j e) (sym (ap (is_next plan) at) ∙ h)) ∙ firsts s h)
       rest)
     where
       step : (at : Option ℕ) → next plan i ≡ at
-          → ((j : ℕ) → next plan i ≡ Some j → AreBehind n plan Rest (j ∷ i ∷ seen) (slice_set linked i (Some j)) j (tour fuel plan (next plan j)))
+          → ((j : ℕ) → next plan i ≡ Some j → AreBehind n plan Rest (j ∷ i ∷ seen)
+          (slice_set linked i (Some j)) j (tour fuel plan (next plan j)))
           → AreBehind n plan Rest (i ∷ seen) linked i (tour (suc fuel) plan at)
       step None e more = rest (i ∷ seen) linked (closes seen linked i it e) firsts
       step (Some j) e more = (record { within = (next_within i j e).1; new = fresh seen linked i it j e }, e, more j e)

@@ -1,5 +1,7 @@
 -- The definitions on small schedules.
-use Rattle.std.proofs.Common.{◌≡◌, ℕ, refl, pos, negsuc, ◌+◌, ◌*◌, List, [], ◌∷◌, ◌++◌, codes, slice_get, Option, Some, None}
+use Rattle.std.specs.Prelude.{⊤}
+use Rattle.std.proofs.Common.{◌≡◌, ℕ, refl, pos, negsuc, ◌+◌, ◌*◌, List, [], ◌∷◌, ◌++◌, codes}
+use Rattle.std.proofs.Common.{slice_get, Option, Some, None}
 use Rattle.std.specs.Fmt.{digits}
 use Rattle.event_tables.specs.declared.trip.Trip.{Trip}
 use Rattle.event_tables.specs.declared.trip.TripEnd.{TripEnd}
@@ -11,9 +13,11 @@ use Rattle.tables.specs.Reading.{faults, table_of, cells_from, cell_of, errors, 
 use Rattle.text_fields.specs.Rows.{rows, cleaned}
 use Rattle.tables.specs.Writing.{cell_text, cell_texts, joined, table_text}
 use Rattle.plan_num.specs.Number.{spelling_of, value_of, value_at, fixed_of, whole_of}
-use Rattle.ptn_network.specs.declared.edge.Edge.{Edge}
-use Rattle.ptn_network.specs.Networks.{NetworkParts, by_id, stops_of, network_of, network_faults}
-use Rattle.ptn_network.specs.Walks.{walks_within, least_of, least_sum}
+use Rattle.walks.specs.declared.edge.Edge.{Edge}
+use Rattle.walks.specs.Networks.{NetworkParts}
+use Rattle.ptn_network.specs.Networks.{stops_of, network_of, network_faults}
+use Rattle.walks.specs.RisingIds.{by_id}
+use Rattle.walks.specs.Walks.{walks_within, least_of, least_sum}
 use Rattle.vehicle_model.specs.declared.plan_fault.PlanFault.TheVariants as fault
 use Rattle.vehicle_model.specs.Trips.{TripsParts, trips_of, trips_faults, links_of, link_minutes, dead_minutes}
 use Rattle.vehicle_model.specs.Plans.{plan_cost, all_plans, all_lists, is_apart, chosen_plan}
@@ -47,7 +51,14 @@ trip number from start to end = record {
 }
 
 abbrev pub trips : List Trip → ℕ → ℕ → TripsParts
-trips list turnover empty = record { network = network; trips = list; turnover = turnover; vehicle = 100000000; empty = empty }
+trips list turnover empty = record {
+  network = network;
+  trips = list;
+  turnover = turnover;
+  vehicle =
+      100000000;
+  empty = empty;
+}
 
 -- one trip, and two that may follow it
 abbrev three : TripsParts
@@ -177,6 +188,12 @@ unfolding plan_faults form_faults links_in faults errors row_whys least_sum walk
     by_id table_of cells_from cell_of values rows cleaned spelling_of value_of value_at fixed_of whole_of
 fine = refl
 
+-- what the faults of rows are computed by
+unfoldable on_rows : ⊤
+unfolding plan_faults form_faults links_in faults errors row_whys least_sum walks_within least_of
+    table_of cells_from cell_of values rows cleaned spelling_of value_of value_at fixed_of whole_of
+on_rows = tt
+
 -- ---- schedules from any hand, over two trips
 
 -- a text that is no table
@@ -185,53 +202,46 @@ no_table : slice_get (plan_faults (two 1000000) (codes "x\n")) 0 ≡ Some (fault
   why =
       why.FieldCount 1;
 }))
-unfolding plan_faults form_faults links_in faults errors row_whys least_sum walks_within least_of table_of cells_from cell_of
-    values rows cleaned spelling_of value_of value_at fixed_of whole_of
+unfolding on_rows
 no_table = refl
 
 -- vehicles in any order
 any_order : slice_get (plan_faults (two 1000000) (codes "1; 1; 1; TRIP; 4; 4; 1; 30; 5; 5; 2; 40; 1\n"
     ++ codes "2; 2; 1; TRIP; 2; 2; 1; 0; 3; 3; 2; 10; 1\n")) 0 ≡ None
-unfolding plan_faults form_faults links_in faults errors row_whys least_sum walks_within least_of table_of cells_from cell_of
-    values rows cleaned spelling_of value_of value_at fixed_of whole_of
+unfolding on_rows
 any_order = refl
 
 -- two trips without an empty run between them
 no_run : slice_get (plan_faults (two 1000000) (codes "1; 1; 1; TRIP; 2; 2; 1; 0; 3; 3; 2; 10; 1\n"
     ++ codes "1; 1; 2; TRIP; 4; 4; 1; 30; 5; 5; 2; 40; 1\n")) 0 ≡ Some (fault.Trips 2)
-unfolding plan_faults form_faults links_in faults errors row_whys least_sum walks_within least_of table_of cells_from cell_of
-    values rows cleaned spelling_of value_of value_at fixed_of whole_of
+unfolding on_rows
 no_run = refl
 
 -- the same, counted as if there were one
 no_run_counted : slice_get (plan_faults (two 1000000) (codes "1; 1; 1; TRIP; 2; 2; 1; 0; 3; 3; 2; 10; 1\n"
     ++ codes "1; 1; 3; TRIP; 4; 4; 1; 30; 5; 5; 2; 40; 1\n")) 0 ≡ Some (fault.Trips 2)
-unfolding plan_faults form_faults links_in faults errors row_whys least_sum walks_within least_of table_of cells_from cell_of
-    values rows cleaned spelling_of value_of value_at fixed_of whole_of
+unfolding on_rows
 no_run_counted = refl
 
 -- an empty run before the first trip
 run_first : slice_get (plan_faults (two 1000000) (codes "1; 1; 1; EMPTY; 3; 3; 2; 10; 4; 4; 1; 14; 0\n"
     ++ codes "1; 1; 2; TRIP; 2; 2; 1; 0; 3; 3; 2; 10; 1\n"
     ++ codes "2; 2; 1; TRIP; 4; 4; 1; 30; 5; 5; 2; 40; 1\n")) 0 ≡ Some (fault.Trips 1)
-unfolding plan_faults form_faults links_in faults errors row_whys least_sum walks_within least_of table_of cells_from cell_of
-    values rows cleaned spelling_of value_of value_at fixed_of whole_of
+unfolding on_rows
 run_first = refl
 
 -- an empty run behind the last trip
 run_last : slice_get (plan_faults (two 1000000) (codes "1; 1; 1; TRIP; 2; 2; 1; 0; 3; 3; 2; 10; 1\n"
     ++ codes "1; 1; 2; EMPTY; 3; 3; 2; 10; 4; 4; 1; 14; 0\n"
     ++ codes "2; 2; 1; TRIP; 4; 4; 1; 30; 5; 5; 2; 40; 1\n")) 0 ≡ Some (fault.Trips 2)
-unfolding plan_faults form_faults links_in faults errors row_whys least_sum walks_within least_of table_of cells_from cell_of
-    values rows cleaned spelling_of value_of value_at fixed_of whole_of
+unfolding on_rows
 run_last = refl
 
 -- an empty run at the end of the text
 run_at_end : slice_get (plan_faults (two 1000000) (codes "1; 1; 1; TRIP; 4; 4; 1; 30; 5; 5; 2; 40; 1\n"
     ++ codes "2; 2; 1; TRIP; 2; 2; 1; 0; 3; 3; 2; 10; 1\n"
     ++ codes "2; 2; 2; EMPTY; 3; 3; 2; 10; 4; 4; 1; 14; 0\n")) 0 ≡ Some (fault.Trips 3)
-unfolding plan_faults form_faults links_in faults errors row_whys least_sum walks_within least_of table_of cells_from cell_of
-    values rows cleaned spelling_of value_of value_at fixed_of whole_of
+unfolding on_rows
 run_at_end = refl
 
 -- two empty runs
@@ -239,77 +249,67 @@ runs : slice_get (plan_faults (two 1000000) (codes "1; 1; 1; TRIP; 2; 2; 1; 0; 3
     ++ codes "1; 1; 2; EMPTY; 3; 3; 2; 10; 4; 4; 1; 14; 0\n"
     ++ codes "1; 1; 3; EMPTY; 3; 3; 2; 10; 4; 4; 1; 14; 0\n"
     ++ codes "1; 1; 4; TRIP; 4; 4; 1; 30; 5; 5; 2; 40; 1\n")) 0 ≡ Some (fault.Trips 2)
-unfolding plan_faults form_faults links_in faults errors row_whys least_sum walks_within least_of table_of cells_from cell_of
-    values rows cleaned spelling_of value_of value_at fixed_of whole_of
+unfolding on_rows
 runs = refl
 
 -- a vehicle is left out
 left_out : slice_get (plan_faults (two 1000000) (codes "1; 1; 1; TRIP; 2; 2; 1; 0; 3; 3; 2; 10; 1\n"
     ++ codes "3; 3; 1; TRIP; 4; 4; 1; 30; 5; 5; 2; 40; 1\n")) 0 ≡ Some (fault.Trips 2)
-unfolding plan_faults form_faults links_in faults errors row_whys least_sum walks_within least_of table_of cells_from cell_of
-    values rows cleaned spelling_of value_of value_at fixed_of whole_of
+unfolding on_rows
 left_out = refl
 
 -- a circulation that is not the vehicle
 other : slice_get (plan_faults (two 1000000) (codes "2; 1; 1; TRIP; 2; 2; 1; 0; 3; 3; 2; 10; 1\n"
     ++ codes "2; 2; 1; TRIP; 4; 4; 1; 30; 5; 5; 2; 40; 1\n")) 0 ≡ Some (fault.Trips 1)
-unfolding plan_faults form_faults links_in faults errors row_whys least_sum walks_within least_of table_of cells_from cell_of
-    values rows cleaned spelling_of value_of value_at fixed_of whole_of
+unfolding on_rows
 other = refl
 
 -- an empty run of other minutes
 minutes : slice_get (plan_faults (two 1000000) (codes "1; 1; 1; TRIP; 2; 2; 1; 0; 3; 3; 2; 10; 1\n"
     ++ codes "1; 1; 2; EMPTY; 3; 3; 2; 10; 4; 4; 1; 15; 0\n"
     ++ codes "1; 1; 3; TRIP; 4; 4; 1; 30; 5; 5; 2; 40; 1\n")) 0 ≡ Some (fault.Trips 2)
-unfolding plan_faults form_faults links_in faults errors row_whys least_sum walks_within least_of table_of cells_from cell_of
-    values rows cleaned spelling_of value_of value_at fixed_of whole_of
+unfolding on_rows
 minutes = refl
 
 -- an empty run of a line
 line : slice_get (plan_faults (two 1000000) (codes "1; 1; 1; TRIP; 2; 2; 1; 0; 3; 3; 2; 10; 1\n"
     ++ codes "1; 1; 2; EMPTY; 3; 3; 2; 10; 4; 4; 1; 14; 1\n"
     ++ codes "1; 1; 3; TRIP; 4; 4; 1; 30; 5; 5; 2; 40; 1\n")) 0 ≡ Some (fault.Trips 2)
-unfolding plan_faults form_faults links_in faults errors row_whys least_sum walks_within least_of table_of cells_from cell_of
-    values rows cleaned spelling_of value_of value_at fixed_of whole_of
+unfolding on_rows
 line = refl
 
 -- an empty run that begins elsewhere
 begins : slice_get (plan_faults (two 1000000) (codes "1; 1; 1; TRIP; 2; 2; 1; 0; 3; 3; 2; 10; 1\n"
     ++ codes "1; 1; 2; EMPTY; 3; 3; 1; 10; 4; 4; 1; 14; 0\n"
     ++ codes "1; 1; 3; TRIP; 4; 4; 1; 30; 5; 5; 2; 40; 1\n")) 0 ≡ Some (fault.Trips 2)
-unfolding plan_faults form_faults links_in faults errors row_whys least_sum walks_within least_of table_of cells_from cell_of
-    values rows cleaned spelling_of value_of value_at fixed_of whole_of
+unfolding on_rows
 begins = refl
 
 -- a row that repeats no trip; the end of the empty run before it is not looked at
 unknown : slice_get (plan_faults (two 1000000) (codes "1; 1; 1; TRIP; 2; 2; 1; 0; 3; 3; 2; 10; 1\n"
     ++ codes "1; 1; 2; EMPTY; 3; 3; 2; 10; 4; 4; 1; 77; 0\n"
     ++ codes "1; 1; 3; TRIP; 4; 4; 1; 31; 5; 5; 2; 40; 1\n")) 0 ≡ Some (fault.Trips 3)
-unfolding plan_faults form_faults links_in faults errors row_whys least_sum walks_within least_of table_of cells_from cell_of
-    values rows cleaned spelling_of value_of value_at fixed_of whole_of
+unfolding on_rows
 unknown = refl
 
 -- a trip that has come before
 twice : slice_get (plan_faults (two 1000000) (codes "1; 1; 1; TRIP; 2; 2; 1; 0; 3; 3; 2; 10; 1\n"
     ++ codes "2; 2; 1; TRIP; 2; 2; 1; 0; 3; 3; 2; 10; 1\n"
     ++ codes "3; 3; 1; TRIP; 4; 4; 1; 30; 5; 5; 2; 40; 1\n")) 0 ≡ Some (fault.Trips 2)
-unfolding plan_faults form_faults links_in faults errors row_whys least_sum walks_within least_of table_of cells_from cell_of
-    values rows cleaned spelling_of value_of value_at fixed_of whole_of
+unfolding on_rows
 twice = refl
 
 -- a trip without a row
 missing : slice_get (plan_faults (two 1000000) (codes "1; 1; 1; TRIP; 2; 2; 1; 0; 3; 3; 2; 10; 1\n")) 0 ≡ Some
     (fault.Trips 0)
-unfolding plan_faults form_faults links_in faults errors row_whys least_sum walks_within least_of table_of cells_from cell_of
-    values rows cleaned spelling_of value_of value_at fixed_of whole_of
+unfolding on_rows
 missing = refl
 
 -- a link that may not follow
 follows : slice_get (plan_faults (two 1000000) (codes "1; 1; 1; TRIP; 4; 4; 1; 30; 5; 5; 2; 40; 1\n"
     ++ codes "1; 1; 2; EMPTY; 5; 5; 2; 40; 2; 2; 1; 44; 0\n"
     ++ codes "1; 1; 3; TRIP; 2; 2; 1; 0; 3; 3; 2; 10; 1\n")) 0 ≡ Some (fault.Follow 0)
-unfolding plan_faults form_faults links_in faults errors row_whys least_sum walks_within least_of table_of cells_from cell_of
-    values rows cleaned spelling_of value_of value_at fixed_of whole_of
+unfolding on_rows
 follows = refl
 
 -- a break of form comes before it
@@ -317,22 +317,19 @@ form_first : slice_get (plan_faults (two 1000000) (codes "1; 1; 1; TRIP; 4; 4; 1
     ++ codes "1; 1; 2; EMPTY; 5; 5; 2; 40; 2; 2; 1; 44; 0\n"
     ++ codes "1; 1; 3; TRIP; 2; 2; 1; 0; 3; 3; 2; 10; 1\n"
     ++ codes "1; 1; 4; TRIP; 2; 2; 1; 0; 3; 3; 2; 10; 1\n")) 0 ≡ Some (fault.Trips 4)
-unfolding plan_faults form_faults links_in faults errors row_whys least_sum walks_within least_of table_of cells_from cell_of
-    values rows cleaned spelling_of value_of value_at fixed_of whole_of
+unfolding on_rows
 form_first = refl
 
 -- rows are numbered as in the text
 numbers : slice_get (plan_faults (two 1000000) (codes "# a comment\n"
     ++ codes "1; 1; 1; TRIP; 2; 2; 1; 0; 3; 3; 2; 10; 1\n"
     ++ codes "1; 1; 2; TRIP; 4; 4; 1; 30; 5; 5; 2; 40; 1\n")) 0 ≡ Some (fault.Trips 3)
-unfolding plan_faults form_faults links_in faults errors row_whys least_sum walks_within least_of table_of cells_from cell_of
-    values rows cleaned spelling_of value_of value_at fixed_of whole_of
+unfolding on_rows
 numbers = refl
 
 -- a link between two stops that no walk joins: its minutes are not looked at
 nowhere : plan_faults (trips (trip 1 1 0 4 10 ∷ trip 2 1 30 2 40 ∷ []) 2 0)
     (codes "1; 1; 1; TRIP; 2; 2; 1; 0; 3; 3; 4; 10; 1\n1; 1; 2; EMPTY; 3; 3; 4; 10; 4; 4; 1; 99; 0\n"
     ++ codes "1; 1; 3; TRIP; 4; 4; 1; 30; 5; 5; 2; 40; 1\n") ≡ fault.Follow 1 ∷ []
-unfolding plan_faults form_faults links_in faults errors row_whys least_sum walks_within least_of table_of cells_from cell_of values
-    rows cleaned spelling_of value_of value_at fixed_of whole_of
+unfolding on_rows
 nowhere = refl

@@ -7,8 +7,9 @@ use Rattle.tables.specs.Reading.{table_of, cells_from, cell_of, values}
 use Rattle.text_fields.specs.Rows.{rows, cleaned}
 use Rattle.tables.specs.RowsOfTables.{records_by}
 use Rattle.plan_num.specs.Number.{spelling_of, value_of, value_at, fixed_of, whole_of}
-use Rattle.ptn_network.specs.Networks.{by_id, stops_of, network_of}
-use Rattle.ptn_network.specs.Walks.{walks_within, least_of, least_sum}
+use Rattle.ptn_network.specs.Networks.{stops_of, network_of}
+use Rattle.walks.specs.RisingIds.{by_id}
+use Rattle.walks.specs.Walks.{walks_within, least_of, least_sum}
 use Rattle.vehicle_model.specs.DrivenSchedules.{as_told}
 use Rattle.vehicle_model.specs.Schedules.{rows_behind, rows_from}
 use Rattle.vehicle_model.specs.Trips.{TripsParts, trips_of}

@@ -7,10 +7,12 @@ use Rattle.std.proofs.lemmas.Option.{get_or_from_slice_get, slice_get_within}
 use Rattle.event_tables.specs.declared.trip.Trip.{Trip}
 use Rattle.event_tables.specs.Trips.{trip_input}
 use Rattle.tables.specs.Inputs.{records_of, input_faults}
-use Rattle.ptn_network.specs.Networks.{NetworkParts, stops_of, network_of, network_faults}
+use Rattle.walks.specs.Networks.{NetworkParts}
+use Rattle.ptn_network.specs.Networks.{stops_of, network_of, network_faults}
 use Rattle.vehicle_model.specs.Trips.{trips_of, trips_faults}
 
-module _ (stops_text edges_text trips_text : List ℕ) (network : NetworkParts) (none : network_faults stops_text edges_text ≡ [])
+module _ (stops_text edges_text trips_text : List ℕ) (network : NetworkParts)
+    (none : network_faults stops_text edges_text ≡ [])
     (is : network ≡ network_of stops_text edges_text) (ids : List ℤ) (same : ids ≡ network.stops) where
   ids_are : ids ≡ stops_of stops_text
   unfolding network_of

@@ -37,7 +37,8 @@ module _ (trips : TripsParts) (plan : List (Option ℕ)) (vehicle first : ℕ) (
   on_start rows within is = grind (arith, append_assoc, tour_first)
 
   module _ (rows : List ScheduleRow) (number last turn : ℕ) (on : AreBehindTurn rows number last turn) where
-    pub on_more : (j : ℕ) (ridden new : List ScheduleRow) → turn < length plan → next plan last ≡ Some j → j < length plan
+    pub on_more : (j : ℕ) (ridden new : List ScheduleRow) → turn < length plan → next plan last ≡ Some j
+        → j < length plan
         → ridden ≡ rows ++ empty_row trips vehicle (number + 1) last j ∷ []
         → new ≡ ridden ++ trip_row trips vehicle (number + 2) j ∷ []
         → AreBehindTurn new (number + 2) j (turn + 1)

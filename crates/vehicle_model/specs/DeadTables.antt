@@ -1,8 +1,8 @@
 -- Inner words: a table in which dead minutes are looked up.
 use Rattle.std.specs.Prelude.{ℕ, ℤ, ◌≡◌, ◌<◌, List, length, map, get_or, Bool, true, false, Option, Some, None, All, ⊤}
 use Rattle.event_tables.specs.declared.trip.Trip.{Trip}
-use Rattle.ptn_network.specs.Networks.{NetworkParts}
-use Rattle.ptn_network.specs.Walks.{edge_time, least_sums, IsLeastSum, AreLeastSums}
+use Rattle.walks.specs.Networks.{NetworkParts}
+use Rattle.walks.specs.Walks.{edge_time, least_sums, IsLeastSum, AreLeastSums}
 use Rattle.vehicle_model.specs.Schedules.{no_trip}
 use Rattle.vehicle_model.specs.Trips.{start_stop, end_stop, dead_minutes}
 

@@ -1,5 +1,7 @@
 -- Schedules from any hand, told by the trips that each vehicle drives.
-use Rattle.std.specs.Prelude.{ℕ, ◌≡◌, ◌<◌, ◌+◌, ◌&&◌, nat_eq, not, is_some, if◌then◌else◌, Bool, true, List, [], length, map, filter, slice_get, All, Option, Some, None, Result, Ok, Err, ⊤}
+use Rattle.std.specs.Prelude.{ℕ, ◌≡◌, ◌<◌, ◌+◌, ◌&&◌, nat_eq, not, is_some, if◌then◌else◌, Bool}
+use Rattle.std.specs.Prelude.{true, List, [], length, map, filter, slice_get, All, Option, Some}
+use Rattle.std.specs.Prelude.{None, Result, Ok, Err, ⊤}
 use Rattle.std.specs.List.{concat}
 use Rattle.event_tables.specs.declared.schedule_row.ScheduleRow.{ScheduleRow}
 use Rattle.event_tables.specs.declared.trip.Trip.{Trip}
@@ -8,7 +10,7 @@ use Rattle.event_tables.specs.Schedules.{is_empty_row}
 use Rattle.tables.specs.Columns.{schedule_columns}
 use Rattle.tables.specs.Reading.{faults, table_of}
 use Rattle.tables.specs.RowsOfTables.{records_by}
-use Rattle.ptn_network.specs.Walks.{edge_time, least_sum}
+use Rattle.walks.specs.Walks.{edge_time, least_sum}
 use Rattle.vehicle_model.specs.declared.plan_fault.PlanFault.{PlanFault}
 use Rattle.vehicle_model.specs.declared.plan_fault.PlanFault.TheVariants as fault
 use Rattle.link_plans.specs.Plans.{next}

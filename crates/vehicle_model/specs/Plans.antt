@@ -1,6 +1,8 @@
 -- What plans of vehicles cost, and which plan is chosen. A plan has for each trip the one that its
 -- vehicle runs next, or none.
-use Rattle.std.specs.Prelude.{ℕ, ◌≤◌, ◌+◌, ◌*◌, ◌&&◌, nat_eq, not, is_some, Bool, true, List, [], ◌∷◌, ◌++◌, length, map, sum, filter, find, min, Option, Some, None, unwrap_or}
+use Rattle.std.specs.Prelude.{ℕ, ◌≤◌, ◌+◌, ◌*◌, ◌&&◌, nat_eq, not, is_some, Bool, true, List, []}
+use Rattle.std.specs.Prelude.{◌∷◌, ◌++◌, length, map, sum, filter, find, min, Option, Some, None}
+use Rattle.std.specs.Prelude.{unwrap_or}
 use Rattle.std.specs.List.{flat_map, range_with_len, reduce}
 use Rattle.link_plans.specs.Links.{Links}
 use Rattle.link_plans.specs.Plans.{is_next, plan_links, AreNoLater, IsPlan}

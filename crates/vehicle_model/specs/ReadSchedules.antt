@@ -1,5 +1,8 @@
 -- The plan of a schedule from any hand, and why a text is none.
-use Rattle.std.specs.Prelude.{ℕ, ◌≡◌, ◌+◌, ◌==◌, ◌&&◌, ◌||◌, nat_eq, not, is_some, if◌then◌else◌, Bool, true, false, List, [], ◌∷◌, ◌++◌, length, map, filter, fold, replicate, position, slice_get, slice_set, Option, Some, None, option_map, Result, Ok, Err, ⊤}
+use Rattle.std.specs.Prelude.{ℕ, ◌≡◌, ◌+◌, ◌==◌, ◌&&◌, ◌||◌, nat_eq, not, is_some, if◌then◌else◌}
+use Rattle.std.specs.Prelude.{Bool, true, false, List, [], ◌∷◌, ◌++◌, length, map, filter, fold}
+use Rattle.std.specs.Prelude.{replicate, position, slice_get, slice_set, Option, Some, None}
+use Rattle.std.specs.Prelude.{option_map, Result, Ok, Err, ⊤}
 use Rattle.std.specs.List.{list_any, list_all, range_with_len}
 use Rattle.std.specs.Option.{option_to_list}
 use Rattle.event_tables.specs.declared.schedule_row.ScheduleRow.{ScheduleRow}

@@ -1,11 +1,14 @@
 -- Inner words: what a reader of the rows of a schedule keeps, and what it knows by that.
-use Rattle.std.specs.Prelude.{ℕ, ◌≡◌, ◌<◌, is_some, if◌then◌else◌, Bool, true, false, List, ◌++◌, length, get_or, slice_set, drop, map, filter, slice_get, Option, Some, None, option_map, IfSome, Result, Ok, Err}
+use Rattle.std.specs.Prelude.{ℕ, ◌≡◌, ◌<◌, is_some, if◌then◌else◌, Bool, true, false, List, ◌++◌}
+use Rattle.std.specs.Prelude.{length, get_or, slice_set, drop, map, filter, slice_get, Option, Some}
+use Rattle.std.specs.Prelude.{None, option_map, IfSome, Result, Ok, Err}
 use Rattle.event_tables.specs.declared.schedule_row.ScheduleRow.{ScheduleRow}
 use Rattle.tables.specs.Inputs.{Numbered}
 use Rattle.vehicle_model.specs.declared.plan_fault.PlanFault.{PlanFault}
 use Rattle.vehicle_model.specs.declared.plan_fault.PlanFault.TheVariants as fault
 use Rattle.link_plans.specs.Plans.{next, is_next, AreSuccessors}
-use Rattle.vehicle_model.specs.ReadSchedules.{Reading, nothing_read, last_seen, has_seen, form_faults, links_in, plan_by, is_late, all_come}
+use Rattle.vehicle_model.specs.ReadSchedules.{Reading, nothing_read, last_seen, has_seen}
+use Rattle.vehicle_model.specs.ReadSchedules.{form_faults, links_in, plan_by, is_late, all_come}
 use Rattle.vehicle_model.specs.Trips.{TripsParts, link_minutes}
 
 -- the last row, the last trip, which trips have come, the links so far as a plan, and the second trip
@@ -95,7 +98,8 @@ abbrev pub KnowsSome : TripsParts → ReaderParts → Type 0
 KnowsSome trips reader = (read : Reading) × ((links : List (ℕ × ℕ)) × Knows trips read links reader)
 
 -- behind some of the rows of a schedule: what the rest adds to what was read is what all rows give
-pub record IsBehind (trips : TripsParts) (rows : List (Numbered ScheduleRow)) (i : ℕ) (reader : ReaderParts) : Type 0 where
+pub record IsBehind (trips : TripsParts) (rows : List (Numbered ScheduleRow)) (i : ℕ) (reader : ReaderParts) :
+    Type 0 where
   pub read : Reading
   pub links : List (ℕ × ℕ)
   pub knows : Knows trips read links reader

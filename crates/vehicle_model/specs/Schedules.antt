@@ -1,6 +1,7 @@
 -- The schedule of a plan, as rows: the trips of each vehicle in turn, and an empty ride between two
 -- of them.
-use Rattle.std.specs.Prelude.{ℕ, zero, suc, ◌+◌, List, [], ◌∷◌, ◌++◌, length, map, get_or, Option, Some, None, unwrap_or}
+use Rattle.std.specs.Prelude.{ℕ, zero, suc, ◌+◌, List, [], ◌∷◌, ◌++◌, length, map, get_or, Option}
+use Rattle.std.specs.Prelude.{Some, None, unwrap_or}
 use Rattle.event_tables.specs.declared.schedule_kind.ScheduleKind.TheVariants as kind
 use Rattle.event_tables.specs.declared.schedule_row.ScheduleRow.{ScheduleRow}
 use Rattle.event_tables.specs.declared.trip.Trip.{Trip}

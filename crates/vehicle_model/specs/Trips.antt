@@ -1,12 +1,16 @@
 -- Trips over a network, and which trip may follow which.
-use Rattle.std.specs.Prelude.{ℕ, ℤ, pos, ◌≡◌, ◌+◌, ◌*◌, ◌≤◌, ◌-ℤ◌, nat_le, if◌then◌else◌, List, ◌++◌, length, slice_get, Option, Some, None, option_map, option_and_then}
+use Rattle.std.specs.Prelude.{ℕ, ℤ, pos, ◌≡◌, ◌+◌, ◌*◌, ◌≤◌, ◌-ℤ◌, nat_le, if◌then◌else◌, List}
+use Rattle.std.specs.Prelude.{◌++◌, length, slice_get, Option, Some, None, option_map}
+use Rattle.std.specs.Prelude.{option_and_then}
 use Rattle.link_plans.specs.Links.{Links}
 use Rattle.event_tables.specs.declared.trip.Trip.{Trip}
 use Rattle.event_tables.specs.Trips.{trip_input, AreTrips as AreTripRows}
 use Rattle.tables.specs.declared.refusal.Refusal.{Refusal}
 use Rattle.tables.specs.Inputs.{records_of, input_faults}
-use Rattle.ptn_network.specs.Networks.{NetworkParts, IsNetwork, index_in, network_of, network_faults, stops_of}
-use Rattle.ptn_network.specs.Walks.{edge_time, least_sum, IsLeastSum}
+use Rattle.walks.specs.Networks.{NetworkParts, IsNetwork}
+use Rattle.ptn_network.specs.Networks.{network_of, network_faults, stops_of}
+use Rattle.walks.specs.RisingIds.{index_in}
+use Rattle.walks.specs.Walks.{edge_time, least_sum, IsLeastSum}
 
 -- trips over a network, the minutes of a turnover, and what a vehicle and a dead minute cost, in
 -- millionths

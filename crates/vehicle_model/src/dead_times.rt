@@ -1,11 +1,14 @@
 // Dead minutes between trips, looked up by their stops.
-ghost use Rattle.std.specs.Prelude.{List, option_map, unsigned_abs, ◌≡◌, ◌<◌, ◌≤◌, pos, true, length, map, nat_eq, get_or, Some, All, IfOk, IfSome};
+ghost use Rattle.std.specs.Prelude.{List, option_map, unsigned_abs, ◌≡◌, ◌<◌, ◌≤◌, pos, true};
+ghost use Rattle.std.specs.Prelude.{length, map, nat_eq, get_or, Some, All, IfOk, IfSome};
 ghost use Rattle.std.specs.List.{list_any};
 ghost use Rattle.event_tables.specs.Trips.{is_stop, AreTrips};
 ghost use Rattle.event_tables.specs.declared.trip.Trip.{Trip};
-ghost use Rattle.ptn_network.specs.Networks.{NetworkParts, index_in};
-ghost use Rattle.ptn_network.specs.Walks.{IsSumUpTo};
-ghost use Rattle.vehicle_model.specs.DeadTables.{HasWanted, HasAll, IsDeadTable, IsSomeTable, AreDeadMinutes};
+ghost use Rattle.walks.specs.Networks.{NetworkParts};
+ghost use Rattle.walks.specs.RisingIds.{index_in};
+ghost use Rattle.walks.specs.Walks.{IsSumUpTo};
+ghost use Rattle.vehicle_model.specs.DeadTables.{HasWanted, HasAll, IsDeadTable, IsSomeTable};
+ghost use Rattle.vehicle_model.specs.DeadTables.{AreDeadMinutes};
 
 use event_tables::Trip;
 use plan_num::NoMemory;

@@ -1,8 +1,11 @@
 // Reading the rows of a schedule, one after the other.
 ghost use Rattle.std.specs.Prelude.{◌≡◌, ◌<◌, length, IfOk, IfSome, []};
 ghost use Rattle.std.specs.List.{list_all, range_with_len};
-ghost use Rattle.vehicle_model.specs.ReadSchedules.{trip_in, begins, is_new, is_ride, leads_to, trip_fits, empty_fits, row_fits, link_of, nothing_read};
-ghost use Rattle.vehicle_model.specs.Readers.{has_come, after_link, after_trip, after_row, late_after, CanLink, IsOver, Knows, finished};
+ghost use Rattle.vehicle_model.specs.ReadSchedules.{trip_in, begins, is_new, is_ride, leads_to};
+ghost use Rattle.vehicle_model.specs.ReadSchedules.{trip_fits, empty_fits, row_fits, link_of};
+ghost use Rattle.vehicle_model.specs.ReadSchedules.{nothing_read};
+ghost use Rattle.vehicle_model.specs.Readers.{has_come, after_link, after_trip, after_row};
+ghost use Rattle.vehicle_model.specs.Readers.{late_after, CanLink, IsOver, Knows, finished};
 
 use crate::plan_fault::PlanFault;
 use crate::row_form::{begins, follows_empty, follows_trip, goes_to, is_empty_row, leaves};
@@ -112,7 +115,8 @@ impl Reader {
     /// Reads a row that has the form that is due.
     pub(crate) fn take(&mut self, trips: &Trips, row: &ScheduleRow)
         requires over { IsOver trips.now self.old }
-        requires link { IfSome (link_of (begins self.old.before row.now) self.old.last (trip_in trips.now row.now)) (CanLink self.old.plan) }
+        requires link { IfSome (link_of (begins self.old.before row.now) self.old.last
+            (trip_in trips.now row.now)) (CanLink self.old.plan) }
         ensures { self.new ≡ after_row row.now (after_trip (trip_in trips.now row.now)
             (after_link trips.now (link_of (begins self.old.before row.now) self.old.last
             (trip_in trips.now row.now)) self.old)) }
@@ -148,14 +152,13 @@ impl Reader {
     }
     /// The plan behind all rows, or the fault that is left: a trip that has not come, else one that
     /// may not follow.
-    pub(crate) fn finish(self, trips: &Trips) -> Result<Plan, PlanFault>
-        requires { IsOver trips.now self }
-        ensures { result ≡ finished trips.now self }
+    pub(crate) fn finish(self, _trips: &Trips) -> Result<Plan, PlanFault>
+        requires { IsOver _trips.now self }
+        ensures { result ≡ finished _trips.now self }
     {
         if !self.all_come() {
             return Err(PlanFault::Trips { row: 0 });
         }
-        let _ = trips;
         let Reader {
             before: _,
             last: _,

@@ -1,7 +1,9 @@
 // Tests of the rows of a schedule.
 ghost use Rattle.std.specs.Prelude.{◌≡◌};
 ghost use Rattle.event_tables.specs.Schedules.{is_empty_row};
-ghost use Rattle.vehicle_model.specs.ReadSchedules.{begins, follows_trip, follows_empty, is_next_row, same_end, same_run, leaves, takes, goes_to};
+ghost use Rattle.vehicle_model.specs.ReadSchedules.{begins, follows_trip, follows_empty};
+ghost use Rattle.vehicle_model.specs.ReadSchedules.{is_next_row, same_end, same_run, leaves, takes};
+ghost use Rattle.vehicle_model.specs.ReadSchedules.{goes_to};
 
 use event_tables::{ScheduleKind, ScheduleRow, Trip, TripEnd};
 

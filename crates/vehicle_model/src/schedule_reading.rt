@@ -1,11 +1,13 @@
 // Reading plans.
-ghost use Rattle.std.specs.Prelude.{◌≡◌, ◌+◌, ◌<◌, length, slice_get, slice_index_or, option_map, All, IfOk};
+ghost use Rattle.std.specs.Prelude.{◌≡◌, ◌+◌, ◌<◌, length, slice_get, slice_index_or, option_map};
+ghost use Rattle.std.specs.Prelude.{All, IfOk};
 ghost use Rattle.event_tables.specs.Cells.{schedule_row, AreSmall};
 ghost use Rattle.tables.specs.RowsOfTables.{records_by, numbered_by};
 ghost use Rattle.tables.specs.Tables.{no_row};
 ghost use Rattle.vehicle_model.specs.DrivenSchedules.{ReadsWhatIsDriven};
 ghost use Rattle.link_plans.specs.Plans.{IsPlan};
-ghost use Rattle.vehicle_model.specs.ReadSchedules.{plan_faults, plan_of, plan_by, links_in, nothing_read, row_faults, PlanGives};
+ghost use Rattle.vehicle_model.specs.ReadSchedules.{plan_faults, plan_of, plan_by, links_in};
+ghost use Rattle.vehicle_model.specs.ReadSchedules.{nothing_read, row_faults, PlanGives};
 ghost use Rattle.vehicle_model.specs.Trips.{links_of};
 
 use crate::plan_fault::PlanFault;
@@ -26,7 +28,7 @@ pub fn read_plan(alloc: Global, bytes: &[u8], trips: &Trips) -> Result<Plan, Pla
     ensures plan { IfOk result (IsPlan (links_of trips.now)) }
     ensures driven { ReadsWhatIsDriven trips.now bytes.now result }
 {
-    let _ = trips.len();
+    trips.are_trips();
     let table = read_table(alloc, bytes, &columns!(Schedule))?;
     read_rows(alloc, &table, trips)
 }

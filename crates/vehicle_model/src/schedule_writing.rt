@@ -1,12 +1,14 @@
 // Writing plans.
-ghost use Rattle.std.specs.Prelude.{◌≡◌, ◌+◌, ◌<◌, ◌≤◌, ◌++◌, true, length, is_some, Some, All, IfOk, OnOk};
+ghost use Rattle.std.specs.Prelude.{◌≡◌, ◌+◌, ◌<◌, ◌≤◌, ◌++◌, true, length, is_some, Some, All};
+ghost use Rattle.std.specs.Prelude.{IfOk, OnOk};
 ghost use Rattle.event_tables.specs.Cells.{schedule_cells};
 ghost use Rattle.tables.specs.Columns.{schedule_columns};
 ghost use Rattle.tables.specs.Writing.{InColumns};
 ghost use Rattle.vehicle_model.specs.Plans.{starts};
 ghost use Rattle.link_plans.specs.Plans.{IsPlan};
 ghost use Rattle.vehicle_model.specs.ReadSchedules.{IsReadBack};
-ghost use Rattle.vehicle_model.specs.Schedules.{tour, trip_row, empty_row, vehicle_rows, plan_rows, plan_text};
+ghost use Rattle.vehicle_model.specs.Schedules.{tour, trip_row, empty_row, vehicle_rows, plan_rows};
+ghost use Rattle.vehicle_model.specs.Schedules.{plan_text};
 ghost use Rattle.vehicle_model.specs.Trips.{link_minutes, links_of, AreTrips};
 
 use crate::cost::minutes_of;
@@ -32,7 +34,7 @@ fn plan_rows(alloc: Global, trips: &Trips, plan: &Plan) -> Result<Vec<ScheduleRo
     ensures rows { IfOk result (λ rows. rows.items ≡ plan_rows trips.now plan.now) }
     ensures trips { AreTrips trips.now }
 {
-    let _ = trips.len();
+    trips.are_trips();
     let mut rows = Vec::new(alloc);
     let starts = starts(alloc, plan)?;
     for index in 0..starts.len() {

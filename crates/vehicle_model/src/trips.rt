@@ -1,12 +1,16 @@
 // Trips over a network.
-ghost use Rattle.std.specs.Prelude.{ℕ, ◌≡◌, ◌≤◌, ◌<◌, ◌↔◌, ◌+◌, ◌*◌, ◌≤ℤ◌, pos, neg_ℤ, true, length, map, position, is_some, unsigned_abs, Some, IfOk, IfSome};
+ghost use Rattle.std.specs.Prelude.{ℕ, ◌≡◌, ◌≤◌, ◌<◌, ◌↔◌, ◌+◌, ◌*◌, ◌≤ℤ◌, pos, neg_ℤ, true};
+ghost use Rattle.std.specs.Prelude.{length, map, position, is_some, unsigned_abs, Some, IfOk};
+ghost use Rattle.std.specs.Prelude.{IfSome};
 ghost use Rattle.event_tables.specs.Trips.{AreTrips as AreTripRows};
 ghost use Rattle.tables.specs.Inputs.{UnlessFault};
-ghost use Rattle.ptn_network.specs.Networks.{IsNetwork};
-ghost use Rattle.ptn_network.specs.Walks.{edge_time, IsLeastSum};
+ghost use Rattle.walks.specs.Networks.{IsNetwork};
+ghost use Rattle.walks.specs.Walks.{edge_time, IsLeastSum};
 ghost use Rattle.vehicle_model.specs.ReadSchedules.{same_run, trip_in};
 ghost use Rattle.vehicle_model.specs.Schedules.{trip_of, dead_between};
-ghost use Rattle.vehicle_model.specs.Trips.{trips_of, trips_faults, link_minutes, links_of, gain_of, if_in_time, start_stop, end_stop, MayFollow, AreTrips};
+ghost use Rattle.vehicle_model.specs.Trips.{trips_of, trips_faults, link_minutes, links_of};
+ghost use Rattle.vehicle_model.specs.Trips.{gain_of, if_in_time, start_stop, end_stop, MayFollow};
+ghost use Rattle.vehicle_model.specs.Trips.{AreTrips};
 
 use crate::dead_times::DeadTimes;
 use crate::row_form::{is_empty_row, same_run};
@@ -95,6 +99,14 @@ impl Trips {
             vehicle: vehicle.unsigned_abs(),
             empty: empty.unsigned_abs(),
         })
+    }
+
+    /// Tells that these are trips, which are few and whose numbers are in their ranges. A proof
+    /// alone needs it, so it does nothing.
+    pub fn are_trips(&self)
+        ensures { AreTrips self.now }
+    {
+        let _rows = &self.rows;
     }
 
     /// How many trips there are.

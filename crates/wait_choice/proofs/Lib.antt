@@ -1,15 +1,6 @@
-mod Bounds
-mod Holding
 mod Judging
-mod Listed
 mod Printed
-mod Told
-mod Walked
+mod ListItems
 mod Passing
-mod PathFacts
-mod Right
 mod StageResults
-mod TreesOfNodes
-mod Turns
 mod Unspent
-mod Visits

@@ -24,22 +24,27 @@ use Rattle.propagation.specs.declared.step.Activity.{Activity}
 use Rattle.propagation.specs.Problems.{DelayProblem, IsForward}
 use Rattle.propagation.specs.Waiting.{chosen_changes}
 use Rattle.propagation.proofs.Rounds.{least_is_one, least_times_are_least}
-use Rattle.wait_choice.specs.declared.node.WaitNode.{WaitNode}
-use Rattle.wait_choice.specs.declared.node.WaitNode.TheVariants as node
+use Rattle.waiting_decisions.specs.declared.node.WaitNode.{WaitNode}
+use Rattle.waiting_decisions.specs.declared.node.WaitNode.TheVariants as node
 use Rattle.wait_choice.specs.declared.row.WaitRow.{WaitRow}
 use Rattle.wait_choice.specs.declared.row.WaitRow.TheVariants as row
 use Rattle.wait_choice.specs.declared.rule.WaitRule.{WaitRule}
 use Rattle.wait_choice.specs.declared.rule.WaitRule.TheVariants as rule
-use Rattle.wait_choice.specs.declared.waits.Waits.{Waits}
-use Rattle.wait_choice.specs.Certified.{Certifies}
-use Rattle.wait_choice.specs.Choices.{Costs, CostsAtLeast, cost_of, times_of, total}
-use Rattle.wait_choice.specs.Judged.{KeepsBest, Passes, are_choices, broken_nodes, broken_rows, broken_where, cost_in, first_broken_rule, index_of, is_choice, is_cost, is_node, is_shaped, keeps, kept_in, node_said, nodes_in, rows_read}
-use Rattle.wait_choice.specs.RightChoices.{IsRight}
-use Rattle.wait_choice.specs.WaitTexts.{NamesChange, choice_row, id_at, node_row, said_by, tree_rows, wait_row, waits_columns, waits_rows}
-use Rattle.wait_choice.proofs.Bounds.{certified_holds, chosen_are}
-use Rattle.wait_choice.proofs.Right.{names_of}
-use Rattle.wait_choice.proofs.Told.{drop_twice, found_at, index_alike}
-use Rattle.wait_choice.proofs.TreesOfNodes.{certifies_by, tree_of_nodes}
+use Rattle.waiting_decisions.specs.declared.waits.Waits.{Waits}
+use Rattle.waiting_decisions.specs.Certified.{Certifies}
+use Rattle.waiting_decisions.specs.Choices.{Costs, CostsAtLeast, cost_of, times_of, total}
+use Rattle.wait_choice.specs.Judged.{KeepsBest, Passes, are_choices, broken_nodes, broken_rows, broken_where, cost_in}
+use Rattle.wait_choice.specs.Judged.{first_broken_rule, index_of, is_choice, is_cost, is_node, is_shaped, keeps}
+use Rattle.wait_choice.specs.Judged.{kept_in, node_said, nodes_in, rows_read}
+use Rattle.waiting_decisions.specs.RightChoices.{IsRight, NamesChange}
+use Rattle.wait_choice.specs.WaitTexts.{choice_row, id_at, node_row, said_by, tree_rows, wait_row, waits_columns}
+use Rattle.wait_choice.specs.WaitTexts.{waits_rows}
+use Rattle.waiting_decisions.proofs.Bounds.{certified_holds, chosen_are}
+use Rattle.waiting_decisions.proofs.Right.{names_of}
+use Rattle.wait_choice.proofs.ListItems.{drop_twice, found_at, index_alike}
+use Rattle.waiting_decisions.proofs.TreesOfNodes.{certifies_by, tree_of_nodes}
+use Rattle.waiting_decisions.specs.declared.cost.TheConstants.{MOST_COST}
+use Rattle.plan_num.proofs.Lists.{none_first, none_long}
 
 -- ---- rows that have the form
 
@@ -64,7 +69,8 @@ choices_back (at ∷ rows) (change ∷ changes) size fit =
     by row.Leaf is = absurd (both_ways false refl is)
     by row.Stray is = absurd (both_ways false refl is)
 
-id_there : (changes : List Activity) (k : ℕ) (d : Activity) → k < length changes → id_at changes k ≡ (get_or changes k d).id
+id_there : (changes : List Activity) (k : ℕ) (d : Activity) → k < length changes
+    → id_at changes k ≡ (get_or changes k d).id
 id_there [] k d inside = absurd (omega (arith, inside))
 id_there (change ∷ changes) zero d inside = refl
 id_there (change ∷ changes) (suc k) d inside = id_there changes k d (omega (arith, inside))
@@ -73,7 +79,8 @@ no_change : Activity
 no_change = record { id = 0; step = record { from = 0; to = 0; lower = 0; extra = 0 } }
 
 -- the index of an id that is there has that id
-id_back : (changes : List Activity) (id : ℕ) → index_of changes id < length changes → id_at changes (index_of changes id) ≡ id
+id_back : (changes : List Activity) (id : ℕ) → index_of changes id < length changes
+    → id_at changes (index_of changes id) ≡ id
 id_back changes id inside = by (position (λ (change : Activity). change.id == id) changes) refl inside
   where
     by : (at : Option ℕ) → position (λ (change : Activity). change.id == id) changes ≡ at
@@ -84,13 +91,15 @@ id_back changes id inside = by (position (λ (change : Activity). change.id == i
         id_there changes k no_change inside ∙ eqb-true (get_or changes k no_change).id id found.1
 
 -- the id of a change that is there has its index, where ids rise
-index_back : (changes : List Activity) → IsStrictlyIncreasing (map (λ change. change.id) changes) → (k : ℕ) → k < length changes
+index_back : (changes : List Activity) → IsStrictlyIncreasing (map (λ change. change.id) changes) → (k : ℕ)
+    → k < length changes
     → index_of changes (id_at changes k) ≡ k
 index_back changes rise k inside =
     let ids = map (λ (change : Activity). change.id) changes in
     let id = id_at changes k in
     let here : k < length ids = omega (arith, inside, length-map changes (λ (change : Activity). change.id)) in
-    let at : get_or ids k 0 ≡ id = get_or-map (λ (change : Activity). change.id) changes k no_change 0 inside ∙ sym (id_there changes k no_change inside) in
+    let at : get_or ids k 0 ≡ id = get_or-map (λ (change : Activity). change.id) changes k no_change 0 inside
+    ∙ sym (id_there changes k no_change inside) in
     sym (found_at ids rise id k here at ∙ index_alike ids changes id refl)
 
 -- rows that are nodes are the rows of the nodes that they say, where these name changes
@@ -120,7 +129,8 @@ record HaveForm (changes : List Activity) (rows : List WaitRow) : Type 0 where
   enough : length changes ≤ length (drop 1 rows)
   nodes : list_all is_node (drop (length changes) (drop 1 rows)) ≡ true
 
-zip_front : (rows : List WaitRow) (changes : List Activity) → zip (take (length changes) rows) changes ≡ zip rows changes
+zip_front : (rows : List WaitRow) (changes : List Activity)
+    → zip (take (length changes) rows) changes ≡ zip rows changes
 zip_front [] [] = refl
 zip_front [] (change ∷ changes) = refl
 zip_front (at ∷ rows) [] = refl
@@ -152,7 +162,8 @@ tree_in : List WaitNode → Option (List WaitNode)
 tree_in [] = None
 tree_in (first ∷ nodes) = Some (first ∷ nodes)
 
-rows_by_tree : (changes : List Activity) (nodes : List WaitNode) → tree_rows changes (tree_in nodes) ≡ map (node_row changes) nodes
+rows_by_tree : (changes : List Activity) (nodes : List WaitNode)
+    → tree_rows changes (tree_in nodes) ≡ map (node_row changes) nodes
 unfolding tree_in
 rows_by_tree changes [] = refl
 rows_by_tree changes (first ∷ nodes) = refl
@@ -169,22 +180,15 @@ int_same a b is = grind (arith, ints)
 
 -- ---- a text that breaks no rule
 
-nothing_first : {X : Type 0} (xs : List X) → slice_get xs 0 ≡ None → xs ≡ []
-nothing_first [] none = refl
-nothing_first (x ∷ xs) none = absurd (cc)
-
 kept_rule : (broken : Bool) (why : WaitRule) → broken_where broken why ≡ [] → broken ≡ false
 kept_rule false why none = refl
 kept_rule true why none = absurd (cc)
 
-no_faults : {X : Type 0} (list : List X) → (length list == 0) ≡ true → list ≡ []
-no_faults [] is = refl
-no_faults (x ∷ list) is = absurd (omega (arith, eqb-true (length (x ∷ list)) 0 is))
-
 record BreaksNone (problem : DelayProblem) (penalty : ℕ) (text : List ℕ) : Type 0 where
   table : faults waits_columns text ≡ []
   shaped : is_shaped problem.changes (rows_read text) ≡ true
-  costs : int_eq (pos (cost_in (rows_read text))) (cost_of problem penalty (kept_in problem.changes (rows_read text))) ≡ true
+  costs : int_eq (pos (cost_in (rows_read text))) (cost_of problem penalty (kept_in problem.changes (rows_read text)))
+      ≡ true
   nodes : broken_nodes problem penalty (pos (cost_in (rows_read text))) (nodes_in problem.changes (rows_read text)) ≡ []
 
 module _ (problem : DelayProblem) (penalty : ℕ) (text : List ℕ) where
@@ -206,65 +210,49 @@ module _ (problem : DelayProblem) (penalty : ℕ) (text : List ℕ) where
   breaks_none : first_broken_rule problem penalty text ≡ None → BreaksNone problem penalty text
   unfolding first_broken_rule
   breaks_none none =
-      let all = nothing_first (broken_where (not (length (faults waits_columns text) == 0)) rule.Row ++ broken_rows problem penalty rows) none in
+      let all = none_first
+      (broken_where (not (length (faults waits_columns text) == 0)) rule.Row ++ broken_rows problem penalty rows) none in
       let table = kept_rule (not (length (faults waits_columns text) == 0)) rule.Row
-      (front_none (broken_where (not (length (faults waits_columns text) == 0)) rule.Row) (broken_rows problem penalty rows) all) in
-      let some = back_none (broken_where (not (length (faults waits_columns text) == 0)) rule.Row) (broken_rows problem penalty rows) all in
+      (front_none (broken_where (not (length (faults waits_columns text) == 0)) rule.Row)
+      (broken_rows problem penalty rows) all) in
+      let some = back_none (broken_where (not (length (faults waits_columns text) == 0)) rule.Row)
+      (broken_rows problem penalty rows) all in
       let S = broken_where (not (is_shaped changes rows)) rule.Shape in
       let C = broken_where (not (int_eq cost (cost_of problem penalty kept))) rule.Cost in
       let N = broken_nodes problem penalty cost nodes in
       let first = front_none (S ++ C) N some in
       record {
-        table = no_faults (faults waits_columns text) (not-false _ table);
+        table = none_long (faults waits_columns text) (not-false _ table);
         shaped = not-false _ (kept_rule (not (is_shaped changes rows)) rule.Shape (front_none S C first));
-        costs = not-false _ (kept_rule (not (int_eq cost (cost_of problem penalty kept))) rule.Cost (back_none S C first));
+        costs = not-false _ (kept_rule (not (int_eq cost (cost_of problem penalty kept))) rule.Cost
+            (back_none S C first));
         nodes = back_none (S ++ C) N some;
       }
 
   -- the cost of a table fits its column
-  cell_fits : (cell : ℤ) → pos 0 ≤ℤ cell → cell ≤ℤ pos 1000000000000000000 → unsigned_abs cell ≤ 1000000000000000000
+  cell_fits : (cell : ℤ) → pos 0 ≤ℤ cell → cell ≤ℤ pos MOST_COST → unsigned_abs cell ≤ MOST_COST
   cell_fits (pos n) low high = omega (arith, ints, high)
   cell_fits (negsuc n) low high = absurd (omega (arith, ints, low))
 
-  said_fits : (place id value : ℕ) (rest : List WaitRow) → value ≤ 1000000000000000000
-      → cost_in (said_by place id value ∷ rest) ≤ 1000000000000000000
-  said_fits zero id value rest few = by (id == 0)
-    where
-      by : (b : Bool) → cost_in (cond b (row.Cost value) row.Stray ∷ rest) ≤ 1000000000000000000
-      by true = few
-      by false = omega arith
-  said_fits (suc zero) id value rest few = by (value == 0)
-    where
-      by : (b : Bool) → cost_in (cond b (row.Keep id) row.Stray ∷ rest) ≤ 1000000000000000000
-      by true = omega arith
-      by false = omega arith
-  said_fits (suc (suc zero)) id value rest few = by (value == 0)
-    where
-      by : (b : Bool) → cost_in (cond b (row.Drop id) row.Stray ∷ rest) ≤ 1000000000000000000
-      by true = omega arith
-      by false = omega arith
-  said_fits (suc (suc (suc zero))) id value rest few = by (value == 0)
-    where
-      by : (b : Bool) → cost_in (cond b (row.Split id) row.Stray ∷ rest) ≤ 1000000000000000000
-      by true = omega arith
-      by false = omega arith
-  said_fits (suc (suc (suc (suc zero)))) id value rest few = by (id == 0) (value == 0)
-    where
-      by : (a b : Bool) → cost_in (cond a (cond b row.Leaf row.Stray) row.Stray ∷ rest) ≤ 1000000000000000000
-      by true true = omega arith
-      by true false = omega arith
-      by false b = omega arith
+  said_fits : (place id value : ℕ) (rest : List WaitRow) → value ≤ MOST_COST
+      → cost_in (said_by place id value ∷ rest) ≤ MOST_COST
+  said_fits zero id value rest few = grind arith
+  said_fits (suc zero) id value rest few = grind arith
+  said_fits (suc (suc zero)) id value rest few = grind arith
+  said_fits (suc (suc (suc zero))) id value rest few = grind arith
+  said_fits (suc (suc (suc (suc zero)))) id value rest few = grind arith
   said_fits (suc (suc (suc (suc (suc place))))) id value rest few = omega arith
 
   table_fits : (table : List TableRow) → All (λ (row : TableRow). InColumns waits_columns row.cells) table
-      → cost_in (records_by wait_row table) ≤ 1000000000000000000
+      → cost_in (records_by wait_row table) ≤ MOST_COST
   table_fits [] fit = omega arith
   table_fits (first ∷ table) fit =
       let cell = in_column waits_columns first.cells 2 (fit 0 first (omega arith)) (omega arith) in
-      said_fits (number_in first.cells 0) (number_in first.cells 1) (number_in first.cells 2) (records_by wait_row table)
+      said_fits (number_in first.cells 0) (number_in first.cells 1) (number_in first.cells 2)
+      (records_by wait_row table)
       (cell_fits (get_or first.cells 2 (pos 0)) cell.0 cell.1)
 
-  cost_fits : faults waits_columns text ≡ [] → cost_in rows ≤ 1000000000000000000
+  cost_fits : faults waits_columns text ≡ [] → cost_in rows ≤ MOST_COST
   cost_fits none = table_fits (table_of waits_columns text) (table_in_columns waits_columns text none)
 
   -- nodes that break no rule certify the cost
@@ -287,7 +275,8 @@ module _ (problem : DelayProblem) (penalty : ℕ) (text : List ℕ) where
   tree_least [] certified forward = tt
   tree_least (first ∷ more) certified forward = certified_holds problem forward penalty cost (first ∷ more) certified
 
-  some_names : (nodes : List WaitNode) → All (NamesChange (length changes)) nodes → IfSome (tree_in nodes) (All (NamesChange (length changes)))
+  some_names : (nodes : List WaitNode) → All (NamesChange (length changes)) nodes
+      → IfSome (tree_in nodes) (All (NamesChange (length changes)))
   unfolding tree_in
   some_names [] all = tt
   some_names (first ∷ more) all = all
@@ -334,7 +323,8 @@ module _ (problem : DelayProblem) (penalty : ℕ) (text : List ℕ) where
         let back = drop (length changes) (drop 1 rows) in
         let one = choices_back front changes (length-take-le (length changes) (drop 1 rows) form.enough) form.choices in
         let two : map (node_row changes) nodes ≡ back =
-        nodes_back changes (drop (length changes + 1) rows) (ap (list_all is_node) (sym behind) ∙ form.nodes) names ∙ sym behind in
+        nodes_back changes (drop (length changes + 1) rows) (ap (list_all is_node) (sym behind) ∙ form.nodes) names
+        ∙ sym behind in
         (λ i. row.Cost (cost_in rows) ∷ one i ++ (rows_by_tree changes nodes ∙ two) i)
         ∙ ap (λ some. row.Cost (cost_in rows) ∷ some) (take-append-drop (length changes) (drop 1 rows))
         ∙ sym form.cost
@@ -346,7 +336,8 @@ module _ (problem : DelayProblem) (penalty : ℕ) (text : List ℕ) where
     unfolding tree_in
     best some = record { costs = costs; least = by nodes some (tree_least nodes certified forward) }
       where
-        by : (nodes : List WaitNode) → ¬ (nodes ≡ []) → IfSome (tree_in nodes) (λ tree. CostsAtLeast problem penalty cost)
+        by : (nodes : List WaitNode) → ¬ (nodes ≡ [])
+            → IfSome (tree_in nodes) (λ tree. CostsAtLeast problem penalty cost)
             → CostsAtLeast problem penalty cost
         by [] some least = absurd (some refl)
         by (first ∷ more) some least = least
@@ -358,8 +349,10 @@ module _ (problem : DelayProblem) (penalty : ℕ) (text : List ℕ) where
   keeps_back [] [] size = refl
   keeps_back [] (change ∷ changes) size = absurd (omega (arith, size))
   keeps_back (is ∷ kept) [] size = absurd (omega (arith, size))
-  keeps_back (true ∷ kept) (change ∷ changes) size = ap (λ some. true ∷ some) (keeps_back kept changes (omega (arith, size)))
-  keeps_back (false ∷ kept) (change ∷ changes) size = ap (λ some. false ∷ some) (keeps_back kept changes (omega (arith, size)))
+  keeps_back (true ∷ kept) (change ∷ changes) size =
+      ap (λ some. true ∷ some) (keeps_back kept changes (omega (arith, size)))
+  keeps_back (false ∷ kept) (change ∷ changes) size =
+      ap (λ some. false ∷ some) (keeps_back kept changes (omega (arith, size)))
 
   rows_size : (kept : List Bool) (changes : List Activity) → length kept ≡ length changes
       → length (map (λ at. choice_row at.0 at.1) (zip kept changes)) ≡ length changes
@@ -369,7 +362,8 @@ module _ (problem : DelayProblem) (penalty : ℕ) (text : List ℕ) where
   rows_size (is ∷ kept) (change ∷ changes) size = ap suc (rows_size kept changes (omega (arith, size)))
 
   rows_fit : (kept : List Bool) (changes : List Activity) (more : List WaitRow) → length kept ≡ length changes
-      → list_all (λ at. is_choice at.0 at.1) (zip (map (λ at. choice_row at.0 at.1) (zip kept changes) ++ more) changes) ≡ true
+      → list_all (λ at. is_choice at.0 at.1) (zip (map (λ at. choice_row at.0 at.1) (zip kept changes) ++ more) changes)
+      ≡ true
   rows_fit [] [] [] size = refl
   rows_fit [] [] (at ∷ more) size = refl
   rows_fit [] (change ∷ changes) more size = absurd (omega (arith, size))
@@ -384,21 +378,25 @@ module _ (problem : DelayProblem) (penalty : ℕ) (text : List ℕ) where
   nodes_are all (node.Leaf ∷ more) = nodes_are all more
   nodes_are all (node.Split change ∷ more) = nodes_are all more
 
-  trees_are : (changes : List Activity) (tree : Option (List WaitNode)) → list_all is_node (tree_rows changes tree) ≡ true
+  trees_are : (changes : List Activity) (tree : Option (List WaitNode))
+      → list_all is_node (tree_rows changes tree) ≡ true
   trees_are all None = refl
   trees_are all (Some more) = nodes_are all more
 
-  said_back : (changes : List Activity) → IsStrictlyIncreasing (map (λ change. change.id) changes) → (nodes : List WaitNode)
+  said_back : (changes : List Activity) → IsStrictlyIncreasing (map (λ change. change.id) changes)
+      → (nodes : List WaitNode)
       → All (NamesChange (length changes)) nodes → map (node_said changes) (map (node_row changes) nodes) ≡ nodes
   said_back changes rise [] names = refl
   said_back changes rise (node.Leaf ∷ nodes) names =
-      ap (λ some. node.Leaf ∷ some) (said_back changes rise nodes (λ k d inside. names (suc k) d (omega (arith, inside))))
+      ap (λ some. node.Leaf ∷ some) (said_back changes rise nodes
+      (λ k d inside. names (suc k) d (omega (arith, inside))))
   said_back changes rise (node.Split change ∷ nodes) names =
       let one = index_back changes rise change (names 0 node.Leaf (omega arith)) in
       let rest = said_back changes rise nodes (λ k d inside. names (suc k) d (omega (arith, inside))) in
       λ i. node.Split (one i) ∷ rest i
 
-  front_taken : {X : Type 0} (n : ℕ) (xs ys : List X) → length xs ≡ n → (take n (xs ++ ys) ≡ xs) × (drop n (xs ++ ys) ≡ ys)
+  front_taken : {X : Type 0} (n : ℕ) (xs ys : List X) → length xs ≡ n
+      → (take n (xs ++ ys) ≡ xs) × (drop n (xs ++ ys) ≡ ys)
   front_taken n xs ys size = (
     ap (λ k. take k (xs ++ ys)) (sym size) ∙ take-append_seam xs ys,
     ap (λ k. drop k (xs ++ ys)) (sym size) ∙ drop_front xs,
@@ -449,7 +447,8 @@ module _ (problem : DelayProblem) (penalty : ℕ) (text : List ℕ) where
     nodes_so : nodes_in changes all_rows ≡ nodes_of given.tree
     unfolding all_rows nodes_of
     nodes_so =
-        ap (map (node_said changes)) (sym (drop_twice (length changes) (row.Cost (unsigned_abs given.cost) ∷ C ++ T)) ∙ parts.1)
+        ap (map (node_said changes)) (sym (drop_twice (length changes) (row.Cost (unsigned_abs given.cost) ∷ C ++ T))
+        ∙ parts.1)
         ∙ by given.tree passed.right.over.names
       where
         by : (tree : Option (List WaitNode)) → IfSome tree (All (NamesChange (length changes)))
@@ -495,20 +494,25 @@ module _ (problem : DelayProblem) (penalty : ℕ) (text : List ℕ) where
 -- ---- the clauses
 
 pub passes_where : (problem whole : DelayProblem) (penalty : ℕ) (text : List ℕ) → IsForward problem → problem ≡ whole
-    → (answer : Option WaitRule) → answer ≡ first_broken_rule problem penalty text → IfNone answer (Passes whole penalty text)
+    → (answer : Option WaitRule) → answer ≡ first_broken_rule problem penalty text
+    → IfNone answer (Passes whole penalty text)
 passes_where problem whole penalty text forward same None is =
-    subst (λ p. Passes p penalty text) same (passes problem penalty text forward (breaks_none problem penalty text (sym is)))
+    subst (λ p. Passes p penalty text) same (passes problem penalty text forward
+    (breaks_none problem penalty text (sym is)))
 passes_where problem whole penalty text forward same (Some why) is = tt
 
 pub best_where : (problem whole : DelayProblem) (penalty : ℕ) (text : List ℕ) → IsForward problem → problem ≡ whole
-    → (answer : Option WaitRule) → answer ≡ first_broken_rule problem penalty text → IfNone answer (KeepsBest whole penalty text)
+    → (answer : Option WaitRule) → answer ≡ first_broken_rule problem penalty text
+    → IfNone answer (KeepsBest whole penalty text)
 best_where problem whole penalty text forward same None is =
-    subst (λ p. KeepsBest p penalty text) same (best problem penalty text forward (breaks_none problem penalty text (sym is)))
+    subst (λ p. KeepsBest p penalty text) same
+    (best problem penalty text forward (breaks_none problem penalty text (sym is)))
 best_where problem whole penalty text forward same (Some why) is = tt
 
 pub only_where : (problem whole : DelayProblem) (penalty : ℕ) (text : List ℕ) → IsForward problem
     → IsStrictlyIncreasing (map (λ change. change.id) problem.changes) → problem ≡ whole
-    → (answer : Option WaitRule) → answer ≡ first_broken_rule problem penalty text → Passes whole penalty text → answer ≡ None
+    → (answer : Option WaitRule) → answer ≡ first_broken_rule problem penalty text → Passes whole penalty text
+    → answer ≡ None
 only_where problem whole penalty text forward rise same answer is passed =
     is ∙ breaks_no_rule problem penalty text forward rise (subst (λ p. Passes p penalty text) (sym same) passed)
 
@@ -516,7 +520,9 @@ only_where problem whole penalty text forward rise same answer is passed =
 pub printed_passes : {E : Type 0} (problem : DelayProblem) (given : Waits) → IsForward problem
     → IsStrictlyIncreasing (map (λ change. change.id) problem.changes) → (result : Result (List ℕ) E)
     → IfOk result (ReadsAs waits_columns wait_row (waits_rows problem given))
-    → IfOk result (λ text. (penalty : ℕ) → IsRight problem penalty given → first_broken_rule problem penalty text ≡ None)
+    → IfOk result (λ text. (penalty : ℕ) → IsRight problem penalty given
+    → first_broken_rule problem penalty text ≡ None)
 printed_passes problem given forward rise (Ok text) again =
-    λ penalty fine. breaks_no_rule problem penalty text forward rise (record { waits = given; reads = again; right = fine })
+    λ penalty fine. breaks_no_rule problem penalty text forward rise
+    (record { waits = given; reads = again; right = fine })
 printed_passes problem given forward rise (Err error) again = tt

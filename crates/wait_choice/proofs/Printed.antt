@@ -14,11 +14,26 @@ use Rattle.wait_choice.specs.PrintedRows.{RowFits}
 use Rattle.wait_choice.specs.WaitTexts.{wait_cells, wait_row, waits_columns}
 
 cells_fit : (at : WaitRow) → RowFits at → InColumns waits_columns (wait_cells at)
-cells_fit (row.Cost cost) fits = ((0, omega arith, refl), ((omega (arith, ints), omega (arith, ints)), ((omega (arith, ints), omega (arith, ints, fits)), tt)))
-cells_fit (row.Keep id) fits = ((1, omega arith, refl), ((omega (arith, ints), omega (arith, ints, fits)), ((omega (arith, ints), omega (arith, ints)), tt)))
-cells_fit (row.Drop id) fits = ((2, omega arith, refl), ((omega (arith, ints), omega (arith, ints, fits)), ((omega (arith, ints), omega (arith, ints)), tt)))
-cells_fit (row.Split id) fits = ((3, omega arith, refl), ((omega (arith, ints), omega (arith, ints, fits)), ((omega (arith, ints), omega (arith, ints)), tt)))
-cells_fit row.Leaf fits = ((4, omega arith, refl), ((omega (arith, ints), omega (arith, ints)), ((omega (arith, ints), omega (arith, ints)), tt)))
+cells_fit (row.Cost cost) fits = (
+  (0, omega arith, refl),
+  ((omega (arith, ints), omega (arith, ints)), ((omega (arith, ints), omega (arith, ints, fits)), tt)),
+)
+cells_fit (row.Keep id) fits = (
+  (1, omega arith, refl),
+  ((omega (arith, ints), omega (arith, ints, fits)), ((omega (arith, ints), omega (arith, ints)), tt)),
+)
+cells_fit (row.Drop id) fits = (
+  (2, omega arith, refl),
+  ((omega (arith, ints), omega (arith, ints, fits)), ((omega (arith, ints), omega (arith, ints)), tt)),
+)
+cells_fit (row.Split id) fits = (
+  (3, omega arith, refl),
+  ((omega (arith, ints), omega (arith, ints, fits)), ((omega (arith, ints), omega (arith, ints)), tt)),
+)
+cells_fit row.Leaf fits = (
+  (4, omega arith, refl),
+  ((omega (arith, ints), omega (arith, ints)), ((omega (arith, ints), omega (arith, ints)), tt)),
+)
 cells_fit row.Stray fits = absurd fits
 
 same_row : (at : WaitRow) → RowFits at → wait_row (wait_cells at) ≡ at
@@ -29,9 +44,11 @@ same_row (row.Split id) fits = refl
 same_row row.Leaf fits = refl
 same_row row.Stray fits = absurd fits
 
-pub table_fits : (rows : List WaitRow) → All RowFits rows → All (λ (row : TableRow). InColumns waits_columns row.cells) (rows_by wait_cells rows)
+pub table_fits : (rows : List WaitRow) → All RowFits rows
+    → All (λ (row : TableRow). InColumns waits_columns row.cells) (rows_by wait_cells rows)
 table_fits rows fit =
-    All-map (λ (row : TableRow). InColumns waits_columns row.cells) (λ row. record { number = 0; cells = wait_cells row }) rows
+    All-map (λ (row : TableRow). InColumns waits_columns row.cells)
+    (λ row. record { number = 0; cells = wait_cells row }) rows
     (λ k d inside. cells_fit _ (fit k d inside))
 
 same_rows : (rows : List WaitRow) → All RowFits rows → records_by wait_row (rows_by wait_cells rows) ≡ rows
@@ -45,7 +62,8 @@ pub columns_can : All CanWrite waits_columns
 columns_can = columns_written waits_columns refl
 
 pub reads_again : {E : Type 0} (rows : List WaitRow) (result : Result (List ℕ) E) → All RowFits rows
-    → IfOk result (ReadsBack waits_columns (rows_by wait_cells rows)) → IfOk result (ReadsAs waits_columns wait_row rows)
+    → IfOk result (ReadsBack waits_columns (rows_by wait_cells rows))
+    → IfOk result (ReadsAs waits_columns wait_row rows)
 reads_again rows (Ok text) fit back = (
   back.0,
   sym (map-map wait_row (λ (row : TableRow). row.cells) (table_of waits_columns text))

@@ -10,15 +10,17 @@ use Rattle.giv_files.specs.Settings.{BundleParts}
 use Rattle.giv_files.specs.StageCalls.{TakesSteps}
 use Rattle.delay_management.specs.DispositionStage.{disposition_faults, problem_in}
 use Rattle.propagation.specs.Problems.{DelayProblem}
-use Rattle.wait_choice.specs.declared.waits.Waits.{Waits}
-use Rattle.wait_choice.specs.Budgets.{entries_listed, spent_by, waits_within}
-use Rattle.wait_choice.specs.ChoiceStage.{FindsSome, IsEnough, IsUnspent, IsWhole, listing_in, outcome_of, waits_in, waits_refusals, waits_work, work_after}
-use Rattle.wait_choice.specs.Listings.{listing}
-use Rattle.wait_choice.proofs.Right.{enough_finds, finds_within, whole_marked}
+use Rattle.waiting_decisions.specs.declared.waits.Waits.{Waits}
+use Rattle.waiting_decisions.specs.Budgets.{FindsSome, IsEnough, entries_listed, waits_within}
+use Rattle.wait_choice.specs.ChoiceStage.{IsUnspent, IsWhole, listing_in, outcome_of, spent_by, waits_in}
+use Rattle.wait_choice.specs.ChoiceStage.{waits_refusals, waits_work, work_after}
+use Rattle.waiting_decisions.specs.Listings.{listing}
+use Rattle.waiting_decisions.proofs.Right.{enough_finds, finds_within, whole_marked}
 
 -- ---- the inputs are at fault
 
-refuses_first : (faults others : List Refusal) (why : StageFault) → Refuses faults why → Refuses (or_else faults others) why
+refuses_first : (faults others : List Refusal) (why : StageFault) → Refuses faults why
+    → Refuses (or_else faults others) why
 refuses_first faults others fault.NoMemory refused = tt
 refuses_first [] others (fault.Refused first) refused = absurd (cc)
 refuses_first (one ∷ more) others (fault.Refused first) refused = refused
@@ -86,9 +88,11 @@ module _ (bundle : BundleParts) (penalty budget : ℕ) where
 
     pub end_whole : IsEnough (problem_in bundle) budget → IsWhole (outcome_of budget result)
     end_whole enough =
-        by result here (subst IsSome (sym here) (finds_within (problem_in bundle) penalty budget (enough_finds (problem_in bundle) budget enough)))
+        by result here (subst IsSome (sym here) (finds_within (problem_in bundle) penalty budget
+        (enough_finds (problem_in bundle) budget enough)))
       where
-        by : (result : Option Waits) → result ≡ waits_in bundle penalty budget → IsSome result → IsWhole (outcome_of budget result)
+        by : (result : Option Waits) → result ≡ waits_in bundle penalty budget → IsSome result
+            → IsWhole (outcome_of budget result)
         by None same some = absurd (cc)
         by (Some waits) same some = whole_marked (problem_in bundle) penalty budget waits enough (sym same)
 
@@ -96,10 +100,13 @@ module _ (bundle : BundleParts) (penalty budget : ℕ) where
         → TakesSteps (waits_work bundle penalty budget) before now (outcome_of budget result)
     unfolding waits_work
     end_steps before now all =
-        by result (subst (λ faults. now ≡ before + work_after faults (entries_listed budget (listing_in bundle penalty))) (sym none)
+        by result (subst (λ faults. now ≡ before + work_after faults
+        (entries_listed budget (listing_in bundle penalty))) (sym none)
         (omega (arith, all, ap (λ p. entries_listed budget (listing p penalty)) is)))
       where
-        by : (result : Option Waits) → now ≡ before + work_after (disposition_faults bundle) (entries_listed budget (listing_in bundle penalty))
-            → TakesSteps (work_after (disposition_faults bundle) (entries_listed budget (listing_in bundle penalty))) before now (outcome_of budget result)
+        by : (result : Option Waits) → now ≡ before + work_after (disposition_faults bundle)
+            (entries_listed budget (listing_in bundle penalty))
+            → TakesSteps (work_after (disposition_faults bundle)
+            (entries_listed budget (listing_in bundle penalty))) before now (outcome_of budget result)
         by None same = same
         by (Some waits) same = same

@@ -10,7 +10,9 @@ use Rattle.tables.specs.declared.refusal.Refusal.TheVariants as refusal
 use Rattle.tables.specs.declared.refusal.StageFault.{StageFault}
 use Rattle.tables.specs.declared.refusal.StageFault.TheVariants as fault
 use Rattle.tables.specs.Reading.{faults, table_of}
-use Rattle.tables.specs.Inputs.{Input, Numbered, RowRule, TableRule, Refuses, broken_whys, cell_faults, fault_at, input_faults, limit_faults, numbered, or_else, records, row_faults, table_row_faults, whole_faults}
+use Rattle.tables.specs.Inputs.{Input, Numbered, RowRule, TableRule, Refuses, broken_whys, cell_faults, fault_at}
+use Rattle.tables.specs.Inputs.{input_faults, limit_faults, numbered, or_else, records, row_faults, table_row_faults}
+use Rattle.tables.specs.Inputs.{whole_faults}
 use Rattle.giv_files.specs.Settings.{BundleParts}
 use Rattle.delay_management.specs.DispositionStage.{disposition_faults}
 use Rattle.wait_choice.specs.ChoiceStage.{IsUnspent, IsWhole}
@@ -55,17 +57,20 @@ at_so file why None = tt
 at_so file why (Some row) = (tt, tt)
 
 module _ {X : Type 0} (file : FileId) where
-  rules_so : (rules : List (RowRule X)) (before : List X) (rows : List (Numbered X)) → AreFaults (row_faults file rules before rows)
+  rules_so : (rules : List (RowRule X)) (before : List X) (rows : List (Numbered X))
+      → AreFaults (row_faults file rules before rows)
   unfolding row_faults AreFaults
   rules_so rules before [] = tt
   rules_so rules before (at ∷ rows) =
       both _ (row_faults file rules (before ++ at.row ∷ []) rows)
-      (rows_so file (λ _. at.number) (λ why. why) (broken_whys rules before at.row)) (rules_so rules (before ++ at.row ∷ []) rows)
+      (rows_so file (λ _. at.number) (λ why. why) (broken_whys rules before at.row))
+      (rules_so rules (before ++ at.row ∷ []) rows)
 
   whole_so : (rules : List (TableRule X)) (rows : List (Numbered X)) → AreFaults (whole_faults file rules rows)
   unfolding AreFaults
   whole_so [] rows = tt
-  whole_so (rule ∷ rules) rows = both (fault_at file rule.why (rule.broken_at rows)) _ (at_so file rule.why (rule.broken_at rows)) (whole_so rules rows)
+  whole_so (rule ∷ rules) rows = both (fault_at file rule.why (rule.broken_at rows)) _
+      (at_so file rule.why (rule.broken_at rows)) (whole_so rules rows)
 
 input_so : {X : Type 0} (input : Input X) (text : List ℕ) → AreFaults (input_faults input text)
 unfolding input_faults IsFault
@@ -76,7 +81,8 @@ input_so input text =
     (rows_so input.file (λ fault. fault.row) (λ fault. fault.why) (faults input.columns text))
     (both _ (whole_faults input.file input.table_rules (numbered input rows))
     (both (limit_faults input.limits all) (table_row_faults input rows)
-    (where_so (λ limit. nat_lt limit.most (limit.count all)) (λ limit. refusal.TooMany limit.what (limit.count all)) (λ _. tt) input.limits)
+    (where_so (λ limit. nat_lt limit.most (limit.count all)) (λ limit. refusal.TooMany limit.what (limit.count all))
+    (λ _. tt) input.limits)
     (rules_so input.file input.row_rules [] (numbered input rows)))
     (whole_so input.file input.table_rules (numbered input rows)))
 
@@ -84,12 +90,14 @@ all_so : (bundle : BundleParts) → AreFaults (disposition_faults bundle)
 unfolding disposition_faults
 all_so bundle = grind (arith, both, input_so)
 
-first_so : (faults : List Refusal) (first : Refusal) → AreFaults faults → slice_get faults 0 ≡ Some first → IsFault first
+first_so : (faults : List Refusal) (first : Refusal) → AreFaults faults → slice_get faults 0 ≡ Some first
+    → IsFault first
 unfolding AreFaults
 first_so [] first all is = absurd (cc)
 first_so (one ∷ more) first all is = let same : one ≡ first = cc in subst IsFault same all.0
 
-pub refused_unspent : (bundle : BundleParts) (why : StageFault) → Refuses (disposition_faults bundle) why → IsUnspent (Err why)
+pub refused_unspent : (bundle : BundleParts) (why : StageFault) → Refuses (disposition_faults bundle) why
+    → IsUnspent (Err why)
 unfolding IsFault
 refused_unspent bundle (fault.Refused (refusal.Spent entries)) refused =
     first_so (disposition_faults bundle) (refusal.Spent entries) (all_so bundle) refused
@@ -98,7 +106,8 @@ refused_unspent bundle (fault.Refused (refusal.TooMany what count)) refused = tt
 refused_unspent bundle (fault.Refused refusal.NoSolution) refused = tt
 refused_unspent bundle fault.NoMemory refused = tt
 
-pub refused_whole : (bundle : BundleParts) (why : StageFault) → Refuses (disposition_faults bundle) why → IsWhole (Err why)
+pub refused_whole : (bundle : BundleParts) (why : StageFault) → Refuses (disposition_faults bundle) why
+    → IsWhole (Err why)
 unfolding IsFault
 refused_whole bundle (fault.Refused (refusal.Spent entries)) refused =
     first_so (disposition_faults bundle) (refusal.Spent entries) (all_so bundle) refused

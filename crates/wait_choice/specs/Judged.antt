@@ -1,21 +1,24 @@
 -- The rules of a waiting decision from any hand, in the order in which they are looked for.
-use Rattle.std.specs.Prelude.{ℕ, ℤ, pos, ◌+◌, ◌≡◌, ◌&&◌, ◌==◌, nat_le, not, if◌then◌else◌, Bool, true, false, List, [], ◌∷◌, ◌++◌, length, map, take, drop, zip, slice_get, Option, unwrap_or, position}
+use Rattle.std.specs.Prelude.{ℕ, ℤ, pos, ◌+◌, ◌≡◌, ◌&&◌, ◌==◌, nat_le, not, if◌then◌else◌, Bool, true, false, List, []}
+use Rattle.std.specs.Prelude.{◌∷◌, ◌++◌, length, map, take, drop, zip, slice_get, Option, unwrap_or, position}
 use Rattle.std.specs.List.{list_all}
 use Rattle.std.specs.Ordering.{int_eq}
 use Rattle.tables.specs.Reading.{faults, table_of}
 use Rattle.tables.specs.RowsOfTables.{ReadsAs, records_by}
 use Rattle.propagation.specs.declared.step.Activity.{Activity}
 use Rattle.propagation.specs.Problems.{DelayProblem}
-use Rattle.wait_choice.specs.declared.node.WaitNode.{WaitNode}
-use Rattle.wait_choice.specs.declared.node.WaitNode.TheVariants as node
+use Rattle.waiting_decisions.specs.declared.fault.TreeFault.{TreeFault}
+use Rattle.waiting_decisions.specs.declared.fault.TreeFault.TheVariants as fault
+use Rattle.waiting_decisions.specs.declared.node.WaitNode.{WaitNode}
+use Rattle.waiting_decisions.specs.declared.node.WaitNode.TheVariants as node
 use Rattle.wait_choice.specs.declared.row.WaitRow.{WaitRow}
 use Rattle.wait_choice.specs.declared.row.WaitRow.TheVariants as row
 use Rattle.wait_choice.specs.declared.rule.WaitRule.{WaitRule}
 use Rattle.wait_choice.specs.declared.rule.WaitRule.TheVariants as rule
-use Rattle.wait_choice.specs.declared.waits.Waits.{Waits}
-use Rattle.wait_choice.specs.Certified.{are_tree, has_low_leaf}
-use Rattle.wait_choice.specs.Choices.{IsBest, cost_of}
-use Rattle.wait_choice.specs.RightChoices.{IsRight}
+use Rattle.waiting_decisions.specs.declared.waits.Waits.{Waits}
+use Rattle.waiting_decisions.specs.Certified.{are_tree, has_low_leaf}
+use Rattle.waiting_decisions.specs.Choices.{IsBest, cost_of}
+use Rattle.waiting_decisions.specs.RightChoices.{IsRight}
 use Rattle.wait_choice.specs.WaitTexts.{wait_row, waits_columns, waits_rows}
 
 -- ---- the form of the rows
@@ -79,6 +82,11 @@ nodes_in changes rows = map (node_said changes) (drop (length changes + 1) rows)
 -- a rule, where it is broken
 abbrev pub broken_where : Bool → WaitRule → List WaitRule
 broken_where is_broken rule = if is_broken then rule ∷ [] else []
+
+-- the rule that a fault of nodes breaks
+abbrev pub rule_of : TreeFault → WaitRule
+rule_of fault.NotWhole = rule.Tree
+rule_of fault.LowLeaf = rule.Leaf
 
 -- the rules that nodes break for a cost: they are no whole tree of splits by free changes, a leaf
 -- is low. Without a node there is no tree, and no rule of one.

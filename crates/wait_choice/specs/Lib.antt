@@ -1,14 +1,4 @@
-pub mod Budgets
-pub mod Certified
 pub mod ChoiceStage
-pub mod Choices
 pub mod Judged
-pub mod Listings
-pub mod Paths
 pub mod PrintedRows
-pub mod Regions
-pub mod RightChoices
-pub mod RightListings
-pub mod Searches
 pub mod WaitTexts
-pub mod Walks

@@ -34,6 +34,5 @@ pub fn check_waits(
         (λ answer. IfNone answer (KeepsBest (problem_in bundle.now) penalty text.now)) }
 {
     let problem = problem_of_bundle(alloc, bundle)?;
-    let _count = problem.change_count();
     Ok(first_broken_rule(alloc, &problem, penalty, text)?)
 }

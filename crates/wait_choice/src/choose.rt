@@ -5,17 +5,17 @@ ghost use Rattle.tables.specs.Inputs.{UnlessFault};
 ghost use Rattle.giv_files.specs.Settings.{Fits};
 ghost use Rattle.giv_files.specs.StageCalls.{TakesSteps};
 ghost use Rattle.delay_management.specs.DispositionStage.{problem_in};
-ghost use Rattle.wait_choice.specs.ChoiceStage.{FindsSome, IsEnough, IsUnspent, IsWhole, outcome_of, waits_in, waits_refusals, waits_work};
-ghost use Rattle.wait_choice.specs.RightChoices.{IsRight};
-ghost use Rattle.wait_choice.specs.RightListings.{IsListed};
+ghost use Rattle.waiting_decisions.specs.Budgets.{FindsSome, IsEnough};
+ghost use Rattle.wait_choice.specs.ChoiceStage.{IsUnspent, IsWhole, outcome_of, waits_in, waits_refusals, waits_work};
+ghost use Rattle.waiting_decisions.specs.RightChoices.{IsRight};
+ghost use Rattle.waiting_decisions.specs.RightListings.{IsListed};
 
-use crate::search::search_waits;
-use crate::waits::Waits;
 use delay_management::problem_of_bundle;
 use giv_files::Bundle;
 use plan_num::{Ledger, Steps};
 use std::alloc::Global;
 use tables::{Refusal, StageFault};
+use waiting_decisions::{Waits, search_waits};
 
 /// Chooses which changes of a day are kept, so that the delay of all arrivals and a penalty in
 /// minutes for each change that is dropped are least together, by a search with so many entries at

@@ -3,10 +3,16 @@ ghost use Rattle.std.specs.Prelude.{◌≡◌};
 ghost use Rattle.wait_choice.specs.WaitTexts.{waits_columns};
 
 use tables::{ColumnKind, cells};
+use waiting_decisions::MOST_COST;
 
 /// A word, an id or 0, and a number.
 pub(crate) fn waits_columns() -> [ColumnKind; 3]
     ensures { result ≡ waits_columns }
 {
-    cells!(word(WaitKind), ref, whole(1_000_000_000_000_000_000))
+    let [word, id] = cells!(word(WaitKind), ref);
+    let value = ColumnKind::Whole {
+        min: 0,
+        max: MOST_COST as i64,
+    };
+    [word, id, value]
 }

@@ -1,21 +1,20 @@
 // The rules of a waiting decision from any hand, in their order.
-ghost use Rattle.std.specs.Prelude.{◌≡◌, ◌*◌, ◌+ℤ◌, ◌<◌, List, pos, map, slice_get, IfOk};
+ghost use Rattle.std.specs.Prelude.{◌≡◌, List, pos, map, option_map, slice_get, IfOk};
 ghost use Rattle.std.specs.Ordering.{int_eq};
 ghost use Rattle.std.specs.List.Sorted.{IsStrictlyIncreasing};
 ghost use Rattle.propagation.specs.declared.step.Activity.{Activity};
-ghost use Rattle.wait_choice.specs.Choices.{cost_of, dropped_count};
-ghost use Rattle.wait_choice.specs.Judged.{broken_nodes, broken_rows, first_broken_rule, keeps, node_said};
+ghost use Rattle.waiting_decisions.specs.Choices.{cost_of};
+ghost use Rattle.wait_choice.specs.Judged.{broken_nodes, broken_rows, first_broken_rule, keeps, node_said, rule_of};
 
 use crate::ids::{change_ids, index_of};
-use crate::node::WaitNode;
 use crate::row::WaitRow;
-use crate::rows::{rows_of, wait_table};
+use crate::rows::rows_in;
 use crate::rule::WaitRule;
 use crate::shape::{cost_in, is_shaped};
-use crate::walk::Walk;
 use plan_num::NoMemory;
 use propagation::Propagation;
 use std::alloc::Global;
+use waiting_decisions::{TreeFault, WaitNode, cost_of, judge_nodes};
 
 /// The first rule that a text breaks at a penalty in minutes.
 pub(crate) fn first_broken_rule(
@@ -27,12 +26,9 @@ pub(crate) fn first_broken_rule(
     ensures { IfOk result
         (λ answer. answer ≡ first_broken_rule problem.now penalty text.now) }
 {
-    match wait_table(alloc, text)? {
+    match rows_in(alloc, text)? {
         None => Ok(Some(WaitRule::Row)),
-        Some(table) => {
-            let rows = rows_of(alloc, &table)?;
-            rows_rule(alloc, problem, penalty, &rows)
-        }
+        Some(rows) => rows_rule(alloc, problem, penalty, &rows),
     }
 }
 
@@ -69,16 +65,8 @@ fn costs(
         ≡ int_eq (pos cost) (cost_of problem.now penalty (map keeps choices.now))) }
 {
     let kept = kept_in(alloc, choices)?;
-    let times = problem.least(alloc, &kept)?;
-    let dropped = dropped_count(&kept);
-    Ok(is_sum(problem.delay(&times), penalty, dropped, cost))
-}
-
-// Whether a delay and a penalty for each change that is dropped are so much together.
-fn is_sum(delay: i128, penalty: u32, dropped: usize, cost: u64) -> bool
-    ensures { result ≡ int_eq (pos cost) (delay +ℤ pos (penalty * dropped)) }
-{
-    delay == i128::from(cost) - i128::from(penalty) * dropped as i128
+    let sum = cost_of(alloc, problem, penalty, &kept)?;
+    Ok(i128::from(cost) == sum)
 }
 
 // Whether rows keep their changes.
@@ -99,19 +87,6 @@ fn keeps(row: &WaitRow) -> bool
     matches!(row, WaitRow::Keep { .. })
 }
 
-// How many changes are dropped.
-fn dropped_count(kept: &[bool]) -> usize
-    ensures { result ≡ dropped_count kept.now }
-{
-    let mut dropped = 0;
-    for is_kept in kept {
-        if !*is_kept {
-            dropped += 1;
-        }
-    }
-    dropped
-}
-
 // The first rule that rows of nodes break for a cost.
 fn nodes_rule(
     alloc: Global,
@@ -126,14 +101,37 @@ fn nodes_rule(
     if nodes.is_empty() {
         return Ok(None);
     }
-    let ids = change_ids(alloc, problem)?;
-    let mut walk = Walk::new(alloc, problem)?;
-    for row in nodes {
-        if !walk.take(penalty, cost, node_said(&ids, row))? {
-            return Ok(Some(WaitRule::Tree));
-        }
+    let said = nodes_said(alloc, problem, nodes)?;
+    let fault = judge_nodes(alloc, problem, penalty, cost, &said)?;
+    Ok(rule_of(fault))
+}
+
+// The rule that a fault of nodes breaks.
+fn rule_of(fault: Option<TreeFault>) -> Option<WaitRule>
+    ensures { result ≡ option_map rule_of fault }
+{
+    match fault {
+        None => None,
+        Some(TreeFault::NotWhole) => Some(WaitRule::Tree),
+        Some(TreeFault::LowLeaf) => Some(WaitRule::Leaf),
     }
-    Ok(walk.rule())
+}
+
+// The nodes of rows.
+fn nodes_said(
+    alloc: Global,
+    problem: &Propagation,
+    rows: &[WaitRow],
+) -> Result<Vec<WaitNode>, NoMemory>
+    ensures { IfOk result
+        (λ nodes. nodes.items ≡ map (node_said problem.now.changes) rows.now) }
+{
+    let ids = change_ids(alloc, problem)?;
+    let mut nodes = Vec::with_capacity(alloc, rows.len())?;
+    for row in rows {
+        nodes.push(node_said(&ids, row))?;
+    }
+    Ok(nodes)
 }
 
 // The node of a row, over the ids of changes.

@@ -1,30 +1,30 @@
 // The text of a waiting decision.
-ghost use Rattle.std.specs.Prelude.{ℕ, ◌≡◌, ◌<◌, ◌++◌, [], get_or, length, map, zip, unsigned_abs, None, All, IfOk, OnOk};
+ghost use Rattle.std.specs.Prelude.{ℕ, ◌≡◌, ◌<◌, ◌++◌, [], get_or, length, map, zip, unsigned_abs, None, All, IfOk};
+ghost use Rattle.std.specs.Prelude.{OnOk};
 ghost use Rattle.giv_files.specs.declared.stage.Stage.TheVariants as stages;
 ghost use Rattle.tables.specs.Inputs.{UnlessFault};
 ghost use Rattle.giv_files.specs.Settings.{Fits};
 ghost use Rattle.tables.specs.RowsOfTables.{ReadsAs};
 ghost use Rattle.delay_management.specs.DispositionStage.{disposition_faults, problem_in};
+ghost use Rattle.std.specs.List.Sorted.{IsStrictlyIncreasing};
 ghost use Rattle.propagation.specs.declared.step.Activity.{Activity};
+ghost use Rattle.propagation.specs.Problems.{IsForward};
 ghost use Rattle.wait_choice.specs.declared.row.WaitRow.TheVariants as rows;
 ghost use Rattle.wait_choice.specs.Judged.{first_broken_rule};
 ghost use Rattle.wait_choice.specs.PrintedRows.{RowFits};
-ghost use Rattle.wait_choice.specs.RightChoices.{IsRight, IsOver, IsWritable};
-ghost use Rattle.wait_choice.specs.WaitTexts.{NamesChange, choice_row, node_row, wait_row, waits_columns, waits_rows, waits_text};
+ghost use Rattle.waiting_decisions.specs.RightChoices.{IsRight, IsOver, IsWritable, NamesChange};
+ghost use Rattle.wait_choice.specs.WaitTexts.{choice_row, node_row, wait_row, waits_columns, waits_rows, waits_text};
 
 use crate::ids::id_at;
-use crate::kept::Kept;
-use crate::node::WaitNode;
 use crate::row::WaitRow;
 use crate::text::rows_text;
-use crate::tree::WaitTree;
-use crate::waits::Waits;
 use delay_management::problem_of_bundle;
 use giv_files::Bundle;
 use plan_num::{NoMemory, Text};
 use propagation::Propagation;
 use std::alloc::Global;
 use tables::StageFault;
+use waiting_decisions::{Kept, WaitNode, WaitTree, Waits};
 
 /// The text of a waiting decision over the inputs of the stage of dispositions.
 pub fn print_waits(alloc: Global, bundle: &Bundle, waits: &Waits) -> Result<Text, StageFault>
@@ -53,7 +53,6 @@ fn printed(alloc: Global, problem: &Propagation, waits: &Waits) -> Result<Text, 
     ensures passes { IfOk result (λ text. (penalty : ℕ) → IsRight problem.now penalty waits.now
         → first_broken_rule problem.now penalty text ≡ None) }
 {
-    let _count = problem.change_count();
     let rows = waits_rows(alloc, problem, waits)?;
     rows_text(alloc, &rows)
 }
@@ -64,8 +63,10 @@ fn waits_rows(alloc: Global, problem: &Propagation, waits: &Waits) -> Result<Vec
     requires writable { IsWritable waits.now.cost }
     ensures rows { IfOk result (λ rows. rows.items ≡ waits_rows problem.now waits.now) }
     ensures fit { IfOk result (λ rows. All RowFits rows.items) }
+    ensures forward { IsForward problem.now }
+    ensures rise { IsStrictlyIncreasing (map (λ change. change.id) problem.now.changes) }
 {
-    let mut rows = Vec::new(alloc);
+    let mut rows = Vec::with_capacity(alloc, problem.change_count() + 1)?;
     rows.push(cost_row(waits.cost))?;
     push_choices(&mut rows, problem, &waits.kept)?;
     if let Some(tree) = &waits.tree {
@@ -125,7 +126,7 @@ fn push_nodes(
     ensures fit { OnOk result (All RowFits rows.new.items) }
 {
     for index in 0..tree.len() {
-        rows.push(node_row(problem, tree.at(index)))?;
+        rows.push(node_row(problem, tree.node(index)))?;
     }
     Ok(())
 }

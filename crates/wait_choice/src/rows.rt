@@ -1,5 +1,6 @@
 // The rows of a text of a waiting decision from any hand.
-ghost use Rattle.std.specs.Prelude.{◌≡◌, ◌<◌, ◌==◌, length, map, if◌then◌else◌, None, Some, slice_index_or, All, IfOk, IfSome};
+ghost use Rattle.std.specs.Prelude.{◌≡◌, ◌<◌, ◌==◌, length, map, if◌then◌else◌, true, false, None};
+ghost use Rattle.std.specs.Prelude.{Some, slice_index_or, All, IfOk, IfSome, MatchOption};
 ghost use Rattle.tables.specs.Reading.{faults, table_of};
 ghost use Rattle.tables.specs.Tables.{no_row};
 ghost use Rattle.tables.specs.Writing.{InColumns};
@@ -13,8 +14,22 @@ use plan_num::NoMemory;
 use std::alloc::Global;
 use tables::{ReadFault, Table, read_table};
 
-/// The table that a text is, where it is one.
-pub(crate) fn wait_table(alloc: Global, text: &[u8]) -> Result<Option<Table<3>>, NoMemory>
+/// What the rows of a text say, where it is a table of this kind. The table is let go of: its rows
+/// take more room than what they say.
+pub(crate) fn rows_in(alloc: Global, text: &[u8]) -> Result<Option<Vec<WaitRow>>, NoMemory>
+    ensures { IfOk result (λ rows. MatchOption rows
+        ((length (faults waits_columns text.now) == 0) ≡ false)
+        (λ rows. ((length (faults waits_columns text.now) == 0) ≡ true)
+        × (rows.items ≡ records_by wait_row (table_of waits_columns text.now)))) }
+{
+    match wait_table(alloc, text)? {
+        None => Ok(None),
+        Some(table) => Ok(Some(rows_of(alloc, &table)?)),
+    }
+}
+
+// The table that a text is, where it is one.
+fn wait_table(alloc: Global, text: &[u8]) -> Result<Option<Table<3>>, NoMemory>
     ensures read { IfOk result (λ read. read ≡ (if length (faults waits_columns text.now) == 0
         then Some (table_of waits_columns text.now) else None)) }
     ensures cells { IfOk result (λ read. IfSome read
@@ -27,8 +42,8 @@ pub(crate) fn wait_table(alloc: Global, text: &[u8]) -> Result<Option<Table<3>>,
     }
 }
 
-/// What the rows of a table say.
-pub(crate) fn rows_of(alloc: Global, table: &Table<3>) -> Result<Vec<WaitRow>, NoMemory>
+// What the rows of a table say.
+fn rows_of(alloc: Global, table: &Table<3>) -> Result<Vec<WaitRow>, NoMemory>
     requires { All (λ row. InColumns waits_columns row.cells) table.now }
     ensures { IfOk result (λ rows. rows.items ≡ records_by wait_row table.now) }
 {

@@ -3,6 +3,7 @@ ghost use Rattle.std.specs.Prelude.{◌≡◌, ◌≤◌, All, IfOk};
 ghost use Rattle.tables.specs.RowsOfTables.{ReadsAs, file_text, rows_by};
 ghost use Rattle.wait_choice.specs.PrintedRows.{RowFits};
 ghost use Rattle.wait_choice.specs.WaitTexts.{cells_with, wait_cells, wait_row, waits_columns, waits_header};
+ghost use Rattle.waiting_decisions.specs.declared.cost.TheConstants.{MOST_COST};
 
 use crate::columns::waits_columns;
 use crate::row::WaitRow;
@@ -49,8 +50,8 @@ fn wait_cells(row: &WaitRow) -> [i64; 3]
 
 // The place of a word, an id and a value.
 fn cells_with(place: u8, id: u64, value: u64) -> [i64; 3]
-    requires id { id ≤ 1000000000000000000 }
-    requires value { value ≤ 1000000000000000000 }
+    requires id { id ≤ 1000000000 }
+    requires value { value ≤ MOST_COST }
     ensures { result ≡ cells_with place id value }
 {
     [i64::from(place), id as i64, value as i64]

@@ -12,24 +12,24 @@ loop-trip-init c = record {
       0) (sym c.in_ok-assignment.ensures)
       (deciding_none (links_in c.args.trips.now) c.args.solved.now.potentials c.args.solved.now.plan
       c.requires.plan c.requires.valid);
-  none = c.in_ok-claims.ensures ∙ ap (λ n. record { at = replicate (n + 1) None; order = [] })
+  none = c.in_ok-new.ensures ∙ ap (λ n. record { at = replicate (n + 1) None; order = [] })
       c.len.ensures.count;
   claimable = claimable_first (length c.args.trips.now) c.in_ok-assignment.assignment
-      c.in_ok-claims.claims
-      c.in_ok-places.places (λ place. ap (λ claims. claim_at claims place) c.in_ok-claims.ensures
-      ∙ none_at (c.len.result + 1) place) c.in_ok-places.ensures.rows
-      (c.in_ok-places.ensures.columns ∙ ap (λ n. n + 1) c.len-2.ensures.count)
-      (λ place bound. c.in_ok-places.ensures.all place
+      c.in_ok-new.field-0
+      c.in_ok-all_places.field-0 (λ place. ap (λ claims. claim_at claims place) c.in_ok-new.ensures
+      ∙ none_at (c.len.result + 1) place) c.in_ok-all_places.ensures.rows
+      (c.in_ok-all_places.ensures.columns ∙ ap (λ n. n + 1) c.len-2.ensures.count)
+      (λ place bound. c.in_ok-all_places.ensures.all place
       (omega (arith, bound, c.len-2.ensures.count)));
 }
 
-pub settle-requires : goal.settle-requires
-settle-requires c = (
+pub place_for_good-requires : goal.place_for_good-requires
+place_for_good-requires c = (
   search_is (links_in c.args.trips.now) c.len.ensures.links c.args.solved.now.potentials c.args.solved.now.plan
       c.loop-trip.assignment c.loop-trip.trip
       c.requires.valid (omega (arith, c.loop-trip-test.true, c.len-trip-end.ensures.count))
       c.loop-trip.invariant.deciding,
-  (refl, (c.in_ok-ties.ensures, (c.loop-trip.invariant.none, c.loop-trip.invariant.claimable))),
+  (refl, (c.in_ok-ties_of.ensures, (c.loop-trip.invariant.none, c.loop-trip.invariant.claimable))),
 )
 
 pub loop-trip-preserved : goal.loop-trip-preserved
@@ -39,11 +39,11 @@ loop-trip-preserved c = record {
     potentials = c.args.solved.now.potentials;
     trip = c.loop-trip.trip;
     low = c.loop-trip.trip;
-  }) c.loop-trip.assignment c.settle.new.assignment c.loop-trip.trip refl
+  }) c.loop-trip.assignment c.place_for_good.new.assignment c.loop-trip.trip refl
       c.loop-trip.invariant.deciding
-      c.in_ok-settle.ensures.settled;
-  none = c.in_ok-settle.ensures.none ∙ c.loop-trip.invariant.none;
-  claimable = c.in_ok-settle.ensures.places;
+      c.in_ok-place_for_good.ensures.settled;
+  none = c.in_ok-place_for_good.ensures.none ∙ c.loop-trip.invariant.none;
+  claimable = c.in_ok-place_for_good.ensures.places;
 }
 
 pub returns : goal.returns

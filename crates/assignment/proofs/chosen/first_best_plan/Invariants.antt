@@ -8,14 +8,14 @@ use Rattle.assignment.proofs.chosen.first_best_plan.Given as goal
 abbrev pub invariant-loop-trip : goal.invariant-loop-trip
 invariant-loop-trip l = record {
   deciding : IsDeciding (links_in l.trips) l.solved.potentials l.assignment l.trip;
-  none : l.claims ≡ record { at = replicate (length l.trips + 1) None; order = [] };
-  claimable : AreClaimable (length l.trips) l.trip l.assignment l.claims l.places;
+  none : l.claimed.claims ≡ record { at = replicate (length l.trips + 1) None; order = [] };
+  claimable : AreClaimable (length l.trips) l.trip l.assignment l.claimed.claims l.claimed.places;
 }
 
-abbrev pub ghost-settle : goal.ghost-settle
-ghost-settle a = record {
-  links = links_in a._trips.now;
-  potentials = a._potentials.now;
+abbrev pub ghost-place_for_good : goal.ghost-place_for_good
+ghost-place_for_good a = record {
+  links = links_in a.ties.now.links.now;
+  potentials = a.ties.now.potentials.now;
   trip = a.trip;
   low = a.trip;
 }

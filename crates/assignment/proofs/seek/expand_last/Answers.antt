@@ -7,28 +7,24 @@ use Rattle.assignment.proofs.seek.expand_last.Goals.{then-is_none+in_ok-claim_al
 
 pub claim_all-requires : goal.claim_all-requires
 claim_all-requires g c =
-    let low : g.search.low ≡ c.args.trip = c.requires.0.first ∙ c.requires.1.0 in
+    let low : g.search.low ≡ c.args.seeker.now.trip = c.requires.0.is.first ∙ c.requires.0.trip_is in
     let within : c.loop-by.by < g.search.links.count =
-    omega (arith, c.loop-by-test.true, c.len-by-end.ensures.count, c.requires.0.possible.each) in (
+    omega (arith, c.loop-by-test.true, c.len-by-end.ensures.count, c.requires.0.is.possible.each) in (
       c.requires.0,
       (
-        c.requires.1.1.0,
+        record {
+          right = c.loop-by.invariant.last.going.right;
+          claimable = c.loop-by.invariant.claimable;
+        },
         (
-          c.loop-by.invariant.claimable,
+          (omega (arith, low), within),
           (
-            (omega (arith, low), within),
-            (
-              last_left g.search c.args.assignment.now c.args.claims.now c.args.place c.loop-by.by
-                  c.requires.0
-                  c.requires.1.1.1.1.0 c.requires.1.1.1.1.1.0
-                  (omega (arith, c.if-place-len.false, c.len.ensures.count)) c.requires.1.1.1.1.1.1
-                  (sym c.next.ensures.value ∙ no_next c.next.result (c.if-is_none.ensures)),
-              (
-                c.loop-by.invariant.last.going.right,
-                still_claimed c.args.claims.now c.loop-by.claims c.args.place
-                    c.loop-by.invariant.last.going.more c.requires.1.1.1.1.1.0,
-              ),
-            ),
+            last_left g.search c.args.seeker.now.plan.now c.args.claimed.now.claims c.args.place c.loop-by.by
+                c.requires.0.is c.requires.1.0.right c.requires.1.1.0
+                (omega (arith, c.if-place-len.false, c.len.ensures.count)) c.requires.1.1.1
+                (sym c.next.ensures.value ∙ no_next c.next.result (c.if-is_none.ensures)),
+            still_claimed c.args.claimed.now.claims c.loop-by.claimed.claims c.args.place
+                c.loop-by.invariant.last.going.more c.requires.1.1.0,
           ),
         ),
       ),
@@ -36,15 +32,15 @@ claim_all-requires g c =
 
 pub loop-by-preserved : goal.loop-by-preserved
 loop-by-preserved g c = elim c.if-is_none.branch [
-  | then-is_none+in_ok-claim_all w ↦ rw (w.claims-is, w.places-is) (record {
-    last = last_more g.search c.args.assignment.now c.args.claims.now c.loop-by.claims
-        w.claim_all.new.claims c.loop-by.by c.loop-by.invariant.last
-        w.in_ok-claim_all.ensures.right w.in_ok-claim_all.ensures.more
-        w.in_ok-claim_all.ensures.others w.in_ok-claim_all.ensures.all;
-    claimable = w.in_ok-claim_all.ensures.places;
+  | then-is_none+in_ok-claim_all w ↦ rw w.claimed-is (record {
+    last = last_more g.search c.args.seeker.now.plan.now c.args.claimed.now.claims c.loop-by.claimed.claims
+        w.claim_all.new.claimed.claims c.loop-by.by c.loop-by.invariant.last
+        w.in_ok-claim_all.ensures.more.kept.right w.in_ok-claim_all.ensures.more.more
+        w.in_ok-claim_all.ensures.more.others w.in_ok-claim_all.ensures.all;
+    claimable = w.in_ok-claim_all.ensures.more.kept.claimable;
   })
-  | else-is_none w ↦ rw (w.claims-is, w.places-is) (record {
-    last = last_kept g.search c.args.assignment.now c.args.claims.now c.loop-by.claims
+  | else-is_none w ↦ rw w.claimed-is (record {
+    last = last_kept g.search c.args.seeker.now.plan.now c.args.claimed.now.claims c.loop-by.claimed.claims
         c.loop-by.by c.loop-by.invariant.last
         (λ none. false≢true (sym (ap is_some (c.next.ensures.value ∙ none))
         ∙ w.if-is_none.ensures));

@@ -5,8 +5,8 @@ use Rattle.assignment.proofs.seek.expand_last.Given as goal
 
 abbrev pub invariant-loop-by : goal.invariant-loop-by
 invariant-loop-by g l = record {
-  last : AreLast g.search l.assignment l.fn.claims l.claims l.by;
-  claimable : AreClaimable g.search.links.count g.search.low l.assignment l.claims l.places;
+  last : AreLast g.search l.seeker.plan.now l.fn.claimed.claims l.claimed.claims l.by;
+  claimable : AreClaimable g.search.links.count g.search.low l.seeker.plan.now l.claimed.claims l.claimed.places;
 }
 
 abbrev pub ghost-claim_all : goal.ghost-claim_all

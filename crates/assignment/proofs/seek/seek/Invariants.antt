@@ -3,8 +3,8 @@ use Rattle.assignment.proofs.Claimed.{IsSeeking}
 use Rattle.assignment.proofs.seek.seek.Given as goal
 
 abbrev pub invariant-loop-place : goal.invariant-loop-place
-invariant-loop-place g l = IsSeeking g.search l.assignment l.claims l.place-items l.own
-    l.place-index l.places
+invariant-loop-place g l = IsSeeking g.search l.seeker.plan.now l.claimed.claims l.place-items l.own
+    l.place-index l.claimed.places
 
 abbrev pub ghost-grow : goal.ghost-grow
 ghost-grow g a = g.search

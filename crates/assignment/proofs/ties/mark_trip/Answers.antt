@@ -12,13 +12,13 @@ pub loop-link-init : goal.loop-link-init
 loop-link-init c = record {
   others = row_same c.args.ties.now c.args.trip;
   row = ties_start (links_in c.args.trips.now) c.args.potentials.now c.args.trip
-      c.row-links.result.now c.row-links.ensures c.requires.covered c.args.ties.now c.requires.none;
+      c.row-links.result.now c.row-links.ensures.row c.requires.covered c.args.ties.now c.requires.none;
 }
 
 pub link_slack-slack-requires-clause-to : goal.link_slack-slack-requires-clause-to
 link_slack-slack-requires-clause-to c = omega (
   arith,
-  (c.row-links.ensures.right c.loop-link.link-index _
+  (c.row-links.ensures.row.right c.loop-link.link-index _
       (item c.row-links.result.now c.loop-link.link-index c.loop-link-test.true)).within,
   c.requires.each.each_v,
 )
@@ -27,7 +27,7 @@ pub link_slack-slack-requires-clause-covered : goal.link_slack-slack-requires-cl
 link_slack-slack-requires-clause-covered c = omega (
   arith,
   c.of_trip-own.ensures.value,
-  link_covered (links_in c.args.trips.now) c.args.trip c.row-links.result.now c.row-links.ensures
+  link_covered (links_in c.args.trips.now) c.args.trip c.row-links.result.now c.row-links.ensures.row
       c.args.potentials.now c.requires.covered c.loop-link.link-index
       (get_or c.row-links.result.now c.loop-link.link-index (link_to 0 0))
       (item c.row-links.result.now c.loop-link.link-index c.loop-link-test.true),
@@ -36,7 +36,7 @@ link_slack-slack-requires-clause-covered c = omega (
 pub mark_if_exact-requires-clause-place : goal.mark_if_exact-requires-clause-place
 mark_if_exact-requires-clause-place c = omega (
   arith,
-  (c.row-links.ensures.right c.loop-link.link-index _
+  (c.row-links.ensures.row.right c.loop-link.link-index _
       (item c.row-links.result.now c.loop-link.link-index c.loop-link-test.true)).within,
   c.loop-link.invariant.others.columns,
   c.requires.columns,
@@ -48,7 +48,7 @@ loop-link-preserved c = record {
       (get_or c.row-links.result.now c.loop-link.link-index (link_to 0 0)).to
       c.link_slack-slack.result c.loop-link.invariant.others c.mark_if_exact.ensures;
   row = ties_more (links_in c.args.trips.now) c.args.potentials.now c.args.trip
-      c.row-links.result.now c.row-links.ensures c.requires.covered c.loop-link.ties
+      c.row-links.result.now c.row-links.ensures.row c.requires.covered c.loop-link.ties
       c.mark_if_exact.new.ties c.loop-link.link-index
       (get_or c.row-links.result.now c.loop-link.link-index (link_to 0 0))
       c.link_slack-slack.result
@@ -61,7 +61,7 @@ loop-link-preserved c = record {
 
 pub returns-clause-row : goal.returns-clause-row
 returns-clause-row c = ties_last (links_in c.args.trips.now) c.args.potentials.now c.args.trip
-    c.row-links.result.now c.row-links.ensures c.requires.covered c.loop-link.ties
+    c.row-links.result.now c.row-links.ensures.row c.requires.covered c.loop-link.ties
     c.mark_if_exact-2.new.ties c.loop-link.link-index c.len.result
     (omega (arith, c.requires.trip, c.requires.rows, c.loop-link.invariant.others.rows))
     c.loop-link.invariant.row (omega (arith, c.loop-link-test.false)) c.len.ensures.count

@@ -7,8 +7,8 @@ use Rattle.tables.specs.Tables.{TableRow}
 use Rattle.tables.specs.Writing.{InColumns, line_text}
 use Rattle.line_cost_model.specs.declared.multipliers.Multiplier.{Multiplier}
 use Rattle.branch_certificate.specs.TreeTexts.{cells_row, edge_id, row_with}
-use Rattle.branch_certificate.proofs.ReadIds.{kept_more}
-use Rattle.branch_certificate.proofs.WriteFew.{few_multipliers}
+use Rattle.plan_num.proofs.SortedIds.{kept_more}
+use Rattle.line_concepts.proofs.FewMultipliers.{few_multipliers}
 use Rattle.branch_certificate.proofs.WriteInside.{bound_inside, multiplier_inside}
 use Rattle.branch_certificate.proofs.WriteRows.{edge_there, line_behind, lone_line, same_row}
 use Rattle.branch_certificate.proofs.write.push_bound.Goals as goal

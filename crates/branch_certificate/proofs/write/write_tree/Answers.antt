@@ -3,7 +3,8 @@ use Rattle.std.proofs.lemmas.List.{take_all}
 use Rattle.std.proofs.lemmas.List.Elements.{All-nil}
 use Rattle.tables.specs.Columns.{tree_columns}
 use Rattle.tables.specs.Writing.{line_text}
-use Rattle.branch_certificate.specs.TreeTexts.{CanBeWritten, IsSmallSplit, NamesWhatIs, node_rows, tree_header}
+use Rattle.branch_certificate.specs.TreeTexts.{CanBeWritten, IsSmallSplit, node_rows, tree_header}
+use Rattle.line_concepts.specs.Nodes.{NamesWhatIs}
 use Rattle.branch_certificate.proofs.WriteLines.{all_lines, items_more, lines_more, text_back}
 use Rattle.line_cost_model.proofs.Proving.{holds_at}
 use Rattle.branch_certificate.proofs.write.write_tree.Goals as goal

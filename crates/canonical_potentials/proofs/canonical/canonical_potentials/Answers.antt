@@ -10,7 +10,7 @@ pub walk-requires : goal.walk-requires
 walk-requires c = subst
     (λ plan. IsSearched (links_in c.args.trips.now) plan c.in_ok-drops.drops)
     (sym c.in_ok-linked.ensures)
-    (searched_first (links_in c.args.trips.now) c.args.plan.now c.args.valid.now
+    (searched_first (links_in c.args.trips.now) c.len.ensures.links c.args.plan.now c.args.valid.now
     c.requires.plan c.requires.valid c.len.result c.len.ensures.count c.in_ok-drops.drops
     c.in_ok-drops.ensures)
 

@@ -13,11 +13,13 @@ returns-clause-passes c =
     let problem = c.in_ok-problem.problem in
     let read = c.in_ok-problem.ensures.read in
     let wait = to_z-of_z w64 c.wait_of.result (record { sfits = c.wait_of.type_inv }) ∙ c.wait_of.ensures in
-    let kept = ap (chosen_changes problem) c.deref.ensures.value ∙ c.in_ok-kept.ensures ∙ ap (kept_changes problem) wait in
+    let kept = ap (chosen_changes problem) c.deref.ensures.value ∙ c.in_ok-kept.ensures
+    ∙ ap (kept_changes problem) wait in
     passes_by bundle c.args.times.now c.args.reasons.now read.0 c.in_ok-first_fault.field-0
     (c.in_ok-first_fault.ensures
     ∙ ap (λ kept. first_broken_rule problem kept c.args.times.now c.args.reasons.now) kept
-    ∙ ap (λ p. first_broken_rule p (kept_changes p (wait_of bundle.settings)) c.args.times.now c.args.reasons.now) read.1)
+    ∙ ap (λ p. first_broken_rule p (kept_changes p (wait_of bundle.settings)) c.args.times.now
+    c.args.reasons.now) read.1)
 
 pub returns-clause-only : goal.returns-clause-only
 returns-clause-only c =
@@ -25,8 +27,10 @@ returns-clause-only c =
     let problem = c.in_ok-problem.problem in
     let read = c.in_ok-problem.ensures.read in
     let wait = to_z-of_z w64 c.wait_of.result (record { sfits = c.wait_of.type_inv }) ∙ c.wait_of.ensures in
-    let kept = ap (chosen_changes problem) c.deref.ensures.value ∙ c.in_ok-kept.ensures ∙ ap (kept_changes problem) wait in
+    let kept = ap (chosen_changes problem) c.deref.ensures.value ∙ c.in_ok-kept.ensures
+    ∙ ap (kept_changes problem) wait in
     passes_only bundle c.args.times.now c.args.reasons.now read.0 c.in_ok-first_fault.field-0
     (c.in_ok-first_fault.ensures
     ∙ ap (λ kept. first_broken_rule problem kept c.args.times.now c.args.reasons.now) kept
-    ∙ ap (λ p. first_broken_rule p (kept_changes p (wait_of bundle.settings)) c.args.times.now c.args.reasons.now) read.1)
+    ∙ ap (λ p. first_broken_rule p (kept_changes p (wait_of bundle.settings)) c.args.times.now
+    c.args.reasons.now) read.1)

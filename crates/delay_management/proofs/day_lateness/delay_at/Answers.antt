@@ -1,41 +1,30 @@
-use Rattle.std.proofs.Common.{◌∙◌, ◌+◌, ◌<◌, ◌+ℤ◌, length, drop, filter, zip, ap, sym, arith, to_z, of_z}
-use Rattle.std.specs.List.{fold}
+use Rattle.std.proofs.Common.{◌≡◌, ◌∙◌, ◌<◌, ◌+◌, ◌+ℤ◌, length, drop, zip, get_or, ap, arith, to_z, of_z}
 use Rattle.std.proofs.lemmas.Int.{ints, to_z-of_z}
 use mir.Syntax.{w128}
-use Rattle.delay_management.specs.DayLateness.{arrives, lateness}
-use Rattle.delay_management.proofs.DayLate.{arrival_more, departure_passed}
-use Rattle.delay_management.proofs.day_lateness.delay_at.Goals.{then-is_arrival, else-is_arrival}
+use Rattle.event_tables.specs.Kinds.{is_arrival}
+use Rattle.event_tables.specs.declared.expanded_event.ExpandedEvent.{ExpandedEvent}
+use Rattle.propagation.specs.Lateness.{more_delay}
+use Rattle.propagation.proofs.Late.{late_in, late_more}
 use Rattle.delay_management.proofs.day_lateness.delay_at.Goals as goal
 
 pub loop-index-preserved : goal.loop-index-preserved
 loop-index-preserved c =
-    let events = c.args.events.now in
-    let times = c.args.times.now in
-    let i = c.loop-index.index in
+    let events = c.args.events.now in let times = c.args.times.now in let i = c.loop-index.index in
     let within : i < length times = omega (arith, c.loop-index-test.true, c.requires.each) in
-    let S = to_z w128 c.loop-index.sum-bits in
-    let high = c.loop-index.invariant.high in
-    let low = c.loop-index.invariant.low in
-    let few = c.requires.few in
-    elim c.if-is_arrival.branch [
-      | then-is_arrival w ↦
-          let L = w.lateness-sum.result in
-          let most = w.lateness-sum.ensures.most in
-          let least = w.lateness-sum.ensures.least in
-          let is = w.sum-is ∙ ap (λ z. to_z w128 (of_z w128 (S +ℤ z))) (to_z-of_z w128 L (record { sfits = w.lateness-sum.type_inv }))
-          ∙ to_z-of_z w128 (S +ℤ L) (omega (arith, ints, high, low, most, least, few, c.loop-index-test.true)) in
-          record {
-            told = ap (λ sum. fold (λ sum timed. sum +ℤ lateness timed) sum (filter arrives (zip (drop (i + 1) events) (drop (i + 1) times))))
-                (is ∙ ap (λ late. S +ℤ late) w.lateness-sum.ensures.value)
-                ∙ arrival_more events times i _ c.loop-index-test.true within S (sym c.is_arrival.ensures ∙ w.if-is_arrival.true) ∙ c.loop-index.invariant.told;
-            high = omega (arith, ints, is, high, most);
-            low = omega (arith, ints, is, low, least);
-          }
-      | else-is_arrival w ↦
-          record {
-            told = ap (λ sum. fold (λ sum timed. sum +ℤ lateness timed) sum (filter arrives (zip (drop (i + 1) events) (drop (i + 1) times)))) w.sum-is
-                ∙ departure_passed events times i _ c.loop-index-test.true within S (sym c.is_arrival.ensures ∙ w.if-is_arrival.false) ∙ c.loop-index.invariant.told;
-            high = omega (arith, ints, w.sum-is, high);
-            low = omega (arith, ints, w.sum-is, low);
-          }
-    ]
+    let S = to_z w128 c.loop-index.sum-bits in let L = c.more_delay-sum.result in
+    let high = c.loop-index.invariant.high in let low = c.loop-index.invariant.low in let few = c.requires.few in
+    let most = c.more_delay-sum.ensures.most in let least = c.more_delay-sum.ensures.least in
+    let is : to_z w128 (of_z w128 (S +ℤ to_z w128 (of_z w128 L))) ≡ S +ℤ L =
+    ap (λ z. to_z w128 (of_z w128 (S +ℤ z))) (to_z-of_z w128 L (record { sfits = c.more_delay-sum.type_inv }))
+    ∙ to_z-of_z w128 (S +ℤ L) (omega (arith, ints, high, low, most, least, few, c.loop-index-test.true)) in
+    record {
+      told = ap (λ sum. late_in (λ (e : ExpandedEvent). e.time) (λ e. is_arrival e.kind) sum
+          (zip (drop (i + 1) events) (drop (i + 1) times))) is
+          ∙ late_more (λ (e : ExpandedEvent). e.time)
+          (λ e. is_arrival e.kind) events times i _ c.loop-index-test.true within S L
+          (c.more_delay-sum.ensures.value
+          ∙ (λ j. more_delay (c.day_event.ensures j) (c.from.ensures j) (get_or times i 0)))
+          ∙ c.loop-index.invariant.told;
+      high = omega (arith, ints, is, high, most);
+      low = omega (arith, ints, is, low, least);
+    }

@@ -1,7 +1,8 @@
 use Rattle.std.proofs.Common.{◌∙◌, ◌++◌, not, true, false, ap, sym}
 use Rattle.delay_management.proofs.DelaysByPlace.{activity_left_out, activity_more}
 use Rattle.propagation.proofs.Places.{moved}
-use Rattle.delay_management.proofs.delays.delayed_activities.Goals.{then-is_change+in_ok-push, else-is_change+in_ok-push-2}
+use Rattle.delay_management.proofs.delays.delayed_activities.Goals.{then-is_change+in_ok-push}
+use Rattle.delay_management.proofs.delays.delayed_activities.Goals.{else-is_change+in_ok-push-2}
 use Rattle.delay_management.proofs.delays.delayed_activities.Goals as goal
 
 pub loop-index-preserved : goal.loop-index-preserved
@@ -14,13 +15,23 @@ loop-index-preserved c =
       | then-is_change+in_ok-push w ↦
           let is = sym c.is_change.ensures ∙ w.if-is_change.true in
           record {
-            rides = rw w.rides-is (ap (λ left. c.loop-index.rides.items ++ left) (sym (activity_left_out rows delays i false activities _ c.requires.numbered c.in_ok-delays.ensures c.loop-index-test.true (ap not is))) ∙ c.loop-index.invariant.rides);
-            changes = rw w.changes-is (moved _ _ _ _ _ _ _ (activity_more rows delays i true activities _ c.requires.numbered c.in_ok-delays.ensures c.loop-index-test.true c.index.result.now c.index.ensures is) w.in_ok-push.ensures.items c.delayed-delayed.ensures c.loop-index.invariant.changes);
+            rides = rw w.rides-is (ap (λ left. c.loop-index.rides.items ++ left)
+                (sym (activity_left_out rows delays i false activities _ c.requires.numbered c.in_ok-delays.ensures
+                c.loop-index-test.true (ap not is))) ∙ c.loop-index.invariant.rides);
+            changes = rw w.changes-is (moved _ _ _ _ _ _ _
+                (activity_more rows delays i true activities _ c.requires.numbered c.in_ok-delays.ensures
+                c.loop-index-test.true c.index.result.now c.index.ensures is) w.in_ok-push.ensures.items
+                c.delayed-delayed.ensures c.loop-index.invariant.changes);
           }
       | else-is_change+in_ok-push-2 w ↦
           let is = sym c.is_change.ensures ∙ w.if-is_change.false in
           record {
-            rides = rw w.rides-is (moved _ _ _ _ _ _ _ (activity_more rows delays i false activities _ c.requires.numbered c.in_ok-delays.ensures c.loop-index-test.true c.index.result.now c.index.ensures (ap not is)) w.in_ok-push-2.ensures.items c.delayed-delayed.ensures c.loop-index.invariant.rides);
-            changes = rw w.changes-is (ap (λ left. c.loop-index.changes.items ++ left) (sym (activity_left_out rows delays i true activities _ c.requires.numbered c.in_ok-delays.ensures c.loop-index-test.true is)) ∙ c.loop-index.invariant.changes);
+            rides = rw w.rides-is (moved _ _ _ _ _ _ _
+                (activity_more rows delays i false activities _ c.requires.numbered c.in_ok-delays.ensures
+                c.loop-index-test.true c.index.result.now c.index.ensures (ap not is)) w.in_ok-push-2.ensures.items
+                c.delayed-delayed.ensures c.loop-index.invariant.rides);
+            changes = rw w.changes-is (ap (λ left. c.loop-index.changes.items ++ left)
+                (sym (activity_left_out rows delays i true activities _ c.requires.numbered c.in_ok-delays.ensures
+                c.loop-index-test.true is)) ∙ c.loop-index.invariant.changes);
           }
     ]

@@ -10,6 +10,9 @@ loop-index-preserved c =
     let events = c.args.events.now in
     let i = c.loop-index.index in
     record {
-      told = moved _ _ _ _ _ _ _ (event_more rows c.in_ok-delays.delays.items i events _ c.index.result.now c.index.ensures c.requires.numbered c.in_ok-delays.ensures c.loop-index-test.true) c.in_ok-push.ensures.items c.delayed_time.ensures.value c.loop-index.invariant.told;
-      soon = subst (All (λ time. time ≤ 8589934590)) (sym c.in_ok-push.ensures.items) (All-push (λ time. time ≤ 8589934590) _ _ c.loop-index.invariant.soon c.delayed_time.ensures.soon);
+      told = moved _ _ _ _ _ _ _ (event_more rows c.in_ok-delays.delays.items i events _ c.index.result.now
+          c.index.ensures c.requires.numbered c.in_ok-delays.ensures c.loop-index-test.true) c.in_ok-push.ensures.items
+          c.delayed_time.ensures.value c.loop-index.invariant.told;
+      soon = subst (All (λ time. time ≤ 8589934590)) (sym c.in_ok-push.ensures.items)
+          (All-push (λ time. time ≤ 8589934590) _ _ c.loop-index.invariant.soon c.delayed_time.ensures.soon);
     }

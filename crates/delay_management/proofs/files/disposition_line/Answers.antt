@@ -7,6 +7,9 @@ use Rattle.delay_management.proofs.files.disposition_line.Goals as goal
 
 pub returns : goal.returns
 returns c =
-    let delay = c.in_ok-delay_text.ensures ∙ ap (λ z. codes "delay " ++ signed_decimal z) (to_z-of_z w128 c.args.delay c.ranges.delay) in
-    line_told (signed_decimal c.args.delay) c.args.missed (c.in_ok-delay_text.field-0 ∷ c.in_ok-count_text.field-0 ∷ c.in_ok-copy.field-0 ∷ [])
-    (λ i. delay i ∷ c.in_ok-count_text.ensures i ∷ c.in_ok-copy.ensures i ∷ []) c.report_line.result c.report_line.ensures
+    let delay = c.in_ok-delay_text.ensures ∙ ap (λ z. codes "delay " ++ signed_decimal z)
+    (to_z-of_z w128 c.args.delay c.ranges.delay) in
+    line_told (signed_decimal c.args.delay) c.args.missed
+    (c.in_ok-delay_text.field-0 ∷ c.in_ok-count_text.field-0 ∷ c.in_ok-copy.field-0 ∷ [])
+    (λ i. delay i ∷ c.in_ok-count_text.ensures i ∷ c.in_ok-copy.ensures i ∷ []) c.report_line.result
+    c.report_line.ensures

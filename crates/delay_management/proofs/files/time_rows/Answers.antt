@@ -16,4 +16,5 @@ loop-index-preserved c =
 
 pub returns : goal.returns
 returns c =
-    c.loop-index.invariant ∙ rows_whole time_row c.args.times.now c.loop-index.index (omega (arith, c.loop-index-test.false))
+    c.loop-index.invariant ∙ rows_whole time_row c.args.times.now c.loop-index.index
+    (omega (arith, c.loop-index-test.false))

@@ -10,5 +10,6 @@ returns-in-None c =
 
 pub returns-in-Some : goal.returns-in-Some
 returns-in-Some c =
-    as_rows_told c.args.problem.now (chosen_changes c.args.problem.now c.args.kept.now) c.args.times.now c.args.reasons.now c.in-Some.table
+    as_rows_told c.args.problem.now (chosen_changes c.args.problem.now c.args.kept.now) c.args.times.now
+    c.args.reasons.now c.in-Some.table
     (sym c.in-Some.is ∙ c.in_ok-time_table.ensures.read) c.rows_fault.result c.rows_fault.ensures

@@ -8,4 +8,5 @@ use Rattle.delay_management.proofs.rows.are_all_reasons.Given as goal
 abbrev pub invariant-loop-row : goal.invariant-loop-row
 invariant-loop-row l =
     list_all (λ at. nat_eq at.1 at.0) (enumerate_from 1 (map (λ row. row.event) (records_by reason_row l.table)))
-    ≡ list_all (λ at. nat_eq at.1 at.0) (enumerate_from (l.row + 1) (map (λ row. row.event) (records_by reason_row (drop l.row l.table))))
+    ≡ list_all (λ at. nat_eq at.1 at.0) (enumerate_from (l.row + 1)
+    (map (λ row. row.event) (records_by reason_row (drop l.row l.table))))

@@ -8,4 +8,5 @@ use Rattle.delay_management.proofs.rows.are_all_times.Given as goal
 abbrev pub invariant-loop-row : goal.invariant-loop-row
 invariant-loop-row l =
     list_all (λ at. nat_eq at.1 at.0) (enumerate_from 1 (map (λ row. row.event) (records_by disposed_time l.table)))
-    ≡ list_all (λ at. nat_eq at.1 at.0) (enumerate_from (l.row + 1) (map (λ row. row.event) (records_by disposed_time (drop l.row l.table))))
+    ≡ list_all (λ at. nat_eq at.1 at.0) (enumerate_from (l.row + 1)
+    (map (λ row. row.event) (records_by disposed_time (drop l.row l.table))))

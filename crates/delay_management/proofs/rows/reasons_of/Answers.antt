@@ -10,6 +10,7 @@ why row = row.reason
 
 pub loop-row-preserved : goal.loop-row-preserved
 loop-row-preserved c =
-    part_pushed reason_row why c.args.table.now c.loop-row.row c.loop-row.reasons.items c.push.new.self.items c.reason_in.result
+    part_pushed reason_row why c.args.table.now c.loop-row.row c.loop-row.reasons.items c.push.new.self.items
+    c.reason_in.result
     (omega (arith, c.loop-row-test.true, c.len-row-end.ensures.len)) c.in_ok-push.ensures.items
     c.loop-row.invariant c.reason_in.ensures

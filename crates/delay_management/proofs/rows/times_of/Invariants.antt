@@ -3,9 +3,10 @@ use Rattle.std.proofs.Common.{◌≡◌, ◌≤◌, All, map, take}
 use Rattle.event_tables.specs.Cells.{disposed_time}
 use Rattle.tables.specs.RowsOfTables.{records_by}
 use Rattle.delay_management.proofs.rows.times_of.Given as goal
+use Rattle.propagation.specs.declared.times.TheConstants.{LATEST}
 
 abbrev pub invariant-loop-row : goal.invariant-loop-row
 invariant-loop-row l = record {
   told : l.times.items ≡ take l.row (map (λ row. row.time) (records_by disposed_time l.table));
-  small : All (λ time. time ≤ 1000000000000000000) l.times.items;
+  small : All (λ time. time ≤ LATEST) l.times.items;
 }

@@ -4,7 +4,8 @@ use Rattle.delay_trials.proofs.EndsOfChanges.{ends_moved}
 use Rattle.delay_trials.proofs.ends.ends_in_order.Goals as goal
 
 pub returns-clause-ends : goal.returns-clause-ends
-returns-clause-ends c = ends_moved c.args.changes.now _ _ c.in_ok-ends.ensures c.sort_unstable_by_key.ensures.permutation
+returns-clause-ends c = ends_moved c.args.changes.now _ _ c.in_ok-ends.ensures
+    c.sort_unstable_by_key.ensures.permutation
 
 pub returns-clause-in_order : goal.returns-clause-in_order
 returns-clause-in_order c =

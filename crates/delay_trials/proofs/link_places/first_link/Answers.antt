@@ -7,5 +7,6 @@ pub returns : goal.returns
 returns c =
     first_is (λ link. link.rank) c.args.links.now c.args.rank c.partition_point.result c.partition_point.ensures.bound
     (IsPartitionPoint-from_clause (λ link. ltb link.rank c.args.rank) c.args.links.now c.partition_point.result
-    c.partition_point.ensures.partitioned (IsPartitionedBy-ltb (λ link. link.rank) c.args.links.now c.args.rank c.requires)
+    c.partition_point.ensures.partitioned (IsPartitionedBy-ltb
+    (λ link. link.rank) c.args.links.now c.args.rank c.requires)
     (λ a r q k. search rules))

@@ -6,21 +6,22 @@ use Rattle.delay_management.specs.DayLateness.{delay_at}
 use Rattle.delay_management.specs.InputProblems.{activities_of}
 use Rattle.evaluators.specs.Statistic.{greatest_delay}
 use Rattle.evaluators.proofs.Bounded.{rows_few, times_below}
-use Rattle.evaluators.proofs.Parts.{day_are}
+use Rattle.evaluators.proofs.ValuesOfParts.{day_are}
 use Rattle.evaluators.proofs.day.values_of.Goals as goal
+use Rattle.propagation.specs.declared.times.TheConstants.{LATEST}
 
 pub empty_minutes-requires : goal.empty_minutes-requires
 empty_minutes-requires c = rows_few c.args.events.now c.args.schedule.now c.requires.schedule
 
 pub delay_at-requires-clause-small : goal.delay_at-requires-clause-small
 delay_at-requires-clause-small c =
-    subst (All (λ time. time ≤ 1000000000000000000)) (sym (c.deref.ensures.value ∙
+    subst (All (λ time. time ≤ LATEST)) (sym (c.deref.ensures.value ∙
     c.in_ok-times.ensures))
     (times_below _ c.args.disposed.now c.requires.disposed)
 
 pub missed_changes-requires-clause-small : goal.missed_changes-requires-clause-small
 missed_changes-requires-clause-small c =
-    subst (All (λ time. time ≤ 1000000000000000000)) (sym (c.deref-3.ensures.value ∙
+    subst (All (λ time. time ≤ LATEST)) (sym (c.deref-3.ensures.value ∙
     c.in_ok-times.ensures))
     (times_below _ c.args.disposed.now c.requires.disposed)
 

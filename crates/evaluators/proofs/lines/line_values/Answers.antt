@@ -9,7 +9,7 @@ use Rattle.evaluators.specs.CostedLines.{costed, runs_cost}
 use Rattle.evaluators.specs.Statistic.{line_values}
 use Rattle.evaluators.specs.StatisticInputs.{concept_input, cost_input, lines_of}
 use Rattle.evaluators.proofs.Bounded.{costs_below, lines_few, runs_below}
-use Rattle.evaluators.proofs.Parts.{both_none, lines_are}
+use Rattle.evaluators.proofs.ValuesOfParts.{both_none, lines_are}
 use Rattle.evaluators.proofs.lines.line_values.Goals as goal
 
 pub cost_of_lines-requires-clause-few : goal.cost_of_lines-requires-clause-few

@@ -1,4 +1,4 @@
-use Rattle.evaluators.proofs.Parts.{periodic_are}
+use Rattle.evaluators.proofs.ValuesOfParts.{periodic_are}
 use Rattle.evaluators.proofs.periodic.values_of.Goals as goal
 
 pub returns : goal.returns

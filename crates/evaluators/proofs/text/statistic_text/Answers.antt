@@ -1,5 +1,5 @@
 use Rattle.std.proofs.Common.{◌∙◌, arith, length, ap}
-use Rattle.evaluators.proofs.Parts.{text_whole}
+use Rattle.evaluators.proofs.ValuesOfParts.{text_whole}
 use Rattle.evaluators.proofs.text.statistic_text.Goals as goal
 
 pub returns : goal.returns

@@ -1,5 +1,5 @@
 use Rattle.event_activity.specs.Activities.{with_number}
-use Rattle.event_activity.proofs.Added.{added_numbered}
+use Rattle.plan_num.proofs.Added.{added_numbered}
 use Rattle.event_activity.proofs.activities.with_numbers.Goals as goal
 
 pub loop-place-preserved : goal.loop-place-preserved

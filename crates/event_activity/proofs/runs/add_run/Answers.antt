@@ -1,7 +1,7 @@
 use Rattle.std.proofs.Common.{◌++◌, map, length, ap, arith, ◌∙◌}
 use Rattle.std.specs.List.{range_with_len}
 use Rattle.event_activity.specs.Runs.{line_at, run_event}
-use Rattle.event_activity.proofs.Added.{added_one}
+use Rattle.plan_num.proofs.Added.{added_one}
 use Rattle.event_activity.proofs.LineEvents.{told_of}
 use Rattle.event_activity.proofs.runs.add_run.Goals as goal
 

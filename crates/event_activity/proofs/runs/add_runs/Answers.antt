@@ -1,7 +1,7 @@
 use Rattle.std.proofs.Common.{◌+◌, ◌++◌, ap, arith, ◌∙◌}
 use Rattle.std.specs.List.{flat_map, range_with_len}
 use Rattle.event_activity.specs.Runs.{line_at, run}
-use Rattle.event_activity.proofs.Added.{added_part}
+use Rattle.plan_num.proofs.Added.{added_part}
 use Rattle.event_activity.proofs.LineEvents.{told_of}
 use Rattle.event_activity.proofs.runs.add_runs.Goals as goal
 

@@ -1,5 +1,5 @@
 use Rattle.event_activity.specs.Runs.{with_id}
-use Rattle.event_activity.proofs.Added.{added_numbered}
+use Rattle.plan_num.proofs.Added.{added_numbered}
 use Rattle.event_activity.proofs.runs.with_ids.Goals as goal
 
 pub loop-place-preserved : goal.loop-place-preserved

@@ -10,4 +10,5 @@ returns-clause-sound c =
     let text = c.args.text.now in
     let input = delay_input c.args.file c.args.unknown (range_with_len 1 c.args.count) in
     sound_read (λ rows. rows.items) (input_faults input text)
-    (records_of input text) (AreDelays c.args.count) c.read_file.result c.read_file.ensures (delays_sound c.args.file c.args.unknown c.args.count text)
+    (records_of input text) (AreDelays c.args.count) c.read_file.result c.read_file.ensures
+    (delays_sound c.args.file c.args.unknown c.args.count text)

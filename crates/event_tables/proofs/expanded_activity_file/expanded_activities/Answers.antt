@@ -8,4 +8,5 @@ returns-clause-sound c =
     let text = c.args.text.now in
     let input = expanded_activity_input c.args.events.now in
     sound_read (λ rows. rows.items) (input_faults input text)
-    (records_of input text) (AreExpandedActivities c.args.events.now) c.read_file.result c.read_file.ensures (expanded_activities_sound c.args.events.now text c.requires)
+    (records_of input text) (AreExpandedActivities c.args.events.now) c.read_file.result c.read_file.ensures
+    (expanded_activities_sound c.args.events.now text c.requires)

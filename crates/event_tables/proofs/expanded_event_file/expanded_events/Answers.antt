@@ -7,4 +7,5 @@ pub returns-clause-sound : goal.returns-clause-sound
 returns-clause-sound c =
     let text = c.args.text.now in
     sound_read (λ events. events.items) (input_faults expanded_event_input text)
-    (records_of expanded_event_input text) AreExpandedEvents c.read_file.result c.read_file.ensures (expanded_events_sound text)
+    (records_of expanded_event_input text) AreExpandedEvents c.read_file.result c.read_file.ensures
+    (expanded_events_sound text)

@@ -10,4 +10,5 @@ bounds-events-id c = let one = is_place (length c.args.events.now) c.args.id c.r
 
 pub returns : goal.returns
 returns c = find_numbered
-    (λ event. event.id) c.args.id c.args.events.now _ c.requires.numbered (is_place (length c.args.events.now) c.args.id c.requires.known)
+    (λ event. event.id) c.args.id c.args.events.now _ c.requires.numbered
+    (is_place (length c.args.events.now) c.args.id c.requires.known)

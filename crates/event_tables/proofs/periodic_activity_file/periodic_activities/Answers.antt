@@ -12,7 +12,8 @@ returns-clause-sound c =
     let count = length c.args.events.now in
     let input = periodic_activity_input (range_with_len 1 count) in
     sound_read (λ rows. rows.items) (input_faults input text)
-    (records_of input text) (ArePeriodicActivities count) c.read_file.result c.read_file.ensures (periodic_activities_sound count text)
+    (records_of input text) (ArePeriodicActivities count) c.read_file.result c.read_file.ensures
+    (periodic_activities_sound count text)
 
 pub returns-clause-read : goal.returns-clause-read
 returns-clause-read c =

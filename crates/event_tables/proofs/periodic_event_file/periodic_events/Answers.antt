@@ -7,4 +7,5 @@ pub returns-clause-sound : goal.returns-clause-sound
 returns-clause-sound c =
     let text = c.args.text.now in
     sound_read (λ events. events.items) (input_faults periodic_event_input text)
-    (records_of periodic_event_input text) ArePeriodicEvents c.read_file.result c.read_file.ensures (periodic_events_sound text)
+    (records_of periodic_event_input text) ArePeriodicEvents c.read_file.result c.read_file.ensures
+    (periodic_events_sound text)

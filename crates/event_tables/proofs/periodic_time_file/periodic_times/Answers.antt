@@ -16,7 +16,8 @@ returns-in_err-rows-clause-read c =
     let p = err_from_is_err_and c.from_residual.result c.from_residual.ensures.1 in
     rw (p.1, p.2) (subst (λ (ids : List ℕ). Refuses
     (input_faults (periodic_time_input c.args.file c.args.period ids) text) c.in_err-rows.field-0.0) (sym c.requires)
-    (refused_without (periodic_time_input c.args.file c.args.period (range_with_len 1 (length c.args.events.now))) text c.in_err-rows.field-0.0 c.in_err-rows.ensures))
+    (refused_without (periodic_time_input c.args.file c.args.period (range_with_len 1 (length c.args.events.now))) text
+    c.in_err-rows.field-0.0 c.in_err-rows.ensures))
 
 pub returns-clause-read : goal.returns-clause-read
 returns-clause-read c =

@@ -5,7 +5,7 @@ use Rattle.tables.specs.declared.refusal.StageFault.TheVariants as stage
 use Rattle.tables.specs.Columns.{schedule_columns}
 use Rattle.tables.specs.Inputs.{input_faults, records_of}
 use Rattle.tables.specs.Writing.{InColumns}
-use Rattle.tables.proofs.FileFaults.{limits_refuse, none_broken, rows_read}
+use Rattle.tables.proofs.FileFaults.{limits_refuse, rows_read}
 use Rattle.tables.proofs.Inputs.{refused_cells}
 use Rattle.event_tables.specs.Cells.{AreSmall}
 use Rattle.event_tables.specs.Schedules.{schedule_input, AreScheduleRows}
@@ -13,11 +13,13 @@ use Rattle.event_tables.proofs.CellFacts.{small_cells}
 use Rattle.event_tables.proofs.SoundFiles.{sound_read}
 use Rattle.event_tables.proofs.SoundTrips.{schedule_rows_sound}
 use Rattle.event_tables.proofs.schedule_file.schedule_rows.Goals as goal
+use Rattle.plan_num.proofs.Lists.{none_first}
 
 pub returns-in_err-table-clause-read : goal.returns-in_err-table-clause-read
 returns-in_err-table-clause-read c =
     let p = err_from_is_err_and c.from_residual.result c.from_residual.ensures.1 in
-    rw (p.1, p.2) (refused_cells (schedule_input c.args.events.now) c.args.text.now c.in_err-table.field-0.0 c.in_err-table.ensures.table)
+    rw (p.1, p.2) (refused_cells (schedule_input c.args.events.now) c.args.text.now c.in_err-table.field-0.0
+    c.in_err-table.ensures.table)
 
 pub too_many_of_a_kind-requires : goal.too_many_of_a_kind-requires
 too_many_of_a_kind-requires c = All-weaker (λ row. InColumns schedule_columns row.cells)
@@ -27,7 +29,8 @@ too_many_of_a_kind-requires c = All-weaker (λ row. InColumns schedule_columns r
 pub returns-in-Some-clause-read : goal.returns-in-Some-clause-read
 returns-in-Some-clause-read c =
     let read = c.in_ok-table.ensures.table in
-    limits_refuse (schedule_input c.args.events.now) c.args.text.now c.in_ok-table.table read.0 read.1 (stage.Refused c.in-Some.refusal) (sym c.too_many_of_a_kind.ensures ∙ c.in-Some.is)
+    limits_refuse (schedule_input c.args.events.now) c.args.text.now c.in_ok-table.table read.0 read.1
+    (stage.Refused c.in-Some.refusal) (sym c.too_many_of_a_kind.ensures ∙ c.in-Some.is)
 
 pub read_records-requires : goal.read_records-requires
 read_records-requires c = (
@@ -44,7 +47,7 @@ pub returns-clause-read : goal.returns-clause-read
 returns-clause-read c =
     let read = c.in_ok-table.ensures.table in
     rows_read (schedule_input c.args.events.now) c.args.text.now c.in_ok-table.table read.0 read.1
-    (λ rows all. rows.items ≡ all) refl (none_broken _
+    (λ rows all. rows.items ≡ all) refl (none_first _
     (sym c.too_many_of_a_kind.ensures
     ∙ c.in_default.is)) c.read_records.result c.read_records.ensures
 
@@ -56,7 +59,7 @@ returns-clause-sound c =
     sound_read (λ rows. rows.items) (input_faults input text)
     (records_of input text) (AreScheduleRows c.args.events.now) c.read_records.result
     (rows_read input text c.in_ok-table.table read.0 read.1
-    (λ rows all. rows.items ≡ all) refl (none_broken _
+    (λ rows all. rows.items ≡ all) refl (none_first _
     (sym c.too_many_of_a_kind.ensures
     ∙ c.in_default.is)) c.read_records.result c.read_records.ensures)
     (schedule_rows_sound c.args.events.now text c.requires)

@@ -21,5 +21,7 @@ returns c =
     c.or.ensures
     ∙ ap (λ first. option_or first c.too_many-2.result) (c.too_many.ensures ∙ ap
     (λ n. slice_get (too_many_rows limit n) 0) trips)
-    ∙ ap (option_or (slice_get (too_many_rows limit (length (filter is_trip_row rows))) 0)) (c.too_many-2.ensures ∙ ap (λ n. slice_get (too_many_rows limit n) 0) c.count_empty-empty.ensures)
-    ∙ first_of_two (too_many_rows limit (length (filter is_trip_row rows))) (too_many_rows limit (length (filter is_empty_row rows)))
+    ∙ ap (option_or (slice_get (too_many_rows limit (length (filter is_trip_row rows))) 0))
+    (c.too_many-2.ensures ∙ ap (λ n. slice_get (too_many_rows limit n) 0) c.count_empty-empty.ensures)
+    ∙ first_of_two (too_many_rows limit (length (filter is_trip_row rows)))
+    (too_many_rows limit (length (filter is_empty_row rows)))

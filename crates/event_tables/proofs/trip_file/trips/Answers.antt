@@ -13,7 +13,8 @@ returns-clause-sound c =
     let text = c.args.text.now in
     let stops = option_map (λ ids. ids.now) c.args.stops in
     sound_read (λ rows. rows.items) (input_faults (trip_input stops) text)
-    (records_of (trip_input stops) text) (AreTrips stops) c.read_file.result c.read_file.ensures (trips_sound stops text)
+    (records_of (trip_input stops) text) (AreTrips stops) c.read_file.result c.read_file.ensures
+    (trips_sound stops text)
 
 pub read_file-requires : goal.read_file-requires
 read_file-requires c =

@@ -38,4 +38,5 @@ returns-clause-back g c =
     let cells_of = g.X.WrittenRecord.cells_of in
     let is = c.loop-row.invariant
     ∙ ap (rows_by cells_of) (take_all c.loop-row.row-index rows (omega arith)) in
-    reads_as c.args.kinds.now g.X.Record.of_cells cells_of rows c.requires.back c.loop-row.table is c.write_table.result c.write_table.ensures.back
+    reads_as c.args.kinds.now g.X.Record.of_cells cells_of rows c.requires.back c.loop-row.table is c.write_table.result
+    c.write_table.ensures.back

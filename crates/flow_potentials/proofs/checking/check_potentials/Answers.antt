@@ -1,7 +1,8 @@
 use Rattle.std.proofs.Common.{◌<◌, ◌≤◌, cond, length, Some, None, ap, sym, ◌∙◌, arith}
 use Rattle.vehicle_model.specs.Trips.{links_of}
 use Rattle.flow_potentials.specs.declared.potential_fault.PotentialFault.TheVariants as fault
-use Rattle.flow_potentials.proofs.Checked.{pair_found, no_pair, all_pairs, told_valid, told_cheapest, told_tight, told_sum}
+use Rattle.flow_potentials.proofs.Checked.{pair_found, no_pair, all_pairs, told_valid}
+use Rattle.flow_potentials.proofs.Checked.{told_cheapest, told_tight, told_sum}
 use Rattle.flow_potentials.proofs.checking.check_potentials.Goals as goal
 
 pub returns-in-Some-clause-first : goal.returns-in-Some-clause-first

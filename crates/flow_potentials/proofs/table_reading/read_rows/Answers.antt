@@ -1,10 +1,12 @@
-use Rattle.std.proofs.Common.{◌<◌, ◌≤◌, ◌==◌, ◌+◌, nat_lt, true, false, length, pos, get_or, slice_get, unsigned_abs, ap, sym, ◌∙◌, subst, Some, Err, arith}
+use Rattle.std.proofs.Common.{◌<◌, ◌≤◌, ◌==◌, ◌+◌, nat_lt, true, false, length, pos, get_or}
+use Rattle.std.proofs.Common.{slice_get, unsigned_abs, ap, sym, ◌∙◌, subst, Some, Err, arith}
 use Rattle.std.proofs.lemmas.Bool.{and_parts, ltb-true, lt-ltb, le-ltb}
 use Rattle.tables.specs.declared.row_why.RowWhy.TheVariants as why
 use Rattle.tables.specs.Tables.{no_row}
 use Rattle.link_plans.specs.Potentials.{PotentialParts, AreOver}
 use Rattle.flow_potentials.specs.PotentialTables.{gaps_from, column_of, potentials_in, PotentialsGive}
-use Rattle.flow_potentials.proofs.Tables.{gap_found, no_gap, gap_end, column_more, column_all, table_potentials, table_over}
+use Rattle.flow_potentials.proofs.Tables.{gap_found, no_gap, gap_end, column_more, column_all}
+use Rattle.flow_potentials.proofs.Tables.{table_potentials, table_over}
 use Rattle.flow_potentials.proofs.table_reading.read_rows.Goals as goal
 
 pub returns-then-not-is_trip_row-clause-read : goal.returns-then-not-is_trip_row-clause-read
@@ -77,7 +79,8 @@ pub returns-clause-each : goal.returns-clause-each
 returns-clause-each c =
     let past : length c.args.table.now ≤ c.loop-row.row =
     omega (arith, c.loop-row-test.false, c.len-row-end.ensures.len) in
-    subst (AreOver c.args.trips) (sym c.of_numbers.ensures) (table_over c.args.table.now c.args.trips c.loop-row.u.items c.loop-row.v.items
+    subst (AreOver c.args.trips) (sym c.of_numbers.ensures)
+    (table_over c.args.table.now c.args.trips c.loop-row.u.items c.loop-row.v.items
     (column_all 1 c.args.table.now c.loop-row.row c.loop-row.u.items past c.loop-row.invariant.u)
     (column_all 2 c.args.table.now c.loop-row.row c.loop-row.v.items past c.loop-row.invariant.v)
     (omega (

@@ -31,8 +31,8 @@ of_rows-requires c =
     c.len-trip-end.ensures.trips)
     rows are
 
-pub returns : goal.returns
-returns c =
+pub returns-clause-links : goal.returns-clause-links
+returns-clause-links c =
     let all : c.loop-trip.trip ≡ length c.args.trips.now.trips =
     omega (arith, c.loop-trip.auto.trip-end, c.loop-trip-test.false, c.len-trip-end.ensures.count)
     in

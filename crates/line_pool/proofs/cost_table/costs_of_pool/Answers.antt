@@ -9,5 +9,23 @@ use Rattle.line_pool.proofs.cost_table.costs_of_pool.Goals as goal
 
 pub write_table-requires : goal.write_table-requires
 write_table-requires c =
-    let rows = rows_in_columns c.args.settings.now c.args.network.now.edges c.requires.settings c.args.pool.now c.requires.lines in
-    (omega arith, (omega arith, (omega arith, (omega arith, (columns_written pool_cost_columns refl, (subst (All (λ row. InColumns pool_cost_columns row.cells)) (sym c.in_ok-table.ensures) rows, (refl, plain_header cost_header refl)))))))
+    let rows = rows_in_columns c.args.settings.now c.args.network.now.edges c.requires.settings
+    c.args.pool.now c.requires.lines in (
+      omega arith,
+      (
+        omega arith,
+        (
+          omega arith,
+          (
+            omega arith,
+            (
+              columns_written pool_cost_columns refl,
+              (
+                subst (All (λ row. InColumns pool_cost_columns row.cells)) (sym c.in_ok-table.ensures) rows,
+                (refl, plain_header cost_header refl),
+              ),
+            ),
+          ),
+        ),
+      ),
+    )

@@ -1,6 +1,6 @@
 use Rattle.std.proofs.Common.{subst, sym}
 use Rattle.std.proofs.lemmas.Result.{err_from_is_err_and}
-use Rattle.ptn_network.specs.Networks.{IsNetwork}
+use Rattle.walks.specs.Networks.{IsNetwork}
 use Rattle.ptn_network.proofs.Sound.{network_sound}
 use Rattle.line_walks.specs.declared.line_file.LineFile.TheVariants as kind
 use Rattle.line_pool.specs.LineCosts.{AreModest}
@@ -11,13 +11,15 @@ use Rattle.line_pool.proofs.stage.costs_of_bundle.Goals as goal
 pub returns-in_err-network : goal.returns-in_err-network
 returns-in_err-network c =
     let p = err_from_is_err_and c.from_residual.result c.from_residual.ensures.1 in
-    rw (p.1, p.2) (network_refused c.args.bundle.now c.in_err-network.field-0.0 (rw (c.input.ensures, c.input-2.ensures) at c.in_err-network.ensures))
+    rw (p.1, p.2) (network_refused c.args.bundle.now c.in_err-network.field-0.0
+    (rw (c.input.ensures, c.input-2.ensures) at c.in_err-network.ensures))
 
 pub returns-in_err-pool : goal.returns-in_err-pool
 returns-in_err-pool c =
     let p = err_from_is_err_and c.from_residual-in_err-pool.result c.from_residual-in_err-pool.ensures.1 in
     let network = rw (c.input.ensures, c.input-2.ensures) at c.in_ok-network.ensures in
-    rw (p.1, p.2) (pool_refused c.args.bundle.now c.in_ok-network.network network.0 network.1 c.in_err-pool.field-0.0 (rw c.input-3.ensures at c.in_err-pool.ensures.made))
+    rw (p.1, p.2) (pool_refused c.args.bundle.now c.in_ok-network.network network.0 network.1
+    c.in_err-pool.field-0.0 (rw c.input-3.ensures at c.in_err-pool.ensures.made))
 
 pub costs_of_pool-requires-clause-settings : goal.costs_of_pool-requires-clause-settings
 costs_of_pool-requires-clause-settings c = subst AreModest (sym c.settings.ensures)
@@ -35,5 +37,6 @@ pub returns : goal.returns
 returns c =
     let network = rw (c.input.ensures, c.input-2.ensures) at c.in_ok-network.ensures in
     let pool = rw c.input-3.ensures at c.in_ok-pool.ensures.made in
-    costs_given c.args.bundle.now c.in_ok-network.network network.0 network.1 c.in_ok-pool.pool c.in_ok-costs_of_pool.field-0 pool.0 pool.1
+    costs_given c.args.bundle.now c.in_ok-network.network network.0 network.1 c.in_ok-pool.pool
+    c.in_ok-costs_of_pool.field-0 pool.0 pool.1
     (rw (sym c.settings.ensures) c.in_ok-costs_of_pool.ensures)

@@ -2,7 +2,7 @@ use Rattle.std.proofs.Common.{length, ap, subst, sym, ◌∙◌}
 use Rattle.std.specs.List.{All}
 use Rattle.std.proofs.lemmas.Result.{err_from_is_err_and}
 use Rattle.tables.specs.declared.file_id.FileId.TheVariants as file
-use Rattle.ptn_network.specs.Networks.{NetworkParts}
+use Rattle.walks.specs.Networks.{NetworkParts}
 use Rattle.ptn_network.proofs.LoadRows.{loads_count}
 use Rattle.line_cost_model.specs.Problems.{IsId}
 use Rattle.line_walks.proofs.SoundCosts.{costs_count}

@@ -4,11 +4,12 @@ use Rattle.std.proofs.lemmas.Result.{err_from_is_err_and}
 use Rattle.tables.specs.Columns.{concept_columns}
 use Rattle.tables.specs.Writing.{InColumns}
 use Rattle.tables.proofs.Inputs.{UnlessFault-weaker, faults_of_table, refused_cells}
-use Rattle.tables.proofs.Ranges.{table_in_columns, unmapped}
+use Rattle.tables.proofs.Ranges.{table_in_columns}
 use Rattle.line_search.specs.ConceptTables.{frequencies_in}
 use Rattle.line_search.specs.Judged.{frequencies_of}
 use Rattle.line_search.specs.PinnedConcepts.{pinned_input}
 use Rattle.line_search.proofs.pinned.given_frequencies.Goals as goal
+use Rattle.plan_num.proofs.Lists.{unmapped}
 
 pub returns-in_err-table-clause-read : goal.returns-in_err-table-clause-read
 returns-in_err-table-clause-read c =

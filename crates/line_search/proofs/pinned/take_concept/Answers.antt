@@ -1,6 +1,8 @@
-use Rattle.line_search.proofs.PinnedLaws.{pinned_files_given}
+use Rattle.giv_files.proofs.StageCalls.{right_given}
+use Rattle.line_search.proofs.PinnedReads.{pinned_right}
 use Rattle.line_search.proofs.pinned.take_concept.Goals as goal
 
 pub returns-clause-right : goal.returns-clause-right
 returns-clause-right g c =
-    pinned_files_given c.args.bundle.now c.taken_concept.result c.taken_concept.ensures
+    right_given _ c.taken_concept.result
+    (λ made is. pinned_right c.args.bundle.now made is) c.taken_concept.ensures

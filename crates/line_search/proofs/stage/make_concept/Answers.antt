@@ -1,7 +1,9 @@
 use Rattle.line_search.specs.GivenProblems.{problem_of}
-use Rattle.line_search.proofs.ConceptReads.{files_given}
+use Rattle.giv_files.proofs.StageCalls.{right_given}
+use Rattle.line_search.proofs.ConceptReads.{concept_is_right}
 use Rattle.line_search.proofs.NoConcepts.{none_told}
-use Rattle.line_search.proofs.SearchRight.{listing_whole, search_right}
+use Rattle.line_search.proofs.SearchRight.{search_right}
+use Rattle.line_concepts.proofs.RightSearches.{listing_whole}
 use Rattle.line_search.proofs.StageResults.{whole_given}
 use Rattle.line_search.proofs.stage.make_concept.Goals as goal
 
@@ -17,8 +19,8 @@ returns-clause-none g c =
 
 pub returns-clause-files : goal.returns-clause-files
 returns-clause-files g c =
-    files_given c.args.bundle.now c.searched_concept.result c.requires.stage c.requires.fits
-    c.searched_concept.ensures.made
+    right_given _ c.searched_concept.result
+    (λ made is. concept_is_right c.args.bundle.now made c.requires.stage c.requires.fits is) c.searched_concept.ensures.made
 
 pub returns-clause-whole : goal.returns-clause-whole
 returns-clause-whole g c =

@@ -3,7 +3,7 @@ use Rattle.std.proofs.lemmas.Int.{to_z-of_z}
 use Rattle.std.proofs.lemmas.List.{take_all}
 use Rattle.std.specs.List.{list_any}
 use Rattle.std.specs.Ordering.{int_eq}
-use Rattle.ptn_network.proofs.ById.{sorted_ids}
+use Rattle.walks.proofs.ById.{sorted_ids}
 use Rattle.line_walks.specs.LinesSoFar.{lines_in}
 use Rattle.line_walks.proofs.RowsOfLines.{ids_more}
 use Rattle.line_walks.proofs.line_rows.line_ids.Goals as goal
@@ -11,11 +11,13 @@ use Rattle.line_walks.proofs.line_rows.line_ids.Goals as goal
 pub loop-i-preserved : goal.loop-i-preserved
 loop-i-preserved g c = λ id.
     let read = to_z-of_z w64 c.cell.result (record { sfits = c.cell.type_inv }) ∙ c.cell.ensures in
-    ids_more c.args.table.now c.loop-i.i _ id _ _ (omega arith) read (c.in_ok-insert.ensures.updates.0 id) (c.loop-i.invariant id)
+    ids_more c.args.table.now c.loop-i.i _ id _ _ (omega arith) read
+    (c.in_ok-insert.ensures.updates.0 id) (c.loop-i.invariant id)
 
 pub returns-clause-rising : goal.returns-clause-rising
 returns-clause-rising g c =
     let sorted = c.in_ok-sort.ensures in
     let table = c.args.table.now in
     sorted_ids c.sort.new.self.keys (lines_in table) sorted.sorted sorted.unique
-    (λ id. sorted.reordered.2 id ∙ c.loop-i.invariant id ∙ ap (λ rows. list_any (int_eq id) (lines_in rows)) (take_all c.loop-i.i table (omega arith)))
+    (λ id. sorted.reordered.2 id ∙ c.loop-i.invariant id
+    ∙ ap (λ rows. list_any (int_eq id) (lines_in rows)) (take_all c.loop-i.i table (omega arith)))

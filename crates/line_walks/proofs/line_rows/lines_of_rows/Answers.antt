@@ -17,7 +17,8 @@ use Rattle.line_walks.proofs.line_rows.lines_of_rows.Goals as goal
 pub place_of-place-requires : goal.place_of-place-requires
 place_of-place-requires g c =
     let row = c.read-row.result in
-    ap (λ id. list_any (int_eq id) c.args.ids.now.keys) (to_z-of_z w64 row.line (record { sfits = omega (arith, c.read-row.type_inv) }))
+    ap (λ id. list_any (int_eq id) c.args.ids.now.keys)
+    (to_z-of_z w64 row.line (record { sfits = omega (arith, c.read-row.type_inv) }))
     ∙ c.requires.there row.line ∙ line_listed c.args.table.now c.loop-i.i row (omega arith) c.read-row.ensures
 
 pub index-requires : goal.index-requires
@@ -36,8 +37,13 @@ edge-requires g c =
     let own = to_z-of_z w64 row.line (record { sfits = omega (arith, c.read-row.type_inv) }) in
     let same = to_z-of_z w64 row.edge (record { sfits = omega (arith, c.read-row.type_inv) }) in
     let at = ap (λ id. position (int_eq id) ids) (sym own) ∙ c.place_of-place.ensures in
-    let told = c.index.ensures ∙ line_at ids c.loop-i.lines.items (line_so_far edges before) row.line c.place_of-place.result c.index.result.now c.loop-i.invariant.lines at in
-    let new = new_told before row _ _ (λ id edge. contains (λ x y. int_eq x.0 y.0 && int_eq x.1 y.1) c.loop-i.pairs (id, edge)) c.in_ok-is_new.is_new own same c.loop-i.invariant.pairs c.in_ok-is_new.ensures.added in
+    let told = c.index.ensures
+    ∙ line_at ids c.loop-i.lines.items
+    (line_so_far edges before) row.line c.place_of-place.result c.index.result.now
+    c.loop-i.invariant.lines at in
+    let new = new_told before row _ _
+    (λ id edge. contains (λ x y. int_eq x.0 y.0 && int_eq x.1 y.1) c.loop-i.pairs (id, edge))
+    c.in_ok-is_new.is_new own same c.loop-i.invariant.pairs c.in_ok-is_new.ensures.added in
     stands_within edges row.edge c.in-Ok.index (c.in-Ok.ensures before told new).1
 
 pub add_at-requires : goal.add_at-requires
@@ -59,10 +65,17 @@ returns-in-Err g c =
     let own = to_z-of_z w64 row.line (record { sfits = omega (arith, c.read-row.type_inv) }) in
     let same = to_z-of_z w64 row.edge (record { sfits = omega (arith, c.read-row.type_inv) }) in
     let at = ap (λ id. position (int_eq id) ids) (sym own) ∙ c.place_of-place.ensures in
-    let told = c.index.ensures ∙ line_at ids c.loop-i.lines.items (line_so_far edges before) row.line c.place_of-place.result c.index.result.now c.loop-i.invariant.lines at in
-    let new = new_told before row _ _ (λ id edge. contains (λ x y. int_eq x.0 y.0 && int_eq x.1 y.1) c.loop-i.pairs (id, edge)) c.in_ok-is_new.is_new own same c.loop-i.invariant.pairs c.in_ok-is_new.ensures.added in
+    let told = c.index.ensures
+    ∙ line_at ids c.loop-i.lines.items
+    (line_so_far edges before) row.line c.place_of-place.result c.index.result.now
+    c.loop-i.invariant.lines at in
+    let new = new_told before row _ _
+    (λ id edge. contains (λ x y. int_eq x.0 y.0 && int_eq x.1 y.1) c.loop-i.pairs (id, edge))
+    c.in_ok-is_new.is_new own same c.loop-i.invariant.pairs c.in_ok-is_new.ensures.added in
     let broken = c.in-Err.ensures before told new in
-    row_refused input table i c.in-Err.why (omega arith) (subst (λ some. slice_get (broken_whys input.row_rules before some) 0 ≡ Some c.in-Err.why) c.read-row.ensures broken) c.loop-i.invariant.sound
+    row_refused input table i c.in-Err.why (omega arith)
+    (subst (λ some. slice_get (broken_whys input.row_rules before some) 0 ≡ Some c.in-Err.why)
+    c.read-row.ensures broken) c.loop-i.invariant.sound
     ∙ ap (λ number. Some (refusal.BadRow (file_of c.args.kind) number c.in-Err.why)) (sym c.number.ensures)
     ∙ ap (λ file. Some (refusal.BadRow file c.number.result c.in-Err.why)) (sym c.id.ensures)
 
@@ -78,22 +91,40 @@ loop-i-preserved g c =
     let own = to_z-of_z w64 row.line (record { sfits = omega (arith, c.read-row.type_inv) }) in
     let same = to_z-of_z w64 row.edge (record { sfits = omega (arith, c.read-row.type_inv) }) in
     let at = ap (λ id. position (int_eq id) ids) (sym own) ∙ c.place_of-place.ensures in
-    let told = c.index.ensures ∙ line_at ids c.loop-i.lines.items (line_so_far edges before) row.line c.place_of-place.result c.index.result.now c.loop-i.invariant.lines at in
-    let new = new_told before row _ _ (λ id edge. contains (λ x y. int_eq x.0 y.0 && int_eq x.1 y.1) c.loop-i.pairs (id, edge)) c.in_ok-is_new.is_new own same c.loop-i.invariant.pairs c.in_ok-is_new.ensures.added in
+    let told = c.index.ensures
+    ∙ line_at ids c.loop-i.lines.items
+    (line_so_far edges before) row.line c.place_of-place.result c.index.result.now
+    c.loop-i.invariant.lines at in
+    let new = new_told before row _ _
+    (λ id edge. contains (λ x y. int_eq x.0 y.0 && int_eq x.1 y.1) c.loop-i.pairs (id, edge))
+    c.in_ok-is_new.is_new own same c.loop-i.invariant.pairs c.in_ok-is_new.ensures.added in
     let met = c.in-Ok.ensures before told new in
     let edge = edge_at edges row.edge c.in-Ok.index c.edge.result met.1 c.edge.ensures.place in
     let served = to_z-of_z w64 row.frequency (record { sfits = omega (arith, c.read-row.type_inv) }) in
     let old = c.loop-i.lines.items in
     let place = c.place_of-place.result in
-    let put = c.in_ok-add_at-in-Ok.ensures ∙ ap (λ frequency. set old place (with_edge (get_or old place (no_line (pos 0))) c.in-Ok.index c.edge.result frequency)) served in
-    let more : before ++ row ∷ [] ≡ records input (take (i + 1) table) = ap (λ some. before ++ some ∷ []) c.read-row.ensures ∙ sym (records_more input table i (omega arith)) in
+    let put = c.in_ok-add_at-in-Ok.ensures
+    ∙ ap (λ frequency. set old place
+    (with_edge (get_or old place (no_line (pos 0))) c.in-Ok.index c.edge.result frequency))
+    served in
+    let more : before ++ row ∷ []
+    ≡ records input (take (i + 1) table) = ap (λ some. before ++ some ∷ []) c.read-row.ensures
+    ∙ sym (records_more input table i (omega arith)) in
     record {
-      sound = row_met input table i (omega arith) (subst (λ some. broken_whys input.row_rules before some ≡ []) c.read-row.ensures met.0) c.loop-i.invariant.sound;
-      lines = lines_more edges before row ids c.place_of-place.result c.loop-i.lines.items c.add_at.new.lines.items c.in-Ok.index c.edge.result c.requires.distinct at c.loop-i.invariant.lines met.1 edge put
+      sound = row_met input table i (omega arith)
+          (subst (λ some. broken_whys input.row_rules before some ≡ []) c.read-row.ensures met.0)
+          c.loop-i.invariant.sound;
+      lines = lines_more edges before row ids c.place_of-place.result c.loop-i.lines.items
+          c.add_at.new.lines.items c.in-Ok.index c.edge.result c.requires.distinct at
+          c.loop-i.invariant.lines met.1 edge put
           ∙ ap (λ rows. map (line_so_far edges rows) ids) more;
       pairs = λ id q.
           let old = contains (λ x y. int_eq x.0 y.0 && int_eq x.1 y.1) c.loop-i.pairs (id, q) in
-          pair_noted before row id q old _ (c.in_ok-is_new.ensures.updates.0 (id, q) ∙ ap (λ some. cond (int_eq some id && int_eq (to_z w64 (of_z w64 row.edge)) q) true old) own ∙ ap (λ some. cond (int_eq row.line id && int_eq some q) true old) same) (c.loop-i.invariant.pairs id q)
+          pair_noted before row id q old _
+          (c.in_ok-is_new.ensures.updates.0 (id, q)
+          ∙ ap (λ some. cond (int_eq some id && int_eq (to_z w64 (of_z w64 row.edge)) q) true old)
+          own ∙ ap (λ some. cond (int_eq row.line id && int_eq some q) true old) same)
+          (c.loop-i.invariant.pairs id q)
           ∙ ap (λ rows. list_any (λ other. int_eq q other.edge) (rows_of id rows)) more;
     }
 
@@ -104,5 +135,7 @@ returns g c =
     let edges = c.args.network.now.edges in
     let input = line_input c.args.kind edges in (
       rows_met input table i (omega arith) c.loop-i.invariant.sound,
-      c.loop-i.invariant.lines ∙ ap (λ rows. map (line_so_far edges rows) c.args.ids.now.keys) (records_all input table i (omega arith)),
+      c.loop-i.invariant.lines
+          ∙ ap (λ rows. map (line_so_far edges rows) c.args.ids.now.keys)
+          (records_all input table i (omega arith)),
     )

@@ -16,5 +16,8 @@ invariant-loop-i g l =
     record {
       sound : SoundBefore input l.table l.i;
       lines : l.lines.items ≡ map (line_so_far edges (records input (take l.i l.table))) l.ids.keys;
-      pairs : (line edge : ℤ) → contains (λ x y. int_eq x.0 y.0 && int_eq x.1 y.1) l.pairs (line, edge) ≡ list_any (λ other. int_eq edge other.edge) (rows_of line (records input (take l.i l.table)));
+      pairs : (line edge : ℤ)
+          → contains (λ x y. int_eq x.0 y.0 && int_eq x.1 y.1) l.pairs (line, edge)
+          ≡ list_any (λ other. int_eq edge other.edge)
+          (rows_of line (records input (take l.i l.table)));
     }

@@ -12,6 +12,7 @@ returns g c =
       network = c.edge_count-edges.ensures.network;
       lines = (
         table_kept c.args.kind edges table ids c.in_ok-ids.ensures.rising (omega arith) read.0,
-        lines_are c.args.kind edges table ids c.in_ok-ids.ensures.rising c.in_ok-lines.lines.items c.in_ok-whole_lines.field-0.items read.1 c.in_ok-whole_lines.ensures,
+        lines_are c.args.kind edges table ids c.in_ok-ids.ensures.rising c.in_ok-lines.lines.items
+            c.in_ok-whole_lines.field-0.items read.1 c.in_ok-whole_lines.ensures,
       );
     }

@@ -5,4 +5,5 @@ use Rattle.line_walks.specs.Pools.{walk_from}
 use Rattle.line_walks.proofs.walk.stops_from.Given as goal
 
 abbrev pub invariant-loop-edge : goal.invariant-loop-edge
-invariant-loop-edge l = option_map (λ more. l.stops.items ++ more) (walk_from l.end (drop l.edge-index l.edges)) ≡ walk_from l.start l.edges
+invariant-loop-edge l = option_map (λ more. l.stops.items ++ more)
+    (walk_from l.end (drop l.edge-index l.edges)) ≡ walk_from l.start l.edges

@@ -9,14 +9,14 @@ use Rattle.link_plans.proofs.slack.cover.Goals as goal
 pub link_rest-rest-requires : goal.link_rest-rest-requires
 link_rest-rest-requires c = omega (
   arith,
-  (c.row-links.ensures.right c.loop-link.link-index _
+  (c.row-links.ensures.row.right c.loop-link.link-index _
       (item c.row-links.result.now c.loop-link.link-index c.loop-link-test.true)).within,
   c.requires.each.each_v,
 )
 
 pub loop-link-preserved : goal.loop-link-preserved
 loop-link-preserved c = covers_more (links_in c.args.trips.now) c.args.potentials.now c.args.trip c.loop-link.most
-    c.loop-link.link-index c.row-links.result.now c.row-links.ensures c.loop-link.invariant
+    c.loop-link.link-index c.row-links.result.now c.row-links.ensures.row c.loop-link.invariant
     (get_or c.row-links.result.now c.loop-link.link-index (link_to 0 0)) c.greater-most.result
     (item c.row-links.result.now c.loop-link.link-index c.loop-link-test.true)
     (c.greater-most.ensures ∙ ap (max c.loop-link.most) c.link_rest-rest.ensures)
@@ -31,8 +31,9 @@ returns c =
           set,
           subst (λ p. Covers (links_in c.args.trips.now) p c.args.trip) (sym set)
               (covers_all (links_in c.args.trips.now) c.args.potentials.now c.args.trip c.loop-link.most
-              c.loop-link.link-index c.row-links.result.now c.row-links.ensures c.loop-link.invariant
-              (none_past (links_in c.args.trips.now) c.len.ensures.links c.args.trip) (omega (arith, c.loop-link-test.false))
+              c.loop-link.link-index c.row-links.result.now c.row-links.ensures.row c.loop-link.invariant
+              (none_past (links_in c.args.trips.now) c.row-links.ensures.links c.args.trip)
+              (omega (arith, c.loop-link-test.false))
               (omega (arith, c.requires.trip, c.requires.each.each_u))),
         ),
       ),

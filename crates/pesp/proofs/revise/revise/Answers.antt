@@ -6,16 +6,16 @@ use Rattle.pesp.proofs.revise.revise.Goals as goal
 
 pub returns-clause-revises : goal.returns-clause-revises
 returns-clause-revises c =
-    both_revised c.args.activity c.args.at c.args.sets.now c.revise_first.new.sets
-    c.revise_second.new.sets
-    c.args.changed.now c.revise_first.new.changed c.revise_second.new.changed
+    both_revised c.args.activity c.args.at c.args.sets.now c.revise_end.new.sets
+    c.revise_end-2.new.sets
+    c.args.changed.now c.revise_end.new.changed c.revise_end-2.new.changed
     c.in_ok-first.ensures.revises c.in_ok-second.ensures.revises
 
 pub returns-clause-empty : goal.returns-clause-empty
 returns-clause-empty c is = elim (or_cases _ _ (sym c.any_of.ensures ∙ is)) [
   | inl first ↦
       let touched = c.in_ok-second.ensures.revises.0 in
-      empty_marks c.revise_second.new.sets.sets c.revise_first.new.sets.sets touched.period
+      empty_marks c.revise_end-2.new.sets.sets c.revise_end.new.sets.sets touched.period
       touched.events
       touched.within (c.in_ok-first.ensures.empty first)
   | inr second ↦ c.in_ok-second.ensures.empty second

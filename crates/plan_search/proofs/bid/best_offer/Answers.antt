@@ -9,14 +9,14 @@ use Rattle.plan_search.proofs.bid.best_offer.Goals as goal
 pub link_rest-rest-requires : goal.link_rest-rest-requires
 link_rest-rest-requires c = omega (
   arith,
-  (c.row-links.ensures.right c.loop-link.link-index _
+  (c.row-links.ensures.row.right c.loop-link.link-index _
       (item c.row-links.result.now c.loop-link.link-index c.loop-link-test.true)).within,
   c.requires.each.each_v,
 )
 
 pub loop-link-preserved : goal.loop-link-preserved
 loop-link-preserved c = offer_more (links_in c.args.trips.now) c.args.potentials.now c.args.trip
-    c.row-links.result.now c.row-links.ensures c.loop-link.link-index c.loop-link.offer c.loop-link.invariant
+    c.row-links.result.now c.row-links.ensures.row c.loop-link.link-index c.loop-link.offer c.loop-link.invariant
     (get_or c.row-links.result.now c.loop-link.link-index (link_to 0 0))
     (item c.row-links.result.now c.loop-link.link-index c.loop-link-test.true)
     c.link_rest-rest.result c.link_rest-rest.ensures c.wins-wins.result c.next_offer-offer.result
@@ -24,5 +24,6 @@ loop-link-preserved c = offer_more (links_in c.args.trips.now) c.args.potentials
 
 pub returns : goal.returns
 returns c = offer_all (links_in c.args.trips.now) c.args.potentials.now c.args.trip
-    c.row-links.result.now c.row-links.ensures (none_past (links_in c.args.trips.now) c.len.ensures.links c.args.trip) c.loop-link.link-index
+    c.row-links.result.now c.row-links.ensures.row
+    (none_past (links_in c.args.trips.now) c.row-links.ensures.links c.args.trip) c.loop-link.link-index
     c.loop-link.offer c.loop-link.invariant (omega (arith, c.loop-link-test.false))

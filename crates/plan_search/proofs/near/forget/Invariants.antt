@@ -1,6 +1,6 @@
 -- Nothing is near the first places so far.
 use Rattle.std.proofs.Common.{None}
-use Rattle.plan_search.proofs.Told.{IsTold}
+use Rattle.plan_search.proofs.WrittenLists.{IsTold}
 use Rattle.plan_search.proofs.near.forget.Given as goal
 
 abbrev pub invariant-loop-place : goal.invariant-loop-place

@@ -2,7 +2,7 @@
 use Rattle.std.proofs.Common.{get_or, None}
 use Rattle.plan_search.specs.Claims.{claim_at}
 use Rattle.plan_search.specs.Growing.{shifted}
-use Rattle.plan_search.proofs.Told.{IsTold}
+use Rattle.plan_search.proofs.WrittenLists.{IsTold}
 use Rattle.plan_search.proofs.near.shift_nears.Given as goal
 
 abbrev pub invariant-loop-place : goal.invariant-loop-place

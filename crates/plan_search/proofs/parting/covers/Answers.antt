@@ -9,7 +9,7 @@ use Rattle.plan_search.proofs.parting.covers.Goals as goal
 pub natural_v-requires : goal.natural_v-requires
 natural_v-requires c = omega (
   arith,
-  (c.row-links.ensures.right c.loop-link.link-index _
+  (c.row-links.ensures.row.right c.loop-link.link-index _
       (item c.row-links.result.now c.loop-link.link-index c.loop-link-test.true)).within,
   c.requires.each.each_v,
 )
@@ -28,5 +28,5 @@ loop-link-preserved c = covered_more c.row-links.result.now c.args.potentials.no
 
 pub returns : goal.returns
 returns c _ = row_covers (links_in c.args.trips.now) c.args.potentials.now c.args.i
-    c.loop-link.link-index c.row-links.result.now c.row-links.ensures c.loop-link.invariant
-    (omega (arith, c.loop-link-test.false)) (none_past (links_in c.args.trips.now) c.len.ensures.links c.args.i)
+    c.loop-link.link-index c.row-links.result.now c.row-links.ensures.row c.loop-link.invariant
+    (omega (arith, c.loop-link-test.false)) (none_past (links_in c.args.trips.now) c.row-links.ensures.links c.args.i)

@@ -1,5 +1,5 @@
 -- The potentials of the first trips are lowered so far.
-use Rattle.plan_search.proofs.Shifts.{AreLowered}
+use Rattle.plan_search.proofs.ShiftedPotentials.{AreLowered}
 use Rattle.plan_search.proofs.shift.lower.Given as goal
 
 abbrev pub invariant-loop-i : goal.invariant-loop-i

@@ -1,5 +1,5 @@
 -- The potentials of the first places are raised so far.
-use Rattle.plan_search.proofs.Shifts.{AreRaised}
+use Rattle.plan_search.proofs.ShiftedPotentials.{AreRaised}
 use Rattle.plan_search.proofs.shift.raise.Given as goal
 
 abbrev pub invariant-loop-j : goal.invariant-loop-j

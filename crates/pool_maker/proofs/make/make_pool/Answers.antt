@@ -1,6 +1,6 @@
 use Rattle.std.proofs.Common.{subst, sym, ◌∙◌}
 use Rattle.std.proofs.lemmas.Result.{err_from_is_err_and}
-use Rattle.ptn_network.specs.Networks.{IsNetwork}
+use Rattle.walks.specs.Networks.{IsNetwork}
 use Rattle.ptn_network.proofs.Sound.{network_sound}
 use Rattle.pool_maker.proofs.MadePools.{no_faults, pool_of_text, stops_of_terminals}
 use Rattle.pool_maker.proofs.MadePools.{tellable_lines, text_faults, unknown_faults}
@@ -25,13 +25,13 @@ pub paths_between-requires : goal.paths_between-requires
 paths_between-requires c =
     let read = c.in_ok-network.ensures in
     let found = c.in_ok-terminals.ensures in
-    record {
+    rw c.for_walks.ensures (record {
       network = subst IsNetwork (sym read.1)
           (network_sound c.args.stops.now c.args.edges.now read.0);
       stops = stops_of_terminals c.args.stops.now c.args.edges.now c.args.terminals.now
           c.in_ok-network.network read.0 read.1 c.deref.result.now found.0
           (c.deref.ensures.value ∙ found.1);
-    }
+    })
 
 pub text_of_lines-requires : goal.text_of_lines-requires
 text_of_lines-requires c =
@@ -39,7 +39,7 @@ text_of_lines-requires c =
     let found = c.in_ok-terminals.ensures in
     tellable_lines c.args.stops.now c.args.edges.now c.args.terminals.now c.in_ok-network.network
     read.0 read.1 c.deref.result.now found.0 (c.deref.ensures.value ∙ found.1) c.deref-2.result.now
-    c.deref-3.result.now (c.deref-2.ensures.value ∙ c.in_ok-paths.ensures)
+    c.deref-3.result.now (c.deref-2.ensures.value ∙ rw c.for_walks.ensures at c.in_ok-paths.ensures)
     (c.deref-3.ensures.value ∙ c.in_ok-lines.ensures) c.requires
 
 pub returns-clause-made : goal.returns-clause-made
@@ -51,7 +51,7 @@ returns-clause-made c =
       pool_of_text c.args.stops.now c.args.edges.now c.args.terminals.now c.in_ok-network.network
           read.0 read.1 c.deref.result.now found.0 (c.deref.ensures.value ∙ found.1)
           c.deref-2.result.now c.deref-3.result.now
-          (c.deref-2.ensures.value ∙ c.in_ok-paths.ensures)
+          (c.deref-2.ensures.value ∙ rw c.for_walks.ensures at c.in_ok-paths.ensures)
           (c.deref-3.ensures.value ∙ c.in_ok-lines.ensures) _
           c.in_ok-text_of_lines.ensures,
     )

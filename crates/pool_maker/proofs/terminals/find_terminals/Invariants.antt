@@ -2,7 +2,7 @@
 use Rattle.std.proofs.Common.{◌≡◌, true, map, take}
 use Rattle.std.specs.List.{list_all, list_any}
 use Rattle.std.specs.Ordering.{int_eq}
-use Rattle.pool_maker.specs.Terminals.{terminal_of}
+use Rattle.terminal_lines.specs.Terminals.{terminal_of}
 use Rattle.pool_maker.proofs.terminals.find_terminals.Given as goal
 
 abbrev pub invariant-loop-id : goal.invariant-loop-id

@@ -2,7 +2,7 @@ use Rattle.std.proofs.Common.{◌+◌, ◌++◌, refl, ap, ◌∙◌, arith, get
 use Rattle.std.specs.List.{enumerate_from}
 use Rattle.std.proofs.lemmas.List.{map-append}
 use Rattle.pool_maker.specs.PoolTexts.{line_rows, row_at}
-use Rattle.pool_maker.proofs.OneMore.{made_more, numbered_all, numbered_more}
+use Rattle.terminal_lines.proofs.OneMore.{made_more, numbered_all, numbered_more}
 use Rattle.pool_maker.proofs.text.push_line.Goals as goal
 
 pub loop-place-preserved : goal.loop-place-preserved

@@ -1,8 +1,8 @@
 use Rattle.std.proofs.Common.{◌+◌}
 use Rattle.std.specs.List.{flat_map, range_with_len}
 use Rattle.pool_maker.specs.PoolTexts.{uncovered_line}
-use Rattle.pool_maker.specs.TerminalPaths.{uncovered_among}
-use Rattle.pool_maker.proofs.OneMore.{made_more}
+use Rattle.terminal_lines.specs.TerminalPaths.{uncovered_among}
+use Rattle.terminal_lines.proofs.OneMore.{made_more}
 use Rattle.pool_maker.proofs.UncoveredEdges.{comments_both, one_edge_more}
 use Rattle.pool_maker.proofs.text.push_uncovered.Goals as goal
 

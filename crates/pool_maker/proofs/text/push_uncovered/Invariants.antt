@@ -2,7 +2,7 @@
 use Rattle.std.proofs.Common.{◌≡◌, ◌++◌}
 use Rattle.std.specs.List.{flat_map, range_with_len}
 use Rattle.pool_maker.specs.PoolTexts.{uncovered_line}
-use Rattle.pool_maker.specs.TerminalPaths.{uncovered_among}
+use Rattle.terminal_lines.specs.TerminalPaths.{uncovered_among}
 use Rattle.pool_maker.proofs.text.push_uncovered.Given as goal
 
 abbrev pub invariant-loop-edge : goal.invariant-loop-edge

@@ -2,7 +2,7 @@ use Rattle.std.proofs.Common.{◌+◌, ◌++◌, [], ap, sym, ◌∙◌, append-
 use Rattle.std.specs.List.{enumerate_from, flat_map}
 use Rattle.std.proofs.lemmas.Grind.{flat_map-append}
 use Rattle.pool_maker.specs.PoolTexts.{line_rows}
-use Rattle.pool_maker.proofs.OneMore.{made_more, numbered_all, numbered_more}
+use Rattle.terminal_lines.proofs.OneMore.{made_more, numbered_all, numbered_more}
 use Rattle.pool_maker.proofs.text.table_of_lines.Goals as goal
 
 pub loop-place-preserved : goal.loop-place-preserved

@@ -6,7 +6,11 @@ use Rattle.propagation.proofs.early.mark_activities.Given as goal
 
 abbrev pub invariant-loop-activity : goal.invariant-loop-activity
 invariant-loop-activity l = record {
-  told : marked_by (λ activity. activity.step.to) (λ activity. nat_lt (time_at l.times activity.step.to) (asked l.times activity.step)) l.marks.items (drop l.activity-index l.activities)
-      ≡ marked_by (λ activity. activity.step.to) (λ activity. nat_lt (time_at l.times activity.step.to) (asked l.times activity.step)) l.fn.marks.items l.activities;
+  told : marked_by (λ activity. activity.step.to)
+      (λ activity. nat_lt (time_at l.times activity.step.to) (asked l.times activity.step)) l.marks.items
+      (drop l.activity-index l.activities)
+      ≡ marked_by (λ activity. activity.step.to)
+      (λ activity. nat_lt (time_at l.times activity.step.to) (asked l.times activity.step)) l.fn.marks.items
+      l.activities;
   each : length l.marks.items ≡ length l.times;
 }

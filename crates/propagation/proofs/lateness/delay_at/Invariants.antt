@@ -3,10 +3,12 @@ use Rattle.std.proofs.Common.{◌≡◌, ◌*◌, ◌+ℤ◌, ◌≤ℤ◌, neg_
 use Rattle.std.specs.List.{fold}
 use Rattle.propagation.specs.Lateness.{arrives, delay_at, lateness}
 use Rattle.propagation.proofs.lateness.delay_at.Given as goal
+use Rattle.propagation.specs.declared.times.TheConstants.{LATEST}
 
 abbrev pub invariant-loop-index : goal.invariant-loop-index
 invariant-loop-index l = record {
-  told : fold (λ sum timed. sum +ℤ lateness timed) l.sum (filter arrives (zip (drop l.index l.events) (drop l.index l.times))) ≡ delay_at l.events l.times;
-  high : l.sum ≤ℤ pos (l.index * 1000000000000000000);
-  low : neg_ℤ (pos (l.index * 1000000000000000000)) ≤ℤ l.sum;
+  told : fold (λ sum timed. sum +ℤ lateness timed) l.sum
+      (filter arrives (zip (drop l.index l.events) (drop l.index l.times))) ≡ delay_at l.events l.times;
+  high : l.sum ≤ℤ pos (l.index * LATEST);
+  low : neg_ℤ (pos (l.index * LATEST)) ≤ℤ l.sum;
 }

@@ -10,7 +10,8 @@ loop-event-init c =
 pub loop-event-preserved : goal.loop-event-preserved
 loop-event-preserved c =
     let test : ℕ → Bool = λ event. get_or c.args.marks.now event false in
-    c.loop-event.invariant ∙ first_fails test (length c.args.marks.now) c.loop-event.event c.loop-event-test.true c.if-marks-event.false
+    c.loop-event.invariant ∙ first_fails test
+    (length c.args.marks.now) c.loop-event.event c.loop-event-test.true c.if-marks-event.false
 
 pub returns-then-marks-event : goal.returns-then-marks-event
 returns-then-marks-event c =
@@ -21,4 +22,5 @@ returns-then-marks-event c =
 pub returns : goal.returns
 returns c =
     let test : ℕ → Bool = λ event. get_or c.args.marks.now event false in
-    sym (ap (λ some. slice_get some 0) (c.loop-event.invariant ∙ none_left test (length c.args.marks.now) c.loop-event.event (omega (arith, c.loop-event-test.false))))
+    sym (ap (λ some. slice_get some 0) (c.loop-event.invariant
+    ∙ none_left test (length c.args.marks.now) c.loop-event.event (omega (arith, c.loop-event-test.false))))

@@ -10,15 +10,18 @@ loop-event-init c =
 pub loop-event-preserved : goal.loop-event-preserved
 loop-event-preserved c =
     let test : ℕ → Bool = λ event. not (get_or c.args.marks.now event false) in
-    c.loop-event.invariant ∙ first_fails test (length c.args.marks.now) c.loop-event.event c.loop-event-test.true (ap not c.if-not-marks-event.false)
+    c.loop-event.invariant ∙ first_fails test (length c.args.marks.now) c.loop-event.event c.loop-event-test.true
+    (ap not c.if-not-marks-event.false)
 
 pub returns-then-not-marks-event : goal.returns-then-not-marks-event
 returns-then-not-marks-event c =
     let test : ℕ → Bool = λ event. not (get_or c.args.marks.now event false) in
     sym (ap (λ some. slice_get some 0) c.loop-event.invariant
-    ∙ first_passes test (length c.args.marks.now) c.loop-event.event c.loop-event-test.true (ap not c.if-not-marks-event.true))
+    ∙ first_passes test (length c.args.marks.now) c.loop-event.event c.loop-event-test.true
+    (ap not c.if-not-marks-event.true))
 
 pub returns : goal.returns
 returns c =
     let test : ℕ → Bool = λ event. not (get_or c.args.marks.now event false) in
-    sym (ap (λ some. slice_get some 0) (c.loop-event.invariant ∙ none_left test (length c.args.marks.now) c.loop-event.event (omega (arith, c.loop-event-test.false))))
+    sym (ap (λ some. slice_get some 0) (c.loop-event.invariant
+    ∙ none_left test (length c.args.marks.now) c.loop-event.event (omega (arith, c.loop-event-test.false))))

@@ -8,7 +8,8 @@ use Rattle.propagation.specs.Reasons.{lesser, tight_among}
 use Rattle.propagation.specs.TightIds.{with_id}
 use Rattle.propagation.proofs.ReasonsProve.{none}
 use Rattle.propagation.proofs.TightMore.{all_changes, change_noted, change_passed, no_change, slack_passed, tight_noted}
-use Rattle.propagation.proofs.reasons.least_tight.Goals.{then-is_tight, else-is_tight, then-is_chosen_tight, else-is_chosen_tight}
+use Rattle.propagation.proofs.reasons.least_tight.Goals.{then-is_tight, else-is_tight, then-is_chosen_tight}
+use Rattle.propagation.proofs.reasons.least_tight.Goals.{else-is_chosen_tight}
 use Rattle.propagation.proofs.reasons.least_tight.Goals as goal
 
 pub note-requires : goal.note-requires
@@ -16,7 +17,13 @@ note-requires c =
     let times = c.args.times.now in
     let some = take c.loop-ride.ride-index c.args.rides.now in
     let ends = c.requires.rides c.loop-ride.ride-index none c.loop-ride-test.true in
-    omega (arith, ends.1, ap length c.loop-ride.invariant, length-map-range_with_len (λ event. reduce lesser (tight_among times event some)) 0 (length times))
+    omega (
+      arith,
+      ends.1,
+      ap length c.loop-ride.invariant,
+      length-map-range_with_len
+          (λ event. reduce lesser (tight_among times event some)) 0 (length times),
+    )
 
 pub loop-ride-preserved : goal.loop-ride-preserved
 loop-ride-preserved c =
@@ -27,12 +34,14 @@ loop-ride-preserved c =
     let some = take i rides in
     let at : Activity = get_or rides i none in
     let ends = c.requires.rides i none c.loop-ride-test.true in
-    let more = λ (all : List Activity). map (λ event. reduce lesser (tight_among times event all)) (range_with_len 0 n) in
+    let more = λ (all : List Activity). map (λ event. reduce lesser (tight_among times event all))
+    (range_with_len 0 n) in
     let next = ap more (sym (take_more rides i none c.loop-ride-test.true)) in
     elim c.if-is_tight.branch [
       | then-is_tight w ↦
           ap (λ (v : Vec (Option ℕ) _). v.items) w.ids-is ∙ w.note.ensures
-          ∙ ap (λ ids. slice_set ids at.step.to (Some (with_id (get_or ids at.step.to None) at.id))) c.loop-ride.invariant
+          ∙ ap (λ ids. slice_set ids at.step.to (Some (with_id (get_or ids at.step.to None) at.id)))
+          c.loop-ride.invariant
           ∙ tight_noted times n some at ends.1 (sym c.is_tight.ensures ∙ w.if-is_tight.true) ∙ next
       | else-is_tight w ↦
           ap (λ (v : Vec (Option ℕ) _). v.items) w.ids-is ∙ c.loop-ride.invariant
@@ -50,7 +59,13 @@ note-requires-then-is_chosen_tight c =
     let times = c.args.times.now in
     let some = c.args.rides.now ++ items_where_true c.args.kept.now (take c.loop-index.index c.args.changes.now) in
     let ends = c.requires.changes c.loop-index.index none c.loop-index-test.true in
-    omega (arith, ends.1, ap length c.loop-index.invariant, length-map-range_with_len (λ event. reduce lesser (tight_among times event some)) 0 (length times))
+    omega (
+      arith,
+      ends.1,
+      ap length c.loop-index.invariant,
+      length-map-range_with_len
+          (λ event. reduce lesser (tight_among times event some)) 0 (length times),
+    )
 
 pub loop-index-preserved : goal.loop-index-preserved
 loop-index-preserved c =
@@ -63,7 +78,8 @@ loop-index-preserved c =
     elim c.if-is_chosen_tight.branch [
       | then-is_chosen_tight w ↦
           ap (λ (v : Vec (Option ℕ) _). v.items) w.ids-is ∙ w.note-then-is_chosen_tight.ensures
-          ∙ ap (λ ids. slice_set ids at.step.to (Some (with_id (get_or ids at.step.to None) at.id))) c.loop-index.invariant
+          ∙ ap (λ ids. slice_set ids at.step.to (Some (with_id (get_or ids at.step.to None) at.id)))
+          c.loop-index.invariant
           ∙ change_noted times (length times) c.args.rides.now kept changes i none c.loop-index-test.true ends.1
           (sym c.is_chosen_tight.ensures ∙ w.if-is_chosen_tight.true)
       | else-is_chosen_tight w ↦

@@ -6,6 +6,7 @@ use Rattle.propagation.proofs.reasons.reasons_by.Goals as goal
 
 pub loop-event-preserved : goal.loop-event-preserved
 loop-event-preserved c =
-    let f : ℕ → Reason = λ event. reason_by c.args.earliest.now c.args.times.now event (get_or c.args.ids.now event None) in
+    let f : ℕ → Reason = λ event. reason_by c.args.earliest.now c.args.times.now event
+    (get_or c.args.ids.now event None) in
     told_more f c.loop-event.event c.loop-event.reasons.items c.push.new.self.items c.reason_by.result
     c.in_ok-push.ensures.items c.loop-event.invariant c.reason_by.ensures

@@ -6,4 +6,5 @@ use Rattle.propagation.proofs.reasons.reasons_by.Given as goal
 
 abbrev pub invariant-loop-event : goal.invariant-loop-event
 invariant-loop-event l =
-    l.reasons.items ≡ map (λ event. reason_by l.earliest l.times event (get_or l.ids event None)) (range_with_len 0 l.event)
+    l.reasons.items ≡ map (λ event. reason_by l.earliest l.times event (get_or l.ids event None))
+    (range_with_len 0 l.event)

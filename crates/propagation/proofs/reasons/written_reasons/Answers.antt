@@ -9,9 +9,13 @@ pub reasons_by-requires-clause-ids : goal.reasons_by-requires-clause-ids
 reasons_by-requires-clause-ids c =
     let times = c.args.times.now in
     ap length (c.deref.ensures.value ∙ c.in_ok-ids.ensures)
-    ∙ length-map-range_with_len (λ event. reduce lesser (tight_among times event (c.args.rides.now ++ items_where_true c.args.kept.now c.args.changes.now))) 0 (length times)
+    ∙ length-map-range_with_len (λ event. reduce lesser
+    (tight_among times event (c.args.rides.now ++ items_where_true c.args.kept.now c.args.changes.now))) 0
+    (length times)
 
 pub returns : goal.returns
 returns c =
-    told_by_ids c.args.earliest.now c.args.times.now (c.args.rides.now ++ items_where_true c.args.kept.now c.args.changes.now) c.deref.result.now (λ reasons. reasons.items)
+    told_by_ids c.args.earliest.now c.args.times.now
+    (c.args.rides.now ++ items_where_true c.args.kept.now c.args.changes.now) c.deref.result.now
+    (λ reasons. reasons.items)
     (c.deref.ensures.value ∙ c.in_ok-ids.ensures) c.reasons_by.result c.reasons_by.ensures

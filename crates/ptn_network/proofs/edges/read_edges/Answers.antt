@@ -1,6 +1,6 @@
 use Rattle.std.proofs.Common.{ap, ◌∙◌}
-use Rattle.ptn_network.specs.Networks.{by_id}
-use Rattle.ptn_network.proofs.ById.{sorted_entries}
+use Rattle.walks.specs.RisingIds.{by_id}
+use Rattle.walks.proofs.ById.{sorted_entries}
 use Rattle.ptn_network.proofs.edges.read_edges.Goals as goal
 
 pub returns : goal.returns

@@ -1,6 +1,7 @@
 use Rattle.std.proofs.Common.{ap, ◌∙◌}
-use Rattle.ptn_network.specs.Networks.{rising, stops_of}
-use Rattle.ptn_network.proofs.ById.{sorted_ids}
+use Rattle.ptn_network.specs.Networks.{stops_of}
+use Rattle.walks.specs.RisingIds.{rising}
+use Rattle.walks.proofs.ById.{sorted_ids}
 use Rattle.ptn_network.proofs.stops.read_stops.Goals as goal
 
 pub returns : goal.returns

@@ -2,7 +2,7 @@ use Rattle.std.proofs.Common.{IfSome, ◌∙◌, ap, find, subst, sym}
 use Rattle.event_tables.specs.declared.periodic_event.PeriodicEvent.{PeriodicEvent}
 use Rattle.event_tables.specs.RunRules.{leads}
 use Rattle.roll_out.specs.Plans.{IsBetween}
-use Rattle.roll_out.proofs.FoundOnes.{found_has}
+use Rattle.plan_num.proofs.Found.{found_has}
 use Rattle.roll_out.proofs.NotedWays.{leads_as, way_found}
 use Rattle.roll_out.proofs.plan.way_on.Goals as goal
 

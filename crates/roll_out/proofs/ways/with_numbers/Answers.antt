@@ -1,6 +1,6 @@
 use Rattle.roll_out.specs.DayActivities.{with_number}
-use Rattle.roll_out.proofs.Added.{added_numbered}
 use Rattle.roll_out.proofs.ways.with_numbers.Goals as goal
+use Rattle.plan_num.proofs.Added.{added_numbered}
 
 pub loop-place-preserved : goal.loop-place-preserved
 loop-place-preserved c =

@@ -8,5 +8,8 @@ new_entry-requires-clause-made g c =
     g.met.S.Stages.laws.makes c.args.bundle.now c.in-Ok.made c.in-Ok.ensures.made
 
 pub returns-in_ok-add-in-Ok-clause-no_hand_file : goal.returns-in_ok-add-in-Ok-clause-no_hand_file
-returns-in_ok-add-in-Ok-clause-no_hand_file g c = more_no_hand g.S.Stages.parts g.met.S.Stages.laws c.args.progress.now c.add.new.self c.args.bundle.now c.in-Ok.made c.requires.no_hand_file c.in-Ok.ensures.made
-    (c.in_ok-add-in-Ok.ensures ∙ ap (λ entry. with_made c.args.progress.now c.in-Ok.made (entry ∷ [])) c.in_ok-entry-in-Ok.ensures.put)
+returns-in_ok-add-in-Ok-clause-no_hand_file g c =
+    more_no_hand g.S.Stages.parts g.met.S.Stages.laws c.args.progress.now c.add.new.self c.args.bundle.now
+    c.in-Ok.made c.requires.no_hand_file c.in-Ok.ensures.made
+    (c.in_ok-add-in-Ok.ensures
+    ∙ ap (λ entry. with_made c.args.progress.now c.in-Ok.made (entry ∷ [])) c.in_ok-entry-in-Ok.ensures.put)

@@ -8,6 +8,8 @@ use Rattle.stage_chain.proofs.check.find_under.Given as goal
 abbrev pub invariant-loop-place : goal.invariant-loop-place
 invariant-loop-place g l = record {
   reads : OnlyReads g.F.Files.contents g.F.Files.writes g.F.Files.faults l.initial.files l.files false;
-  left : IfSome (g.F.Files.contents l.initial.files) (FirstLeft g.S.Stages.parts g.met.S.Stages.laws l.config l.place-items (drop l.place-index l.place-items));
-  rest : IfSome (g.F.Files.contents l.initial.files) (RestStands g.S.Stages.parts g.met.S.Stages.laws l.config l.place-items (drop l.place-index l.place-items));
+  left : IfSome (g.F.Files.contents l.initial.files)
+      (FirstLeft g.S.Stages.parts g.met.S.Stages.laws l.config l.place-items (drop l.place-index l.place-items));
+  rest : IfSome (g.F.Files.contents l.initial.files)
+      (RestStands g.S.Stages.parts g.met.S.Stages.laws l.config l.place-items (drop l.place-index l.place-items));
 }

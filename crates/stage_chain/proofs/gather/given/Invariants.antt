@@ -11,5 +11,7 @@ invariant-loop-file g l = record {
   stage : l.given.stage ≡ l.initial.given.stage;
   settings : l.given.settings ≡ l.initial.given.settings;
   count : length l.given.inputs ≡ l.file-index;
-  texts : IfSome (g.F.Files.contents l.initial.files) (so_far_in (look_over (option_copied l.made)) l.config l.file-items (drop l.file-index l.file-items) l.given.inputs);
+  texts : IfSome (g.F.Files.contents l.initial.files)
+      (so_far_in (look_over (option_copied l.made)) l.config l.file-items (drop l.file-index l.file-items)
+      l.given.inputs);
 }

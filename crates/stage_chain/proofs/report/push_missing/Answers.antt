@@ -3,4 +3,6 @@ use Rattle.stage_chain.proofs.Pieces.{three_pieces}
 use Rattle.stage_chain.proofs.report.push_missing.Goals as goal
 
 pub returns : goal.returns
-returns c = three_pieces _ (codes "refused: ") _ (codes " is missing") _ _ _ c.in_ok-extend_from_slice.ensures.items c.in_ok-extend_from_slice-2.ensures.items c.in_ok-extend_from_slice-3.ensures.items
+returns c =
+    three_pieces _ (codes "refused: ") _ (codes " is missing") _ _ _ c.in_ok-extend_from_slice.ensures.items
+    c.in_ok-extend_from_slice-2.ensures.items c.in_ok-extend_from_slice-3.ensures.items

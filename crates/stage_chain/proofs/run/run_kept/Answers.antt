@@ -1,27 +1,26 @@
-use Rattle.stage_chain.proofs.Running.{left_is, outcome_is, unfinished_is, work_bound, work_told}
-use Rattle.stage_chain.proofs.StoppedRuns.{read_adds, run_adds}
+use Rattle.std.proofs.Common.{Err, Option, ap, ◌∙◌}
+use Rattle.std.proofs.lemmas.Result.{err_from_is_err_and}
+use Rattle.stage_chain.specs.declared.cause.Cause.{Cause}
+use Rattle.stage_chain.proofs.KeptRuns.{made_says, read_says}
 use Rattle.stage_chain.proofs.run.run_kept.Goals as goal
 
-pub returns-in_err-cause-clause-no_more : goal.returns-in_err-cause-clause-no_more
-returns-in_err-cause-clause-no_more g c = work_bound g.S.Stages.parts g.met.S.Stages.laws _ c.run_to_end.new.progress c.args.steps.now c.run_to_end.new.steps c.run_to_end.result c.run_to_end.ensures.end
+pub returns-in_err-cause : goal.returns-in_err-cause
+returns-in_err-cause g c =
+    let p = err_from_is_err_and c.from_residual.result c.from_residual.ensures.1 in
+    let reads = c.in_err-cause.ensures.only_reads in
+    read_says g.S.Stages.parts g.met.S.Stages.laws _ _ c.run_to_end.new.progress (Option Cause) c.in_err-cause.field-0.0 _
+    (p.1 ∙ ap Err p.2) reads.contents reads.writes reads.faults c.run_to_end.ensures.no_less
+    c.in_err-cause.ensures.end
 
-pub returns-clause-outcome : goal.returns-clause-outcome
-returns-clause-outcome g c = outcome_is g.S.Stages.parts g.met.S.Stages.laws _ c.run_to_end.new.progress c.in_ok-cause.cause c.args.steps.now c.run_to_end.new.steps _ c.in_ok-cause.ensures.end c.finish.ensures.report c.finish.ensures.end
-
-pub returns-clause-left : goal.returns-clause-left
-returns-clause-left g c = left_is g.S.Stages.parts g.met.S.Stages.laws _ _ _ _ _ _ c.run_to_end.new.progress c.in_ok-cause.cause c.args.steps.now c.run_to_end.new.steps _ c.in_ok-cause.ensures.only_reads.contents c.in_ok-cause.ensures.only_reads.writes c.in_ok-cause.ensures.end c.finish.ensures.left
-
-pub returns-clause-work : goal.returns-clause-work
-returns-clause-work g c = work_told g.S.Stages.parts g.met.S.Stages.laws _ c.run_to_end.new.progress c.in_ok-cause.cause c.args.steps.now c.run_to_end.new.steps _ c.in_ok-cause.ensures.end
-
-pub returns-clause-unfinished : goal.returns-clause-unfinished
-returns-clause-unfinished g c = unfinished_is g.S.Stages.parts g.met.S.Stages.laws _ _ _ _ _ _ c.run_to_end.new.progress c.in_ok-cause.cause c.args.steps.now c.run_to_end.new.steps _ c.in_ok-cause.ensures.only_reads.contents c.in_ok-cause.ensures.only_reads.writes c.in_ok-cause.ensures.end c.finish.ensures.unfinished
-
-pub returns-clause-no_more : goal.returns-clause-no_more
-returns-clause-no_more g c = work_bound g.S.Stages.parts g.met.S.Stages.laws _ c.run_to_end.new.progress c.args.steps.now c.run_to_end.new.steps c.run_to_end.result c.run_to_end.ensures.end
-
-pub returns-in_err-cause-clause-harmless : goal.returns-in_err-cause-clause-harmless
-returns-in_err-cause-clause-harmless g c = read_adds g.S.Stages.parts g.met.S.Stages.laws _ _ _ _ c.in_err-cause.ensures.only_reads.contents c.in_err-cause.ensures.only_reads.writes
-
-pub returns-clause-harmless : goal.returns-clause-harmless
-returns-clause-harmless g c = run_adds g.S.Stages.parts g.met.S.Stages.laws _ _ _ _ c.run_to_end.new.progress c.in_ok-cause.cause c.args.steps.now c.run_to_end.new.steps _ c.in_ok-cause.ensures.end (returns-clause-left g c) (returns-clause-unfinished g c)
+pub returns : goal.returns
+returns g c =
+    let reads = c.in_ok-cause.ensures.only_reads in
+    made_says g.S.Stages.parts g.met.S.Stages.laws _ _ c.run_to_end.new.progress c.in_ok-cause.cause _ _ _ _
+    reads.contents reads.writes reads.faults c.run_to_end.ensures.no_less c.in_ok-cause.ensures.end
+    (c.finish.ensures.report, c.finish.ensures.end) (
+      c.finish.ensures.left,
+      c.finish.ensures.unfinished,
+      c.finish.ensures.hand,
+      c.finish.ensures.writes_no_hand_file,
+      c.finish.ensures.faults,
+    )

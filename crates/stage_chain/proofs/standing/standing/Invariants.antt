@@ -7,5 +7,7 @@ use Rattle.stage_chain.proofs.standing.standing.Given as goal
 abbrev pub invariant-loop-file : goal.invariant-loop-file
 invariant-loop-file g l = record {
   reads : OnlyReads g.F.Files.contents g.F.Files.writes g.F.Files.faults l.initial.files l.files false;
-  there : IfSome (g.F.Files.contents l.initial.files) (λ folder. joined l.there.items (all_there folder (drop l.file-index l.file-items)) ≡ all_there folder l.file-items);
+  there : IfSome (g.F.Files.contents l.initial.files)
+      (λ folder. joined l.there.items (all_there folder (drop l.file-index l.file-items))
+      ≡ all_there folder l.file-items);
 }

@@ -9,7 +9,8 @@ returns-then-eq c =
     let other = c.get-other.result.now in
     let rest = text_among (drop (c.loop-index.index + 1) c.args.made.now) c.args.file in
     sym (text_next c.args.made.now c.loop-index.index other c.args.file c.get-other.ensures
-    ∙ ap (λ here. cond here (Some other.text) rest) (sym (c.eq.ensures ∙ (λ i. bytes_eq (c.name.ensures i) (c.name-in-loop-index.ensures i))) ∙ c.if-eq.true))
+    ∙ ap (λ here. cond here (Some other.text) rest)
+    (sym (c.eq.ensures ∙ (λ i. bytes_eq (c.name.ensures i) (c.name-in-loop-index.ensures i))) ∙ c.if-eq.true))
     ∙ c.loop-index.invariant
 
 pub loop-index-preserved : goal.loop-index-preserved
@@ -17,5 +18,6 @@ loop-index-preserved c =
     let other = c.get-other.result.now in
     let rest = text_among (drop (c.loop-index.index + 1) c.args.made.now) c.args.file in
     sym (text_next c.args.made.now c.loop-index.index other c.args.file c.get-other.ensures
-    ∙ ap (λ here. cond here (Some other.text) rest) (sym (c.eq.ensures ∙ (λ i. bytes_eq (c.name.ensures i) (c.name-in-loop-index.ensures i))) ∙ c.if-eq.false))
+    ∙ ap (λ here. cond here (Some other.text) rest)
+    (sym (c.eq.ensures ∙ (λ i. bytes_eq (c.name.ensures i) (c.name-in-loop-index.ensures i))) ∙ c.if-eq.false))
     ∙ c.loop-index.invariant

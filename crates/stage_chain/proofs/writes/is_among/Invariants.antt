@@ -6,4 +6,6 @@ use Rattle.stage_chain.proofs.writes.is_among.Given as goal
 
 -- the name is not among those so far
 abbrev pub invariant-loop-other : goal.invariant-loop-other
-invariant-loop-other l = is_among (file_name l.file) (map name_of (drop l.other-index l.made)) ≡ is_among (file_name l.file) (map name_of l.made)
+invariant-loop-other l =
+    is_among (file_name l.file) (map name_of (drop l.other-index l.made))
+    ≡ is_among (file_name l.file) (map name_of l.made)

@@ -2,7 +2,7 @@ use Rattle.std.proofs.Common.{◌≡◌, ◌<◌, ◌∙◌, ◌∷◌, ◌++◌
 use Rattle.tables.specs.declared.file_id.FileId.TheVariants.{Stop}
 use Rattle.giv_files.specs.declared.made.MadeFile.{MadeFile}
 use Rattle.stage_keep.specs.Places.{part_of}
-use Rattle.stage_keep.proofs.Parts.{all_there, copies_are, files_joined}
+use Rattle.stage_keep.proofs.PlacesInLastPart.{all_there, copies_are, files_joined}
 use Rattle.stage_keep.proofs.last_part.made_files.Goals as goal
 
 pub returns : goal.returns
@@ -18,7 +18,12 @@ returns c =
     (copies_are bytes _ _ _ _ _ c.as_slice.ensures.value c.new-made.ensures c.in_ok-add_copies.ensures)
     (copies_are bytes _ _ _ _ _ c.as_slice-2.ensures.value c.new-later.ensures c.in_ok-add_copies-2.ensures)
     (c.in_ok-push.ensures.ok
-    ∙ ap (λ text. c.add_copies.new.made ++ record { file = get_or c.args.files.now c.longest_of-longest.result Stop; text = text } ∷ []) c.cut_out.ensures)
+    ∙ ap (λ text.
+    c.add_copies.new.made ++ record {
+      file = get_or c.args.files.now c.longest_of-longest.result Stop;
+      text =
+          text;
+    } ∷ []) c.cut_out.ensures)
     (all_there _ c.loop-file.file-iterator.rest.items _
     (omega (arith, c.loop-file.file-iterator.rest.ok, none)) c.loop-file.invariant
     ∙ ap (λ (l : List MadeFile). c.push.new.self ++ l)

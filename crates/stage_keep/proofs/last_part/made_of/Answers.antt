@@ -1,5 +1,5 @@
 use Rattle.std.proofs.Common.{◌∙◌}
-use Rattle.stage_keep.proofs.Parts.{made_parts}
+use Rattle.stage_keep.proofs.PlacesInLastPart.{made_parts}
 use Rattle.stage_keep.proofs.last_part.made_of.Goals as goal
 
 pub returns : goal.returns

@@ -3,7 +3,7 @@ use Rattle.std.specs.Bool.{⊤}
 use Rattle.stage_keep.specs.EntryReading.{made_of}
 use Rattle.stage_keep.specs.Places.{part_of}
 use Rattle.stage_keep.proofs.LastParts.{makes_told}
-use Rattle.stage_keep.proofs.Parts.{no_texts_in, read_first, read_later, read_neither, read_none, texts_in}
+use Rattle.stage_keep.proofs.PlacesInLastPart.{no_texts_in, read_first, read_later, read_neither, read_none, texts_in}
 use Rattle.stage_keep.proofs.last_part.read_made.Goals as goal
 
 pub returns-in-Some-clause-made : goal.returns-in-Some-clause-made

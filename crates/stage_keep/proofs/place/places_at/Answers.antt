@@ -1,7 +1,7 @@
 use Rattle.std.proofs.Common.{◌≡◌, ◌+◌, ap, ◌∙◌, sym, arith, refl, length, option_map, drop, ◌++◌, List, ℕ, Some}
 use Rattle.std.proofs.lemmas.List.{length_push}
 use Rattle.stage_keep.specs.EntryReading.{block_at, texts_at}
-use Rattle.stage_keep.proofs.Parts.{before, next_split, place_more, place_within, sizes}
+use Rattle.stage_keep.proofs.PlacesInLastPart.{before, next_split, place_more, place_within, sizes}
 use Rattle.stage_keep.proofs.Reading.{block_found, block_lacks, ended_as, text_more, text_none, texts_end}
 use Rattle.stage_keep.proofs.place.places_at.Goals as goal
 

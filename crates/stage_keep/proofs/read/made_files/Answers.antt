@@ -7,8 +7,7 @@ use Rattle.stage_keep.proofs.read.made_files.Goals as goal
 pub loop-index-preserved : goal.loop-index-preserved
 loop-index-preserved c =
     let few = c.loop-index.invariant.few in
-    let inside : c.loop-index.index < length c.args.texts.now =
-    omega (arith, few, c.loop-index-test.true) in
+    let inside : c.loop-index.index < length c.args.texts.now = omega (arith, few, c.loop-index-test.true) in
     record {
       few = few;
       left = file_pushed c.args.files.now (map (λ text. text.now) c.args.texts.now)

@@ -10,17 +10,21 @@ use Rattle.tables.proofs.folds.fold_file.Goals as goal
 
 pub returns-in_err-table : goal.returns-in_err-table
 returns-in_err-table g c =
-    let input = plain_input c.args.file c.args.kinds.now g.F.RowFold.of_cells c.args.limit (g.F.RowFold.rules c.args.fold.now c.args.first) in
+    let input = plain_input c.args.file c.args.kinds.now g.F.RowFold.of_cells c.args.limit
+    (g.F.RowFold.rules c.args.fold.now c.args.first) in
     let p = err_from_is_err_and c.from_residual.result c.from_residual.ensures.1 in
     rw (p.1, p.2) (refused_cells input c.args.text.now c.in_err-table.field-0.0 c.in_err-table.ensures.table)
 
 pub returns-in-Some : goal.returns-in-Some
 returns-in-Some g c =
-    let input = plain_input c.args.file c.args.kinds.now g.F.RowFold.of_cells c.args.limit (g.F.RowFold.rules c.args.fold.now c.args.first) in
+    let input = plain_input c.args.file c.args.kinds.now g.F.RowFold.of_cells c.args.limit
+    (g.F.RowFold.rules c.args.fold.now c.args.first) in
     let table = c.in_ok-table.table in
     let read = c.in_ok-table.ensures.table in
     limits_refuse input c.args.text.now table read.0 read.1 (stage.Refused c.in-Some.refusal)
-    (limit_refuses c.args.limit (records input table) c.len.result c.too_many.result (c.len.ensures.len ∙ sym (length-map table (λ row. input.read row.cells))) c.too_many.ensures c.in-Some.refusal c.in-Some.is)
+    (limit_refuses c.args.limit (records input table) c.len.result c.too_many.result
+    (c.len.ensures.len ∙ sym (length-map table (λ row. input.read row.cells))) c.too_many.ensures
+    c.in-Some.refusal c.in-Some.is)
 
 pub fold_rows-requires : goal.fold_rows-requires
 fold_rows-requires g c = (
@@ -34,7 +38,8 @@ fold_rows-requires g c = (
 
 pub returns : goal.returns
 returns g c =
-    let input = plain_input c.args.file c.args.kinds.now g.F.RowFold.of_cells c.args.limit (g.F.RowFold.rules c.args.fold.now c.args.first) in
+    let input = plain_input c.args.file c.args.kinds.now g.F.RowFold.of_cells c.args.limit
+    (g.F.RowFold.rules c.args.fold.now c.args.first) in
     let table = c.in_ok-table.table in
     let read = c.in_ok-table.ensures.table in
     rows_read input c.args.text.now table read.0 read.1 (g.F.RowFold.Knows c.args.fold.now) refl

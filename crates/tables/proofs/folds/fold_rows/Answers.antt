@@ -3,9 +3,9 @@ use Rattle.std.proofs.lemmas.List.{take_all}
 use Rattle.tables.specs.Inputs.{broken_whys}
 use Rattle.tables.specs.RowsOfTables.{records_by}
 use Rattle.tables.specs.Tables.{TableRow, no_row}
-use Rattle.tables.proofs.FileFaults.{none_broken}
 use Rattle.tables.proofs.Inputs.{more, met, refused, all_met}
 use Rattle.tables.proofs.folds.fold_rows.Goals as goal
+use Rattle.plan_num.proofs.Lists.{none_first}
 
 pub returns-in-Some : goal.returns-in-Some
 returns-in-Some g c =
@@ -13,7 +13,9 @@ returns-in-Some g c =
     let table = c.args.table.now in
     let i = c.loop-i.i in
     let rules = g.F.RowFold.rules c.args.fold.now c.args.first in
-    let first = ap (λ some. slice_get (broken_whys some (records_by of (take i table)) (of (get_or table i no_row).cells)) 0) c.loop-i.invariant.same in
+    let first = ap (λ some. slice_get
+    (broken_whys some (records_by of (take i table)) (of (get_or table i no_row).cells)) 0)
+    c.loop-i.invariant.same in
     rw c.number.ensures (refused (λ (row : TableRow). row.number)
     (λ (row : TableRow). of row.cells) c.args.file rules table i no_row c.in-Some.why
     (omega arith) (sym (c.in_ok-why.ensures.first ∙ first) ∙ c.in-Some.is) c.loop-i.invariant.sound)
@@ -35,7 +37,7 @@ loop-i-preserved g c =
           (c.in_ok-why.ensures.knows c.in_default.is);
       sound = met (λ (row : TableRow). row.number)
           (λ (row : TableRow). of row.cells) c.args.file rules table i no_row (omega arith)
-          (none_broken (broken_whys rules before row)
+          (none_first (broken_whys rules before row)
           (sym (c.in_ok-why.ensures.first ∙ first) ∙ c.in_default.is)) c.loop-i.invariant.sound;
     }
 

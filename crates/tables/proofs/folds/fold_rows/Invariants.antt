@@ -11,5 +11,6 @@ invariant-loop-i g l =
     record {
       same : g.F.RowFold.rules l.fold l.made ≡ rules;
       knows : g.F.RowFold.Knows l.fold l.made (records_by of (take l.i l.table));
-      sound : row_faults l.file rules (records_by of (take l.i l.table)) (numbered_by of (drop l.i l.table)) ≡ row_faults l.file rules [] (numbered_by of l.table);
+      sound : row_faults l.file rules (records_by of (take l.i l.table))
+          (numbered_by of (drop l.i l.table)) ≡ row_faults l.file rules [] (numbered_by of l.table);
     }

@@ -9,11 +9,15 @@ use Rattle.tables.proofs.write.write_table.Goals as goal
 use Rattle.tables.proofs.write.write_table.Goals.{After-from_vec}
 
 -- the text is that of all lines
-whole : (g : Over) (c : After-from_vec g) → c.from_vec.result ≡ table_text c.args.header.now c.args.kinds.now c.args.table.now
+whole : (g : Over) (c : After-from_vec g) → c.from_vec.result
+    ≡ table_text c.args.header.now c.args.kinds.now c.args.table.now
 unfolding table_text
 whole g c =
     let past : length c.args.table.now ≤ c.loop-row.row = omega arith in
-    c.from_vec.ensures ∙ c.loop-row.invariant ∙ ap (λ (rows : List TableRow). c.args.header.now ++ 10 ∷ flat_map (line_text c.args.kinds.now) rows) (take_all c.loop-row.row c.args.table.now past)
+    c.from_vec.ensures ∙ c.loop-row.invariant
+    ∙ ap (λ (rows : List TableRow). c.args.header.now
+    ++ 10 ∷ flat_map (line_text c.args.kinds.now) rows)
+    (take_all c.loop-row.row c.args.table.now past)
 
 pub returns-clause-text : goal.returns-clause-text
 returns-clause-text g c = whole g c
@@ -21,4 +25,5 @@ returns-clause-text g c = whole g c
 pub returns-clause-back : goal.returns-clause-back
 returns-clause-back g c =
     let some : 0 < length c.args.kinds.now = omega (arith, c.told-kinds, c.requires.some) in
-    rw (whole g c) (written_back c.args.header.now c.args.kinds.now c.args.table.now some c.requires.kinds c.requires.cells c.requires.header)
+    rw (whole g c) (written_back c.args.header.now c.args.kinds.now c.args.table.now some
+    c.requires.kinds c.requires.cells c.requires.header)

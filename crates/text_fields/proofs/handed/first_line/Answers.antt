@@ -1,4 +1,4 @@
-use Rattle.std.proofs.Common.{◌∙◌, ◌++◌, List, ap, drop, false, sym, take, ℕ}
+use Rattle.std.proofs.Common.{◌∙◌, ◌++◌, List, ap, false, sym, take, ℕ}
 use Rattle.std.proofs.lemmas.List.{take-append-drop, take_rest}
 use Rattle.text_fields.specs.Handed.{fed}
 use Rattle.text_fields.specs.Rows.{parts_of}

@@ -15,7 +15,7 @@ overflow_cast-index c =
       c.loop-index-test.true,
       c.requires.each,
       count_most (λ j. not (is_next c.args.plan.now j)) 0 (length c.args.plan.now),
-      c.len.ensures.trips.rows.few,
+      c.are_trips.ensures.rows.few,
     )
 
 pub overflow_add-index : goal.overflow_add-index
@@ -28,7 +28,7 @@ overflow_add-index c =
       c.loop-index-test.true,
       c.requires.each,
       count_most (λ j. not (is_next c.args.plan.now j)) 0 (length c.args.plan.now),
-      c.len.ensures.trips.rows.few,
+      c.are_trips.ensures.rows.few,
     )
 
 pub push_vehicle-requires-clause-first : goal.push_vehicle-requires-clause-first

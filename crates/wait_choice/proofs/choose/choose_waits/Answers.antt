@@ -2,10 +2,11 @@ use Rattle.std.proofs.Common.{◌≡◌, ◌∙◌, ◌+◌, Some, ap, sym, subs
 use Rattle.std.proofs.lemmas.Result.{err_from_is_err_and}
 use Rattle.tables.specs.Inputs.{UnlessFault}
 use Rattle.giv_files.specs.StageCalls.{TakesSteps}
-use Rattle.wait_choice.specs.Budgets.{entries_listed}
+use Rattle.waiting_decisions.specs.Budgets.{entries_listed}
 use Rattle.wait_choice.specs.ChoiceStage.{IsUnspent, IsWhole, waits_in, waits_refusals, waits_work}
-use Rattle.wait_choice.specs.Listings.{listing}
-use Rattle.wait_choice.proofs.StageResults.{end_chosen, end_finds, end_steps, end_whole, few_steps, inputs_refused, inputs_steps}
+use Rattle.waiting_decisions.specs.Listings.{listing}
+use Rattle.wait_choice.proofs.StageResults.{end_chosen, end_finds, end_steps, end_whole, few_steps, inputs_refused}
+use Rattle.wait_choice.proofs.StageResults.{inputs_steps}
 use Rattle.wait_choice.proofs.Unspent.{refused_unspent, refused_whole}
 use Rattle.wait_choice.proofs.choose.choose_waits.Goals as goal
 
@@ -38,23 +39,28 @@ returns-clause-chosen g c =
     let read = c.in_ok-problem.ensures.read in
     subst (UnlessFault (waits_refusals c.args.bundle.now c.args.penalty c.args.budget)
     (λ waits. waits_in c.args.bundle.now c.args.penalty c.args.budget ≡ Some waits)) (sym c.found_or_spent.ensures)
-    (end_chosen c.args.bundle.now c.args.penalty c.args.budget c.in_ok-problem.problem read.0 read.1 c.in_ok-found.found c.in_ok-found.ensures.found)
+    (end_chosen c.args.bundle.now c.args.penalty c.args.budget c.in_ok-problem.problem read.0 read.1 c.in_ok-found.found
+    c.in_ok-found.ensures.found)
 
 pub returns-clause-finds : goal.returns-clause-finds
 returns-clause-finds g c enough =
     let read = c.in_ok-problem.ensures.read in
     subst IsUnspent (sym c.found_or_spent.ensures)
-    (end_finds c.args.bundle.now c.args.penalty c.args.budget c.in_ok-problem.problem read.0 read.1 c.in_ok-found.found c.in_ok-found.ensures.found enough)
+    (end_finds c.args.bundle.now c.args.penalty c.args.budget c.in_ok-problem.problem read.0 read.1 c.in_ok-found.found
+    c.in_ok-found.ensures.found enough)
 
 pub returns-clause-whole : goal.returns-clause-whole
 returns-clause-whole g c enough =
     let read = c.in_ok-problem.ensures.read in
     subst IsWhole (sym c.found_or_spent.ensures)
-    (end_whole c.args.bundle.now c.args.penalty c.args.budget c.in_ok-problem.problem read.0 read.1 c.in_ok-found.found c.in_ok-found.ensures.found enough)
+    (end_whole c.args.bundle.now c.args.penalty c.args.budget c.in_ok-problem.problem read.0 read.1 c.in_ok-found.found
+    c.in_ok-found.ensures.found enough)
 
 pub returns-clause-steps : goal.returns-clause-steps
 returns-clause-steps g c =
     let read = c.in_ok-problem.ensures.read in
     subst (TakesSteps (waits_work c.args.bundle.now c.args.penalty c.args.budget) _ _) (sym c.found_or_spent.ensures)
-    (end_steps c.args.bundle.now c.args.penalty c.args.budget c.in_ok-problem.problem read.0 read.1 c.in_ok-found.found c.in_ok-found.ensures.found _ _
-    (c.in_ok-found.ensures.steps ∙ ap (λ n. n + entries_listed c.args.budget (listing c.in_ok-problem.problem c.args.penalty)) c.tick.ensures))
+    (end_steps c.args.bundle.now c.args.penalty c.args.budget c.in_ok-problem.problem read.0 read.1 c.in_ok-found.found
+    c.in_ok-found.ensures.found _ _
+    (c.in_ok-found.ensures.steps ∙ ap (λ n. n + entries_listed c.args.budget
+    (listing c.in_ok-problem.problem c.args.penalty)) c.tick.ensures))

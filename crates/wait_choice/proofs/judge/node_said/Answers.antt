@@ -1,7 +1,7 @@
 use Rattle.std.proofs.Common.{◌∙◌, ap, sym}
-use Rattle.wait_choice.specs.declared.node.WaitNode.TheVariants as node
+use Rattle.waiting_decisions.specs.declared.node.WaitNode.TheVariants as node
 use Rattle.wait_choice.specs.Judged.{node_said}
-use Rattle.wait_choice.proofs.Told.{index_alike}
+use Rattle.wait_choice.proofs.ListItems.{index_alike}
 use Rattle.wait_choice.proofs.judge.node_said.Goals as goal
 
 pub returns-in-Split : goal.returns-in-Split

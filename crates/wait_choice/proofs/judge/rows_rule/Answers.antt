@@ -1,10 +1,10 @@
 use Rattle.std.proofs.Common.{◌≡◌, ◌∙◌, length, map, take, drop, pos, slice_get, ap, sym}
 use Rattle.std.specs.Ordering.{int_eq}
-use Rattle.wait_choice.specs.Choices.{cost_of}
+use Rattle.waiting_decisions.specs.Choices.{cost_of}
 use Rattle.wait_choice.specs.Judged.{broken_nodes, broken_rows, keeps, node_said}
 use Rattle.wait_choice.proofs.Judging.{rows_nodes}
-use Rattle.wait_choice.proofs.Told.{drop_twice, rest_all}
-use Rattle.wait_choice.proofs.Turns.{outcome_by}
+use Rattle.wait_choice.proofs.ListItems.{drop_twice, rest_all}
+use Rattle.waiting_decisions.proofs.Turns.{outcome_by}
 use Rattle.wait_choice.proofs.judge.rows_rule.Goals as goal
 
 pub returns : goal.returns
@@ -19,7 +19,8 @@ returns c =
     let cost = c.cost_in-cost.ensures in
     let costs = (λ i. int_eq (pos (sym cost i)) (cost_of problem c.args.penalty (map keeps (sym choices i))))
     ∙ sym c.in_ok-costs.ensures ∙ c.if-not-branch.false in
-    outcome_by _ (λ answer. answer ≡ slice_get (broken_rows problem c.args.penalty rows) 0) c.nodes_rule.result c.nodes_rule.ensures
+    outcome_by _ (λ answer. answer ≡ slice_get (broken_rows problem c.args.penalty rows) 0) c.nodes_rule.result
+    c.nodes_rule.ensures
     (λ answer is. is
     ∙ (λ i. slice_get (broken_nodes problem c.args.penalty (pos (cost i)) (map (node_said changes) (nodes i))) 0)
     ∙ ap (λ all. slice_get all 0) (rows_nodes problem c.args.penalty rows (sym c.if-not-is_shaped.ensures) costs))

@@ -12,6 +12,7 @@ returns-clause-text c =
 
 pub returns-clause-passes : goal.returns-clause-passes
 returns-clause-passes c =
-    printed_passes c.args.problem.now c.args.waits.now c.change_count-count.ensures.forward c.change_count-count.ensures.rise c.rows_text.result
+    printed_passes c.args.problem.now c.args.waits.now c.waits_rows.ensures.forward c.waits_rows.ensures.rise
+    c.rows_text.result
     (subst (λ rows. IfOk c.rows_text.result (ReadsAs waits_columns wait_row rows))
     (c.deref.ensures.value ∙ c.in_ok-rows.ensures.rows) c.rows_text.ensures.back)

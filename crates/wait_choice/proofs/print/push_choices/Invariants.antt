@@ -7,6 +7,7 @@ use Rattle.wait_choice.proofs.print.push_choices.Given as goal
 
 abbrev pub invariant-loop-change : goal.invariant-loop-change
 invariant-loop-change l = record {
-  told : l.rows.items ≡ l.fn.rows.items ++ take l.change (map (λ at. choice_row at.0 at.1) (zip l.kept l.problem.changes));
+  told : l.rows.items ≡ l.fn.rows.items ++ take l.change
+      (map (λ at. choice_row at.0 at.1) (zip l.kept l.problem.changes));
   fit : All RowFits l.rows.items;
 }

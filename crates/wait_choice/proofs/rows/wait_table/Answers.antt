@@ -11,4 +11,5 @@ returns-in-Ok-clause-cells c =
     let is = c.waits_columns.ensures in
     subst (All (λ row. InColumns waits_columns row.cells))
     (sym (c.in-Ok.ensures.1 ∙ ap (λ kinds. table_of kinds c.args.text.now) is))
-    (table_in_columns waits_columns c.args.text.now (ap (λ kinds. faults kinds c.args.text.now) (sym is) ∙ c.in-Ok.ensures.0))
+    (table_in_columns waits_columns c.args.text.now
+    (ap (λ kinds. faults kinds c.args.text.now) (sym is) ∙ c.in-Ok.ensures.0))

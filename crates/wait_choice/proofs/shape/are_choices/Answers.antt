@@ -3,7 +3,7 @@ use Rattle.std.specs.List.{list_all}
 use Rattle.propagation.specs.declared.step.Activity.{Activity}
 use Rattle.wait_choice.specs.declared.row.WaitRow.TheVariants as row
 use Rattle.wait_choice.specs.Judged.{is_node}
-use Rattle.wait_choice.proofs.Told.{choices_are, fit_end, fit_more, left_fit, rest_all}
+use Rattle.wait_choice.proofs.ListItems.{choices_are, fit_end, fit_more, left_fit, rest_all}
 use Rattle.wait_choice.proofs.shape.are_choices.Goals as goal
 
 none : Activity
@@ -18,7 +18,8 @@ returns-then-not-is_choice c =
     let here : i < length changes = omega (arith, c.loop-change-test.true, count) in
     let there : i < length rows = omega (arith, c.loop-change-test.true, c.if-rows-count.false) in
     let out = sym (c.if-not-is_choice.ensures (get_or changes i none) (c.id_at.ensures.id none)) in
-    choices_are changes rows false (list_all is_node (drop (length changes) rows)) (omega (arith, count, c.if-rows-count.false))
+    choices_are changes rows false (list_all is_node (drop (length changes) rows))
+    (omega (arith, count, c.if-rows-count.false))
     (c.loop-change.invariant ∙ fit_more rows changes i (row.Cost 0) none there here
     ∙ ap (λ b. b && left_fit rows changes i (row.Cost 0) none (i + 1)) out) refl
 
@@ -41,5 +42,6 @@ returns c =
     let count = c.change_count-count.ensures.count in
     c.are_nodes.ensures ∙ ap (list_all is_node) (rest_all rows c.change_count-count.result)
     ∙ choices_are changes rows true _ (omega (arith, count, c.if-rows-count.false))
-    (c.loop-change.invariant ∙ fit_end rows changes c.loop-change.change (omega (arith, count, c.loop-change-test.false)))
+    (c.loop-change.invariant ∙ fit_end rows changes c.loop-change.change
+    (omega (arith, count, c.loop-change-test.false)))
     (ap (λ n. list_all is_node (drop n rows)) (sym count))

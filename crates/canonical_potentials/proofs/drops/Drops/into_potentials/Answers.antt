@@ -20,7 +20,7 @@ of_numbers-requires c =
     (c.in_ok-u.ensures ∙ ap (map (λ number. c.self.inside.root - number)) c.deref.ensures.value)
     (c.in_ok-v.ensures ∙ ap (map (λ number. number - c.self.inside.root)) c.deref-2.ensures.value) in
     subst ArePotentials (sym same)
-    (settled_small links c.args.plan.now drops known c.len.ensures.links)
+    (settled_small links c.args.plan.now drops known c.requires.known.sound)
 
 pub returns-clause-least : goal.returns-clause-least
 returns-clause-least c =
@@ -36,7 +36,7 @@ returns-clause-least c =
     (c.in_ok-u.ensures ∙ ap (map (λ number. c.self.inside.root - number)) c.deref.ensures.value)
     (c.in_ok-v.ensures ∙ ap (map (λ number. number - c.self.inside.root)) c.deref-2.ensures.value) in
     subst (AreCanonical links c.args.plan.now) (sym (c.of_numbers.ensures ∙ same))
-    (passed_canonical links c.len.ensures.links c.args.plan.now drops known kept)
+    (passed_canonical links c.requires.known.sound c.args.plan.now drops known kept)
 
 pub returns-clause-valid : goal.returns-clause-valid
 returns-clause-valid c =
@@ -52,4 +52,4 @@ returns-clause-valid c =
     (c.in_ok-u.ensures ∙ ap (map (λ number. c.self.inside.root - number)) c.deref.ensures.value)
     (c.in_ok-v.ensures ∙ ap (map (λ number. number - c.self.inside.root)) c.deref-2.ensures.value) in
     subst (AreValid links c.args.plan.now) (sym (c.of_numbers.ensures ∙ same))
-    (passed_valid links c.len.ensures.links c.args.plan.now drops known kept)
+    (passed_valid links c.requires.known.sound c.args.plan.now drops known kept)

@@ -6,7 +6,7 @@ use Rattle.canonical_potentials.proofs.drops.Drops.relax_link_of.Goals as goal
 pub overflow_add-number : goal.overflow_add-number
 overflow_add-number c = omega (
   arith,
-  row_asks (links_in c.args.trips.now) c.args.plan.now c.args.self.now c.len.ensures.links c.requires.known c.args.i
+  row_asks (links_in c.args.trips.now) c.args.plan.now c.args.self.now c.requires.known.sound c.requires.known c.args.i
       c.args.link.to c.args.link.gain c.requires.link.is,
   c.left.ensures,
 )

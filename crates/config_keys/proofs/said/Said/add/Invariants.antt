@@ -1,7 +1,7 @@
 -- What is said later of the first keys is said.
 use Rattle.std.proofs.Common.{take}
 use Rattle.std.specs.List.{flat_map}
-use Rattle.config_keys.specs.Said.{said_item, SaysOn}
+use Rattle.config_keys.specs.ReadSoFar.{said_item, SaysOn}
 use Rattle.config_keys.proofs.said.Said.add.Given as goal
 
 abbrev pub invariant-loop-key : goal.invariant-loop-key

@@ -5,7 +5,8 @@ use Rattle.delay_trials.proofs.OnTrialFacts.{last_is, popped}
 use Rattle.delay_trials.proofs.on_trial.TimesOnTrial.last_moved.Goals as goal
 
 pub invariant_of-self : goal.invariant_of-self
-invariant_of-self c = popped _ _ _ _ _ _ _ _ c.self.invariant c.self.inside.trail.items c.pop.new.self.items c.pop.result (λ i. reverse c.self.inside.trail.items) c.pop.ensures.items
+invariant_of-self c = popped _ _ _ _ _ _ _ _ c.self.invariant c.self.inside.trail.items c.pop.new.self.items
+    c.pop.result (λ i. reverse c.self.inside.trail.items) c.pop.ensures.items
 
 pub returns : goal.returns
 returns c =
@@ -17,5 +18,7 @@ returns c =
       noted = reverse c.pop.new.self.items;
       waiting = c.self.inside.waiting;
     }) c.pop.result) c.self.view_is
-    (last_is _ _ _ _ _ _ _ _ c.self.invariant c.args.left c.self.inside.trail.items c.pop.new.self.items c.pop.result (λ i. reverse c.self.inside.trail.items)
-    (omega (arith, c.if-len-left.false, c.len.ensures, c.self.inside.trail.ok.0)) _ (sym c.self.inside.trail.ok.0) _ _ c.pop.ensures.cases c.pop.ensures.items)
+    (last_is _ _ _ _ _ _ _ _ c.self.invariant c.args.left c.self.inside.trail.items c.pop.new.self.items c.pop.result
+    (λ i. reverse c.self.inside.trail.items)
+    (omega (arith, c.if-len-left.false, c.len.ensures, c.self.inside.trail.ok.0)) _
+    (sym c.self.inside.trail.ok.0) _ _ c.pop.ensures.cases c.pop.ensures.items)

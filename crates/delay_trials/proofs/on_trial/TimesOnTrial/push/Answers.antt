@@ -11,7 +11,13 @@ returns-in_ok-note-clause-ok c =
     c.in_ok-note.ensures.ok c.set_time.ensures c.wait_at.ensures.same c.wait_at.ensures.waits
     (c.index-before.ensures
     ∙ get_or_default c.self.inside.times.items c.args.step.to c.index-before.result.now 0
-    (omega (arith, c.requires.joins.1, c.self.invariant.each, ap (λ (t : TrialTimes). length t.problem.events) c.self.view_is))
+    (omega (
+      arith,
+      c.requires.joins.1,
+      c.self.invariant.each,
+      ap (λ (t : TrialTimes). length t.problem.events)
+          c.self.view_is,
+    ))
     ∙ ap (λ (t : TrialTimes). time_at t.times c.args.step.to) c.self.view_is)
     (c.asked-asked.ensures ∙ ap (λ times. asked times c.args.step) c.deref.ensures.value
     ∙ ap (λ (t : TrialTimes). asked t.times c.args.step) c.self.view_is)

@@ -8,7 +8,7 @@ use Rattle.delay_trials.specs.OnTrial.{DropsNotes, IsTaken}
 use Rattle.propagation.specs.Problems.{DelayProblem}
 use Rattle.delay_trials.specs.Trials.{TrialParts, is_decided}
 use Rattle.propagation.specs.Waiting.{chosen_changes}
-use Rattle.delay_trials.proofs.Taking.{kept_not, kept_taken, settles_from, taken_still}
+use Rattle.delay_trials.proofs.DecisionsTakenBack.{kept_not, kept_taken, settles_from, taken_still}
 use Rattle.delay_trials.proofs.TrialFacts.{kept_size, reversed}
 use Rattle.delay_trials.proofs.trial.Trial.keep.Goals as goal
 
@@ -37,8 +37,9 @@ settle_from-requires c =
     let all = c.self.inside.times in let taken = reverse c.self.inside.taken.items in
     let there : c.args.change < length all.problem.changes =
     omega (arith, c.requires.there, ap (λ (t : TrialParts). length t.problem.changes) c.self.view_is) in
-    let none = subst (λ (t : TrialParts). is_decided t.decided c.args.change ≡ false) (sym c.self.view_is) c.requires.open_yet in
-    settles_from all taken c.self.inside.kept.items c.problem.ensures.linked c.self.invariant c.args.change there none
+    let none = subst (λ (t : TrialParts). is_decided t.decided c.args.change ≡ false)
+    (sym c.self.view_is) c.requires.open_yet in
+    settles_from all taken c.self.inside.kept.items c.self.invariant c.args.change there none
     c.set_open.new.self _ c.set_open.ensures c.deref.result.now (c.deref.ensures.value ∙ c.set_at.ensures)
     c.changes.result.now (c.changes.ensures.value ∙ ap (λ (p : DelayProblem). p.changes) c.problem.ensures.value)
 
@@ -47,15 +48,25 @@ invariant_of-self-in-Ok c =
     let all = c.self.inside.times in let taken = reverse c.self.inside.taken.items in
     let there : c.args.change < length all.problem.changes =
     omega (arith, c.requires.there, ap (λ (t : TrialParts). length t.problem.changes) c.self.view_is) in
-    let none = subst (λ (t : TrialParts). is_decided t.decided c.args.change ≡ false) (sym c.self.view_is) c.requires.open_yet in
+    let none = subst (λ (t : TrialParts). is_decided t.decided c.args.change ≡ false)
+    (sym c.self.view_is) c.requires.open_yet in
     subst (λ all. IsTaken c.drop_notes.new.times all c.set_at.new.flags.items)
     (sym (ap reverse c.in_ok-push.ensures.items ∙ reversed c.self.inside.taken.items c.new.result
-    ∙ (λ i. (c.new.ensures ∙ (λ j. record { decided = record { change = c.args.change; kept = true }; moved = c.moved-moved.ensures j; is_noted = c.notes_stay-is_noted.result })) i ∷ taken)))
+    ∙ (λ i. (c.new.ensures
+    ∙ (λ j. record {
+      decided = record { change = c.args.change; kept = true };
+      moved = c.moved-moved.ensures j;
+      is_noted = c.notes_stay-is_noted.result;
+    })) i ∷ taken)))
     (subst (IsTaken c.drop_notes.new.times _) (sym c.set_at.ensures)
-    (kept_taken all taken c.self.inside.kept.items c.problem.ensures.linked c.self.invariant c.args.change there none
-    c.set_open.new.self c.set_open.new.self c.settle_from.new.self c.set_open.ensures (λ i. c.set_open.new.self) c.settle_from.ensures.follows
-    c.drop_notes.new.times c.notes_stay-is_noted.result (subst (λ left. DropsNotes left c.notes_stay-is_noted.result c.settle_from.new.self c.drop_notes.new.times) c.moved-moved.ensures c.drop_notes.ensures)
-    (c.in-Ok.ensures.least ∙ ap (λ kept. least_times c.set_open.new.self.problem (chosen_changes c.set_open.new.self.problem kept))
+    (kept_taken all taken c.self.inside.kept.items c.self.invariant c.args.change there none
+    c.set_open.new.self c.set_open.new.self c.settle_from.new.self c.set_open.ensures
+    (λ i. c.set_open.new.self) c.settle_from.ensures.follows
+    c.drop_notes.new.times c.notes_stay-is_noted.result
+    (subst (λ left. DropsNotes left c.notes_stay-is_noted.result c.settle_from.new.self c.drop_notes.new.times)
+    c.moved-moved.ensures c.drop_notes.ensures)
+    (c.in-Ok.ensures.least ∙ ap (λ kept. least_times c.set_open.new.self.problem
+    (chosen_changes c.set_open.new.self.problem kept))
     (c.deref.ensures.value ∙ c.set_at.ensures))
     c.in-Ok.ensures.none))
 
@@ -66,13 +77,17 @@ invariant_of-self-in-Err c =
     let all = c.self.inside.times in let taken = reverse c.self.inside.taken.items in
     let there : c.args.change < length all.problem.changes =
     omega (arith, c.requires.there, ap (λ (t : TrialParts). length t.problem.changes) c.self.view_is) in
-    let none = subst (λ (t : TrialParts). is_decided t.decided c.args.change ≡ false) (sym c.self.view_is) c.requires.open_yet in
+    let none = subst (λ (t : TrialParts). is_decided t.decided c.args.change ≡ false)
+    (sym c.self.view_is) c.requires.open_yet in
     subst (λ all. IsTaken c.set_open-in-Err.new.self (reverse all) c.set_at-in-Err.new.flags.items)
-    (sym (c.pop.ensures.rest ∙ (λ i. take (length_is i) (c.in_ok-push.ensures.items i)) ∙ take-append_seam c.self.inside.taken.items (c.new.result ∷ [])))
-    (taken_still all taken c.self.inside.kept.items c.problem.ensures.linked c.self.invariant c.args.change there none
+    (sym (c.pop.ensures.rest ∙ (λ i. take (length_is i) (c.in_ok-push.ensures.items i))
+    ∙ take-append_seam c.self.inside.taken.items (c.new.result ∷ [])))
+    (taken_still all taken c.self.inside.kept.items c.self.invariant c.args.change there none
     c.set_open-in-Err.new.self c.forget.new.self.waiting c.set_at-in-Err.new.flags.items
-    (kept_not all taken c.self.inside.kept.items c.problem.ensures.linked c.self.invariant c.args.change there none
-    c.set_open.new.self c.set_open.new.self c.settle_from.new.self c.set_open.ensures (λ i. c.set_open.new.self) c.settle_from.ensures.follows
+    (kept_not all taken c.self.inside.kept.items c.self.invariant c.args.change there none
+    c.set_open.new.self c.set_open.new.self c.settle_from.new.self c.set_open.ensures
+    (λ i. c.set_open.new.self) c.settle_from.ensures.follows
     c.forget.new.self c.undo.new.self c.set_open-in-Err.new.self c.forget.ensures.same c.forget.ensures.none
     (λ top rest parts size. c.undo.ensures top rest parts (size ∙ sym c.moved-moved.ensures)) c.set_open-in-Err.ensures)
-    c.forget.ensures.none (c.set_at-in-Err.ensures ∙ ap (λ flags. slice_set flags c.args.change false) c.set_at.ensures))
+    c.forget.ensures.none (c.set_at-in-Err.ensures
+    ∙ ap (λ flags. slice_set flags c.args.change false) c.set_at.ensures))

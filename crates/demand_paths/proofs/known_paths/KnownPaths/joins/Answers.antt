@@ -1,6 +1,6 @@
 use Rattle.std.proofs.Common.{IfSome, subst, ◌∙◌}
-use Rattle.ptn_network.specs.Paths.{ArePaths}
-use Rattle.demand_paths.proofs.DemandRows.{is_reached}
+use Rattle.walks.specs.Paths.{ArePaths}
+use Rattle.demand_paths.proofs.KnownOnes.{is_reached}
 use Rattle.demand_paths.proofs.known_paths.KnownPaths.joins.Goals as goal
 
 pub returns-clause-joined : goal.returns-clause-joined

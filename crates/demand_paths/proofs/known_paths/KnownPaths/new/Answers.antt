@@ -1,7 +1,7 @@
 use Rattle.std.proofs.Common.{◌+◌, length, get_or, Option, None, ap, subst, sym, ◌∙◌, arith, IfSome}
 use Rattle.std.proofs.lemmas.List.{length_push}
-use Rattle.ptn_network.specs.Paths.{PathParts, ArePaths}
-use Rattle.demand_paths.proofs.DemandRows.{none_more}
+use Rattle.walks.specs.Paths.{PathParts, ArePaths}
+use Rattle.demand_paths.proofs.KnownOnes.{none_more}
 use Rattle.demand_paths.proofs.known_paths.KnownPaths.new.Goals as goal
 
 pub loop-stop-preserved : goal.loop-stop-preserved

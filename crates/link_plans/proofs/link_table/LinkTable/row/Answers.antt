@@ -4,8 +4,8 @@ use Rattle.link_plans.specs.Links.{links_in}
 use Rattle.link_plans.specs.LinkRows.{IsRow}
 use Rattle.link_plans.proofs.link_table.LinkTable.row.Goals as goal
 
-pub returns : goal.returns
-returns c =
+pub returns-clause-row : goal.returns-clause-row
+returns-clause-row c =
     let lists = map (λ row. row.items) c.self.inside.rows.items in
     let within : c.args.trip < length lists =
     subst (λ rows. c.args.trip < length rows) (sym c.self.view_is) c.requires in

@@ -17,7 +17,8 @@ loop-left-preserved c =
     let inside : from < length links = omega (arith, c.loop-left-test.true, c.loop-left.invariant.most) in
     let there : event < length firsts = omega (arith, c.requires from d inside, c.loop-left.invariant.events) in
     let old = subst (λ left. AreChained links left firsts nexts) back c.loop-left.invariant.chained in
-    let read : c.index.result.now ≡ slice_index_or firsts event 0 = c.index.ensures ∙ get_or_default firsts event c.index.result.now 0 there in
+    let read : c.index.result.now ≡ slice_index_or firsts event 0 = c.index.ensures
+    ∙ get_or_default firsts event c.index.result.now 0 there in
     record {
       most = omega (arith, c.loop-left.invariant.most);
       events = length-set firsts event from ∙ c.loop-left.invariant.events;

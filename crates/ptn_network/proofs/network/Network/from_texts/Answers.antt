@@ -1,12 +1,11 @@
-use Rattle.std.proofs.Common.{◌≡◌, All, length, sym, subst, ◌∙◌, rules}
-use Rattle.std.specs.Map.{values_of}
+use Rattle.std.proofs.Common.{sym, subst, ◌∙◌}
 use Rattle.std.proofs.lemmas.Result.{err_from_is_err_and}
 use Rattle.tables.specs.Inputs.{input_faults, Refuses}
 use Rattle.tables.proofs.Inputs.{refused_append}
 use Rattle.ptn_network.specs.Inputs.{stop_input}
-use Rattle.ptn_network.specs.Networks.{network_faults, AreKeyed, IsEdge, IsNetwork}
-use Rattle.ptn_network.specs.StopEdges.{AreStopEdges}
-use Rattle.ptn_network.proofs.ById.{by_id_keyed}
+use Rattle.ptn_network.specs.Networks.{network_faults}
+use Rattle.walks.specs.Networks.{AreKeyed, IsNetwork}
+use Rattle.walks.proofs.ById.{by_id_keyed}
 use Rattle.ptn_network.proofs.Rows.{entries_keyed}
 use Rattle.ptn_network.proofs.Sound.{network_sound}
 use Rattle.ptn_network.proofs.Texts.{edge_faults, network_is}
@@ -29,32 +28,19 @@ returns-in_err-edges c =
     rw (p.1, p.2) (subst (λ all. Refuses all c.in_err-edges.field-0.0) faults
     c.in_err-edges.ensures)
 
-pub new-requires : goal.new-requires
-new-requires c =
-    let stops = c.in_ok-stops.ensures in
-    let edges = c.in_ok-edges.ensures in
-    let none = sym (edge_faults c.args.stops.now c.args.edges.now c.in_ok-stops.stops.keys stops.1
-    stops.0) ∙ edges.0 in
-    let same = network_is c.args.stops.now c.args.edges.now c.in_ok-stops.stops.keys stops.1
-    c.in_ok-edges.edges.entries edges.1 in
-    let sound = subst IsNetwork (sym same) (network_sound c.args.stops.now c.args.edges.now none) in
-    let size : c.len.result ≡ length c.in_ok-stops.stops.keys = search rules in
-    subst (λ n. All (IsEdge n) (values_of c.in_ok-edges.edges.entries)) (sym size) sound.edges
+pub new-requires-clause-keyed : goal.new-requires-clause-keyed
+new-requires-clause-keyed c = subst AreKeyed (sym c.in_ok-edges.ensures.1)
+    (by_id_keyed _ (entries_keyed c.in_ok-stops.stops.keys _))
 
-pub invariant_of-result : goal.invariant_of-result
-invariant_of-result c =
+pub new-requires-clause-network : goal.new-requires-clause-network
+new-requires-clause-network c =
     let stops = c.in_ok-stops.ensures in
     let edges = c.in_ok-edges.ensures in
     let none = sym (edge_faults c.args.stops.now c.args.edges.now c.in_ok-stops.stops.keys stops.1
     stops.0) ∙ edges.0 in
-    let same = network_is c.args.stops.now c.args.edges.now c.in_ok-stops.stops.keys stops.1
-    c.in_ok-edges.edges.entries edges.1 in
-    let size : c.len.result ≡ length c.in_ok-stops.stops.keys = search rules in (
-      subst AreKeyed (sym edges.1) (by_id_keyed _ (entries_keyed c.in_ok-stops.stops.keys _)),
-      subst IsNetwork (sym same) (network_sound c.args.stops.now c.args.edges.now none),
-      subst (λ n. AreStopEdges n (values_of c.in_ok-edges.edges.entries) c.in_ok-at_stops.at_stops)
-          size c.in_ok-at_stops.ensures,
-    )
+    subst IsNetwork (sym (network_is c.args.stops.now c.args.edges.now c.in_ok-stops.stops.keys
+    stops.1 c.in_ok-edges.edges.entries edges.1))
+    (network_sound c.args.stops.now c.args.edges.now none)
 
 pub returns : goal.returns
 returns c =
@@ -62,6 +48,6 @@ returns c =
     let edges = c.in_ok-edges.ensures in (
       sym (edge_faults c.args.stops.now c.args.edges.now c.in_ok-stops.stops.keys stops.1 stops.0)
           ∙ edges.0,
-      network_is c.args.stops.now c.args.edges.now c.in_ok-stops.stops.keys stops.1
-          c.in_ok-edges.edges.entries edges.1,
+      c.in_ok-network.ensures ∙ network_is c.args.stops.now c.args.edges.now
+          c.in_ok-stops.stops.keys stops.1 c.in_ok-edges.edges.entries edges.1,
     )

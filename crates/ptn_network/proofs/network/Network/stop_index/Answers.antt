@@ -1,8 +1,7 @@
-use Rattle.std.proofs.Common.{ap, position, w64}
-use Rattle.std.specs.Ordering.{int_eq}
+use Rattle.std.proofs.Common.{refl, w64}
 use Rattle.std.proofs.lemmas.Int.{to_z-of_z}
 use Rattle.ptn_network.proofs.network.Network.stop_index.Goals as goal
 
 pub returns : goal.returns
-returns c = rw (c.get_index_of.ensures.index, to_z-of_z w64 c.args.id c.ranges.id)
-    (ap (λ network. position (int_eq c.args.id) network.stops) c.self.view_is)
+returns c =
+    rw (c.stop_index.ensures, to_z-of_z w64 c.args.id c.ranges.id, c.self.view_is) refl

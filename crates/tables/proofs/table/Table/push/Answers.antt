@@ -8,5 +8,7 @@ returns-clause-ok g c =
     let table = c.self.inside in
     let cells : c.extend_from_slice.new.self.items ≡ table.cells.items ++ c.args.cells.now = search rules in
     rw (c.in_ok-push.ensures.items, cells) (
-    rows_push g.row.C table.numbers.items table.cells.items c.args.number c.args.cells.now (rw (← table.numbers.ok.0, ← table.cells.ok.0) c.self.invariant) c.told-cells
-    ∙ ap (λ (rows : List TableRow). rows ++ record { number = c.args.number; cells = c.args.cells.now } ∷ []) c.self.view_is)
+    rows_push g.row.C table.numbers.items table.cells.items c.args.number c.args.cells.now
+    (rw (← table.numbers.ok.0, ← table.cells.ok.0) c.self.invariant) c.told-cells
+    ∙ ap (λ (rows : List TableRow). rows
+    ++ record { number = c.args.number; cells = c.args.cells.now } ∷ []) c.self.view_is)

@@ -1,0 +1,91 @@
+use Rattle.std.proofs.Common.{◌≡◌, ◌+◌, ◌≤◌, ◌≤ℤ◌, pos, [], ◌∷◌, ◌++◌, Some, length, get_or, slice_get, take, unsigned_abs, ap, subst, sym, ◌∙◌, arith}
+use Rattle.std.proofs.lemmas.List.Elements.{All-get_or}
+use Rattle.std.proofs.lemmas.List.FromFn.{fill_by_all}
+use Rattle.std.proofs.lemmas.List.Sums.{sum_by_push}
+use Rattle.tables.specs.declared.file_id.FileId.TheVariants as file
+use Rattle.tables.specs.declared.refusal.Refusal.TheVariants as refusal
+use Rattle.tables.specs.Columns.{od_columns}
+use Rattle.tables.specs.Inputs.{records, broken_whys}
+use Rattle.tables.specs.Tables.{no_row}
+use Rattle.tables.specs.Writing.{InColumns}
+use Rattle.tables.proofs.Inputs.{row_met, row_refused, rows_met, records_all, records_more}
+use Rattle.demand_load.specs.Demand.{demand_input, load_of, row_load}
+use Rattle.demand_load.proofs.SmallLoads.{customers_in}
+use Rattle.demand_load.proofs.demand.loads_of_rows.Goals as goal
+use Rattle.plan_num.proofs.Lists.{none_first}
+
+pub note_row-requires-clause-low : goal.note_row-requires-clause-low
+note_row-requires-clause-low c =
+    let table = c.args.table.now in
+    let cells = All-get_or (λ row. InColumns od_columns row.cells) table c.loop-i.i no_row
+    (omega arith) c.requires.cells in
+    subst (λ row. pos 0 ≤ℤ row.customers) (sym c.read-row.ensures)
+    (customers_in (get_or table c.loop-i.i no_row).cells cells).0
+
+pub note_row-requires-clause-room : goal.note_row-requires-clause-room
+note_row-requires-clause-room c =
+    let table = c.args.table.now in
+    let cells = All-get_or (λ row. InColumns od_columns row.cells) table c.loop-i.i no_row
+    (omega arith) c.requires.cells in
+    let few : unsigned_abs c.read-row.result.customers ≤ 1000000000000 =
+    subst (λ row. unsigned_abs row.customers ≤ 1000000000000) (sym c.read-row.ensures)
+    (customers_in (get_or table c.loop-i.i no_row).cells cells).1 in
+    omega (arith, c.loop-i.invariant.few, c.requires.few)
+
+pub returns-in-Some : goal.returns-in-Some
+returns-in-Some c =
+    let table = c.args.table.now in
+    let input = demand_input c.args.network.now in
+    let broken = sym c.in_ok-why.ensures.why ∙ c.in-Some.is in
+    row_refused input table c.loop-i.i c.in-Some.why (omega arith)
+    (subst (λ row. slice_get (broken_whys input.row_rules [] row) 0 ≡ Some c.in-Some.why)
+    c.read-row.ensures broken) c.loop-i.invariant.sound
+    ∙ ap (λ number. Some (refusal.BadRow file.Od number c.in-Some.why)) (sym c.number.ensures)
+
+pub loop-i-preserved : goal.loop-i-preserved
+loop-i-preserved c =
+    let table = c.args.table.now in
+    let network = c.args.network.now in
+    let input = demand_input network in
+    let i = c.loop-i.i in
+    let row = c.read-row.result in
+    let before = records input (take i table) in
+    let cells = All-get_or (λ row. InColumns od_columns row.cells) table c.loop-i.i no_row
+    (omega arith) c.requires.cells in
+    let few : unsigned_abs row.customers ≤ 1000000000000 =
+    subst (λ row. unsigned_abs row.customers ≤ 1000000000000) (sym c.read-row.ensures)
+    (customers_in (get_or table c.loop-i.i no_row).cells cells).1 in
+    let all = rw c.in_default.is at c.in_ok-why.ensures.all in
+    let more : before ++ row ∷ [] ≡ records input (take (i + 1) table) =
+    ap (λ some. before ++ some ∷ []) c.read-row.ensures
+    ∙ sym (records_more input table i (omega arith)) in
+    record {
+      sound = row_met input table i (omega arith)
+          (subst (λ some. broken_whys input.row_rules [] some ≡ []) c.read-row.ensures
+          (none_first _ (sym c.in_ok-why.ensures.why ∙ c.in_default.is)))
+          c.loop-i.invariant.sound;
+      known = c.in_ok-why.ensures.known;
+      wanted = c.in_ok-why.ensures.wanted;
+      few = omega (arith, all, few, c.loop-i.invariant.few);
+      loads = λ index. (rw c.in_default.is at c.in_ok-why.ensures.added) index
+          ∙ ap (λ n. n + row_load network index row) (c.loop-i.invariant.loads index)
+          ∙ sym (sum_by_push (row_load network index) before row)
+          ∙ ap (λ rows. load_of network rows index) more;
+    }
+
+pub loads_of_wanted-requires-clause-few : goal.loads_of_wanted-requires-clause-few
+loads_of_wanted-requires-clause-few c = omega (arith, c.loop-i.invariant.few, c.requires.few)
+
+pub returns : goal.returns
+returns c =
+    let table = c.args.table.now in
+    let network = c.args.network.now in
+    let input = demand_input network in
+    let i = c.loop-i.i in (
+      rows_met input table i (omega arith) c.loop-i.invariant.sound,
+      fill_by_all (load_of network (records input table)) c.in_ok-loads.loads.items
+          (length network.edges) 0
+          (omega (arith, c.in_ok-loads.ensures.size, c.in_ok-loads.loads.ok.0))
+          (λ index h. c.in_ok-loads.ensures.loads index h ∙ c.loop-i.invariant.loads index
+          ∙ ap (λ rows. load_of network rows index) (records_all input table i (omega arith))),
+    )

@@ -1,0 +1,36 @@
+use Rattle.std.proofs.Common.{◌≡◌, ap, subst, sym, ◌∙◌}
+use Rattle.std.specs.List.{All}
+use Rattle.std.proofs.lemmas.Result.{err_from_is_err_and}
+use Rattle.tables.specs.Columns.{od_columns}
+use Rattle.tables.specs.Inputs.{records, records_of}
+use Rattle.tables.specs.Writing.{InColumns}
+use Rattle.tables.proofs.Inputs.{refused_cells, faults_of_table, UnlessFault-weaker}
+use Rattle.tables.proofs.Ranges.{table_in_columns}
+use Rattle.demand_load.specs.Demand.{demand_input, demand_loads}
+use Rattle.demand_load.proofs.demand.read_demand.Goals as goal
+use Rattle.plan_num.proofs.Lists.{unmapped}
+
+pub returns-in_err-table : goal.returns-in_err-table
+returns-in_err-table c =
+    let p = err_from_is_err_and c.from_residual.result c.from_residual.ensures.1 in
+    rw (p.1, p.2) (refused_cells (demand_input c.args.network.now) c.args.text.now
+    c.in_err-table.field-0.0 c.in_err-table.ensures)
+
+pub loads_of_table-requires : goal.loads_of_table-requires
+loads_of_table-requires c =
+    let cells = c.in_ok-table.ensures in
+    subst (λ table. All (λ row. InColumns od_columns row.cells) table) (sym cells.1)
+    (table_in_columns od_columns c.args.text.now (unmapped _ _ cells.0))
+
+pub returns : goal.returns
+returns c =
+    let cells = c.in_ok-table.ensures in
+    let network = c.args.network.now in
+    let input = demand_input network in
+    UnlessFault-weaker _ _ (λ loads. loads.items
+    ≡ demand_loads network (records input c.in_ok-table.table))
+    (λ loads. loads.items ≡ demand_loads network (records_of input c.args.text.now))
+    c.loads_of_table.result
+    (faults_of_table input c.args.text.now c.in_ok-table.table cells.0 cells.1)
+    (λ loads is. is ∙ ap (λ table. demand_loads network (records input table)) cells.1)
+    (rw c.for_walks.ensures at c.loads_of_table.ensures)

@@ -1,0 +1,106 @@
+-- What a search finds is right, and its listing is whole.
+use Rattle.std.proofs.Common.{◌≡◌, ℕ, pos, ◌∙◌, Bool, true, false, nat_le, List, length, take}
+use Rattle.std.proofs.Common.{Option, Some, None, IfSome, IfOk, Result, Ok, Err, if◌then◌else◌}
+use Rattle.std.proofs.Common.{refl}
+use Rattle.std.proofs.Common.{arith, ap, sym, subst}
+use Rattle.std.proofs.lemmas.Bool.{le-leb, leb-true}
+use Rattle.std.proofs.lemmas.List.{take_all}
+use Rattle.line_cost_model.specs.Chosen.{IsChosen}
+use Rattle.line_cost_model.specs.Concepts.{IsFeasible, cost_of}
+use Rattle.line_cost_model.specs.Problems.{IsProblem, ProblemParts}
+use Rattle.line_concepts.specs.Certified.{Certifies}
+use Rattle.line_concepts.specs.Budgets.{nodes_in}
+use Rattle.line_concepts.specs.Listings.{Entry, best_after, listing}
+use Rattle.line_concepts.specs.RightSearches.{FoundIsRight, ListingIsWhole, SearchIsRight, found_by}
+use Rattle.line_concepts.specs.Searches.{ArePriced, IsResult, concept_in}
+use Rattle.line_concepts.specs.declared.best.BestConcept.{BestConcept}
+use Rattle.line_concepts.specs.declared.node.Node.{Node}
+use Rattle.line_concepts.specs.declared.search.Searched.{Searched}
+use Rattle.line_concepts.proofs.ChosenFound.{best_feasible, found_is_chosen, listing_finds}
+use Rattle.line_concepts.proofs.ChosenFound.{nodes_certify, none_is_feasible, some_find}
+use Rattle.line_concepts.proofs.ConceptsListed.{concepts_listed}
+use Rattle.line_concepts.proofs.Lengths.{listing_bound, root_ordered}
+use Rattle.line_concepts.proofs.Levels.{visit_unrolls}
+
+where_found : {X : Type 0} (P : X → Type 0) (found : Option X) → ((x : X) → found ≡ Some x → P x)
+    → IfSome found P
+where_found P None h = tt
+where_found P (Some x) h = h x refl
+
+pub listing_whole : (problem : ProblemParts) → ListingIsWhole problem
+listing_whole problem = record {
+  ordered = root_ordered problem.edges problem.lines;
+  enough_levels = visit_unrolls problem;
+  feasible = λ count. best_feasible problem None (take count (listing problem)) tt
+      (some_find problem count (listing problem) (listing_finds problem));
+  counted = concepts_listed;
+}
+
+pub search_right : (problem : ProblemParts) → IsProblem problem → SearchIsRight problem
+search_right problem sound = record {
+  chosen = where_found (IsChosen problem) (found_by problem) (found_is_chosen problem sound);
+  certified = where_found (λ concept. Certifies problem (pos (cost_of problem concept))
+      (nodes_in (listing problem))) (found_by problem) (nodes_certify problem sound);
+  none = none_is_feasible problem sound;
+}
+
+-- ---- within a budget
+
+-- what holds of the concept that was found, by its frequencies
+in_concept : (P : List ℕ → Type 0) (best : Option BestConcept) → IfSome (concept_in best) P
+    → IfSome best (λ best. P best.frequencies.items)
+in_concept P None h = tt
+in_concept P (Some best) h = h
+
+in_price : (problem : ProblemParts) (nodes : List Node) (best : Option BestConcept)
+    → ArePriced problem best
+    → IfSome (concept_in best) (λ concept. Certifies problem (pos (cost_of problem concept)) nodes)
+    → IfSome best (λ best. Certifies problem best.cost nodes)
+in_price problem nodes None priced h = tt
+in_price problem nodes (Some best) priced h =
+    subst (λ cost. Certifies problem cost nodes) (sym priced.cost) h
+
+-- what holds of a tree holds where the listing is within the budget
+where_whole : (P : List Node → Type 0) (budget : ℕ) (all : List Entry) (b : Bool)
+    → nat_le (length all) budget ≡ b → (take budget all ≡ all → P (nodes_in all))
+    → IfSome (if b then Some (nodes_in all) else None) P
+where_whole P budget all true is h = h (grind (arith, leb-true, take_all))
+where_whole P budget all false is h = tt
+
+module _ (problem : ProblemParts) (budget : ℕ) (found : Searched) (sound : IsProblem problem)
+    (is : IsResult problem budget found) where
+  right : SearchIsRight problem
+  right = search_right problem sound
+
+  -- where there is a tree
+  with_tree : (P : List Node → Type 0)
+      → (concept_in found.best ≡ found_by problem → P (nodes_in (listing problem)))
+      → IfSome found.tree P
+  with_tree P h =
+      subst (λ tree. IfSome tree P) (sym is.tree_is)
+      (where_whole P budget (listing problem) (nat_le (length (listing problem)) budget) refl
+      (λ all. h (is.best_is ∙ ap (best_after None) all)))
+
+  pub found_right : FoundIsRight problem budget found
+  found_right = record {
+    feasible = in_concept (IsFeasible problem) found.best
+        (subst (λ concept. IfSome concept (IsFeasible problem)) (sym is.best_is)
+        ((listing_whole problem).feasible budget));
+    chosen = with_tree (λ _. IfSome found.best (λ best. IsChosen problem best.frequencies.items))
+        (λ same. in_concept (IsChosen problem) found.best
+        (subst (λ concept. IfSome concept (IsChosen problem)) (sym same) right.chosen));
+    certified = with_tree (λ tree. IfSome found.best (λ best. Certifies problem best.cost tree))
+        (λ same. in_price problem (nodes_in (listing problem)) found.best is.priced
+        (subst (λ concept. IfSome concept (λ concept. Certifies problem
+        (pos (cost_of problem concept)) (nodes_in (listing problem)))) (sym same) right.certified));
+    none = with_tree (λ _. found.best ≡ None → (concept : List ℕ) → ¬ IsFeasible problem concept)
+        (λ same none. right.none (sym same ∙ ap concept_in none));
+    whole = λ enough. is.tree_is ∙ ap (λ b. if b then Some (nodes_in (listing problem)) else None)
+        (le-leb (length (listing problem)) budget (omega (arith, enough, listing_bound problem)));
+  }
+
+pub result_right : {E : Type 0} (problem : ProblemParts) (budget : ℕ) → IsProblem problem
+    → (result : Result Searched E) → IfOk result (IsResult problem budget)
+    → IfOk result (FoundIsRight problem budget)
+result_right problem budget sound (Ok found) is = found_right problem budget found sound is
+result_right problem budget sound (Err error) is = tt

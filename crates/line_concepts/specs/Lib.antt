@@ -1,0 +1,10 @@
+pub mod Certified
+pub mod Nodes
+pub mod TreeFaults
+pub mod Trees
+pub mod Walks
+pub mod Budgets
+pub mod Firsts
+pub mod Listings
+pub mod Searches
+pub mod RightSearches

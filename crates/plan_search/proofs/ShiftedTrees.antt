@@ -1,0 +1,413 @@
+-- Potentials of a tree that are shifted: it stays one, and each place without a claim is nearer.
+use Rattle.std.proofs.Common.{◌≡◌, ◌≢◌, ◌⊎◌, inl, inr, ℕ, ℤ, pos, negsuc, ◌<◌, ◌≤◌, ◌+◌, ◌-◌, ◌||◌}
+use Rattle.std.proofs.Common.{nat_lt, nat_eq, is_some, Bool, true, false, cond, List, length}
+use Rattle.std.proofs.Common.{get_or, Option, Some, None, option_map, MatchOption, IfSome, refl, ap}
+use Rattle.std.proofs.Common.{sym, ◌∙◌, subst, arith, eq-eqb}
+use Rattle.std.proofs.Math.ListN.{get_or-eq_default}
+use Rattle.std.proofs.lemmas.Bool.{false≢true, ne_eqb, ltb-true, ltb-false}
+use Rattle.std.proofs.lemmas.Option.{none-some, same_Some}
+use Rattle.link_plans.specs.Plans.{next, is_next}
+use Rattle.link_plans.specs.Links.{Links}
+use Rattle.link_plans.proofs.Linking.{by_number, not_next}
+use Rattle.link_plans.specs.Potentials.{PotentialParts, at}
+use Rattle.link_plans.proofs.Certified.{by_bound}
+use Rattle.plan_search.specs.declared.claim.Claim.{Claim}
+use Rattle.plan_search.specs.declared.near.Near.{Near}
+use Rattle.plan_search.specs.Claims.{ClaimsParts, claim_at}
+use Rattle.plan_search.specs.Growing.{links_from, looking, is_placed, StillCovers, is_claimed}
+use Rattle.plan_search.specs.Growing.{is_claimed_at, in_tree, moved_near, shifted, IsFrom, IsNear}
+use Rattle.plan_search.specs.Growing.{AreNear, IsTreeClaim, IsGrowing, AreShifted}
+use Rattle.plan_search.specs.Searches.{IsTightAt, IsTightBy, IsTightBut, IsLeft, ComesFrom, AreClaimsBefore}
+use Rattle.link_plans.specs.LinkRows.{worth}
+use Rattle.link_plans.specs.Slacks.{slack_of, slack_to}
+use Rattle.link_plans.proofs.Moves.{has_next}
+use Rattle.plan_num.proofs.Tests.{or_true}
+
+-- ---- the links from some trips
+
+pub gain_of_some : (links : Links) (some : ℕ → Bool) (i j : ℕ) (gain : ℤ)
+    → (links_from links some).gain i j ≡ Some gain → (some i ≡ true) × (links.gain i j ≡ Some gain)
+gain_of_some links some i j gain e = split (some i) refl e
+  where
+    split : (b : Bool) → some i ≡ b → cond b (links.gain i j) None ≡ Some gain
+        → (some i ≡ true) × (links.gain i j ≡ Some gain)
+    split true is f = (is, f)
+    split false is f = absurd (none-some gain f)
+
+pub some_gain : (links : Links) (some : ℕ → Bool) (i j : ℕ) → some i ≡ true
+    → (links_from links some).gain i j ≡ links.gain i j
+some_gain links some i j is = ap (λ b. cond b (links.gain i j) None) is
+
+pub placed_next : (trip : ℕ) (plan : List (Option ℕ)) (i j : ℕ) → next plan i ≡ Some j
+    → is_placed trip plan i ≡ true
+placed_next trip plan i j e = ap (λ it. nat_eq i trip || is_some it) e ∙ or_true (nat_eq i trip)
+
+pub placed_is : (trip : ℕ) (plan : List (Option ℕ)) (i : ℕ) → is_placed trip plan i ≡ true
+    → (i ≡ trip) ⊎ ((j : ℕ) × (next plan i ≡ Some j))
+placed_is trip plan i e = by_number i trip (λ same. inl same)
+    (λ apart. inr (at_next (next plan i) refl (sym (ap (λ b. b || is_some (next plan i)) (ne_eqb i trip apart)) ∙ e)))
+  where
+    at_next : (it : Option ℕ) → next plan i ≡ it → is_some it ≡ true → (j : ℕ) × (next plan i ≡ Some j)
+    at_next None is f = absurd (false≢true f)
+    at_next (Some j) is f = (j, is)
+
+-- ---- what a link is worth
+
+pub pos_worth : (at_j : Option ℤ) (n : ℕ) → worth at_j ≡ Some n → at_j ≡ Some (pos n)
+pos_worth None n e = absurd (none-some n e)
+pos_worth (Some (pos m)) n e = ap (λ k. Some (pos k)) (same_Some m n e)
+pos_worth (Some (negsuc m)) n e = absurd (none-some n e)
+
+-- ---- the slack at a place
+
+module _ (links : Links) (potentials : PotentialParts) (i place : ℕ) where
+  pub slack_inside : place < links.count → slack_to links potentials i place
+      ≡ slack_of (at potentials.u i + at potentials.v place) (worth (links.gain i place))
+  slack_inside within = split (nat_lt place links.count) refl
+    where
+      split : (b : Bool) → nat_lt place links.count ≡ b
+          → cond b (slack_of (at potentials.u i + at potentials.v place) (worth (links.gain i place)))
+          (Some (at potentials.u i))
+          ≡ slack_of (at potentials.u i + at potentials.v place) (worth (links.gain i place))
+      split true is = refl
+      split false is = absurd (omega (arith, within, ltb-false place links.count is))
+
+  pub slack_past : links.count ≤ place → slack_to links potentials i place ≡ Some (at potentials.u i)
+  slack_past past = split (nat_lt place links.count) refl
+    where
+      split : (b : Bool) → nat_lt place links.count ≡ b
+          → cond b (slack_of (at potentials.u i + at potentials.v place) (worth (links.gain i place)))
+          (Some (at potentials.u i)) ≡ Some (at potentials.u i)
+      split true is = absurd (omega (arith, past, ltb-true place links.count is))
+      split false is = refl
+
+-- a slack of a link, by what it is worth
+pub slack_is : (links : Links) (potentials : PotentialParts) (i place gain : ℕ) → place < links.count
+    → worth (links.gain i place) ≡ Some gain
+    → slack_to links potentials i place ≡ Some (at potentials.u i + at potentials.v place - gain)
+slack_is links potentials i place gain within e = slack_inside links potentials i place within
+    ∙ ap (slack_of (at potentials.u i + at potentials.v place)) e
+
+-- ---- trips of the tree
+
+module _ (trip : ℕ) (plan : List (Option ℕ)) (claims : ClaimsParts) where
+  pub tree_trip : in_tree trip plan claims trip ≡ true
+  tree_trip = ap (λ b. b || is_claimed_at claims (next plan trip)) (eq-eqb trip trip refl)
+
+  pub tree_next : (i : ℕ) → i ≢ trip → in_tree trip plan claims i ≡ is_claimed_at claims (next plan i)
+  tree_next i apart = ap (λ b. b || is_claimed_at claims (next plan i)) (ne_eqb i trip apart)
+
+  -- a trip with a place is in the tree where its place is claimed
+  pub tree_linked : (i j : ℕ) → i ≢ trip → next plan i ≡ Some j
+      → in_tree trip plan claims i ≡ is_claimed claims j
+  tree_linked i j apart e = tree_next i apart ∙ ap (is_claimed_at claims) e
+
+  -- a trip of the tree looks for a place, or has a claimed one
+  pub tree_is : (i : ℕ) → in_tree trip plan claims i ≡ true
+      → (i ≡ trip) ⊎ ((j : ℕ) × ((next plan i ≡ Some j) × (is_claimed claims j ≡ true)))
+  tree_is i e = by_number i trip (λ same. inl same)
+      (λ apart. inr (at_place (next plan i) refl (sym (tree_next i apart) ∙ e)))
+    where
+      at_place : (it : Option ℕ) → next plan i ≡ it → is_claimed_at claims it ≡ true
+          → (j : ℕ) × ((next plan i ≡ Some j) × (is_claimed claims j ≡ true))
+      at_place None is f = absurd (false≢true f)
+      at_place (Some j) is f = (j, (is, f))
+
+-- a claimed place has a claim
+pub claim_there : (claims : ClaimsParts) (place : ℕ) → is_claimed claims place ≡ true
+    → (found : Claim) × (claim_at claims place ≡ Some found)
+claim_there claims place e = split (claim_at claims place) refl e
+  where
+    split : (it : Option Claim) → claim_at claims place ≡ it → is_some it ≡ true
+        → (found : Claim) × (claim_at claims place ≡ Some found)
+    split None is f = absurd (false≢true f)
+    split (Some found) is f = (found, is)
+
+pub is_open : (claims : ClaimsParts) (place : ℕ) → is_claimed claims place ≡ false
+    → claim_at claims place ≡ None
+is_open claims place e = split (claim_at claims place) refl e
+  where
+    split : (it : Option Claim) → claim_at claims place ≡ it → is_some it ≡ false
+        → claim_at claims place ≡ None
+    split None is f = is
+    split (Some found) is f = absurd (false≢true (sym f))
+
+-- ---- a tree
+
+module _ (links : Links) (potentials : PotentialParts) (trip : ℕ) (plan : List (Option ℕ)) (claims : ClaimsParts)
+    (is : IsGrowing links potentials trip plan claims) where
+  -- trips of the tree look for a place or have one
+  pub tree_placed : (i : ℕ) → in_tree trip plan claims i ≡ true → is_placed trip plan i ≡ true
+  tree_placed i e = grind arith
+
+  -- and are there
+  pub tree_inside : (i : ℕ) → in_tree trip plan claims i ≡ true → i < links.count
+  tree_inside i e = grind (arith, tree_is, has_next)
+
+  -- claimed places are those of trips
+  pub claimed_inside : (place : ℕ) → is_claimed claims place ≡ true → place < links.count
+  claimed_inside place e =
+      let found = claim_there claims place e in
+      let tree = is.tree place found.0 found.1 in
+      is.tight.within tree.owner place tree.owns
+
+  -- the place behind all trips is not claimed
+  pub last_open : claim_at claims links.count ≡ None
+  last_open = split (is_claimed claims links.count) refl
+    where
+      split : (b : Bool) → is_claimed claims links.count ≡ b → claim_at claims links.count ≡ None
+      split true e = absurd (omega (arith, claimed_inside links.count e))
+      split false e = is_open claims links.count e
+
+  module _ (nears : List (Option Near)) (are : AreNear links potentials trip plan claims nears) (slack : ℕ)
+      (least : (place : ℕ) → place < length nears → claim_at claims place ≡ None
+      → IfSome (get_or nears place None) (λ it. slack ≤ it.slack)) where
+    -- the slack of each trip of the tree at a place without a claim is no less
+    pub slack_least : (i place known : ℕ) → in_tree trip plan claims i ≡ true → place < links.count + 1
+        → claim_at claims place ≡ None → slack_to links potentials i place ≡ Some known → slack ≤ known
+    slack_least i place known e within free at_place = split (get_or nears place None)
+        (are.near place within free) (least place (omega (arith, within, are.each)) free)
+      where
+        split : (it : Option Near) → IsNear links potentials (in_tree trip plan claims) place it
+            → IfSome it (λ x. slack ≤ x.slack) → slack ≤ known
+        split None near low = absurd (none-some known (sym (near i e) ∙ at_place))
+        split (Some x) near low = omega (arith, low, subst (λ s. IfSome s (λ y. x.slack ≤ y)) at_place (near.least i e))
+
+    -- so is its potential
+    pub tree_least : (i : ℕ) → in_tree trip plan claims i ≡ true → slack ≤ at potentials.u i
+    tree_least i e = slack_least i links.count (at potentials.u i) e (omega arith) last_open
+        (slack_past links potentials i links.count (omega arith))
+
+    -- ---- after the shift
+
+    module _ (after : PotentialParts) (shift : AreShifted trip plan claims slack links.count potentials after) where
+      u_in : (i : ℕ) → i < links.count → in_tree trip plan claims i ≡ true
+          → at after.u i ≡ at potentials.u i - slack
+      u_in i within e = shift.u i within
+          ∙ ap (λ b. cond b (at potentials.u i - slack) (at potentials.u i)) e
+
+      u_out : (i : ℕ) → i < links.count → in_tree trip plan claims i ≡ false
+          → at after.u i ≡ at potentials.u i
+      u_out i within e = shift.u i within
+          ∙ ap (λ b. cond b (at potentials.u i - slack) (at potentials.u i)) e
+
+      v_in : (j : ℕ) → j < links.count → is_claimed claims j ≡ true
+          → at after.v j ≡ at potentials.v j + slack
+      v_in j within e = shift.v j within
+          ∙ ap (λ b. cond b (at potentials.v j + slack) (at potentials.v j)) e
+
+      v_out : (j : ℕ) → j < links.count → is_claimed claims j ≡ false
+          → at after.v j ≡ at potentials.v j
+      v_out j within e = shift.v j within
+          ∙ ap (λ b. cond b (at potentials.v j + slack) (at potentials.v j)) e
+
+      -- what two potentials are after the shift, by whether the trip and the place are of the tree
+      record AreMoved (i j : ℕ) : Type 0 where
+        both : in_tree trip plan claims i ≡ true → is_claimed claims j ≡ true
+            → at after.u i + at after.v j ≡ at potentials.u i + at potentials.v j
+        near : in_tree trip plan claims i ≡ true → is_claimed claims j ≡ false
+            → at after.u i + at after.v j ≡ at potentials.u i + at potentials.v j - slack
+        far : in_tree trip plan claims i ≡ false → is_claimed claims j ≡ true
+            → at after.u i + at after.v j ≡ at potentials.u i + at potentials.v j + slack
+        none : in_tree trip plan claims i ≡ false → is_claimed claims j ≡ false
+            → at after.u i + at after.v j ≡ at potentials.u i + at potentials.v j
+
+      moved : (i j : ℕ) → i < links.count → j < links.count → AreMoved i j
+      moved i j from to = grind (arith, u_in, v_in, tree_least, v_out, u_out)
+
+      -- a link is worth something only between trips that are there
+      module _ (inside : (i j : ℕ) → is_some (links.gain i j) ≡ true → (i < links.count) × (j < links.count)) where
+        worth_inside : (i j gain : ℕ) → worth (links.gain i j) ≡ Some gain
+            → (i < links.count) × (j < links.count)
+        worth_inside i j gain e = inside i j (ap is_some (pos_worth (links.gain i j) gain e))
+
+        -- the potentials still cover what they covered
+        pub covered_after : StillCovers links potentials after
+        covered_after i was j = split (worth (links.gain i j)) refl (was j)
+          where
+            -- by both tests
+            by_tests : (gain : ℕ) → worth (links.gain i j) ≡ Some gain
+                → gain ≤ at potentials.u i + at potentials.v j → (a b : Bool) → in_tree trip plan claims i ≡ a
+                → is_claimed claims j ≡ b → gain ≤ at after.u i + at after.v j
+            by_tests gain e low true true p q =
+                let there = worth_inside i j gain e in
+                omega (arith, low, (moved i j there.0 there.1).both p q)
+            by_tests gain e low true false p q =
+                let there = worth_inside i j gain e in
+                let room = slack_least i j (at potentials.u i + at potentials.v j - gain) p (omega (arith, there.1))
+                (is_open claims j q) (slack_is links potentials i j gain there.1 e) in
+                omega (arith, low, room, (moved i j there.0 there.1).near p q)
+            by_tests gain e low false true p q =
+                let there = worth_inside i j gain e in
+                omega (arith, low, (moved i j there.0 there.1).far p q)
+            by_tests gain e low false false p q =
+                let there = worth_inside i j gain e in
+                omega (arith, low, (moved i j there.0 there.1).none p q)
+
+            split : (it : Option ℕ) → worth (links.gain i j) ≡ it
+                → IfSome it (λ gain. gain ≤ at potentials.u i + at potentials.v j)
+                → IfSome it (λ gain. gain ≤ at after.u i + at after.v j)
+            split None e low = tt
+            split (Some gain) e low = by_tests gain e low (in_tree trip plan claims i) (is_claimed claims j) refl refl
+
+        -- a trip of the tree has as much less as its place has more
+        linked_same : (i j : ℕ) → next plan i ≡ Some j
+            → at after.u i + at after.v j ≡ at potentials.u i + at potentials.v j
+        linked_same i j e = split (is_claimed claims j) refl
+          where
+            apart : i ≢ trip
+            apart same = none-some j (sym is.waits ∙ ap (next plan) (sym same) ∙ e)
+
+            there : AreMoved i j
+            there = moved i j (omega (arith, has_next plan i j e, is.tight.each)) (is.tight.within i j e)
+
+            split : (b : Bool) → is_claimed claims j ≡ b
+                → at after.u i + at after.v j ≡ at potentials.u i + at potentials.v j
+            split true f = there.both (tree_linked trip plan claims i j apart e ∙ f) f
+            split false f = there.none (tree_linked trip plan claims i j apart e ∙ f) f
+
+        -- the plan is still tight
+        pub tight_after : IsTightBut (looking links after plan trip) links.count plan
+        tight_after = record {
+          each = is.tight.each;
+          within = is.tight.within;
+          linked = λ i j e. is.tight.linked i j e ∙ ap (λ n. Some (pos n)) (sym (linked_same i j e));
+          once = is.tight.once;
+          last = λ i apart e. by_bound i links.count
+              (λ within. u_out i within (tree_next trip plan claims i apart ∙ ap (is_claimed_at claims) e)
+              ∙ is.tight.last i apart e)
+              (λ past. get_or-eq_default after.u 0 (omega (arith, past, shift.over.each_u)));
+          first = λ j within apart free. v_out j within (not_claimed j free (is_claimed claims j) refl)
+              ∙ is.tight.first j within apart free;
+        }
+          where
+            not_claimed : (j : ℕ) → is_next plan j ≡ false → (b : Bool) → is_claimed claims j ≡ b
+                → is_claimed claims j ≡ false
+            not_claimed j free false e = e
+            not_claimed j free true e =
+                let found = claim_there claims j e in
+                let tree = is.tree j found.0 found.1 in
+                absurd (not_next plan tree.owner j free tree.owns)
+
+        -- and the claims are some
+        pub claims_after : AreClaimsBefore (looking links after plan trip) plan claims (length claims.order)
+        claims_after place found e less =
+            let was = is.claims_are place found e less in
+            record {
+              tight = subst (IsTightBy (links_from links (is_placed trip plan)) after place) (sym tree.by_is)
+                  (tight_by (subst (IsTightBy (links_from links (is_placed trip plan)) potentials place)
+                  tree.by_is was.tight));
+              movable = was.movable;
+              from = from_after found.from was.from;
+            }
+          where
+            tree : IsTreeClaim trip plan claims place found
+            tree = is.tree place found e
+
+            claimed : is_claimed claims place ≡ true
+            claimed = ap is_some e
+
+            tight_by : IsTightAt (links_from links (is_placed trip plan)) potentials tree.by place
+                → IsTightAt (links_from links (is_placed trip plan)) after tree.by place
+            tight_by was = record {
+              linked = λ within. was.linked within ∙ ap (λ n. Some (pos n))
+                  (sym ((moved tree.by place (tree_inside tree.by tree.inside) within).both tree.inside claimed));
+              last = λ past. absurd (omega (arith, past, claimed_inside place claimed));
+            }
+
+            from_after : (it : Option ℕ)
+                → MatchOption it (found.by ≡ Some trip)
+                (λ from. ComesFrom (looking links potentials plan trip) plan claims found from)
+                → MatchOption it (found.by ≡ Some trip)
+                (λ from. ComesFrom (looking links after plan trip) plan claims found from)
+            from_after None own = own
+            from_after (Some from) comes = record {
+              before = comes.before;
+              is = comes.is;
+              sooner = comes.sooner;
+              left = left_same found.by comes.left;
+            }
+              where
+                left_same : (by : Option ℕ) → IsLeft (looking links potentials plan trip) plan from by
+                    → IsLeft (looking links after plan trip) plan from by
+                left_same None left = left
+                left_same (Some i) left = left
+
+        pub growing_after : IsGrowing links after trip plan claims
+        growing_after = record {
+          over = shift.over;
+          within = is.within;
+          places = is.places;
+          tight = tight_after;
+          waits = is.waits;
+          covered = λ i placed. covered_after i (is.covered i placed);
+          claims_are = claims_after;
+          tree = is.tree;
+        }
+
+        -- the slack of a trip of the tree at a place without a claim is less by the shift
+        slack_after : (i place : ℕ) → in_tree trip plan claims i ≡ true → place < links.count + 1
+            → claim_at claims place ≡ None
+            → slack_to links after i place ≡ option_map (λ known. known - slack) (slack_to links potentials i place)
+        slack_after i place e within free = by_bound place links.count
+            (λ inside_place. inside_is inside_place (worth (links.gain i place)) refl)
+            (λ past. slack_past links after i place past ∙ ap Some (u_in i (tree_inside i e) e)
+            ∙ ap (option_map (λ known. known - slack)) (sym (slack_past links potentials i place past)))
+          where
+            not_claimed : is_claimed claims place ≡ false
+            not_claimed = ap is_some free
+
+            inside_is : place < links.count → (it : Option ℕ) → worth (links.gain i place) ≡ it
+                → slack_to links after i place
+                ≡ option_map (λ known. known - slack) (slack_to links potentials i place)
+            inside_is inside_place None f = grind arith
+            inside_is inside_place (Some gain) f =
+                grind (arith, slack_is, moved, tree_inside, tree_least, option_map)
+
+        -- so the nearest trips are those that were
+        pub nears_after : (now : List (Option Near)) → length now ≡ length nears
+            → ((place : ℕ) → place < length nears
+            → get_or now place None ≡ shifted (claim_at claims place) slack (get_or nears place None))
+            → AreNear links after trip plan claims now
+        nears_after now each told = record {
+          each = each ∙ are.each;
+          near = λ place within free. subst (IsNear links after (in_tree trip plan claims) place)
+              (sym (told place (omega (arith, within, are.each))
+              ∙ ap (λ claim. shifted claim slack (get_or nears place None)) free))
+              (near_after place within free (get_or nears place None) refl (are.near place within free));
+          from = λ place near free e. from_at place near free (place_there place near e) e
+              (get_or nears place None) refl;
+        }
+          where
+            by_tree : (place : ℕ) (near : Near) → place < links.count + 1 → claim_at claims place ≡ None
+                → get_or nears place None ≡ Some near → in_tree trip plan claims near.by ≡ true
+            by_tree place near within free e = from_tree near.from (are.from place near free e)
+              where
+                from_tree : (it : Option ℕ) → IsFrom trip plan claims near.by it
+                    → in_tree trip plan claims near.by ≡ true
+                from_tree None own = ap (in_tree trip plan claims) own ∙ tree_trip trip plan claims
+                from_tree (Some from) left = tree_linked trip plan claims near.by from left.0 left.1 ∙ left.2
+
+            near_after : (place : ℕ) → place < links.count + 1 → claim_at claims place ≡ None
+                → (it : Option Near) → get_or nears place None ≡ it
+                → IsNear links potentials (in_tree trip plan claims) place it
+                → IsNear links after (in_tree trip plan claims) place (option_map (moved_near slack) it)
+            near_after place within free None is_it none = λ i e. slack_after i place e within free
+                ∙ ap (option_map (λ known. known - slack)) (none i e)
+            near_after place within free (Some near) is_it nearest =
+                grind (arith, slack_after, by_tree, option_map)
+
+            told_it : (place : ℕ) → claim_at claims place ≡ None → place < length nears → (it : Option Near)
+                → get_or nears place None ≡ it → get_or now place None ≡ option_map (moved_near slack) it
+            told_it place free within it is_it = grind arith
+
+            place_there : (place : ℕ) (near : Near) → get_or now place None ≡ Some near → place < length nears
+            place_there place near e = by_bound place (length nears) (λ within. within)
+                (λ past. absurd (none-some near (sym (get_or-eq_default now None (omega (arith, past, each))) ∙ e)))
+
+            from_at : (place : ℕ) (near : Near) → claim_at claims place ≡ None → place < length nears
+                → get_or now place None ≡ Some near → (it : Option Near) → get_or nears place None ≡ it
+                → IsFrom trip plan claims near.by near.from
+            from_at place near free within e None is_it =
+                absurd (none-some near (sym (told_it place free within None is_it) ∙ e))
+            from_at place near free within e (Some old) is_it = grind arith

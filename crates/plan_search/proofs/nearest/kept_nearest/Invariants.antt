@@ -1,0 +1,6 @@
+-- What is near is as before.
+use Rattle.std.proofs.Common.{◌≡◌}
+use Rattle.plan_search.proofs.nearest.kept_nearest.Given as goal
+
+abbrev pub invariant-loop-turn : goal.invariant-loop-turn
+invariant-loop-turn l = l.nears ≡ l.fn.nears

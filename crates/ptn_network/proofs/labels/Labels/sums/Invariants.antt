@@ -1,9 +1,0 @@
--- The sums are those of the labels so far.
-use Rattle.std.proofs.Common.{◌≡◌, pos, map, take}
-use Rattle.std.specs.Option.{option_map}
-use Rattle.ptn_network.specs.Labels.{sum_of}
-use Rattle.ptn_network.proofs.labels.Labels.sums.Given as goal
-
-abbrev pub invariant-loop-label : goal.invariant-loop-label
-invariant-loop-label l = l.sums.items ≡ map (λ label. option_map pos (sum_of label))
-    (take l.label-index l.self)

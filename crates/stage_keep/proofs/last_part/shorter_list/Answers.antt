@@ -1,0 +1,6 @@
+use Rattle.std.proofs.Common.{ap, sym, ◌∷◌, [], map}
+use Rattle.std.specs.Option.{option_to_list}
+use Rattle.stage_keep.proofs.last_part.shorter_list.Goals as goal
+
+pub returns : goal.returns
+returns c = ap (λ f. map (λ file. file ∷ []) (option_to_list f)) (sym c.row.ensures.alone)

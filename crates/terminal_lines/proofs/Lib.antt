@@ -1,0 +1,10 @@
+pub mod EndsOfWalks
+pub mod LeastWalks
+pub mod LinesOfPaths
+pub mod OneMore
+pub mod PairsOfIds
+pub mod PathsApart
+pub mod PathsOver
+pub mod ServedPaths
+pub mod TerminalWays
+pub mod Ways

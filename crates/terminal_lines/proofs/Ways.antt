@@ -1,0 +1,46 @@
+-- Paths between stops, where a walk joins them.
+use Rattle.std.proofs.Common.{◌≡◌, ℕ, pos, ◌<◌, true, false, cond, List, [], ◌++◌, length, get_or}
+use Rattle.std.proofs.Common.{refl, ap, sym, ◌∙◌, arith, Option, Some, None, option_map}
+use Rattle.std.proofs.Common.{option_to_list, is_some}
+use Rattle.std.specs.List.{cons_option}
+use Rattle.std.proofs.lemmas.List.FromFn.{get_or-map-range_with_len}
+use Rattle.walks.specs.Networks.{NetworkParts}
+use Rattle.walks.specs.Paths.{PathParts, path, paths_from, way}
+use Rattle.walks.specs.Walks.{edge_length, least_sum}
+use Rattle.terminal_lines.specs.declared.terminal.Terminal.{Terminal}
+
+abbrev pub no_terminal : Terminal
+no_terminal = record { id = pos 0; stop = 0 }
+
+-- what was found is put behind a list
+pub listed : (old new : List (List ℕ)) (found wanted : Option (List ℕ)) → found ≡ wanted
+    → new ≡ old ++ option_to_list found → new ≡ old ++ cons_option wanted []
+listed old new found wanted is put =
+    put ∙ ap (λ some. old ++ some) (ap option_to_list is ∙ by wanted)
+  where
+    by : (some : Option (List ℕ)) → option_to_list some ≡ cons_option some []
+    by None = refl
+    by (Some path) = refl
+
+module _ (network : NetworkParts) (from to : ℕ) where
+  -- a stop is reached where a walk goes there
+  pub is_reached : (paths : PathParts) → paths ≡ paths_from network from → to < length network.stops
+      → is_some (get_or paths.lengths to None) ≡ is_some (least_sum network edge_length from to)
+  is_reached paths is within =
+      ap (λ (some : PathParts). is_some (get_or some.lengths to None)) is
+      ∙ ap is_some (get_or-map-range_with_len (λ to. option_map pos
+      (least_sum network edge_length from to)) 0 (length network.stops) to to None within
+      (omega arith))
+      ∙ mapped (least_sum network edge_length from to)
+    where
+      mapped : (sum : Option ℕ) → is_some (option_map pos sum) ≡ is_some sum
+      mapped None = refl
+      mapped (Some sum) = refl
+
+  pub no_way : is_some (least_sum network edge_length from to) ≡ false → None ≡ way network from to
+  no_way none = sym (ap (λ b. cond b (Some (path network from to)) None) none)
+
+  pub way_is : (found : List ℕ) → is_some (least_sum network edge_length from to) ≡ true
+      → found ≡ path network from to → Some found ≡ way network from to
+  way_is found there is =
+      ap Some is ∙ sym (ap (λ b. cond b (Some (path network from to)) None) there)

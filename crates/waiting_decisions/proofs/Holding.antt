@@ -1,0 +1,119 @@
+-- What each entry of a listing says holds, and no entries are left out however deep a region is split.
+use Rattle.std.proofs.Common.{◌≡◌, ◌∙◌, ℕ, ℤ, suc, cond, Bool, true, false, List, ◌∷◌, ◌++◌, length}
+use Rattle.std.proofs.Common.{Option, Some, None, IfSome, refl, ap, subst, sym, arith}
+use Rattle.std.specs.Prelude.{count_by}
+use Rattle.std.proofs.lemmas.Bool.{both_ways}
+use Rattle.std.proofs.lemmas.Int.{ints}
+use Rattle.propagation.specs.Problems.{DelayProblem, IsForward}
+use Rattle.waiting_decisions.specs.declared.decision.Decision.{Decision}
+use Rattle.waiting_decisions.specs.declared.decision.Decision.TheVariants as decision
+use Rattle.waiting_decisions.specs.declared.waits.Waits.{Waits}
+use Rattle.waiting_decisions.specs.Budgets.{waits_within}
+use Rattle.waiting_decisions.specs.Listings.{Choice, Entry, best_after, choice_in, cut_off, entries_by, entries_within}
+use Rattle.waiting_decisions.specs.Listings.{entry_at, entry_by, found, holds_off, levels_of, listing, split, visit}
+use Rattle.waiting_decisions.specs.Regions.{CostsAtLeastIn, bound_of, decided, first_broken, greatest_set, is_free}
+use Rattle.waiting_decisions.specs.Regions.{open_region}
+use Rattle.waiting_decisions.specs.Paths.{region_in}
+use Rattle.waiting_decisions.specs.Searches.{Between}
+use Rattle.waiting_decisions.specs.RightListings.{CostsNoMore, EntryHolds, IsListed}
+use Rattle.waiting_decisions.proofs.Bounds.{bound_holds, found_costs, parts_cover}
+use Rattle.waiting_decisions.proofs.PathFacts.{region_size}
+use Rattle.waiting_decisions.proofs.Visits.{free_less, le_of, split_free}
+
+module _ (problem : DelayProblem) (penalty : ℕ) where
+  -- ---- what an entry says
+
+  bounds : (forward : IsForward problem) (region : List Decision)
+      → CostsAtLeastIn problem penalty region (bound_of problem penalty region)
+  bounds forward region kept times lies feasible =
+      bound_holds problem forward penalty region kept times lies feasible
+
+  pub split_holds : (region : List Decision) (best : Option Choice) (change : ℕ)
+      → first_broken problem region ≡ Some change → EntryHolds problem penalty region best (split change)
+  split_holds region best change is =
+      let free = split_free problem region change is in
+      (free, λ kept lies. parts_cover region change kept free lies)
+
+  module _ (forward : IsForward problem) (region : List Decision) (best : Option Choice)
+      (size : length region ≡ length problem.changes) where
+    abbrev bound : ℤ
+    bound = bound_of problem penalty region
+
+    cut : (held : Option Choice) → holds_off held bound ≡ true → CostsNoMore problem penalty region held
+    cut None off = absurd (both_ways false refl off)
+    cut (Some held) off = λ kept times lies feasible.
+        let less = le_of held.cost bound off in
+        let least = bounds forward region kept times lies feasible in
+        omega (arith, ints, less, least)
+
+    entry_holds : EntryHolds problem penalty region best (entry_at problem penalty region best)
+    entry_holds = by (holds_off best bound) refl (first_broken problem region) refl
+      where
+        by : (off : Bool) → holds_off best bound ≡ off → (broken : Option ℕ)
+            → first_broken problem region ≡ broken → EntryHolds problem penalty region best
+            (cond off cut_off (entry_by (choice_in problem penalty region) broken))
+        by true off broken is = cut best off
+        by false off None is = (found_costs problem forward penalty region size is, bounds forward region)
+        by false off (Some change) is = split_holds region best change is
+
+  -- ---- how deep a region is split
+
+  parts_same : (below above : List Decision → Option Choice → List Entry) (region : List Decision)
+      (best : Option Choice) → ((change : ℕ) (as_what : Decision) (best : Option Choice)
+      → first_broken problem region ≡ Some change → is_free as_what ≡ false
+      → below (decided region change as_what) best ≡ above (decided region change as_what) best)
+      → entries_by below region best (entry_at problem penalty region best)
+      ≡ entries_by above region best (entry_at problem penalty region best)
+  parts_same below above region best same =
+      by (holds_off best (bound_of problem penalty region)) (first_broken problem region) refl
+    where
+      by : (off : Bool) (broken : Option ℕ) → first_broken problem region ≡ broken
+          → entries_by below region best (cond off cut_off (entry_by (choice_in problem penalty region) broken))
+          ≡ entries_by above region best (cond off cut_off (entry_by (choice_in problem penalty region) broken))
+      by true broken is = refl
+      by false None is = refl
+      by false (Some change) is = λ i.
+          split change ∷ same change decision.Kept best is refl i
+          ++ same change decision.Dropped (best_after best (same change decision.Kept best is refl i)) is refl i
+
+  unrolled : (region : List Decision) (best : Option Choice) → visit problem penalty region best
+      ≡ entries_by (visit problem penalty) region best (entry_at problem penalty region best)
+  unfolding entries_within
+  unrolled region best =
+      let free = count_by is_free region in
+      ap (λ levels. entries_within problem penalty levels region best)
+      (let one : levels_of region ≡ suc free = omega arith in one)
+      ∙ parts_same (entries_within problem penalty free) (visit problem penalty) region best
+      (λ change as_what best is none.
+      let less = free_less region change as_what none (split_free problem region change is) in
+      ap (λ levels. entries_within problem penalty levels (decided region change as_what) best) (sym less))
+
+  from_open : visit problem penalty (open_region problem) None ≡ listing problem penalty
+  unfolding listing
+  from_open = refl
+
+  pub listed_found : IsForward problem → (budget : ℕ) (found : Option Waits)
+      → found ≡ waits_within budget (listing problem penalty) → IfSome found (IsListed problem penalty budget)
+  listed_found forward budget None is = tt
+  listed_found forward budget (Some waits) is = record {
+    entries = visit problem penalty;
+    unrolls = unrolled;
+    holds = entry_holds forward;
+    whole = from_open;
+    gives = sym is;
+  }
+
+-- what is found where a search has come to holds
+pub found_holds : (penalty : ℕ) (at : Between) → IsForward at.path.problem
+    → first_broken at.path.problem (region_in at.path) ≡ None → (cost : ℤ) (entry : Entry)
+    → entry ≡ found (record { kept = greatest_set (region_in at.path); cost = cost })
+    → cost ≡ bound_of at.path.problem penalty (region_in at.path)
+    → EntryHolds at.path.problem penalty (region_in at.path) at.best entry
+found_holds penalty at forward none cost entry is value =
+    let region = region_in at.path in
+    let size = region_size (length at.path.problem.changes) at.path.decided in
+    subst (EntryHolds at.path.problem penalty region at.best)
+    (sym (is ∙ ap (λ cost. found (record { kept = greatest_set region; cost = cost })) value)) (
+      found_costs at.path.problem forward penalty region size none,
+      bounds at.path.problem penalty forward region,
+    )

@@ -1,0 +1,11 @@
+pub mod Budgets
+pub mod Certified
+pub mod Choices
+pub mod Listings
+pub mod Paths
+pub mod Regions
+pub mod RightChoices
+pub mod RightListings
+pub mod Searches
+pub mod TreeFaults
+pub mod Walks

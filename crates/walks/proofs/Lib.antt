@@ -1,0 +1,15 @@
+pub mod ById
+pub mod GoingOn
+pub mod LastEdges
+pub mod LastWalks
+pub mod LeastFirst
+pub mod Noting
+pub mod Partway
+pub mod PathEdges
+pub mod PathSteps
+pub mod RisingIds
+pub mod SameIds
+pub mod Settling
+pub mod ShortestPaths
+pub mod Sums
+pub mod Walks
