@@ -22,35 +22,20 @@ three = links 3 (pos 2) ((0, 1) ∷ (0, 2) ∷ [])
 abbrev linked : List (Option ℕ)
 linked = Some 1 ∷ None ∷ None ∷ []
 
-taken : arc three linked (right 1) (left 0) ≡ Some (pos 2)
-taken = refl
-
-lost : arc three linked (left 0) (right 2) ≡ Some (negsuc 1)
-lost = refl
-
-no_arc : arc three linked root (left 0) ≡ None
-no_arc = refl
-
--- a walk from the root over the link that is given up, to the other trip that may follow
-round_trip : walk_cost three linked (right 2) (left 0 ∷ right 1 ∷ root ∷ []) ≡ Some (pos 0)
-round_trip = refl
-
-first : canonical three linked ≡ record { u = 2 ∷ 0 ∷ 0 ∷ []; v = 0 ∷ 0 ∷ 0 ∷ [] }
-unfolding canonical settled
-first = refl
-
--- all potentials 0 are short of the first pair, and then of the other, and then in all
-greedy : potential_faults three linked (record { u = 0 ∷ 0 ∷ 0 ∷ []; v = 0 ∷ 0 ∷ 0 ∷ [] })
-    ≡ fault.Pair 0 1 ∷ fault.Pair 0 2 ∷ fault.Sum ∷ []
-unfolding potential_faults
-greedy = refl
-
--- a link at a loss is not taken, and has a residual arc all the same
-loss : canonical (links 2 (negsuc 1) ((0, 1) ∷ [])) (None ∷ None ∷ [])
-    ≡ record { u = 0 ∷ 0 ∷ []; v = 0 ∷ 0 ∷ [] }
-unfolding canonical settled
-loss = refl
-
-nothing : canonical (links 0 (pos 0) []) [] ≡ record { u = []; v = [] }
-unfolding canonical settled
-nothing = refl
+potentials_of_links :
+    (arc three linked (right 1) (left 0) ≡ Some (pos 2))
+    × (arc three linked (left 0) (right 2) ≡ Some (negsuc 1))
+    -- no arc
+    × (arc three linked root (left 0) ≡ None)
+    -- a walk from the root over the link that is given up, to the other trip that may follow
+    × (walk_cost three linked (right 2) (left 0 ∷ right 1 ∷ root ∷ []) ≡ Some (pos 0))
+    × (canonical three linked ≡ record { u = 2 ∷ 0 ∷ 0 ∷ []; v = 0 ∷ 0 ∷ 0 ∷ [] })
+    -- all potentials 0 are short of the first pair, and then of the other, and then in all
+    × (potential_faults three linked (record { u = 0 ∷ 0 ∷ 0 ∷ []; v = 0 ∷ 0 ∷ 0 ∷ [] })
+        ≡ fault.Pair 0 1 ∷ fault.Pair 0 2 ∷ fault.Sum ∷ [])
+    -- a link at a loss is not taken, and has a residual arc all the same
+    × (canonical (links 2 (negsuc 1) ((0, 1) ∷ [])) (None ∷ None ∷ [])
+        ≡ record { u = 0 ∷ 0 ∷ []; v = 0 ∷ 0 ∷ [] })
+    × (canonical (links 0 (pos 0) []) [] ≡ record { u = []; v = [] })
+unfolding canonical settled potential_faults
+potentials_of_links = (refl, refl, refl, refl, refl, refl, refl, refl)

@@ -32,40 +32,21 @@ nodes =
     node.Split 0 1 ∷ node.Split 0 0 ∷ node.Empty 1 side.Under ∷ node.Split 1 1 ∷ node.Split 1 0
     ∷ node.Empty 0 side.Under ∷ node.Point ∷ node.Bound [] ∷ node.Bound [] ∷ []
 
--- it is that of the search
-listed : nodes_in (listing two) ≡ nodes
-unfolding listing entries_within bound_by multipliers_of empty_edge
-listed = refl
-
-certified : tree_faults two (pos 27000000) nodes ≡ []
-unfolding tree_faults first_tree placed_over bound_by
-certified = refl
-
--- one millionth more is not: the point costs less
-dearer : tree_faults two (pos 27000001) nodes ≡ fault.Point 6 ∷ []
-unfolding tree_faults first_tree placed_over bound_by
-dearer = refl
-
--- nor are 30: the bounds are 39 and 30, the point costs 27
-thirty : tree_faults two (pos 30000000) nodes ≡ fault.Point 6 ∷ []
-unfolding tree_faults first_tree placed_over bound_by
-thirty = refl
-
--- a leaf is missing; the last of two points is left over; no node at all
-cut_short : tree_faults two (pos 27000000) (node.Split 0 1 ∷ node.Bound [] ∷ [])
-    ≡ fault.Shape 2 ∷ []
-unfolding tree_faults first_tree placed_over bound_by
-cut_short = refl
-
-left_over : tree_faults two (pos 0) (node.Bound [] ∷ node.Bound [] ∷ []) ≡ fault.Shape 0 ∷ []
-unfolding tree_faults first_tree placed_over bound_by
-left_over = refl
-
-nothing : tree_faults two (pos 0) [] ≡ fault.Shape 0 ∷ []
-unfolding tree_faults first_tree placed_over bound_by
-nothing = refl
-
--- an edge that is not empty on the side that is named
-not_empty : tree_faults two (pos 0) (node.Empty 0 side.Under ∷ []) ≡ fault.Empty 0 ∷ []
-unfolding tree_faults first_tree placed_over bound_by
-not_empty = refl
+searched_and_certified :
+    -- it is that of the search
+    (nodes_in (listing two) ≡ nodes)
+    × (tree_faults two (pos 27000000) nodes ≡ [])
+    -- one millionth more is not: the point costs less
+    × (tree_faults two (pos 27000001) nodes ≡ fault.Point 6 ∷ [])
+    -- nor are 30: the bounds are 39 and 30, the point costs 27
+    × (tree_faults two (pos 30000000) nodes ≡ fault.Point 6 ∷ [])
+    -- a leaf is missing; the last of two points is left over; no node at all
+    × (tree_faults two (pos 27000000) (node.Split 0 1 ∷ node.Bound [] ∷ [])
+        ≡ fault.Shape 2 ∷ [])
+    -- left over
+    × (tree_faults two (pos 0) (node.Bound [] ∷ node.Bound [] ∷ []) ≡ fault.Shape 0 ∷ [])
+    × (tree_faults two (pos 0) [] ≡ fault.Shape 0 ∷ [])
+    -- an edge that is not empty on the side that is named
+    × (tree_faults two (pos 0) (node.Empty 0 side.Under ∷ []) ≡ fault.Empty 0 ∷ [])
+unfolding listing entries_within bound_by multipliers_of empty_edge tree_faults first_tree placed_over
+searched_and_certified = (refl, refl, refl, refl, refl, refl, refl, refl)

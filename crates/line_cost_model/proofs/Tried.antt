@@ -24,58 +24,35 @@ lines = line 1 15000000 (0 ∷ 1 ∷ []) ∷ line 2 12000000 (0 ∷ []) ∷ []
 abbrev two : ProblemParts
 two = record { edges = edge 1 2 3 ∷ edge 2 1 3 ∷ []; lines = lines }
 
-root : root_of two ≡ range 0 3 ∷ range 0 3 ∷ []
-root = refl
-
-count : concept_count (root_of two) ≡ 16
-unfolding concept_count
-count = refl
-
-listed : length (concepts_in (root_of two)) ≡ 16
-unfolding concepts_in
-listed = refl
-
-feasible : is_feasible two (1 ∷ 1 ∷ []) ≡ true
-unfolding is_feasible
-feasible = refl
-
--- too few drives over the first edge, and no frequency for the second line
-too_few : is_feasible two (1 ∷ 0 ∷ []) ≡ false
-unfolding is_feasible
-too_few = refl
-
-too_short : is_feasible two (2 ∷ []) ≡ false
-unfolding is_feasible
-too_short = refl
-
-costs : cost_of two (1 ∷ 1 ∷ []) ≡ 27000000
-costs = refl
-
-dear : cost_of two (2 ∷ 0 ∷ []) ≡ 30000000
-dear = refl
-
--- no concept without the first line drives the second edge
-without : empty_edge two (part_up_to (root_of two) 0 0) ≡ Some (1, side.Under)
-unfolding empty_edge
-without = refl
-
-not_empty : empty_edge two (root_of two) ≡ None
-unfolding empty_edge
-not_empty = refl
+regions_of_two_lines :
+    (root_of two ≡ range 0 3 ∷ range 0 3 ∷ [])
+    × (concept_count (root_of two) ≡ 16)
+    × (length (concepts_in (root_of two)) ≡ 16)
+    × (is_feasible two (1 ∷ 1 ∷ []) ≡ true)
+    -- too few drives over the first edge, and no frequency for the second line
+    × (is_feasible two (1 ∷ 0 ∷ []) ≡ false)
+    -- too short
+    × (is_feasible two (2 ∷ []) ≡ false)
+    × (cost_of two (1 ∷ 1 ∷ []) ≡ 27000000)
+    × (cost_of two (2 ∷ 0 ∷ []) ≡ 30000000)
+    -- no concept without the first line drives the second edge
+    × (empty_edge two (part_up_to (root_of two) 0 0) ≡ Some (1, side.Under))
+    -- not empty
+    × (empty_edge two (root_of two) ≡ None)
+unfolding concept_count concepts_in is_feasible empty_edge
+regions_of_two_lines = (refl, refl, refl, refl, refl, refl, refl, refl, refl, refl)
 
 -- a minimal frequency of the second edge that its maximal frequency over the first does not allow
 abbrev dense : ProblemParts
 dense = record { edges = edge 1 2 3 ∷ edge 2 4 4 ∷ []; lines = lines }
 
-none : empty_edge dense (root_of dense) ≡ Some (1, side.Under)
+empty_ranges :
+    (empty_edge dense (root_of dense) ≡ Some (1, side.Under))
+    -- where an edge is missed on both sides, too many drives are told
+    × (empty_edge (record { edges = edge 1 3 0 ∷ []; lines = line 1 1 (0 ∷ []) ∷ [] })
+        (range 1 1 ∷ []) ≡ Some (0, side.Over))
 unfolding empty_edge
-none = refl
-
--- where an edge is missed on both sides, too many drives are told
-both : empty_edge (record { edges = edge 1 3 0 ∷ []; lines = line 1 1 (0 ∷ []) ∷ [] })
-    (range 1 1 ∷ []) ≡ Some (0, side.Over)
-unfolding empty_edge
-both = refl
+empty_ranges = (refl, refl)
 
 -- ---- dual bounds
 
@@ -83,25 +60,18 @@ both = refl
 abbrev loose : ProblemParts
 loose = record { edges = edge 1 2 3 ∷ edge 2 0 3 ∷ []; lines = lines }
 
--- one drive is missing on the first edge, for which the second line is open
-multiplier : multipliers_of loose (range 1 1 ∷ range 0 3 ∷ []) ≡ record { edge = 0; amount = 12000000 } ∷ []
-unfolding multipliers_of
-multiplier = refl
-
-bound : dual_bound loose (range 1 1 ∷ range 0 3 ∷ []) ≡ 27000000
+bounds_by_multipliers :
+    -- one drive is missing on the first edge, for which the second line is open
+    (multipliers_of loose (range 1 1 ∷ range 0 3 ∷ []) ≡ record { edge = 0; amount = 12000000 } ∷ [])
+    × (dual_bound loose (range 1 1 ∷ range 0 3 ∷ []) ≡ 27000000)
+    × (are_within loose (range 1 1 ∷ range 0 3 ∷ []) (record { edge = 0; amount = 12000001 } ∷ []) ≡ false)
+    -- a line over both edges pays for both, and what the first takes the second has no more
+    × (multipliers_of
+        (record {
+          edges = edge 1 2 9 ∷ edge 2 3 9 ∷ [];
+          lines = line 1 10 (0 ∷ 1 ∷ []) ∷ line 2 7
+              (0 ∷ []) ∷ [];
+        }) (range 0 9 ∷ range 0 9 ∷ [])
+        ≡ record { edge = 0; amount = 7 } ∷ record { edge = 1; amount = 3 } ∷ [])
 unfolding multipliers_of bound_by
-bound = refl
-
-raised : are_within loose (range 1 1 ∷ range 0 3 ∷ []) (record { edge = 0; amount = 12000001 } ∷ []) ≡ false
-raised = refl
-
--- a line over both edges pays for both, and what the first takes the second has no more
-shared : multipliers_of
-    (record {
-      edges = edge 1 2 9 ∷ edge 2 3 9 ∷ [];
-      lines = line 1 10 (0 ∷ 1 ∷ []) ∷ line 2 7
-          (0 ∷ []) ∷ [];
-    }) (range 0 9 ∷ range 0 9 ∷ [])
-    ≡ record { edge = 0; amount = 7 } ∷ record { edge = 1; amount = 3 } ∷ []
-unfolding multipliers_of
-shared = refl
+bounds_by_multipliers = (refl, refl, refl, refl)

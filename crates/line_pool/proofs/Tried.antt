@@ -31,29 +31,25 @@ network = record {
   edges = edge 1 0 1 2000000 ∷ edge 2 1 2 3000000 ∷ edge 3 3 4 1000000 ∷ edge 7 2 1 1500000 ∷ [];
 }
 
--- a line over two edges, one over parallel edges, one of one edge, and one that starts at the right
--- stop of its first edge
-lines : pool_of network
-    (codes "# pool\n9; 1; 2\n3; 1; 1\n3; 2; 2\n9; 2; 7\n1; 1; 3\n4; 1; 2\n4; 2; 1\n") ≡ record { id = pos 1; edges = 2 ∷ []; stops = 3 ∷ 4 ∷ []; frequency = 0 }
-    ∷ record { id = pos 3; edges = 0 ∷ 1 ∷ []; stops = 0 ∷ 1 ∷ 2 ∷ []; frequency = 0 }
-    ∷ record { id = pos 4; edges = 1 ∷ 0 ∷ []; stops = 2 ∷ 1 ∷ 0 ∷ []; frequency = 0 }
-    ∷ record { id = pos 9; edges = 1 ∷ 3 ∷ []; stops = 1 ∷ 2 ∷ 1 ∷ []; frequency = 0 }
-    ∷ []
-unfolding lines_of by_id walk_from table_of cells_from cell_of values rows cleaned spelling_of value_of value_at fixed_of whole_of
-lines = refl
-
-fine : pool_faults network (codes "# pool\n9; 1; 2\n3; 1; 1\n3; 2; 2\n9; 2; 7\n1; 1; 3\n4; 1; 2\n4; 2; 1\n") ≡ []
-unfolding line_faults input_faults row_faults faults by_id walk_from table_of cells_from cell_of values errors row_whys rows cleaned spelling_of value_of value_at fixed_of whole_of
-fine = refl
-
--- rows that break each rule
-broken : pool_faults network (codes "1; 1; 1\n1; 3; 2\n2; 1; 8\n3; 1; 1\n3; 2; 1\n4; 1; 1\n4; 2; 3\n") ≡ refusal.BadRow file.Pool 2 why.OrderGap
-    ∷ refusal.BadRow file.Pool 3 why.UnknownEdge
-    ∷ refusal.BadRow file.Pool 5 why.RepeatedEdge
-    ∷ refusal.BadRow file.Pool 7 why.BrokenLine
-    ∷ []
-unfolding line_faults input_faults row_faults faults by_id walk_from table_of cells_from cell_of values errors row_whys rows cleaned spelling_of value_of value_at fixed_of whole_of
-broken = refl
+lines_read :
+    -- a line over two edges, one over parallel edges, one of one edge, and one that starts at the right
+    -- stop of its first edge
+    (pool_of network
+        (codes "# pool\n9; 1; 2\n3; 1; 1\n3; 2; 2\n9; 2; 7\n1; 1; 3\n4; 1; 2\n4; 2; 1\n") ≡ record { id = pos 1; edges = 2 ∷ []; stops = 3 ∷ 4 ∷ []; frequency = 0 }
+        ∷ record { id = pos 3; edges = 0 ∷ 1 ∷ []; stops = 0 ∷ 1 ∷ 2 ∷ []; frequency = 0 }
+        ∷ record { id = pos 4; edges = 1 ∷ 0 ∷ []; stops = 2 ∷ 1 ∷ 0 ∷ []; frequency = 0 }
+        ∷ record { id = pos 9; edges = 1 ∷ 3 ∷ []; stops = 1 ∷ 2 ∷ 1 ∷ []; frequency = 0 }
+        ∷ [])
+    × (pool_faults network (codes "# pool\n9; 1; 2\n3; 1; 1\n3; 2; 2\n9; 2; 7\n1; 1; 3\n4; 1; 2\n4; 2; 1\n") ≡ [])
+    -- rows that break each rule
+    × (pool_faults network (codes "1; 1; 1\n1; 3; 2\n2; 1; 8\n3; 1; 1\n3; 2; 1\n4; 1; 1\n4; 2; 3\n") ≡ refusal.BadRow file.Pool 2 why.OrderGap
+        ∷ refusal.BadRow file.Pool 3 why.UnknownEdge
+        ∷ refusal.BadRow file.Pool 5 why.RepeatedEdge
+        ∷ refusal.BadRow file.Pool 7 why.BrokenLine
+        ∷ [])
+unfolding lines_of by_id walk_from table_of cells_from cell_of values rows cleaned spelling_of value_of
+    value_at fixed_of whole_of line_faults input_faults row_faults faults errors row_whys
+lines_read = (refl, refl, refl)
 
 -- ---- the stage
 
@@ -69,19 +65,13 @@ bundle fixed by_length by_edge pool = record {
 abbrev made : List ℕ → List ℕ → Made
 made table report = record { files = record { file = file.PoolCost; text = table } ∷ []; report = report }
 
-costs : cost_stage (bundle 10000000 1000000 0 (codes "1; 1; 1\n1; 2; 2\n2; 1; 1\n")) ≡ Ok (made (codes "# line-id; length; cost\n1; 5; 15\n2; 2; 12\n") (codes "cost: 2 lines"))
-unfolding digits cost_stage lines_of line_faults network_of network_faults stops_of input_faults row_faults faults by_id walk_from table_of cells_from cell_of values errors row_whys rows cleaned spelling_of value_of value_at fixed_of whole_of cell_text cell_texts joined table_text
-costs = refl
-
-half : cost_stage (bundle 10000000 500000 2000000 (codes "1; 1; 1\n1; 2; 2\n2; 1; 1\n")) ≡ Ok (made (codes "# line-id; length; cost\n1; 5; 16.5\n2; 2; 13\n") (codes "cost: 2 lines"))
-unfolding digits digits_at cost_stage lines_of line_faults network_of network_faults stops_of input_faults row_faults faults by_id walk_from table_of cells_from cell_of values errors row_whys rows cleaned spelling_of value_of value_at fixed_of whole_of cell_text cell_texts joined table_text
-half = refl
-
-empty : cost_stage (bundle 10000000 1000000 0 []) ≡ Ok (made (codes "# line-id; length; cost\n") (codes "cost: 0 lines"))
-unfolding digits cost_stage lines_of line_faults network_of network_faults stops_of input_faults row_faults faults by_id walk_from table_of cells_from cell_of values errors row_whys rows cleaned spelling_of value_of value_at fixed_of whole_of cell_text cell_texts joined table_text
-empty = refl
-
--- rows count with the comments before them
-gap : cost_stage (bundle 10000000 1000000 0 (codes "# pool\n1; 1; 1\n1; 3; 2\n")) ≡ Err (refusal.BadRow file.Pool 3 why.OrderGap)
-unfolding digits cost_stage lines_of line_faults network_of network_faults stops_of input_faults row_faults faults by_id walk_from table_of cells_from cell_of values errors row_whys rows cleaned spelling_of value_of value_at fixed_of whole_of cell_text cell_texts joined table_text
-gap = refl
+costs_made_of_texts :
+    (cost_stage (bundle 10000000 1000000 0 (codes "1; 1; 1\n1; 2; 2\n2; 1; 1\n")) ≡ Ok (made (codes "# line-id; length; cost\n1; 5; 15\n2; 2; 12\n") (codes "cost: 2 lines")))
+    × (cost_stage (bundle 10000000 500000 2000000 (codes "1; 1; 1\n1; 2; 2\n2; 1; 1\n")) ≡ Ok (made (codes "# line-id; length; cost\n1; 5; 16.5\n2; 2; 13\n") (codes "cost: 2 lines")))
+    × (cost_stage (bundle 10000000 1000000 0 []) ≡ Ok (made (codes "# line-id; length; cost\n") (codes "cost: 0 lines")))
+    -- rows count with the comments before them
+    × (cost_stage (bundle 10000000 1000000 0 (codes "# pool\n1; 1; 1\n1; 3; 2\n")) ≡ Err (refusal.BadRow file.Pool 3 why.OrderGap))
+unfolding digits cost_stage lines_of line_faults network_of network_faults stops_of input_faults row_faults
+    faults by_id walk_from table_of cells_from cell_of values errors row_whys rows cleaned spelling_of
+    value_of value_at fixed_of whole_of cell_text cell_texts joined table_text digits_at
+costs_made_of_texts = (refl, refl, refl, refl)

@@ -2,6 +2,7 @@
 use Rattle.std.specs.Prelude.{ℕ, ℤ, pos, ◌≤ℤ◌, List, map, Option, option_map, unwrap_or}
 use Rattle.std.specs.List.{find}
 use Rattle.std.specs.Ordering.{int_eq}
+use Rattle.plan_num.specs.declared.number.TheConstants.{NUMBER_LIMIT}
 use Rattle.tables.specs.Inputs.{records_of}
 use Rattle.line_walks.specs.PoolCosts.{CostRow, pool_cost_input}
 use Rattle.line_walks.specs.Pools.{LineParts}
@@ -21,4 +22,4 @@ costs_of lines text = costs_over lines (records_of (pool_cost_input lines) text)
 -- what holds of a cost, which is in millionths
 pub record IsCost (cost : ℤ) : Type 0 where
   pub low : pos 0 ≤ℤ cost
-  pub high : cost ≤ℤ pos 1000000000000000000
+  pub high : cost ≤ℤ pos NUMBER_LIMIT

@@ -12,19 +12,14 @@ use Rattle.pesp.specs.declared.activity.PespActivity.{PespActivity}
 use Rattle.pesp_model.specs.PespTexts.{events_of, activities_of, problem_of, problem_faults}
 use Rattle.pesp.specs.Timetables.{Problem, IsKept, IsTension, tension, time_of, first_broken}
 
--- the tension goes past the end of the period
-around : tension 20 (pos 2) 4 0 ≡ pos 16
-around = refl
-
-none : tension 20 (pos 0) 5 5 ≡ pos 0
-none = refl
-
--- a lower bound of many periods, and a period of one minute
-many : tension 20 (pos 100000) 19 0 ≡ pos 100001
-many = refl
-
-one : tension 1 (pos 7) 0 0 ≡ pos 7
-one = refl
+all_timetables_of :
+    -- the tension goes past the end of the period
+    (tension 20 (pos 2) 4 0 ≡ pos 16)
+    × (tension 20 (pos 0) 5 5 ≡ pos 0)
+    -- a lower bound of many periods, and a period of one minute
+    × (tension 20 (pos 100000) 19 0 ≡ pos 100001)
+    × (tension 1 (pos 7) 0 0 ≡ pos 7)
+all_timetables_of = (refl, refl, refl, refl)
 
 abbrev goes : ℕ → ℕ → ℕ → ℕ → PespActivity
 goes from to lower upper = record { from = from; to = to; lower = pos lower; upper = pos upper }
@@ -47,13 +42,14 @@ abbrev tensions_in : Problem → List ℕ → List ℤ
 tensions_in problem times = map (λ activity. tension problem.period activity.lower
     (time_of times activity.from) (time_of times activity.to)) problem.activities
 
-their_tensions : tensions_in lines their_times ≡ pos 4 ∷ pos 1 ∷ pos 6 ∷ pos 6 ∷ pos 1 ∷ pos 4
-    ∷ pos 4 ∷ pos 4 ∷ pos 16 ∷ pos 14 ∷ pos 9 ∷ pos 21 ∷ pos 3 ∷ pos 16 ∷ []
-their_tensions = refl
-
-they_are_kept : first_broken lines their_times ≡ None
+tensions_of :
+    -- their tensions
+    (tensions_in lines their_times ≡ pos 4 ∷ pos 1 ∷ pos 6 ∷ pos 6 ∷ pos 1 ∷ pos 4
+        ∷ pos 4 ∷ pos 4 ∷ pos 16 ∷ pos 14 ∷ pos 9 ∷ pos 21 ∷ pos 3 ∷ pos 16 ∷ [])
+    -- they are kept
+    × (first_broken lines their_times ≡ None)
 unfolding first_broken
-they_are_kept = refl
+tensions_of = (refl, refl)
 
 -- ---- a drive, a wait and a sync back to the first event
 
@@ -64,17 +60,12 @@ three = record {
   activities = goes 0 1 3 5 ∷ goes 1 2 2 2 ∷ goes 2 0 4 4 ∷ [];
 }
 
-kept : first_broken three (0 ∷ 4 ∷ 6 ∷ []) ≡ None
+first_broken_ones :
+    (first_broken three (0 ∷ 4 ∷ 6 ∷ []) ≡ None)
+    × (first_broken three (0 ∷ 3 ∷ 6 ∷ []) ≡ Some 1)
+    × (first_broken three (0 ∷ 5 ∷ 7 ∷ []) ≡ Some 2)
 unfolding first_broken
-kept = refl
-
-second : first_broken three (0 ∷ 3 ∷ 6 ∷ []) ≡ Some 1
-unfolding first_broken
-second = refl
-
-third : first_broken three (0 ∷ 5 ∷ 7 ∷ []) ≡ Some 2
-unfolding first_broken
-third = refl
+first_broken_ones = (refl, refl, refl)
 
 -- ---- from texts
 
@@ -85,35 +76,24 @@ events = codes "# events\n1; departure; 1; 1; >; 1\n2; arrival; 2; 1; >; 1\n"
 abbrev activities : List ℕ
 activities = codes "1; drive; 1; 2; 3; 5\n2; wait; 2; 3; 2; 2\n3; sync; 3; 1; 4; 4\n"
 
-read : problem_of 10 events activities ≡ three
-unfolding problem_of events_of activities_of table_of cells_from cell_of values rows cleaned
-    spelling_of value_of value_at fixed_of whole_of
-read = refl
-
-fine : problem_faults events activities ≡ []
-unfolding problem_faults events_of input_faults row_faults faults table_of cells_from cell_of values
-    errors row_whys rows cleaned spelling_of value_of value_at fixed_of whole_of
-fine = refl
-
-broken : problem_faults events
-    (codes "1; drive; 1; 2; 3; 5\n3; wait; 2; 9; 2; 2\n3; sync; 3; 1; 4; 3\n")
-    ≡ refusal.BadRow file.ActivitiesP 2 why.OrderGap
-    ∷ refusal.BadRow file.ActivitiesP 2 why.UnknownEvent
-    ∷ refusal.BadRow file.ActivitiesP 3 why.BoundsCrossed
-    ∷ []
-unfolding problem_faults events_of input_faults row_faults faults table_of cells_from cell_of values
-    errors row_whys rows cleaned spelling_of value_of value_at fixed_of whole_of
-broken = refl
-
--- the faults of the events come before those of the activities
-events_first : problem_faults (codes "2; arrival; 1; 1; >; 1\n") (codes "1; drive; 1; 2; 5; 3\n")
-    ≡ refusal.BadRow file.EventsP 1 why.OrderGap
-    ∷ refusal.BadRow file.ActivitiesP 1 why.UnknownEvent
-    ∷ refusal.BadRow file.ActivitiesP 1 why.BoundsCrossed
-    ∷ []
-unfolding problem_faults events_of input_faults row_faults faults table_of cells_from cell_of values
-    errors row_whys rows cleaned spelling_of value_of value_at fixed_of whole_of
-events_first = refl
+texts_of_problems :
+    (problem_of 10 events activities ≡ three)
+    × (problem_faults events activities ≡ [])
+    × (problem_faults events
+        (codes "1; drive; 1; 2; 3; 5\n3; wait; 2; 9; 2; 2\n3; sync; 3; 1; 4; 3\n")
+        ≡ refusal.BadRow file.ActivitiesP 2 why.OrderGap
+        ∷ refusal.BadRow file.ActivitiesP 2 why.UnknownEvent
+        ∷ refusal.BadRow file.ActivitiesP 3 why.BoundsCrossed
+        ∷ [])
+    -- the faults of the events come before those of the activities
+    × (problem_faults (codes "2; arrival; 1; 1; >; 1\n") (codes "1; drive; 1; 2; 5; 3\n")
+        ≡ refusal.BadRow file.EventsP 1 why.OrderGap
+        ∷ refusal.BadRow file.ActivitiesP 1 why.UnknownEvent
+        ∷ refusal.BadRow file.ActivitiesP 1 why.BoundsCrossed
+        ∷ [])
+unfolding problem_of events_of activities_of table_of cells_from cell_of values rows cleaned spelling_of
+    value_of value_at fixed_of whole_of problem_faults input_faults row_faults faults errors row_whys
+texts_of_problems = (refl, refl, refl, refl)
 
 -- ---- the words of the subject, on one activity and on one that no number of periods keeps
 

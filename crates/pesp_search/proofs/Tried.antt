@@ -32,17 +32,14 @@ abbrev three : ℕ → ℕ → Problem
 three lower upper =
     record { period = 10; events = 3; activities = goes 0 1 lower upper ∷ goes 1 2 2 2 ∷ goes 2 0 4 4 ∷ [] }
 
--- one round knows of the next events alone
-one_round : round (three 3 5) (first_sets (three 3 5)) ≡ (0 ∷ []) ∷ (3 ∷ 4 ∷ 5 ∷ []) ∷ (6 ∷ []) ∷ []
-one_round = refl
-
--- two rounds, and a last one that removes nothing
-all_rounds : reduced (three 3 5) (first_sets (three 3 5)) ≡ (0 ∷ []) ∷ (4 ∷ []) ∷ (6 ∷ []) ∷ []
+rounds_of_two :
+    -- one round knows of the next events alone
+    (round (three 3 5) (first_sets (three 3 5)) ≡ (0 ∷ []) ∷ (3 ∷ 4 ∷ 5 ∷ []) ∷ (6 ∷ []) ∷ [])
+    -- two rounds, and a last one that removes nothing
+    × (reduced (three 3 5) (first_sets (three 3 5)) ≡ (0 ∷ []) ∷ (4 ∷ []) ∷ (6 ∷ []) ∷ [])
+    × (most_entries (three 3 5) ≡ 1111)
 unfolding reduced rounds
-all_rounds = refl
-
-most : most_entries (three 3 5) ≡ 1111
-most = refl
+rounds_of_two = (refl, refl, refl)
 
 -- problems, each with what is listed
 abbrev listed : List (Listing × Listing)

@@ -53,18 +53,14 @@ pairs = refl
 abbrev made : List ℕ
 made = pool_header ++ codes "\n1; 1; 1\n1; 2; 2\n2; 1; 1\n2; 2; 3\n3; 1; 4\n# uncovered; 7\n"
 
-accepted : pool_faults square made ≡ []
-unfolding line_faults walk_from by_id input_faults row_faults faults table_of cells_from cell_of
-    values errors row_whys
-    rows cleaned spelling_of value_of value_at fixed_of whole_of
-accepted = refl
-
-its_lines : map {B = ℤ × List ℕ} (λ line. (line.id, line.edges)) (pool_of square made)
-    ≡ (pos 1, 0 ∷ 1 ∷ []) ∷ (pos 2, 0 ∷ 2 ∷ []) ∷ (pos 3, 3 ∷ []) ∷ []
-unfolding lines_of walk_from by_id input_faults row_faults faults table_of cells_from cell_of values
-    errors row_whys
-    rows cleaned spelling_of value_of value_at fixed_of whole_of
-its_lines = refl
+pools_accepted :
+    (pool_faults square made ≡ [])
+    -- its lines
+    × (map {B = ℤ × List ℕ} (λ line. (line.id, line.edges)) (pool_of square made)
+        ≡ (pos 1, 0 ∷ 1 ∷ []) ∷ (pos 2, 0 ∷ 2 ∷ []) ∷ (pos 3, 3 ∷ []) ∷ [])
+unfolding line_faults walk_from by_id input_faults row_faults faults table_of cells_from cell_of values errors
+    row_whys rows cleaned spelling_of value_of value_at fixed_of whole_of lines_of
+pools_accepted = (refl, refl)
 
 -- ---- the shortest walk is not the one of fewest edges; ids of stops and of edges do not rise in the texts, and
 -- no walk leads to stop 5

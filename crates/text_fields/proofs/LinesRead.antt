@@ -78,11 +78,6 @@ pub after_next : (lines left : List (List ℕ)) (passed : ℕ) (reader : Reader 
 after_next lines left passed reader found reads same =
     rw (← same, reads.next) reads.awaits
 
-filter_if : {X : Type 0} (test : X → Bool) (x : X) (xs : List X) (t : Bool) → test x ≡ t
-    → length (filter test xs) ≤ length xs → length (filter test (x ∷ xs)) ≤ length (x ∷ xs)
-filter_if test x xs true e few = rw e (omega arith)
-filter_if test x xs false e few = rw e (omega arith)
-
 -- a text has no more lines with a byte than bytes, and one
 pub lines_few : (text : List ℕ) → length (filter has_byte (parts_of text)) ≤ length text + 1
 lines_few text = grind (arith, filter_few, length-slice_split, count_by-le-length)

@@ -52,21 +52,18 @@ made schedule potentials report = record {
   report = report;
 }
 
-no_trips : vehicles_stage (bundle 3 1 []) ≡ Ok (made [] [] (codes "vehicles: 0 vehicles, cost 0, optimal"))
+days_without_rides :
+    -- no trips
+    (vehicles_stage (bundle 3 1 []) ≡ Ok (made [] [] (codes "vehicles: 0 vehicles, cost 0, optimal")))
+    -- a trip that ends when it starts
+    × (vehicles_stage (bundle 3 1 (codes "# trips\n1; 1; 1; 5; 2; 2; 2; 5; 1\n"))
+        ≡ Err (refusal.BadRow file.Trips 2 why.Backward))
 unfolding vehicles_stage trips_in trips_faults network_faults input_faults row_faults faults errors row_whys
     chosen_plan all_lists is_apart plan_text tour rows_behind rows_from canonical settled potentials_text
     table_text cell_text cell_texts joined digits digits_at least_sum walks_within least_of trips_of
     network_of stops_of by_id table_of cells_from cell_of values rows cleaned spelling_of value_of value_at
     fixed_of whole_of
-no_trips = refl
-
--- a trip that ends when it starts
-still : vehicles_stage (bundle 3 1 (codes "# trips\n1; 1; 1; 5; 2; 2; 2; 5; 1\n"))
-    ≡ Err (refusal.BadRow file.Trips 2 why.Backward)
-unfolding vehicles_stage trips_in trips_faults network_faults input_faults row_faults faults errors row_whys
-    trips_of network_of stops_of by_id table_of cells_from cell_of values rows cleaned spelling_of value_of
-    value_at fixed_of whole_of
-still = refl
+days_without_rides = (refl, refl)
 
 -- ---- schedules from any hand, of two trips with a dead ride of four minutes between them
 

@@ -64,62 +64,37 @@ trips list turnover empty = record {
 abbrev three : TripsParts
 three = trips (trip 1 1 0 2 10 ∷ trip 2 2 12 1 22 ∷ trip 3 2 13 1 23 ∷ []) 2 1000000
 
-may : link_minutes three 0 1 ≡ Some 0
-unfolding least_sum walks_within least_of
-may = refl
-
-may_not : link_minutes three 1 2 ≡ None
-unfolding least_sum walks_within least_of
-may_not = refl
-
--- without a walk none may follow
-apart : link_minutes (trips (trip 1 1 0 4 10 ∷ trip 2 1 100 2 110 ∷ []) 2 0) 0 1 ≡ None
-unfolding least_sum walks_within least_of
-apart = refl
-
-far : dead_minutes network (trip 1 1 0 3 1) (trip 2 1 50 1 60) ≡ Some 10
-unfolding least_sum walks_within least_of
-far = refl
-
-plans : all_plans (links_of three) ≡ (Some 1 ∷ None ∷ None ∷ []) ∷ (Some 2 ∷ None ∷ None ∷ []) ∷ (None ∷ None
-    ∷ None ∷ []) ∷ []
-unfolding least_sum walks_within least_of all_lists is_apart
-plans = refl
-
--- of two cheapest plans the one with the lesser successor
-chosen : chosen_plan three ≡ Some 1 ∷ None ∷ None ∷ []
-unfolding chosen_plan least_sum walks_within least_of all_lists is_apart
-chosen = refl
-
-cost : plan_cost three (Some 1 ∷ None ∷ None ∷ []) ≡ 200000000
-unfolding least_sum walks_within least_of
-cost = refl
+links_and_plans :
+    (link_minutes three 0 1 ≡ Some 0)
+    -- may not
+    × (link_minutes three 1 2 ≡ None)
+    -- without a walk none may follow
+    × (link_minutes (trips (trip 1 1 0 4 10 ∷ trip 2 1 100 2 110 ∷ []) 2 0) 0 1 ≡ None)
+    × (dead_minutes network (trip 1 1 0 3 1) (trip 2 1 50 1 60) ≡ Some 10)
+    × (all_plans (links_of three) ≡ (Some 1 ∷ None ∷ None ∷ []) ∷ (Some 2 ∷ None ∷ None ∷ []) ∷ (None ∷ None
+        ∷ None ∷ []) ∷ [])
+    -- of two cheapest plans the one with the lesser successor
+    × (chosen_plan three ≡ Some 1 ∷ None ∷ None ∷ [])
+    × (plan_cost three (Some 1 ∷ None ∷ None ∷ []) ≡ 200000000)
+unfolding least_sum walks_within least_of all_lists is_apart chosen_plan
+links_and_plans = (refl, refl, refl, refl, refl, refl, refl)
 
 -- two trips with a dead run between them
 abbrev pub two : ℕ → TripsParts
 two empty = trips (trip 1 1 0 2 10 ∷ trip 2 1 30 2 40 ∷ []) 2 empty
 
--- a dear one: the gain is below 0, so there are two vehicles
-dear : chosen_plan (two 30000000) ≡ None ∷ None ∷ []
+dear_and_even :
+    -- a dear one: the gain is below 0, so there are two vehicles
+    (chosen_plan (two 30000000) ≡ None ∷ None ∷ [])
+    -- dear cost
+    × (plan_cost (two 30000000) (None ∷ None ∷ []) ≡ 200000000)
+    × ((links_of (two 30000000)).gain 0 1 ≡ Some (negsuc 19999999))
+    -- a link without a gain is chosen, since none counts after every trip
+    × (chosen_plan (two 25000000) ≡ Some 1 ∷ None ∷ [])
+    -- even cost
+    × (plan_cost (two 25000000) (Some 1 ∷ None ∷ []) ≡ 200000000)
 unfolding chosen_plan least_sum walks_within least_of all_lists is_apart
-dear = refl
-
-dear_cost : plan_cost (two 30000000) (None ∷ None ∷ []) ≡ 200000000
-unfolding least_sum walks_within least_of
-dear_cost = refl
-
-loss : (links_of (two 30000000)).gain 0 1 ≡ Some (negsuc 19999999)
-unfolding least_sum walks_within least_of
-loss = refl
-
--- a link without a gain is chosen, since none counts after every trip
-even : chosen_plan (two 25000000) ≡ Some 1 ∷ None ∷ []
-unfolding chosen_plan least_sum walks_within least_of all_lists is_apart
-even = refl
-
-even_cost : plan_cost (two 25000000) (Some 1 ∷ None ∷ []) ≡ 200000000
-unfolding least_sum walks_within least_of
-even_cost = refl
+dear_and_even = (refl, refl, refl, refl, refl)
 
 -- ---- texts
 
@@ -172,21 +147,15 @@ schedule =
     ++ codes "4; 4; 2; EMPTY; 22; 12; 1; 4; 19; 9; 1; 4; 0\n"
     ++ codes "4; 4; 3; TRIP; 19; 9; 1; 20; 20; 10; 2; 24; 2\n"
 
-written : plan_text eight pairs ≡ schedule
-unfolding plan_text table_text cell_text cell_texts joined digits tour rows_behind rows_from least_sum walks_within
-    least_of trips_of network_of stops_of by_id table_of cells_from cell_of values rows cleaned spelling_of
-    value_of value_at fixed_of whole_of
-written = refl
-
-read : plan_of eight schedule ≡ pairs
-unfolding plan_of links_in least_sum walks_within least_of trips_of network_of stops_of by_id table_of cells_from
-    cell_of values rows cleaned spelling_of value_of value_at fixed_of whole_of
-read = refl
-
-fine : plan_faults eight schedule ≡ []
-unfolding plan_faults form_faults links_in faults errors row_whys least_sum walks_within least_of trips_of network_of stops_of
-    by_id table_of cells_from cell_of values rows cleaned spelling_of value_of value_at fixed_of whole_of
-fine = refl
+eight_as_text :
+    (plan_text eight pairs ≡ schedule)
+    × (plan_of eight schedule ≡ pairs)
+    × (plan_faults eight schedule ≡ [])
+unfolding plan_text table_text cell_text cell_texts joined digits tour rows_behind rows_from least_sum
+    walks_within least_of trips_of network_of stops_of by_id table_of cells_from cell_of values rows cleaned
+    spelling_of value_of value_at fixed_of whole_of plan_of links_in plan_faults form_faults faults errors
+    row_whys
+eight_as_text = (refl, refl, refl)
 
 -- what the faults of rows are computed by
 unfoldable on_rows : ⊤
@@ -205,131 +174,79 @@ no_table : slice_get (plan_faults (two 1000000) (codes "x\n")) 0 ≡ Some (fault
 unfolding on_rows
 no_table = refl
 
--- vehicles in any order
-any_order : slice_get (plan_faults (two 1000000) (codes "1; 1; 1; TRIP; 4; 4; 1; 30; 5; 5; 2; 40; 1\n"
-    ++ codes "2; 2; 1; TRIP; 2; 2; 1; 0; 3; 3; 2; 10; 1\n")) 0 ≡ None
+two_trips_from_any_hand :
+    -- vehicles in any order
+    (slice_get (plan_faults (two 1000000) (codes "1; 1; 1; TRIP; 4; 4; 1; 30; 5; 5; 2; 40; 1\n"
+        ++ codes "2; 2; 1; TRIP; 2; 2; 1; 0; 3; 3; 2; 10; 1\n")) 0 ≡ None)
+    -- two trips without an empty run between them
+    × (slice_get (plan_faults (two 1000000) (codes "1; 1; 1; TRIP; 2; 2; 1; 0; 3; 3; 2; 10; 1\n"
+        ++ codes "1; 1; 2; TRIP; 4; 4; 1; 30; 5; 5; 2; 40; 1\n")) 0 ≡ Some (fault.Trips 2))
+    -- the same, counted as if there were one
+    × (slice_get (plan_faults (two 1000000) (codes "1; 1; 1; TRIP; 2; 2; 1; 0; 3; 3; 2; 10; 1\n"
+        ++ codes "1; 1; 3; TRIP; 4; 4; 1; 30; 5; 5; 2; 40; 1\n")) 0 ≡ Some (fault.Trips 2))
+    -- an empty run before the first trip
+    × (slice_get (plan_faults (two 1000000) (codes "1; 1; 1; EMPTY; 3; 3; 2; 10; 4; 4; 1; 14; 0\n"
+        ++ codes "1; 1; 2; TRIP; 2; 2; 1; 0; 3; 3; 2; 10; 1\n"
+        ++ codes "2; 2; 1; TRIP; 4; 4; 1; 30; 5; 5; 2; 40; 1\n")) 0 ≡ Some (fault.Trips 1))
+    -- an empty run behind the last trip
+    × (slice_get (plan_faults (two 1000000) (codes "1; 1; 1; TRIP; 2; 2; 1; 0; 3; 3; 2; 10; 1\n"
+        ++ codes "1; 1; 2; EMPTY; 3; 3; 2; 10; 4; 4; 1; 14; 0\n"
+        ++ codes "2; 2; 1; TRIP; 4; 4; 1; 30; 5; 5; 2; 40; 1\n")) 0 ≡ Some (fault.Trips 2))
+    -- an empty run at the end of the text
+    × (slice_get (plan_faults (two 1000000) (codes "1; 1; 1; TRIP; 4; 4; 1; 30; 5; 5; 2; 40; 1\n"
+        ++ codes "2; 2; 1; TRIP; 2; 2; 1; 0; 3; 3; 2; 10; 1\n"
+        ++ codes "2; 2; 2; EMPTY; 3; 3; 2; 10; 4; 4; 1; 14; 0\n")) 0 ≡ Some (fault.Trips 3))
+    -- two empty runs
+    × (slice_get (plan_faults (two 1000000) (codes "1; 1; 1; TRIP; 2; 2; 1; 0; 3; 3; 2; 10; 1\n"
+        ++ codes "1; 1; 2; EMPTY; 3; 3; 2; 10; 4; 4; 1; 14; 0\n"
+        ++ codes "1; 1; 3; EMPTY; 3; 3; 2; 10; 4; 4; 1; 14; 0\n"
+        ++ codes "1; 1; 4; TRIP; 4; 4; 1; 30; 5; 5; 2; 40; 1\n")) 0 ≡ Some (fault.Trips 2))
+    -- a vehicle is left out
+    × (slice_get (plan_faults (two 1000000) (codes "1; 1; 1; TRIP; 2; 2; 1; 0; 3; 3; 2; 10; 1\n"
+        ++ codes "3; 3; 1; TRIP; 4; 4; 1; 30; 5; 5; 2; 40; 1\n")) 0 ≡ Some (fault.Trips 2))
+    -- a circulation that is not the vehicle
+    × (slice_get (plan_faults (two 1000000) (codes "2; 1; 1; TRIP; 2; 2; 1; 0; 3; 3; 2; 10; 1\n"
+        ++ codes "2; 2; 1; TRIP; 4; 4; 1; 30; 5; 5; 2; 40; 1\n")) 0 ≡ Some (fault.Trips 1))
+    -- an empty run of other minutes
+    × (slice_get (plan_faults (two 1000000) (codes "1; 1; 1; TRIP; 2; 2; 1; 0; 3; 3; 2; 10; 1\n"
+        ++ codes "1; 1; 2; EMPTY; 3; 3; 2; 10; 4; 4; 1; 15; 0\n"
+        ++ codes "1; 1; 3; TRIP; 4; 4; 1; 30; 5; 5; 2; 40; 1\n")) 0 ≡ Some (fault.Trips 2))
+    -- an empty run of a line
+    × (slice_get (plan_faults (two 1000000) (codes "1; 1; 1; TRIP; 2; 2; 1; 0; 3; 3; 2; 10; 1\n"
+        ++ codes "1; 1; 2; EMPTY; 3; 3; 2; 10; 4; 4; 1; 14; 1\n"
+        ++ codes "1; 1; 3; TRIP; 4; 4; 1; 30; 5; 5; 2; 40; 1\n")) 0 ≡ Some (fault.Trips 2))
+    -- an empty run that begins elsewhere
+    × (slice_get (plan_faults (two 1000000) (codes "1; 1; 1; TRIP; 2; 2; 1; 0; 3; 3; 2; 10; 1\n"
+        ++ codes "1; 1; 2; EMPTY; 3; 3; 1; 10; 4; 4; 1; 14; 0\n"
+        ++ codes "1; 1; 3; TRIP; 4; 4; 1; 30; 5; 5; 2; 40; 1\n")) 0 ≡ Some (fault.Trips 2))
+    -- a row that repeats no trip; the end of the empty run before it is not looked at
+    × (slice_get (plan_faults (two 1000000) (codes "1; 1; 1; TRIP; 2; 2; 1; 0; 3; 3; 2; 10; 1\n"
+        ++ codes "1; 1; 2; EMPTY; 3; 3; 2; 10; 4; 4; 1; 77; 0\n"
+        ++ codes "1; 1; 3; TRIP; 4; 4; 1; 31; 5; 5; 2; 40; 1\n")) 0 ≡ Some (fault.Trips 3))
+    -- a trip that has come before
+    × (slice_get (plan_faults (two 1000000) (codes "1; 1; 1; TRIP; 2; 2; 1; 0; 3; 3; 2; 10; 1\n"
+        ++ codes "2; 2; 1; TRIP; 2; 2; 1; 0; 3; 3; 2; 10; 1\n"
+        ++ codes "3; 3; 1; TRIP; 4; 4; 1; 30; 5; 5; 2; 40; 1\n")) 0 ≡ Some (fault.Trips 2))
+    -- a trip without a row
+    × (slice_get (plan_faults (two 1000000) (codes "1; 1; 1; TRIP; 2; 2; 1; 0; 3; 3; 2; 10; 1\n")) 0 ≡ Some
+        (fault.Trips 0))
+    -- a link that may not follow
+    × (slice_get (plan_faults (two 1000000) (codes "1; 1; 1; TRIP; 4; 4; 1; 30; 5; 5; 2; 40; 1\n"
+        ++ codes "1; 1; 2; EMPTY; 5; 5; 2; 40; 2; 2; 1; 44; 0\n"
+        ++ codes "1; 1; 3; TRIP; 2; 2; 1; 0; 3; 3; 2; 10; 1\n")) 0 ≡ Some (fault.Follow 0))
+    -- a break of form comes before it
+    × (slice_get (plan_faults (two 1000000) (codes "1; 1; 1; TRIP; 4; 4; 1; 30; 5; 5; 2; 40; 1\n"
+        ++ codes "1; 1; 2; EMPTY; 5; 5; 2; 40; 2; 2; 1; 44; 0\n"
+        ++ codes "1; 1; 3; TRIP; 2; 2; 1; 0; 3; 3; 2; 10; 1\n"
+        ++ codes "1; 1; 4; TRIP; 2; 2; 1; 0; 3; 3; 2; 10; 1\n")) 0 ≡ Some (fault.Trips 4))
+    -- rows are numbered as in the text
+    × (slice_get (plan_faults (two 1000000) (codes "# a comment\n"
+        ++ codes "1; 1; 1; TRIP; 2; 2; 1; 0; 3; 3; 2; 10; 1\n"
+        ++ codes "1; 1; 2; TRIP; 4; 4; 1; 30; 5; 5; 2; 40; 1\n")) 0 ≡ Some (fault.Trips 3))
+    -- a link between two stops that no walk joins: its minutes are not looked at
+    × (plan_faults (trips (trip 1 1 0 4 10 ∷ trip 2 1 30 2 40 ∷ []) 2 0)
+        (codes "1; 1; 1; TRIP; 2; 2; 1; 0; 3; 3; 4; 10; 1\n1; 1; 2; EMPTY; 3; 3; 4; 10; 4; 4; 1; 99; 0\n"
+        ++ codes "1; 1; 3; TRIP; 4; 4; 1; 30; 5; 5; 2; 40; 1\n") ≡ fault.Follow 1 ∷ [])
 unfolding on_rows
-any_order = refl
-
--- two trips without an empty run between them
-no_run : slice_get (plan_faults (two 1000000) (codes "1; 1; 1; TRIP; 2; 2; 1; 0; 3; 3; 2; 10; 1\n"
-    ++ codes "1; 1; 2; TRIP; 4; 4; 1; 30; 5; 5; 2; 40; 1\n")) 0 ≡ Some (fault.Trips 2)
-unfolding on_rows
-no_run = refl
-
--- the same, counted as if there were one
-no_run_counted : slice_get (plan_faults (two 1000000) (codes "1; 1; 1; TRIP; 2; 2; 1; 0; 3; 3; 2; 10; 1\n"
-    ++ codes "1; 1; 3; TRIP; 4; 4; 1; 30; 5; 5; 2; 40; 1\n")) 0 ≡ Some (fault.Trips 2)
-unfolding on_rows
-no_run_counted = refl
-
--- an empty run before the first trip
-run_first : slice_get (plan_faults (two 1000000) (codes "1; 1; 1; EMPTY; 3; 3; 2; 10; 4; 4; 1; 14; 0\n"
-    ++ codes "1; 1; 2; TRIP; 2; 2; 1; 0; 3; 3; 2; 10; 1\n"
-    ++ codes "2; 2; 1; TRIP; 4; 4; 1; 30; 5; 5; 2; 40; 1\n")) 0 ≡ Some (fault.Trips 1)
-unfolding on_rows
-run_first = refl
-
--- an empty run behind the last trip
-run_last : slice_get (plan_faults (two 1000000) (codes "1; 1; 1; TRIP; 2; 2; 1; 0; 3; 3; 2; 10; 1\n"
-    ++ codes "1; 1; 2; EMPTY; 3; 3; 2; 10; 4; 4; 1; 14; 0\n"
-    ++ codes "2; 2; 1; TRIP; 4; 4; 1; 30; 5; 5; 2; 40; 1\n")) 0 ≡ Some (fault.Trips 2)
-unfolding on_rows
-run_last = refl
-
--- an empty run at the end of the text
-run_at_end : slice_get (plan_faults (two 1000000) (codes "1; 1; 1; TRIP; 4; 4; 1; 30; 5; 5; 2; 40; 1\n"
-    ++ codes "2; 2; 1; TRIP; 2; 2; 1; 0; 3; 3; 2; 10; 1\n"
-    ++ codes "2; 2; 2; EMPTY; 3; 3; 2; 10; 4; 4; 1; 14; 0\n")) 0 ≡ Some (fault.Trips 3)
-unfolding on_rows
-run_at_end = refl
-
--- two empty runs
-runs : slice_get (plan_faults (two 1000000) (codes "1; 1; 1; TRIP; 2; 2; 1; 0; 3; 3; 2; 10; 1\n"
-    ++ codes "1; 1; 2; EMPTY; 3; 3; 2; 10; 4; 4; 1; 14; 0\n"
-    ++ codes "1; 1; 3; EMPTY; 3; 3; 2; 10; 4; 4; 1; 14; 0\n"
-    ++ codes "1; 1; 4; TRIP; 4; 4; 1; 30; 5; 5; 2; 40; 1\n")) 0 ≡ Some (fault.Trips 2)
-unfolding on_rows
-runs = refl
-
--- a vehicle is left out
-left_out : slice_get (plan_faults (two 1000000) (codes "1; 1; 1; TRIP; 2; 2; 1; 0; 3; 3; 2; 10; 1\n"
-    ++ codes "3; 3; 1; TRIP; 4; 4; 1; 30; 5; 5; 2; 40; 1\n")) 0 ≡ Some (fault.Trips 2)
-unfolding on_rows
-left_out = refl
-
--- a circulation that is not the vehicle
-other : slice_get (plan_faults (two 1000000) (codes "2; 1; 1; TRIP; 2; 2; 1; 0; 3; 3; 2; 10; 1\n"
-    ++ codes "2; 2; 1; TRIP; 4; 4; 1; 30; 5; 5; 2; 40; 1\n")) 0 ≡ Some (fault.Trips 1)
-unfolding on_rows
-other = refl
-
--- an empty run of other minutes
-minutes : slice_get (plan_faults (two 1000000) (codes "1; 1; 1; TRIP; 2; 2; 1; 0; 3; 3; 2; 10; 1\n"
-    ++ codes "1; 1; 2; EMPTY; 3; 3; 2; 10; 4; 4; 1; 15; 0\n"
-    ++ codes "1; 1; 3; TRIP; 4; 4; 1; 30; 5; 5; 2; 40; 1\n")) 0 ≡ Some (fault.Trips 2)
-unfolding on_rows
-minutes = refl
-
--- an empty run of a line
-line : slice_get (plan_faults (two 1000000) (codes "1; 1; 1; TRIP; 2; 2; 1; 0; 3; 3; 2; 10; 1\n"
-    ++ codes "1; 1; 2; EMPTY; 3; 3; 2; 10; 4; 4; 1; 14; 1\n"
-    ++ codes "1; 1; 3; TRIP; 4; 4; 1; 30; 5; 5; 2; 40; 1\n")) 0 ≡ Some (fault.Trips 2)
-unfolding on_rows
-line = refl
-
--- an empty run that begins elsewhere
-begins : slice_get (plan_faults (two 1000000) (codes "1; 1; 1; TRIP; 2; 2; 1; 0; 3; 3; 2; 10; 1\n"
-    ++ codes "1; 1; 2; EMPTY; 3; 3; 1; 10; 4; 4; 1; 14; 0\n"
-    ++ codes "1; 1; 3; TRIP; 4; 4; 1; 30; 5; 5; 2; 40; 1\n")) 0 ≡ Some (fault.Trips 2)
-unfolding on_rows
-begins = refl
-
--- a row that repeats no trip; the end of the empty run before it is not looked at
-unknown : slice_get (plan_faults (two 1000000) (codes "1; 1; 1; TRIP; 2; 2; 1; 0; 3; 3; 2; 10; 1\n"
-    ++ codes "1; 1; 2; EMPTY; 3; 3; 2; 10; 4; 4; 1; 77; 0\n"
-    ++ codes "1; 1; 3; TRIP; 4; 4; 1; 31; 5; 5; 2; 40; 1\n")) 0 ≡ Some (fault.Trips 3)
-unfolding on_rows
-unknown = refl
-
--- a trip that has come before
-twice : slice_get (plan_faults (two 1000000) (codes "1; 1; 1; TRIP; 2; 2; 1; 0; 3; 3; 2; 10; 1\n"
-    ++ codes "2; 2; 1; TRIP; 2; 2; 1; 0; 3; 3; 2; 10; 1\n"
-    ++ codes "3; 3; 1; TRIP; 4; 4; 1; 30; 5; 5; 2; 40; 1\n")) 0 ≡ Some (fault.Trips 2)
-unfolding on_rows
-twice = refl
-
--- a trip without a row
-missing : slice_get (plan_faults (two 1000000) (codes "1; 1; 1; TRIP; 2; 2; 1; 0; 3; 3; 2; 10; 1\n")) 0 ≡ Some
-    (fault.Trips 0)
-unfolding on_rows
-missing = refl
-
--- a link that may not follow
-follows : slice_get (plan_faults (two 1000000) (codes "1; 1; 1; TRIP; 4; 4; 1; 30; 5; 5; 2; 40; 1\n"
-    ++ codes "1; 1; 2; EMPTY; 5; 5; 2; 40; 2; 2; 1; 44; 0\n"
-    ++ codes "1; 1; 3; TRIP; 2; 2; 1; 0; 3; 3; 2; 10; 1\n")) 0 ≡ Some (fault.Follow 0)
-unfolding on_rows
-follows = refl
-
--- a break of form comes before it
-form_first : slice_get (plan_faults (two 1000000) (codes "1; 1; 1; TRIP; 4; 4; 1; 30; 5; 5; 2; 40; 1\n"
-    ++ codes "1; 1; 2; EMPTY; 5; 5; 2; 40; 2; 2; 1; 44; 0\n"
-    ++ codes "1; 1; 3; TRIP; 2; 2; 1; 0; 3; 3; 2; 10; 1\n"
-    ++ codes "1; 1; 4; TRIP; 2; 2; 1; 0; 3; 3; 2; 10; 1\n")) 0 ≡ Some (fault.Trips 4)
-unfolding on_rows
-form_first = refl
-
--- rows are numbered as in the text
-numbers : slice_get (plan_faults (two 1000000) (codes "# a comment\n"
-    ++ codes "1; 1; 1; TRIP; 2; 2; 1; 0; 3; 3; 2; 10; 1\n"
-    ++ codes "1; 1; 2; TRIP; 4; 4; 1; 30; 5; 5; 2; 40; 1\n")) 0 ≡ Some (fault.Trips 3)
-unfolding on_rows
-numbers = refl
-
--- a link between two stops that no walk joins: its minutes are not looked at
-nowhere : plan_faults (trips (trip 1 1 0 4 10 ∷ trip 2 1 30 2 40 ∷ []) 2 0)
-    (codes "1; 1; 1; TRIP; 2; 2; 1; 0; 3; 3; 4; 10; 1\n1; 1; 2; EMPTY; 3; 3; 4; 10; 4; 4; 1; 99; 0\n"
-    ++ codes "1; 1; 3; TRIP; 4; 4; 1; 30; 5; 5; 2; 40; 1\n") ≡ fault.Follow 1 ∷ []
-unfolding on_rows
-nowhere = refl
+two_trips_from_any_hand = (refl, refl, refl, refl, refl, refl, refl, refl, refl, refl, refl, refl, refl, refl,
+    refl, refl, refl, refl, refl)

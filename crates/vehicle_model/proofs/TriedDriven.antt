@@ -19,43 +19,35 @@ use Rattle.vehicle_model.proofs.Tried.{trips, trip, two, eight, schedule}
 abbrev four : List (List ℕ)
 four = (0 ∷ 3 ∷ []) ∷ (2 ∷ 1 ∷ []) ∷ (4 ∷ 7 ∷ []) ∷ (6 ∷ 5 ∷ []) ∷ []
 
-written : map (as_told eight) (records_by schedule_row (table_of schedule_columns schedule)) ≡ rows_from eight 1 four
+rows_of_schedules :
+    (map (as_told eight) (records_by schedule_row (table_of schedule_columns schedule)) ≡ rows_from eight 1 four)
+    × (map (λ i. length (filter (nat_eq i) (concat four))) (range_with_len 0 8)
+        ≡ 1 ∷ 1 ∷ 1 ∷ 1 ∷ 1 ∷ 1 ∷ 1 ∷ 1 ∷ [])
+    -- vehicles in any order
+    × (map (as_told (two 1000000)) (records_by schedule_row (table_of schedule_columns
+        (codes "1; 1; 1; TRIP; 4; 4; 1; 30; 5; 5; 2; 40; 1\n" ++ codes "2; 2; 1; TRIP; 2; 2; 1; 0; 3; 3; 2; 10; 1\n")))
+        ≡ rows_from (two 1000000) 1 ((1 ∷ []) ∷ (0 ∷ []) ∷ []))
 unfolding rows_behind rows_from least_sum walks_within least_of trips_of network_of stops_of by_id table_of
     cells_from cell_of values rows cleaned spelling_of value_of value_at fixed_of whole_of
-written = refl
-
-once : map (λ i. length (filter (nat_eq i) (concat four))) (range_with_len 0 8)
-    ≡ 1 ∷ 1 ∷ 1 ∷ 1 ∷ 1 ∷ 1 ∷ 1 ∷ 1 ∷ []
-once = refl
-
--- vehicles in any order
-any_order : map (as_told (two 1000000)) (records_by schedule_row (table_of schedule_columns
-    (codes "1; 1; 1; TRIP; 4; 4; 1; 30; 5; 5; 2; 40; 1\n" ++ codes "2; 2; 1; TRIP; 2; 2; 1; 0; 3; 3; 2; 10; 1\n")))
-    ≡ rows_from (two 1000000) 1 ((1 ∷ []) ∷ (0 ∷ []) ∷ [])
-unfolding rows_behind rows_from least_sum walks_within least_of table_of cells_from cell_of values rows cleaned
-    spelling_of value_of value_at fixed_of whole_of
-any_order = refl
+rows_of_schedules = (refl, refl, refl)
 
 -- where no walk joins two stops, the minute in which the ride between them ends is free
 nowhere : TripsParts
 nowhere = trips (trip 1 1 0 4 10 ∷ trip 2 1 30 2 40 ∷ []) 2 0
 
-free : map (as_told nowhere) (records_by schedule_row (table_of schedule_columns
-    (codes "1; 1; 1; TRIP; 2; 2; 1; 0; 3; 3; 4; 10; 1\n1; 1; 2; EMPTY; 3; 3; 4; 10; 4; 4; 1; 99; 0\n"
-    ++ codes "1; 1; 3; TRIP; 4; 4; 1; 30; 5; 5; 2; 40; 1\n")))
-    ≡ rows_from nowhere 1 ((0 ∷ 1 ∷ []) ∷ [])
-unfolding nowhere rows_behind rows_from least_sum walks_within least_of table_of cells_from cell_of values rows cleaned
-    spelling_of value_of value_at fixed_of whole_of
-free = refl
-
--- where a walk joins them, it is told as it stands: here a minute too late
-bound : slice_get (map (λ row. row.run.end.time) (map (as_told (two 1000000)) (records_by schedule_row
-    (table_of schedule_columns (codes "1; 1; 1; TRIP; 2; 2; 1; 0; 3; 3; 2; 10; 1\n"
-    ++ codes "1; 1; 2; EMPTY; 3; 3; 2; 10; 4; 4; 1; 15; 0\n"
-    ++ codes "1; 1; 3; TRIP; 4; 4; 1; 30; 5; 5; 2; 40; 1\n"))))) 1 ≡ Some 15
-unfolding rows_behind rows_from least_sum walks_within least_of table_of cells_from cell_of values rows cleaned
-    spelling_of value_of value_at fixed_of whole_of
-bound = refl
+walks_looked_at :
+    (map (as_told nowhere) (records_by schedule_row (table_of schedule_columns
+        (codes "1; 1; 1; TRIP; 2; 2; 1; 0; 3; 3; 4; 10; 1\n1; 1; 2; EMPTY; 3; 3; 4; 10; 4; 4; 1; 99; 0\n"
+        ++ codes "1; 1; 3; TRIP; 4; 4; 1; 30; 5; 5; 2; 40; 1\n")))
+        ≡ rows_from nowhere 1 ((0 ∷ 1 ∷ []) ∷ []))
+    -- where a walk joins them, it is told as it stands: here a minute too late
+    × (slice_get (map (λ row. row.run.end.time) (map (as_told (two 1000000)) (records_by schedule_row
+        (table_of schedule_columns (codes "1; 1; 1; TRIP; 2; 2; 1; 0; 3; 3; 2; 10; 1\n"
+        ++ codes "1; 1; 2; EMPTY; 3; 3; 2; 10; 4; 4; 1; 15; 0\n"
+        ++ codes "1; 1; 3; TRIP; 4; 4; 1; 30; 5; 5; 2; 40; 1\n"))))) 1 ≡ Some 15)
+unfolding nowhere rows_behind rows_from least_sum walks_within least_of table_of cells_from cell_of values
+    rows cleaned spelling_of value_of value_at fixed_of whole_of
+walks_looked_at = (refl, refl)
 
 pub due : slice_get (map (λ row. row.run.end.time) (rows_from (two 1000000) 1 ((0 ∷ 1 ∷ []) ∷ []))) 1 ≡ Some 14
 unfolding rows_behind rows_from least_sum walks_within least_of
