@@ -112,7 +112,7 @@ judged :
     × (fault_over (bundle (pos 2)) (codes "1; 5\n2; 13\n3; 14\n4; 22\n") reasons ≡ Some (fault.Early 2))
     -- early as planned
     × (fault_over (bundle (pos 2)) (codes "1; 4\n2; 13\n3; 15\n4; 22\n") reasons ≡ Some
-        (fault.Early 0))
+    (fault.Early 0))
     -- no table
     × (fault_over (bundle (pos 2)) (codes "1; 5\n2; x\n") reasons ≡ Some fault.TimesRow)
     -- few times
@@ -123,7 +123,7 @@ judged :
     × (fault_over (bundle (pos 2)) times [] ≡ Some fault.ReasonsRow)
     -- other activity
     × (fault_over (bundle (pos 2)) times
-        (codes "1; source; 0\n2; activity; 1\n3; activity; 2\n4; activity; 2\n") ≡ Some (fault.Reason 2))
+    (codes "1; source; 0\n2; activity; 1\n3; activity; 2\n4; activity; 2\n") ≡ Some (fault.Reason 2))
     -- a change that is not kept is no reason
     × (fault_over (bundle (pos 1)) (codes "1; 5\n2; 13\n3; 15\n4; 22\n") reasons ≡ Some (fault.Reason 2))
 unfolding on_texts
@@ -134,12 +134,12 @@ judged = (refl, refl, refl, refl, refl, refl, refl, refl, refl, refl)
 times_of_the_change :
     -- with the change
     (let problem =
-        problem_in (bundle (pos 1)) in least_times problem (chosen_changes problem (true ∷ [])) ≡ 5 ∷ 13
-        ∷ 15 ∷ 22 ∷ [])
+    problem_in (bundle (pos 1)) in least_times problem (chosen_changes problem (true ∷ [])) ≡ 5 ∷ 13
+    ∷ 15 ∷ 22 ∷ [])
     -- without the change
     × (let problem =
-        problem_in (bundle (pos 2)) in least_times problem (chosen_changes problem (false ∷ [])) ≡ 5 ∷ 13
-        ∷ 13 ∷ 20 ∷ [])
+    problem_in (bundle (pos 2)) in least_times problem (chosen_changes problem (false ∷ [])) ≡ 5 ∷ 13
+    ∷ 13 ∷ 20 ∷ [])
 unfolding on_texts
 times_of_the_change = (refl, refl)
 
@@ -153,15 +153,15 @@ one_vehicle = (codes "1; 1; 1; TRIP; 1; 1; 1; 0; 2; 2; 2; 10; 1\n"
 
 turned_and_late :
     (disposition_stage (bundle_of (negsuc 1)
-        (events ∷ activities ∷ one_vehicle ∷ codes "1; 5\n" ∷ [] ∷ [])) ≡ Ok (made
-        (codes "1; 5\n2; 13\n3; 19\n4; 26\n") (codes "1; source; 0\n2; activity; 1\n3; turn; 0\n4; activity; 2\n")
-        (codes "disposition: delay 9, 0 missed, optimal")))
+    (events ∷ activities ∷ one_vehicle ∷ codes "1; 5\n" ∷ [] ∷ [])) ≡ Ok (made
+    (codes "1; 5\n2; 13\n3; 19\n4; 26\n") (codes "1; source; 0\n2; activity; 1\n3; turn; 0\n4; activity; 2\n")
+    (codes "disposition: delay 9, 0 missed, optimal")))
     -- late change
     × (disposition_stage
-        (bundle_of (negsuc 0) (events ∷ activities ∷ schedule ∷ codes "1; 5\n3; 3\n" ∷ codes "3; 1\n1; 2\n"
-        ∷ [])) ≡ Ok (made (codes "1; 5\n2; 15\n3; 18\n4; 25\n")
-        (codes "1; source; 0\n2; activity; 1\n3; activity; 3\n4; activity; 2\n")
-        (codes "disposition: delay 10, 0 missed, optimal")))
+    (bundle_of (negsuc 0) (events ∷ activities ∷ schedule ∷ codes "1; 5\n3; 3\n" ∷ codes "3; 1\n1; 2\n"
+    ∷ [])) ≡ Ok (made (codes "1; 5\n2; 15\n3; 18\n4; 25\n")
+    (codes "1; source; 0\n2; activity; 1\n3; activity; 3\n4; activity; 2\n")
+    (codes "disposition: delay 10, 0 missed, optimal")))
 unfolding on_texts
 turned_and_late = (refl, refl)
 
@@ -171,62 +171,62 @@ faults_of_inputs :
     (disposition_faults (bundle_of (pos 2) (events ∷ activities ∷ one_vehicle ∷ [] ∷ [] ∷ [])) ≡ [])
     -- event gap
     × (disposition_faults (bundle_of (pos 2)
-        (codes "1; 1; departure; 0; 1\n3; 2; arrival; 10; 2\n" ∷ [] ∷ [] ∷ [] ∷ []
-        ∷ [])) ≡ refusal.BadRow file.EventsX 2 why.OrderGap ∷ [])
+    (codes "1; 1; departure; 0; 1\n3; 2; arrival; 10; 2\n" ∷ [] ∷ [] ∷ [] ∷ []
+    ∷ [])) ≡ refusal.BadRow file.EventsX 2 why.OrderGap ∷ [])
     × (disposition_faults (bundle_of (pos 2)
-        (events ∷ codes "1; 1; sync; 1; 2; 8; 10\n" ∷ schedule ∷ [] ∷ []
-        ∷ [])) ≡ refusal.BadRow file.ActivitiesX 1 why.StraySync ∷ [])
+    (events ∷ codes "1; 1; sync; 1; 2; 8; 10\n" ∷ schedule ∷ [] ∷ []
+    ∷ [])) ≡ refusal.BadRow file.ActivitiesX 1 why.StraySync ∷ [])
     × (disposition_faults (bundle_of (pos 2)
-        (events ∷ codes "1; 1; drive; 1; 2; 8; 7\n" ∷ schedule ∷ [] ∷ []
-        ∷ [])) ≡ refusal.BadRow file.ActivitiesX 1 why.BoundsCrossed ∷ [])
+    (events ∷ codes "1; 1; drive; 1; 2; 8; 7\n" ∷ schedule ∷ [] ∷ []
+    ∷ [])) ≡ refusal.BadRow file.ActivitiesX 1 why.BoundsCrossed ∷ [])
     × (disposition_faults (bundle_of (pos 2)
-        (events ∷ codes "1; 1; drive; 1; 2; 8; 10\n2; 1; wait; 3; 2; 0; 0\n3; 1; wait; 2; 2; 0; 0\n" ∷ schedule
-        ∷ [] ∷ []
-        ∷ [])) ≡ refusal.BadRow file.ActivitiesX 2 why.Backward ∷ refusal.BadRow file.ActivitiesX 3 why.Backward
-        ∷ [])
+    (events ∷ codes "1; 1; drive; 1; 2; 8; 10\n2; 1; wait; 3; 2; 0; 0\n3; 1; wait; 2; 2; 0; 0\n" ∷ schedule
+    ∷ [] ∷ []
+    ∷ [])) ≡ refusal.BadRow file.ActivitiesX 2 why.Backward ∷ refusal.BadRow file.ActivitiesX 3 why.Backward
+    ∷ [])
     -- the first of these is what is refused
     × (disposition_faults (bundle_of (pos 2)
-        (events ∷ codes "1; 1; drive; 1; 5; 8; 10\n" ∷ schedule ∷ [] ∷ []
-        ∷ [])) ≡ refusal.BadRow file.ActivitiesX 1 why.UnknownEvent
-        ∷ refusal.BadRow file.ActivitiesX 1 why.Backward ∷ [])
+    (events ∷ codes "1; 1; drive; 1; 5; 8; 10\n" ∷ schedule ∷ [] ∷ []
+    ∷ [])) ≡ refusal.BadRow file.ActivitiesX 1 why.UnknownEvent
+    ∷ refusal.BadRow file.ActivitiesX 1 why.Backward ∷ [])
     -- at one time arrivals stand before departures, and then lesser ids before greater ones
     × (disposition_faults
-        (bundle_of (pos 2) (codes "1; 1; departure; 10; 2\n2; 2; arrival; 10; 2\n3; 3; departure; 10; 2\n"
-        ∷ codes "1; 1; change; 2; 1; 0; 0\n2; 1; wait; 1; 3; 0; 0\n3; 1; wait; 3; 1; 0; 0\n" ∷ [] ∷ [] ∷ []
-        ∷ [])) ≡ refusal.BadRow file.ActivitiesX 3 why.Backward ∷ [])
+    (bundle_of (pos 2) (codes "1; 1; departure; 10; 2\n2; 2; arrival; 10; 2\n3; 3; departure; 10; 2\n"
+    ∷ codes "1; 1; change; 2; 1; 0; 0\n2; 1; wait; 1; 3; 0; 0\n3; 1; wait; 3; 1; 0; 0\n" ∷ [] ∷ [] ∷ []
+    ∷ [])) ≡ refusal.BadRow file.ActivitiesX 3 why.Backward ∷ [])
     -- no event of a trip
     × (disposition_faults
-        (bundle_of (pos 2) (events ∷ activities ∷ codes "1; 1; 1; TRIP; 1; 1; 1; 9; 5; 2; 2; 3; 1\n" ∷ [] ∷ []
-        ∷ [])) ≡ refusal.BadRow file.Schedule 1 why.UnknownEvent ∷ [])
+    (bundle_of (pos 2) (events ∷ activities ∷ codes "1; 1; 1; TRIP; 1; 1; 1; 9; 5; 2; 2; 3; 1\n" ∷ [] ∷ []
+    ∷ [])) ≡ refusal.BadRow file.Schedule 1 why.UnknownEvent ∷ [])
     -- trips are not backward
     × (disposition_faults
-        (bundle_of (pos 2) (events ∷ activities ∷ codes "1; 1; 1; TRIP; 2; 1; 1; 9; 1; 2; 2; 3; 1\n" ∷ [] ∷ []
-        ∷ [])) ≡ [])
+    (bundle_of (pos 2) (events ∷ activities ∷ codes "1; 1; 1; TRIP; 2; 1; 1; 9; 1; 2; 2; 3; 1\n" ∷ [] ∷ []
+    ∷ [])) ≡ [])
     -- ends before start
     × (disposition_faults
-        (bundle_of (pos 2) (events ∷ activities ∷ codes "1; 1; 2; EMPTY; 2; 2; 2; 10; 3; 3; 2; 9; 0\n" ∷ [] ∷ []
-        ∷ [])) ≡ refusal.BadRow file.Schedule 1 why.Backward ∷ [])
+    (bundle_of (pos 2) (events ∷ activities ∷ codes "1; 1; 2; EMPTY; 2; 2; 2; 10; 3; 3; 2; 9; 0\n" ∷ [] ∷ []
+    ∷ [])) ≡ refusal.BadRow file.Schedule 1 why.Backward ∷ [])
     -- no room
     × (disposition_faults (bundle_of (pos 2)
-        (events ∷ activities ∷ codes "1; 1; 2; EMPTY; 2; 2; 2; 10; 3; 3; 2; 14; 0\n" ∷ [] ∷ []
-        ∷ [])) ≡ refusal.BadRow file.Schedule 1 why.Backward ∷ [])
+    (events ∷ activities ∷ codes "1; 1; 2; EMPTY; 2; 2; 2; 10; 3; 3; 2; 14; 0\n" ∷ [] ∷ []
+    ∷ [])) ≡ refusal.BadRow file.Schedule 1 why.Backward ∷ [])
     -- some room
     × (disposition_faults (bundle_of (pos 2)
-        (events ∷ activities ∷ codes "1; 1; 2; EMPTY; 2; 2; 2; 10; 3; 3; 2; 13; 0\n" ∷ [] ∷ [] ∷ [])) ≡ [])
+    (events ∷ activities ∷ codes "1; 1; 2; EMPTY; 2; 2; 2; 10; 3; 3; 2; 13; 0\n" ∷ [] ∷ [] ∷ [])) ≡ [])
     -- not before
     × (disposition_faults
-        (bundle_of (pos 2) (codes "1; 1; departure; 10; 2\n2; 2; arrival; 10; 2\n" ∷ []
-        ∷ codes "1; 1; 2; EMPTY; 1; 2; 2; 10; 2; 3; 2; 10; 0\n" ∷ [] ∷ []
-        ∷ [])) ≡ refusal.BadRow file.Schedule 1 why.Backward ∷ [])
+    (bundle_of (pos 2) (codes "1; 1; departure; 10; 2\n2; 2; arrival; 10; 2\n" ∷ []
+    ∷ codes "1; 1; 2; EMPTY; 1; 2; 2; 10; 2; 3; 2; 10; 0\n" ∷ [] ∷ []
+    ∷ [])) ≡ refusal.BadRow file.Schedule 1 why.Backward ∷ [])
     × (disposition_faults (bundle_of (pos 2)
-        (events ∷ activities ∷ schedule ∷ codes "1; 5\n5; 5\n1; 0\n" ∷ codes "4; 1\n"
-        ∷ [])) ≡ refusal.BadRow file.EventDelays 2 why.UnknownEvent
-        ∷ refusal.BadRow file.EventDelays 3 why.RepeatedId
-        ∷ refusal.BadRow file.ActivityDelays 1 why.UnknownActivity ∷ [])
+    (events ∷ activities ∷ schedule ∷ codes "1; 5\n5; 5\n1; 0\n" ∷ codes "4; 1\n"
+    ∷ [])) ≡ refusal.BadRow file.EventDelays 2 why.UnknownEvent
+    ∷ refusal.BadRow file.EventDelays 3 why.RepeatedId
+    ∷ refusal.BadRow file.ActivityDelays 1 why.UnknownActivity ∷ [])
     -- too late
     × (disposition_faults (bundle_of (pos 2)
-        (events ∷ activities ∷ schedule ∷ codes "1; 1000001\n" ∷ []
-        ∷ [])) ≡ refusal.BadRow file.EventDelays 1 (why.OutOfRange 2) ∷ [])
+    (events ∷ activities ∷ schedule ∷ codes "1; 1000001\n" ∷ []
+    ∷ [])) ≡ refusal.BadRow file.EventDelays 1 (why.OutOfRange 2) ∷ [])
 unfolding on_texts
 faults_of_inputs = (refl, refl, refl, refl, refl, refl, refl, refl, refl, refl, refl, refl, refl, refl, refl)
 
@@ -289,38 +289,38 @@ day_made times reasons report = record {
 a_whole_day :
     -- without delays every event is as planned
     (disposition_stage (day (pos 3) (codes "") (codes "")) ≡ Ok
-        (day_made ((codes "# event-id; time\n1; 0\n2; 4\n3; 5\n4; 11\n5; 20\n6; 24\n7; 25\n8; 31\n9; 0\n10; 6\n"
-        ++ codes "11; 7\n12; 11\n13; 20\n14; 26\n15; 27\n16; 31\n17; 0\n18; 4\n19; 20\n20; 24\n21; 0\n"
-        ++ codes "22; 4\n23; 20\n24; 24\n"))
-        ((codes "# event-id; reason; activity-id\n1; source; 0\n2; source; 0\n3; source; 0\n"
-        ++ codes "4; source; 0\n5; source; 0\n6; source; 0\n7; source; 0\n8; source; 0\n9; source; 0\n"
-        ++ codes "10; source; 0\n11; source; 0\n12; source; 0\n13; source; 0\n14; source; 0\n"
-        ++ codes "15; source; 0\n16; source; 0\n17; source; 0\n18; source; 0\n19; source; 0\n"
-        ++ codes "20; source; 0\n21; source; 0\n22; source; 0\n23; source; 0\n24; source; 0\n"))
-        (codes "disposition: delay 0, 0 missed, optimal")))
+    (day_made ((codes "# event-id; time\n1; 0\n2; 4\n3; 5\n4; 11\n5; 20\n6; 24\n7; 25\n8; 31\n9; 0\n10; 6\n"
+    ++ codes "11; 7\n12; 11\n13; 20\n14; 26\n15; 27\n16; 31\n17; 0\n18; 4\n19; 20\n20; 24\n21; 0\n"
+    ++ codes "22; 4\n23; 20\n24; 24\n"))
+    ((codes "# event-id; reason; activity-id\n1; source; 0\n2; source; 0\n3; source; 0\n"
+    ++ codes "4; source; 0\n5; source; 0\n6; source; 0\n7; source; 0\n8; source; 0\n9; source; 0\n"
+    ++ codes "10; source; 0\n11; source; 0\n12; source; 0\n13; source; 0\n14; source; 0\n"
+    ++ codes "15; source; 0\n16; source; 0\n17; source; 0\n18; source; 0\n19; source; 0\n"
+    ++ codes "20; source; 0\n21; source; 0\n22; source; 0\n23; source; 0\n24; source; 0\n"))
+    (codes "disposition: delay 0, 0 missed, optimal")))
     -- delays that go on by drives, waits, turns and changes
     × (disposition_stage (day (pos 3) (codes "1; 10\n18; 1\n") (codes "4; 2\n")) ≡ Ok
-        (day_made ((codes "# event-id; time\n1; 10\n2; 14\n3; 15\n4; 21\n5; 20\n6; 26\n7; 27\n8; 33\n9; 0\n"
-        ++ codes "10; 6\n11; 7\n12; 11\n13; 23\n14; 29\n15; 30\n16; 34\n17; 0\n18; 5\n19; 20\n20; 24\n"
-        ++ codes "21; 0\n22; 4\n23; 20\n24; 24\n"))
-        ((codes "# event-id; reason; activity-id\n1; source; 0\n2; activity; 1\n3; activity; 2\n"
-        ++ codes "4; activity; 3\n5; source; 0\n6; activity; 4\n7; activity; 5\n8; activity; 6\n"
-        ++ codes "9; source; 0\n10; source; 0\n11; source; 0\n12; source; 0\n13; turn; 0\n"
-        ++ codes "14; activity; 10\n15; activity; 11\n16; activity; 12\n17; source; 0\n18; source; 0\n"
-        ++ codes "19; source; 0\n20; source; 0\n21; source; 0\n22; source; 0\n23; source; 0\n"
-        ++ codes "24; source; 0\n"))
-        (codes "disposition: delay 31, 0 missed, optimal")))
+    (day_made ((codes "# event-id; time\n1; 10\n2; 14\n3; 15\n4; 21\n5; 20\n6; 26\n7; 27\n8; 33\n9; 0\n"
+    ++ codes "10; 6\n11; 7\n12; 11\n13; 23\n14; 29\n15; 30\n16; 34\n17; 0\n18; 5\n19; 20\n20; 24\n"
+    ++ codes "21; 0\n22; 4\n23; 20\n24; 24\n"))
+    ((codes "# event-id; reason; activity-id\n1; source; 0\n2; activity; 1\n3; activity; 2\n"
+    ++ codes "4; activity; 3\n5; source; 0\n6; activity; 4\n7; activity; 5\n8; activity; 6\n"
+    ++ codes "9; source; 0\n10; source; 0\n11; source; 0\n12; source; 0\n13; turn; 0\n"
+    ++ codes "14; activity; 10\n15; activity; 11\n16; activity; 12\n17; source; 0\n18; source; 0\n"
+    ++ codes "19; source; 0\n20; source; 0\n21; source; 0\n22; source; 0\n23; source; 0\n"
+    ++ codes "24; source; 0\n"))
+    (codes "disposition: delay 31, 0 missed, optimal")))
     -- the same where every change waits, and one of them takes longer
     × (disposition_stage (day (negsuc 0) (codes "1; 10\n18; 1\n") (codes "4; 2\n22; 9\n")) ≡ Ok
-        (day_made ((codes "# event-id; time\n1; 10\n2; 14\n3; 15\n4; 21\n5; 20\n6; 26\n7; 27\n8; 33\n9; 0\n"
-        ++ codes "10; 6\n11; 7\n12; 11\n13; 23\n14; 29\n15; 35\n16; 39\n17; 0\n18; 5\n19; 20\n20; 24\n"
-        ++ codes "21; 0\n22; 4\n23; 20\n24; 24\n"))
-        ((codes "# event-id; reason; activity-id\n1; source; 0\n2; activity; 1\n3; activity; 2\n"
-        ++ codes "4; activity; 3\n5; source; 0\n6; activity; 4\n7; activity; 5\n8; activity; 6\n"
-        ++ codes "9; source; 0\n10; source; 0\n11; source; 0\n12; source; 0\n13; turn; 0\n"
-        ++ codes "14; activity; 10\n15; activity; 22\n16; activity; 12\n17; source; 0\n18; source; 0\n"
-        ++ codes "19; source; 0\n20; source; 0\n21; source; 0\n22; source; 0\n23; source; 0\n"
-        ++ codes "24; source; 0\n"))
-        (codes "disposition: delay 36, 0 missed, optimal")))
+    (day_made ((codes "# event-id; time\n1; 10\n2; 14\n3; 15\n4; 21\n5; 20\n6; 26\n7; 27\n8; 33\n9; 0\n"
+    ++ codes "10; 6\n11; 7\n12; 11\n13; 23\n14; 29\n15; 35\n16; 39\n17; 0\n18; 5\n19; 20\n20; 24\n"
+    ++ codes "21; 0\n22; 4\n23; 20\n24; 24\n"))
+    ((codes "# event-id; reason; activity-id\n1; source; 0\n2; activity; 1\n3; activity; 2\n"
+    ++ codes "4; activity; 3\n5; source; 0\n6; activity; 4\n7; activity; 5\n8; activity; 6\n"
+    ++ codes "9; source; 0\n10; source; 0\n11; source; 0\n12; source; 0\n13; turn; 0\n"
+    ++ codes "14; activity; 10\n15; activity; 22\n16; activity; 12\n17; source; 0\n18; source; 0\n"
+    ++ codes "19; source; 0\n20; source; 0\n21; source; 0\n22; source; 0\n23; source; 0\n"
+    ++ codes "24; source; 0\n"))
+    (codes "disposition: delay 36, 0 missed, optimal")))
 unfolding on_texts
 a_whole_day = (refl, refl, refl)

@@ -119,49 +119,49 @@ made rows =
 values_told :
     -- as planned
     (statistic_stage (bundle_of
-        (costs ∷ concept ∷ events ∷ activities ∷ times ∷ trips ∷ expanded_events ∷ expanded_activities ∷ schedule
-        ∷ disposed
-        ∷ [])) ≡ Ok
-        (made ((codes "lc_cost; 27\nlc_lines; 2\nean_events; 12\nean_activities; 14\ntim_drive_time; 28\n"
-        ++ codes "tim_wait_time; 2\ntim_change_time; 79\nro_trips; 8\nvs_vehicles; 4\n"
-        ++ codes "vs_empty_minutes; 0\nvs_cost; 400\ndm_total_delay; 0\ndm_max_delay; 0\n"
-        ++ codes "dm_missed_changes; 0\n"))))
+    (costs ∷ concept ∷ events ∷ activities ∷ times ∷ trips ∷ expanded_events ∷ expanded_activities ∷ schedule
+    ∷ disposed
+    ∷ [])) ≡ Ok
+    (made ((codes "lc_cost; 27\nlc_lines; 2\nean_events; 12\nean_activities; 14\ntim_drive_time; 28\n"
+    ++ codes "tim_wait_time; 2\ntim_change_time; 79\nro_trips; 8\nvs_vehicles; 4\n"
+    ++ codes "vs_empty_minutes; 0\nvs_cost; 400\ndm_total_delay; 0\ndm_max_delay; 0\n"
+    ++ codes "dm_missed_changes; 0\n"))))
     -- nothing at all
     × (statistic_stage (bundle_of ([] ∷ [] ∷ [] ∷ [] ∷ [] ∷ [] ∷ [] ∷ [] ∷ [] ∷ [] ∷ [])) ≡ Ok
-        (made ((codes "lc_cost; 0\nlc_lines; 0\nean_events; 0\nean_activities; 0\ntim_drive_time; 0\n"
-        ++ codes "tim_wait_time; 0\ntim_change_time; 0\nro_trips; 0\nvs_vehicles; 0\n"
-        ++ codes "vs_empty_minutes; 0\nvs_cost; 0\ndm_total_delay; 0\ndm_max_delay; 0\n"
-        ++ codes "dm_missed_changes; 0\n"))))
+    (made ((codes "lc_cost; 0\nlc_lines; 0\nean_events; 0\nean_activities; 0\ntim_drive_time; 0\n"
+    ++ codes "tim_wait_time; 0\ntim_change_time; 0\nro_trips; 0\nvs_vehicles; 0\n"
+    ++ codes "vs_empty_minutes; 0\nvs_cost; 0\ndm_total_delay; 0\ndm_max_delay; 0\n"
+    ++ codes "dm_missed_changes; 0\n"))))
     -- some events are late, and the last arrival is earlier than planned
     × (statistic_stage
-        (bundle_of (costs ∷ concept ∷ events ∷ activities ∷ times ∷ trips ∷ expanded_events ∷ expanded_activities
-        ∷ schedule
-        ∷ ((codes "1; 10\n2; 14\n3; 15\n4; 21\n5; 22\n6; 26\n7; 27\n8; 33\n9; 0\n10; 6\n11; 7\n12; 19\n"
-        ++ codes "13; 20\n14; 26\n15; 27\n16; 31\n17; 1\n18; 5\n19; 20\n20; 24\n21; 0\n22; 4\n23; 19\n"
-        ++ codes "24; 21\n")) ∷ [])) ≡ Ok
-        (made ((codes "lc_cost; 27\nlc_lines; 2\nean_events; 12\nean_activities; 14\ntim_drive_time; 28\n"
-        ++ codes "tim_wait_time; 2\ntim_change_time; 79\nro_trips; 8\nvs_vehicles; 4\n"
-        ++ codes "vs_empty_minutes; 0\nvs_cost; 400\ndm_total_delay; 30\ndm_max_delay; 10\n"
-        ++ codes "dm_missed_changes; 1\n"))))
+    (bundle_of (costs ∷ concept ∷ events ∷ activities ∷ times ∷ trips ∷ expanded_events ∷ expanded_activities
+    ∷ schedule
+    ∷ ((codes "1; 10\n2; 14\n3; 15\n4; 21\n5; 22\n6; 26\n7; 27\n8; 33\n9; 0\n10; 6\n11; 7\n12; 19\n"
+    ++ codes "13; 20\n14; 26\n15; 27\n16; 31\n17; 1\n18; 5\n19; 20\n20; 24\n21; 0\n22; 4\n23; 19\n"
+    ++ codes "24; 21\n")) ∷ [])) ≡ Ok
+    (made ((codes "lc_cost; 27\nlc_lines; 2\nean_events; 12\nean_activities; 14\ntim_drive_time; 28\n"
+    ++ codes "tim_wait_time; 2\ntim_change_time; 79\nro_trips; 8\nvs_vehicles; 4\n"
+    ++ codes "vs_empty_minutes; 0\nvs_cost; 400\ndm_total_delay; 30\ndm_max_delay; 10\n"
+    ++ codes "dm_missed_changes; 1\n"))))
     -- the rows of a line need not stand together, and a line without a row counts nothing
     × (statistic_stage (bundle_of
-        ((codes "3; 1; 1\n2; 2; 12.5\n1; 5; 15\n4; 1; 7\n")
-        ∷ (codes "1; 1; 1; 2\n2; 1; 1; 3\n1; 2; 2; 2\n3; 1; 1; 0\n") ∷ events ∷ activities ∷ times ∷ trips
-        ∷ expanded_events ∷ expanded_activities ∷ schedule ∷ disposed
-        ∷ [])) ≡ Ok
-        (made ((codes "lc_cost; 67.5\nlc_lines; 2\nean_events; 12\nean_activities; 14\ntim_drive_time; 28\n"
-        ++ codes "tim_wait_time; 2\ntim_change_time; 79\nro_trips; 8\nvs_vehicles; 4\n"
-        ++ codes "vs_empty_minutes; 0\nvs_cost; 400\ndm_total_delay; 0\ndm_max_delay; 0\n"
-        ++ codes "dm_missed_changes; 0\n"))))
+    ((codes "3; 1; 1\n2; 2; 12.5\n1; 5; 15\n4; 1; 7\n")
+    ∷ (codes "1; 1; 1; 2\n2; 1; 1; 3\n1; 2; 2; 2\n3; 1; 1; 0\n") ∷ events ∷ activities ∷ times ∷ trips
+    ∷ expanded_events ∷ expanded_activities ∷ schedule ∷ disposed
+    ∷ [])) ≡ Ok
+    (made ((codes "lc_cost; 67.5\nlc_lines; 2\nean_events; 12\nean_activities; 14\ntim_drive_time; 28\n"
+    ++ codes "tim_wait_time; 2\ntim_change_time; 79\nro_trips; 8\nvs_vehicles; 4\n"
+    ++ codes "vs_empty_minutes; 0\nvs_cost; 400\ndm_total_delay; 0\ndm_max_delay; 0\n"
+    ++ codes "dm_missed_changes; 0\n"))))
     -- unknown line
     × (statistic_faults
-        (bundle_of (costs ∷ (codes "3; 1; 1; 2\n") ∷ events ∷ activities ∷ times ∷ trips ∷ expanded_events
-        ∷ expanded_activities ∷ schedule ∷ disposed ∷ [])) ≡ refusal.BadRow file.Concept 1 why.UnknownLine ∷ [])
+    (bundle_of (costs ∷ (codes "3; 1; 1; 2\n") ∷ events ∷ activities ∷ times ∷ trips ∷ expanded_events
+    ∷ expanded_activities ∷ schedule ∷ disposed ∷ [])) ≡ refusal.BadRow file.Concept 1 why.UnknownLine ∷ [])
     -- two frequencies
     × (statistic_faults
-        (bundle_of (costs ∷ (codes "1; 1; 1; 2\n2; 1; 1; 3\n1; 2; 2; 1\n") ∷ events ∷ activities ∷ times ∷ trips
-        ∷ expanded_events ∷ expanded_activities ∷ schedule ∷ disposed
-        ∷ [])) ≡ refusal.BadRow file.Concept 3 why.FrequencyDiffers ∷ [])
+    (bundle_of (costs ∷ (codes "1; 1; 1; 2\n2; 1; 1; 3\n1; 2; 2; 1\n") ∷ events ∷ activities ∷ times ∷ trips
+    ∷ expanded_events ∷ expanded_activities ∷ schedule ∷ disposed
+    ∷ [])) ≡ refusal.BadRow file.Concept 3 why.FrequencyDiffers ∷ [])
 unfolding digits digits_at delay_of firsts line_values periodic_values day_values statistic_in
     statistic_faults statistic_text statistic_stage input_faults row_faults faults table_of cells_from cell_of
     values errors row_whys rows cleaned spelling_of value_of value_at fixed_of whole_of

@@ -76,24 +76,24 @@ one_line =
 
 faults_of_concepts :
     (ean_stage one_line ≡ Ok
-        (made
-        (codes
-        "# event-id; type; stop-id; line-id; direction; repetition\n1; departure; 1; 3; >; 1\n2; arrival; 2; 3; >; 1\n3; departure; 1; 3; >; 2\n4; arrival; 2; 3; >; 2\n5; departure; 1; 3; >; 3\n6; arrival; 2; 3; >; 3\n7; departure; 2; 3; <; 1\n8; arrival; 1; 3; <; 1\n9; departure; 2; 3; <; 2\n10; arrival; 1; 3; <; 2\n11; departure; 2; 3; <; 3\n12; arrival; 1; 3; <; 3\n") (codes "# activity-id; type; from-event; to-event; lower-bound; upper-bound\n1; drive; 1; 2; 4; 5\n2; drive; 3; 4; 4; 5\n3; drive; 5; 6; 4; 5\n4; drive; 7; 8; 4; 5\n5; drive; 9; 10; 4; 5\n6; drive; 11; 12; 4; 5\n7; sync; 1; 3; 3; 4\n8; sync; 3; 5; 3; 4\n9; sync; 7; 9; 3; 4\n10; sync; 9; 11; 3; 4\n") (codes "ean: 12 events, 10 activities")))
+    (made
+    (codes
+    "# event-id; type; stop-id; line-id; direction; repetition\n1; departure; 1; 3; >; 1\n2; arrival; 2; 3; >; 1\n3; departure; 1; 3; >; 2\n4; arrival; 2; 3; >; 2\n5; departure; 1; 3; >; 3\n6; arrival; 2; 3; >; 3\n7; departure; 2; 3; <; 1\n8; arrival; 1; 3; <; 1\n9; departure; 2; 3; <; 2\n10; arrival; 1; 3; <; 2\n11; departure; 2; 3; <; 3\n12; arrival; 1; 3; <; 3\n") (codes "# activity-id; type; from-event; to-event; lower-bound; upper-bound\n1; drive; 1; 2; 4; 5\n2; drive; 3; 4; 4; 5\n3; drive; 5; 6; 4; 5\n4; drive; 7; 8; 4; 5\n5; drive; 9; 10; 4; 5\n6; drive; 11; 12; 4; 5\n7; sync; 1; 3; 3; 4\n8; sync; 3; 5; 3; 4\n9; sync; 7; 9; 3; 4\n10; sync; 9; 11; 3; 4\n") (codes "ean: 12 events, 10 activities")))
     -- no line runs: nothing is made
     × (ean_stage (bundle 20 2 (stops ∷ edges ∷ codes "1; 1; 1; 0\n1; 2; 2; 0\n" ∷ [])) ≡ Ok
-        (made (codes "# event-id; type; stop-id; line-id; direction; repetition\n")
-        (codes "# activity-id; type; from-event; to-event; lower-bound; upper-bound\n")
-        (codes "ean: 0 events, 0 activities")))
+    (made (codes "# event-id; type; stop-id; line-id; direction; repetition\n")
+    (codes "# activity-id; type; from-event; to-event; lower-bound; upper-bound\n")
+    (codes "ean: 0 events, 0 activities")))
     -- too many events
     × (too_many
-        (events_in
-        (bundle 60 2
-        (stops ∷ edges ∷ codes "1; 1; 1; 501\n1; 2; 2; 501\n"
-        ∷ []))) [] ≡ refusal.TooMany counted.PeriodicEvents 4008 ∷ [])
+    (events_in
+    (bundle 60 2
+    (stops ∷ edges ∷ codes "1; 1; 1; 501\n1; 2; 2; 501\n"
+    ∷ []))) [] ≡ refusal.TooMany counted.PeriodicEvents 4008 ∷ [])
     -- frequencies that differ from that of the line's first row
     × (ean_stage
-        (bundle 20 2 (stops ∷ edges ∷ codes "# c\n1; 1; 1; 1\n2; 1; 1; 2\n1; 2; 2; 2\n" ∷ [])) ≡ Err
-        (refusal.BadRow file.Concept 4 why.FrequencyDiffers))
+    (bundle 20 2 (stops ∷ edges ∷ codes "# c\n1; 1; 1; 1\n2; 1; 1; 2\n1; 2; 2; 2\n" ∷ [])) ≡ Err
+    (refusal.BadRow file.Concept 4 why.FrequencyDiffers))
 unfolding digits ean_stage concept_events concept_activities lines_of line_faults network_of network_faults
     stops_of input_faults row_faults faults by_id walk_from table_of cells_from cell_of values errors row_whys
     rows cleaned spelling_of value_of value_at fixed_of whole_of cell_text cell_texts joined table_text

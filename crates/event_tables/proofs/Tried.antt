@@ -43,17 +43,17 @@ events_in_runs :
     -- their ids
     × (periodic_event_ids periodic ≡ ids)
     × (input_faults periodic_event_input
-        (codes "1; departure; 1; 1; >; 1\n3; arrival; 1; 1; >; 1\n3; departure; 1; 1; >; 1\n")
-        ≡ refusal.BadRow file.EventsP 2 why.OrderGap ∷ [])
+    (codes "1; departure; 1; 1; >; 1\n3; arrival; 1; 1; >; 1\n3; departure; 1; 1; >; 1\n")
+    ≡ refusal.BadRow file.EventsP 2 why.OrderGap ∷ [])
     -- four runs, each with its neighbours
     × (map length (runs_of periodic) ≡ 4 ∷ 4 ∷ 2 ∷ 2 ∷ [])
     -- their neighbours
     × (map {B = ℕ × ℕ}
-        (λ pair. (pair.0.id, pair.1.id)) (flat_map neighbours (runs_of periodic))
-        ≡ (1, 2) ∷ (2, 3) ∷ (3, 4) ∷ (5, 6) ∷ (6, 7) ∷ (7, 8) ∷ (9, 10) ∷ (11, 12) ∷ [])
+    (λ pair. (pair.0.id, pair.1.id)) (flat_map neighbours (runs_of periodic))
+    ≡ (1, 2) ∷ (2, 3) ∷ (3, 4) ∷ (5, 6) ∷ (6, 7) ∷ (7, 8) ∷ (9, 10) ∷ (11, 12) ∷ [])
     -- events that agree and stand apart are of two runs
     × (map length (runs_of (records_of periodic_event_input
-        (codes "1; departure; 1; 1; >; 1\n2; departure; 1; 1; >; 2\n3; arrival; 2; 1; >; 1\n"))) ≡ 1 ∷ 1 ∷ 1 ∷ [])
+    (codes "1; departure; 1; 1; >; 1\n2; departure; 1; 1; >; 2\n3; arrival; 2; 1; >; 1\n"))) ≡ 1 ∷ 1 ∷ 1 ∷ [])
 unfolding input_faults row_faults faults table_of cells_from cell_of values errors row_whys rows cleaned
     spelling_of value_of value_at fixed_of whole_of runs_of
 events_in_runs = (refl, refl, refl, refl, refl, refl)
@@ -67,33 +67,33 @@ rules_of_activities :
     (joins kind.Drive (at 1 0 1 1) (at 2 1 2 1) ≡ true)
     -- no drive
     × (map (joins kind.Drive (at 1 0 1 1)) (at 3 1 2 1 ∷ at 2 1 2 2 ∷ []) ≡ false ∷ false
-        ∷ [])
+    ∷ [])
     -- drive from arrival
     × (joins kind.Drive (at 1 1 1 1) (at 2 1 2 1) ≡ false)
     -- waits and others
     × (map (joins kind.Wait (at 2 1 2 1)) (at 3 0 2 1 ∷ at 4 0 2 1 ∷ []) ≡ true
-        ∷ false ∷ [])
+    ∷ false ∷ [])
     -- of another line, at the same stop, to a departure
     × (map (joins kind.Change (at 2 1 2 1)) (at 9 0 2 2 ∷ at 9 0 2 1 ∷ at 9 0 3 2
-        ∷ at 9 1 2 2 ∷ []) ≡ true ∷ false ∷ false ∷ false ∷ [])
+    ∷ at 9 1 2 2 ∷ []) ≡ true ∷ false ∷ false ∷ false ∷ [])
     -- syncs and others
     × (map (joins kind.Sync (at 1 0 1 1)) (at 9 0 3 2 ∷ at 9 1 3 2 ∷ []) ≡ true
-        ∷ false ∷ [])
+    ∷ false ∷ [])
     -- of another stop, and an arrival
     × (map (joins kind.Headway (at 1 0 1 1)) (at 9 0 1 2 ∷ at 9 0 3 2 ∷ at 9 1 1 2 ∷ [])
-        ≡ true ∷ false ∷ false ∷ [])
+    ≡ true ∷ false ∷ false ∷ [])
     -- of the rules that a row breaks each is told, in its order
     × (input_faults (periodic_activity_input ids)
-        (codes "1; drive; 1; 2; 4; 5\n2; wait; 2; 13; 3; 1\n2; change; 2; 11; 5; 5\n4; headway; 13; 1; 0; 0\n")
-        ≡ refusal.BadRow file.ActivitiesP 2 why.UnknownEvent
-        ∷ refusal.BadRow file.ActivitiesP 2 why.BoundsCrossed
-        ∷ refusal.BadRow file.ActivitiesP 3 why.OrderGap
-        ∷ refusal.BadRow file.ActivitiesP 4 why.UnknownEvent ∷ [])
+    (codes "1; drive; 1; 2; 4; 5\n2; wait; 2; 13; 3; 1\n2; change; 2; 11; 5; 5\n4; headway; 13; 1; 0; 0\n")
+    ≡ refusal.BadRow file.ActivitiesP 2 why.UnknownEvent
+    ∷ refusal.BadRow file.ActivitiesP 2 why.BoundsCrossed
+    ∷ refusal.BadRow file.ActivitiesP 3 why.OrderGap
+    ∷ refusal.BadRow file.ActivitiesP 4 why.UnknownEvent ∷ [])
     -- time faults
     × (input_faults (periodic_time_input file.TimesP 20 (1 ∷ 2 ∷ 3 ∷ [])) (codes "1; 0\n2; 20\n4; 19\n")
-        ≡ refusal.BadRow file.TimesP 2 why.OutOfPeriod ∷ refusal.BadRow file.TimesP 3 why.OrderGap
-        ∷ refusal.BadRow file.TimesP 3 why.UnknownEvent ∷ refusal.BadRow file.TimesP 0 why.MissingEvent
-        ∷ [])
+    ≡ refusal.BadRow file.TimesP 2 why.OutOfPeriod ∷ refusal.BadRow file.TimesP 3 why.OrderGap
+    ∷ refusal.BadRow file.TimesP 3 why.UnknownEvent ∷ refusal.BadRow file.TimesP 0 why.MissingEvent
+    ∷ [])
 unfolding input_faults row_faults faults table_of cells_from cell_of values errors row_whys rows cleaned
     spelling_of value_of value_at fixed_of whole_of
 rules_of_activities = (refl, refl, refl, refl, refl, refl, refl, refl, refl)
@@ -109,10 +109,10 @@ forward_order :
     (stands_before (on 2 0 9) (on 1 1 10) ≡ true)
     -- arrivals first
     × (map (stands_before (on 2 1 10)) (on 1 0 10 ∷ on 1 1 10 ∷ on 3 1 10 ∷ []) ≡ true
-        ∷ false ∷ true ∷ [])
+    ∷ false ∷ true ∷ [])
     -- ids last
     × (map (stands_before (on 2 0 10)) (on 3 0 10 ∷ on 2 0 10 ∷ on 1 0 10 ∷ on 9 1 10 ∷ [])
-        ≡ true ∷ false ∷ false ∷ false ∷ [])
+    ≡ true ∷ false ∷ false ∷ false ∷ [])
 forward_order = (refl, refl, refl)
 
 abbrev day : List ExpandedEvent
@@ -123,18 +123,18 @@ faults_of_days :
     (goes_forward day 1 6 ≡ false)
     -- expanded faults
     × (input_faults (expanded_activity_input day)
-        (codes "1; 1; drive; 1; 2; 8; 10\n2; 1; wait; 2; 5; 0; 0\n3; 1; wait; 5; 2; 0; 0\n4; 1; wait; 2; 2; 0; 0\n5; 1; sync; 3; 1; 3; 2\n7; 1; drive; 1; 6; 8; 10\n")
-        ≡ refusal.BadRow file.ActivitiesX 3 why.Backward
-        ∷ refusal.BadRow file.ActivitiesX 4 why.Backward
-        ∷ refusal.BadRow file.ActivitiesX 5 why.BoundsCrossed
-        ∷ refusal.BadRow file.ActivitiesX 5 why.StraySync
-        ∷ refusal.BadRow file.ActivitiesX 5 why.Backward
-        ∷ refusal.BadRow file.ActivitiesX 6 why.OrderGap
-        ∷ refusal.BadRow file.ActivitiesX 6 why.UnknownEvent
-        ∷ refusal.BadRow file.ActivitiesX 6 why.Backward ∷ [])
+    (codes "1; 1; drive; 1; 2; 8; 10\n2; 1; wait; 2; 5; 0; 0\n3; 1; wait; 5; 2; 0; 0\n4; 1; wait; 2; 2; 0; 0\n5; 1; sync; 3; 1; 3; 2\n7; 1; drive; 1; 6; 8; 10\n")
+    ≡ refusal.BadRow file.ActivitiesX 3 why.Backward
+    ∷ refusal.BadRow file.ActivitiesX 4 why.Backward
+    ∷ refusal.BadRow file.ActivitiesX 5 why.BoundsCrossed
+    ∷ refusal.BadRow file.ActivitiesX 5 why.StraySync
+    ∷ refusal.BadRow file.ActivitiesX 5 why.Backward
+    ∷ refusal.BadRow file.ActivitiesX 6 why.OrderGap
+    ∷ refusal.BadRow file.ActivitiesX 6 why.UnknownEvent
+    ∷ refusal.BadRow file.ActivitiesX 6 why.Backward ∷ [])
     -- event faults
     × (input_faults expanded_event_input (codes "1; 1; departure; 0; 1\n1; 2; arrival; 10; 2\n")
-        ≡ refusal.BadRow file.EventsX 2 why.OrderGap ∷ [])
+    ≡ refusal.BadRow file.EventsX 2 why.OrderGap ∷ [])
 unfolding input_faults row_faults faults table_of cells_from cell_of values errors row_whys rows cleaned
     spelling_of value_of value_at fixed_of whole_of
 faults_of_days = (refl, refl, refl)
@@ -148,11 +148,11 @@ trip_text = codes "1; 1; 1; 0; 2; 2; 2; 4; 1\n1; 1; 1; 0; 2; 2; 2; 4; 1\n"
 faults_of_trips :
     -- trip faults
     (input_faults (trip_input (Some (pos 1 ∷ pos 2 ∷ []))) trip_text
-        ≡ refusal.BadRow file.Trips 2 why.RepeatedId ∷ refusal.BadRow file.Trips 3 why.UnknownStop
-        ∷ refusal.BadRow file.Trips 4 why.UnknownStop ∷ refusal.BadRow file.Trips 4 why.Backward ∷ [])
+    ≡ refusal.BadRow file.Trips 2 why.RepeatedId ∷ refusal.BadRow file.Trips 3 why.UnknownStop
+    ∷ refusal.BadRow file.Trips 4 why.UnknownStop ∷ refusal.BadRow file.Trips 4 why.Backward ∷ [])
     -- where the stops are not known, their rule is left out
     × (input_faults (trip_input None) trip_text
-        ≡ refusal.BadRow file.Trips 2 why.RepeatedId ∷ refusal.BadRow file.Trips 4 why.Backward ∷ [])
+    ≡ refusal.BadRow file.Trips 2 why.RepeatedId ∷ refusal.BadRow file.Trips 4 why.Backward ∷ [])
 unfolding input_faults row_faults faults table_of cells_from cell_of values errors row_whys rows cleaned
     spelling_of value_of value_at fixed_of whole_of
 faults_of_trips = (refl, refl)
@@ -165,20 +165,20 @@ schedule_faults text = input_faults (schedule_input day) text
 rules_of_rides :
     -- a trip between unknown events is refused, and one that goes backward is not
     (schedule_faults
-        (codes "1; 1; 1; TRIP; 2; 1; 1; 9; 1; 2; 2; 3; 1\n1; 1; 1; TRIP; 6; 1; 1; 9; 1; 2; 2; 3; 1\n")
-        ≡ refusal.BadRow file.Schedule 2 why.UnknownEvent ∷ [])
+    (codes "1; 1; 1; TRIP; 2; 1; 1; 9; 1; 2; 2; 3; 1\n1; 1; 1; TRIP; 6; 1; 1; 9; 1; 2; 2; 3; 1\n")
+    ≡ refusal.BadRow file.Schedule 2 why.UnknownEvent ∷ [])
     -- ends before start
     × (schedule_faults (codes "1; 1; 2; EMPTY; 2; 2; 2; 10; 3; 3; 2; 9; 0\n")
-        ≡ refusal.BadRow file.Schedule 1 why.Backward ∷ [])
+    ≡ refusal.BadRow file.Schedule 1 why.Backward ∷ [])
     -- no room
     × (schedule_faults (codes "1; 1; 2; EMPTY; 2; 2; 2; 10; 3; 3; 2; 14; 0\n")
-        ≡ refusal.BadRow file.Schedule 1 why.Backward ∷ [])
+    ≡ refusal.BadRow file.Schedule 1 why.Backward ∷ [])
     -- as many minutes as there are, whatever the times of the row are
     × (schedule_faults
-        (codes "1; 1; 2; EMPTY; 2; 2; 2; 10; 3; 3; 2; 13; 0\n1; 1; 2; EMPTY; 2; 2; 2; 77; 3; 3; 2; 80; 0\n") ≡ [])
+    (codes "1; 1; 2; EMPTY; 2; 2; 2; 10; 3; 3; 2; 13; 0\n1; 1; 2; EMPTY; 2; 2; 2; 77; 3; 3; 2; 80; 0\n") ≡ [])
     -- a departure does not stand before an arrival of the same time
     × (schedule_faults (codes "1; 1; 2; EMPTY; 5; 2; 2; 10; 2; 3; 2; 10; 0\n")
-        ≡ refusal.BadRow file.Schedule 1 why.Backward ∷ [])
+    ≡ refusal.BadRow file.Schedule 1 why.Backward ∷ [])
 unfolding input_faults row_faults faults table_of cells_from cell_of values errors row_whys rows cleaned
     spelling_of value_of value_at fixed_of whole_of
 rules_of_rides = (refl, refl, refl, refl, refl)
@@ -188,18 +188,18 @@ rules_of_rides = (refl, refl, refl, refl, refl)
 faults_of_delays :
     -- delay faults
     (input_faults (event_delay_input (1 ∷ 2 ∷ 3 ∷ 4 ∷ [])) (codes "1; 5\n5; 5\n1; 0\n")
-        ≡ refusal.BadRow file.EventDelays 2 why.UnknownEvent ∷ refusal.BadRow file.EventDelays 3 why.RepeatedId ∷ [])
+    ≡ refusal.BadRow file.EventDelays 2 why.UnknownEvent ∷ refusal.BadRow file.EventDelays 3 why.RepeatedId ∷ [])
     -- activity delay faults
     × (input_faults (activity_delay_input (1 ∷ 2 ∷ 3 ∷ [])) (codes "4; 1\n")
-        ≡ refusal.BadRow file.ActivityDelays 1 why.UnknownActivity ∷ [])
+    ≡ refusal.BadRow file.ActivityDelays 1 why.UnknownActivity ∷ [])
     -- too late
     × (input_faults (event_delay_input (1 ∷ [])) (codes "1; 1000001\n")
-        ≡ refusal.BadRow file.EventDelays 1 (why.OutOfRange 2) ∷ [])
+    ≡ refusal.BadRow file.EventDelays 1 (why.OutOfRange 2) ∷ [])
     -- disposed faults
     × (input_faults (disposed_time_input (1 ∷ 2 ∷ 3 ∷ [])) (codes "1; 5\n3; 9\n4; 9\n")
-        ≡ refusal.BadRow file.Disposed 2 why.OrderGap ∷ refusal.BadRow file.Disposed 3 why.OrderGap
-        ∷ refusal.BadRow file.Disposed 3 why.UnknownEvent
-        ∷ refusal.BadRow file.Disposed 0 why.MissingEvent ∷ [])
+    ≡ refusal.BadRow file.Disposed 2 why.OrderGap ∷ refusal.BadRow file.Disposed 3 why.OrderGap
+    ∷ refusal.BadRow file.Disposed 3 why.UnknownEvent
+    ∷ refusal.BadRow file.Disposed 0 why.MissingEvent ∷ [])
 unfolding input_faults row_faults faults table_of cells_from cell_of values errors row_whys rows cleaned
     spelling_of value_of value_at fixed_of whole_of
 faults_of_delays = (refl, refl, refl, refl)

@@ -28,22 +28,22 @@ runs_of_drives :
     (ids_of (broken_events events) ≡ [])
     -- two departures in a row, a run that begins with an arrival, and one of odd length
     × (ids_of (broken_events (on 1 0 1 1 1 ∷ on 2 0 2 1 1 ∷ on 3 0 1 1 2 ∷ on 4 1 2 1 2
-        ∷ on 5 1 2 2 1
-        ∷ on 6 0 1 3 1 ∷ [])) ≡ 2 ∷ 5 ∷ 6 ∷ [])
+    ∷ on 5 1 2 2 1
+    ∷ on 6 0 1 3 1 ∷ [])) ≡ 2 ∷ 5 ∷ 6 ∷ [])
     × (ids_of (unjoined_events events (by 1 0 1 2 4 ∷ by 2 1 2 3 1 ∷ by 3 0 3 4 6
-        ∷ by 4 0 5 6 6 ∷ [])) ≡ [])
+    ∷ by 4 0 5 6 6 ∷ [])) ≡ [])
     -- without a wait, with a wait in the place of a drive, and with two drives
     × (ids_of (unjoined_events events (by 1 0 1 2 4 ∷ by 2 1 3 4 6 ∷ by 3 0 5 6 6
-        ∷ by 4 0 5 6 6 ∷ []))
-        ≡ 2 ∷ 3 ∷ 5 ∷ [])
+    ∷ by 4 0 5 6 6 ∷ []))
+    ≡ 2 ∷ 3 ∷ 5 ∷ [])
     -- a drive that skips events, one from an arrival, one at once, a wait of another run, a change
     -- within a
     -- line and one to another stop, and a sync to an arrival; an event that is not there
     × (map (λ (at : PeriodicActivity). at.id) (stray_activities events (by 1 0 1 4 4 ∷ by 2 0 2 3 4
-        ∷ by 3 0 1 2 0 ∷ by 4 1 4 5 1 ∷ by 5 2 2 3 1 ∷ by 6 2 4 5 1 ∷ by 7 3 1 2 1 ∷ by 8 0 1 7 1 ∷ []))
-        ≡ 1 ∷ 2 ∷ 3 ∷ 4 ∷ 5 ∷ 6 ∷ 7 ∷ 8 ∷ [])
+    ∷ by 3 0 1 2 0 ∷ by 4 1 4 5 1 ∷ by 5 2 2 3 1 ∷ by 6 2 4 5 1 ∷ by 7 3 1 2 1 ∷ by 8 0 1 7 1 ∷ []))
+    ≡ 1 ∷ 2 ∷ 3 ∷ 4 ∷ 5 ∷ 6 ∷ 7 ∷ 8 ∷ [])
     -- none stray
     × (stray_activities events (by 1 0 1 2 1 ∷ by 2 1 2 3 0 ∷ by 3 2 2 5 0 ∷ by 4 3 5 1 0
-        ∷ []) ≡ [])
+    ∷ []) ≡ [])
 unfolding runs_of
 runs_of_drives = (refl, refl, refl, refl, refl, refl)

@@ -32,10 +32,10 @@ potentials_of_links :
     × (canonical three linked ≡ record { u = 2 ∷ 0 ∷ 0 ∷ []; v = 0 ∷ 0 ∷ 0 ∷ [] })
     -- all potentials 0 are short of the first pair, and then of the other, and then in all
     × (potential_faults three linked (record { u = 0 ∷ 0 ∷ 0 ∷ []; v = 0 ∷ 0 ∷ 0 ∷ [] })
-        ≡ fault.Pair 0 1 ∷ fault.Pair 0 2 ∷ fault.Sum ∷ [])
+    ≡ fault.Pair 0 1 ∷ fault.Pair 0 2 ∷ fault.Sum ∷ [])
     -- a link at a loss is not taken, and has a residual arc all the same
     × (canonical (links 2 (negsuc 1) ((0, 1) ∷ [])) (None ∷ None ∷ [])
-        ≡ record { u = 0 ∷ 0 ∷ []; v = 0 ∷ 0 ∷ [] })
+    ≡ record { u = 0 ∷ 0 ∷ []; v = 0 ∷ 0 ∷ [] })
     × (canonical (links 0 (pos 0) []) [] ≡ record { u = []; v = [] })
 unfolding canonical settled potential_faults
 potentials_of_links = (refl, refl, refl, refl, refl, refl, refl, refl)

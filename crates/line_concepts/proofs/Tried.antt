@@ -42,7 +42,7 @@ searched_and_certified :
     × (tree_faults two (pos 30000000) nodes ≡ fault.Point 6 ∷ [])
     -- a leaf is missing; the last of two points is left over; no node at all
     × (tree_faults two (pos 27000000) (node.Split 0 1 ∷ node.Bound [] ∷ [])
-        ≡ fault.Shape 2 ∷ [])
+    ≡ fault.Shape 2 ∷ [])
     -- left over
     × (tree_faults two (pos 0) (node.Bound [] ∷ node.Bound [] ∷ []) ≡ fault.Shape 0 ∷ [])
     × (tree_faults two (pos 0) [] ≡ fault.Shape 0 ∷ [])

@@ -50,7 +50,7 @@ empty_ranges :
     (empty_edge dense (root_of dense) ≡ Some (1, side.Under))
     -- where an edge is missed on both sides, too many drives are told
     × (empty_edge (record { edges = edge 1 3 0 ∷ []; lines = line 1 1 (0 ∷ []) ∷ [] })
-        (range 1 1 ∷ []) ≡ Some (0, side.Over))
+    (range 1 1 ∷ []) ≡ Some (0, side.Over))
 unfolding empty_edge
 empty_ranges = (refl, refl)
 
@@ -67,11 +67,11 @@ bounds_by_multipliers :
     × (are_within loose (range 1 1 ∷ range 0 3 ∷ []) (record { edge = 0; amount = 12000001 } ∷ []) ≡ false)
     -- a line over both edges pays for both, and what the first takes the second has no more
     × (multipliers_of
-        (record {
-          edges = edge 1 2 9 ∷ edge 2 3 9 ∷ [];
-          lines = line 1 10 (0 ∷ 1 ∷ []) ∷ line 2 7
-              (0 ∷ []) ∷ [];
-        }) (range 0 9 ∷ range 0 9 ∷ [])
-        ≡ record { edge = 0; amount = 7 } ∷ record { edge = 1; amount = 3 } ∷ [])
+    (record {
+      edges = edge 1 2 9 ∷ edge 2 3 9 ∷ [];
+      lines = line 1 10 (0 ∷ 1 ∷ []) ∷ line 2 7
+          (0 ∷ []) ∷ [];
+    }) (range 0 9 ∷ range 0 9 ∷ [])
+    ≡ record { edge = 0; amount = 7 } ∷ record { edge = 1; amount = 3 } ∷ [])
 unfolding multipliers_of bound_by
 bounds_by_multipliers = (refl, refl, refl, refl)

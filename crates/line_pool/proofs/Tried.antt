@@ -35,18 +35,18 @@ lines_read :
     -- a line over two edges, one over parallel edges, one of one edge, and one that starts at the right
     -- stop of its first edge
     (pool_of network
-        (codes "# pool\n9; 1; 2\n3; 1; 1\n3; 2; 2\n9; 2; 7\n1; 1; 3\n4; 1; 2\n4; 2; 1\n") ≡ record { id = pos 1; edges = 2 ∷ []; stops = 3 ∷ 4 ∷ []; frequency = 0 }
-        ∷ record { id = pos 3; edges = 0 ∷ 1 ∷ []; stops = 0 ∷ 1 ∷ 2 ∷ []; frequency = 0 }
-        ∷ record { id = pos 4; edges = 1 ∷ 0 ∷ []; stops = 2 ∷ 1 ∷ 0 ∷ []; frequency = 0 }
-        ∷ record { id = pos 9; edges = 1 ∷ 3 ∷ []; stops = 1 ∷ 2 ∷ 1 ∷ []; frequency = 0 }
-        ∷ [])
+    (codes "# pool\n9; 1; 2\n3; 1; 1\n3; 2; 2\n9; 2; 7\n1; 1; 3\n4; 1; 2\n4; 2; 1\n") ≡ record { id = pos 1; edges = 2 ∷ []; stops = 3 ∷ 4 ∷ []; frequency = 0 }
+    ∷ record { id = pos 3; edges = 0 ∷ 1 ∷ []; stops = 0 ∷ 1 ∷ 2 ∷ []; frequency = 0 }
+    ∷ record { id = pos 4; edges = 1 ∷ 0 ∷ []; stops = 2 ∷ 1 ∷ 0 ∷ []; frequency = 0 }
+    ∷ record { id = pos 9; edges = 1 ∷ 3 ∷ []; stops = 1 ∷ 2 ∷ 1 ∷ []; frequency = 0 }
+    ∷ [])
     × (pool_faults network (codes "# pool\n9; 1; 2\n3; 1; 1\n3; 2; 2\n9; 2; 7\n1; 1; 3\n4; 1; 2\n4; 2; 1\n") ≡ [])
     -- rows that break each rule
     × (pool_faults network (codes "1; 1; 1\n1; 3; 2\n2; 1; 8\n3; 1; 1\n3; 2; 1\n4; 1; 1\n4; 2; 3\n") ≡ refusal.BadRow file.Pool 2 why.OrderGap
-        ∷ refusal.BadRow file.Pool 3 why.UnknownEdge
-        ∷ refusal.BadRow file.Pool 5 why.RepeatedEdge
-        ∷ refusal.BadRow file.Pool 7 why.BrokenLine
-        ∷ [])
+    ∷ refusal.BadRow file.Pool 3 why.UnknownEdge
+    ∷ refusal.BadRow file.Pool 5 why.RepeatedEdge
+    ∷ refusal.BadRow file.Pool 7 why.BrokenLine
+    ∷ [])
 unfolding lines_of by_id walk_from table_of cells_from cell_of values rows cleaned spelling_of value_of
     value_at fixed_of whole_of line_faults input_faults row_faults faults errors row_whys
 lines_read = (refl, refl, refl)

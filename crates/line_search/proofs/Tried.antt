@@ -46,14 +46,14 @@ problems_read :
     -- a row for an edge that is not there, bounds that are crossed, a second row of an edge, an edge without a row; a
     -- line that is not there, a second row of a line, a line without a row
     × (problem_faults (bundle (codes "3; 100; 2; 3\n2; 40; 4; 3\n2; 1; 1; 1\n") (codes "3; 5; 15\n2; 2; 12\n2; 2; 12\n"))
-        ≡ refusal.BadRow file.Load 1 why.UnknownEdge
-        ∷ refusal.BadRow file.Load 2 why.BoundsCrossed
-        ∷ refusal.BadRow file.Load 3 why.RepeatedId
-        ∷ refusal.BadRow file.Load 0 why.MissingEdge
-        ∷ refusal.BadRow file.PoolCost 1 why.UnknownLine
-        ∷ refusal.BadRow file.PoolCost 3 why.RepeatedId
-        ∷ refusal.BadRow file.PoolCost 0 why.MissingLine
-        ∷ [])
+    ≡ refusal.BadRow file.Load 1 why.UnknownEdge
+    ∷ refusal.BadRow file.Load 2 why.BoundsCrossed
+    ∷ refusal.BadRow file.Load 3 why.RepeatedId
+    ∷ refusal.BadRow file.Load 0 why.MissingEdge
+    ∷ refusal.BadRow file.PoolCost 1 why.UnknownLine
+    ∷ refusal.BadRow file.PoolCost 3 why.RepeatedId
+    ∷ refusal.BadRow file.PoolCost 0 why.MissingLine
+    ∷ [])
 unfolding problem_of loads_of costs_of lines_of network_of stops_of by_id walk_from table_of cells_from
     cell_of values rows cleaned spelling_of value_of value_at fixed_of whole_of problem_faults line_faults
     network_faults input_faults row_faults faults errors row_whys

@@ -45,7 +45,7 @@ tensions_in problem times = map (λ activity. tension problem.period activity.lo
 tensions_of :
     -- their tensions
     (tensions_in lines their_times ≡ pos 4 ∷ pos 1 ∷ pos 6 ∷ pos 6 ∷ pos 1 ∷ pos 4
-        ∷ pos 4 ∷ pos 4 ∷ pos 16 ∷ pos 14 ∷ pos 9 ∷ pos 21 ∷ pos 3 ∷ pos 16 ∷ [])
+    ∷ pos 4 ∷ pos 4 ∷ pos 16 ∷ pos 14 ∷ pos 9 ∷ pos 21 ∷ pos 3 ∷ pos 16 ∷ [])
     -- they are kept
     × (first_broken lines their_times ≡ None)
 unfolding first_broken
@@ -80,17 +80,17 @@ texts_of_problems :
     (problem_of 10 events activities ≡ three)
     × (problem_faults events activities ≡ [])
     × (problem_faults events
-        (codes "1; drive; 1; 2; 3; 5\n3; wait; 2; 9; 2; 2\n3; sync; 3; 1; 4; 3\n")
-        ≡ refusal.BadRow file.ActivitiesP 2 why.OrderGap
-        ∷ refusal.BadRow file.ActivitiesP 2 why.UnknownEvent
-        ∷ refusal.BadRow file.ActivitiesP 3 why.BoundsCrossed
-        ∷ [])
+    (codes "1; drive; 1; 2; 3; 5\n3; wait; 2; 9; 2; 2\n3; sync; 3; 1; 4; 3\n")
+    ≡ refusal.BadRow file.ActivitiesP 2 why.OrderGap
+    ∷ refusal.BadRow file.ActivitiesP 2 why.UnknownEvent
+    ∷ refusal.BadRow file.ActivitiesP 3 why.BoundsCrossed
+    ∷ [])
     -- the faults of the events come before those of the activities
     × (problem_faults (codes "2; arrival; 1; 1; >; 1\n") (codes "1; drive; 1; 2; 5; 3\n")
-        ≡ refusal.BadRow file.EventsP 1 why.OrderGap
-        ∷ refusal.BadRow file.ActivitiesP 1 why.UnknownEvent
-        ∷ refusal.BadRow file.ActivitiesP 1 why.BoundsCrossed
-        ∷ [])
+    ≡ refusal.BadRow file.EventsP 1 why.OrderGap
+    ∷ refusal.BadRow file.ActivitiesP 1 why.UnknownEvent
+    ∷ refusal.BadRow file.ActivitiesP 1 why.BoundsCrossed
+    ∷ [])
 unfolding problem_of events_of activities_of table_of cells_from cell_of values rows cleaned spelling_of
     value_of value_at fixed_of whole_of problem_faults input_faults row_faults faults errors row_whys
 texts_of_problems = (refl, refl, refl, refl)

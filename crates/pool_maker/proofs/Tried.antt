@@ -57,7 +57,7 @@ pools_accepted :
     (pool_faults square made ≡ [])
     -- its lines
     × (map {B = ℤ × List ℕ} (λ line. (line.id, line.edges)) (pool_of square made)
-        ≡ (pos 1, 0 ∷ 1 ∷ []) ∷ (pos 2, 0 ∷ 2 ∷ []) ∷ (pos 3, 3 ∷ []) ∷ [])
+    ≡ (pos 1, 0 ∷ 1 ∷ []) ∷ (pos 2, 0 ∷ 2 ∷ []) ∷ (pos 3, 3 ∷ []) ∷ [])
 unfolding line_faults walk_from by_id input_faults row_faults faults table_of cells_from cell_of values errors
     row_whys rows cleaned spelling_of value_of value_at fixed_of whole_of lines_of
 pools_accepted = (refl, refl)

@@ -57,7 +57,7 @@ days_without_rides :
     (vehicles_stage (bundle 3 1 []) ≡ Ok (made [] [] (codes "vehicles: 0 vehicles, cost 0, optimal")))
     -- a trip that ends when it starts
     × (vehicles_stage (bundle 3 1 (codes "# trips\n1; 1; 1; 5; 2; 2; 2; 5; 1\n"))
-        ≡ Err (refusal.BadRow file.Trips 2 why.Backward))
+    ≡ Err (refusal.BadRow file.Trips 2 why.Backward))
 unfolding vehicles_stage trips_in trips_faults network_faults input_faults row_faults faults errors row_whys
     chosen_plan all_lists is_apart plan_text tour rows_behind rows_from canonical settled potentials_text
     table_text cell_text cell_texts joined digits digits_at least_sum walks_within least_of trips_of

@@ -72,7 +72,7 @@ links_and_plans :
     × (link_minutes (trips (trip 1 1 0 4 10 ∷ trip 2 1 100 2 110 ∷ []) 2 0) 0 1 ≡ None)
     × (dead_minutes network (trip 1 1 0 3 1) (trip 2 1 50 1 60) ≡ Some 10)
     × (all_plans (links_of three) ≡ (Some 1 ∷ None ∷ None ∷ []) ∷ (Some 2 ∷ None ∷ None ∷ []) ∷ (None ∷ None
-        ∷ None ∷ []) ∷ [])
+    ∷ None ∷ []) ∷ [])
     -- of two cheapest plans the one with the lesser successor
     × (chosen_plan three ≡ Some 1 ∷ None ∷ None ∷ [])
     × (plan_cost three (Some 1 ∷ None ∷ None ∷ []) ≡ 200000000)
@@ -177,76 +177,95 @@ no_table = refl
 two_trips_from_any_hand :
     -- vehicles in any order
     (slice_get (plan_faults (two 1000000) (codes "1; 1; 1; TRIP; 4; 4; 1; 30; 5; 5; 2; 40; 1\n"
-        ++ codes "2; 2; 1; TRIP; 2; 2; 1; 0; 3; 3; 2; 10; 1\n")) 0 ≡ None)
+    ++ codes "2; 2; 1; TRIP; 2; 2; 1; 0; 3; 3; 2; 10; 1\n")) 0 ≡ None)
     -- two trips without an empty run between them
     × (slice_get (plan_faults (two 1000000) (codes "1; 1; 1; TRIP; 2; 2; 1; 0; 3; 3; 2; 10; 1\n"
-        ++ codes "1; 1; 2; TRIP; 4; 4; 1; 30; 5; 5; 2; 40; 1\n")) 0 ≡ Some (fault.Trips 2))
+    ++ codes "1; 1; 2; TRIP; 4; 4; 1; 30; 5; 5; 2; 40; 1\n")) 0 ≡ Some (fault.Trips 2))
     -- the same, counted as if there were one
     × (slice_get (plan_faults (two 1000000) (codes "1; 1; 1; TRIP; 2; 2; 1; 0; 3; 3; 2; 10; 1\n"
-        ++ codes "1; 1; 3; TRIP; 4; 4; 1; 30; 5; 5; 2; 40; 1\n")) 0 ≡ Some (fault.Trips 2))
+    ++ codes "1; 1; 3; TRIP; 4; 4; 1; 30; 5; 5; 2; 40; 1\n")) 0 ≡ Some (fault.Trips 2))
     -- an empty run before the first trip
     × (slice_get (plan_faults (two 1000000) (codes "1; 1; 1; EMPTY; 3; 3; 2; 10; 4; 4; 1; 14; 0\n"
-        ++ codes "1; 1; 2; TRIP; 2; 2; 1; 0; 3; 3; 2; 10; 1\n"
-        ++ codes "2; 2; 1; TRIP; 4; 4; 1; 30; 5; 5; 2; 40; 1\n")) 0 ≡ Some (fault.Trips 1))
+    ++ codes "1; 1; 2; TRIP; 2; 2; 1; 0; 3; 3; 2; 10; 1\n"
+    ++ codes "2; 2; 1; TRIP; 4; 4; 1; 30; 5; 5; 2; 40; 1\n")) 0 ≡ Some (fault.Trips 1))
     -- an empty run behind the last trip
     × (slice_get (plan_faults (two 1000000) (codes "1; 1; 1; TRIP; 2; 2; 1; 0; 3; 3; 2; 10; 1\n"
-        ++ codes "1; 1; 2; EMPTY; 3; 3; 2; 10; 4; 4; 1; 14; 0\n"
-        ++ codes "2; 2; 1; TRIP; 4; 4; 1; 30; 5; 5; 2; 40; 1\n")) 0 ≡ Some (fault.Trips 2))
+    ++ codes "1; 1; 2; EMPTY; 3; 3; 2; 10; 4; 4; 1; 14; 0\n"
+    ++ codes "2; 2; 1; TRIP; 4; 4; 1; 30; 5; 5; 2; 40; 1\n")) 0 ≡ Some (fault.Trips 2))
     -- an empty run at the end of the text
     × (slice_get (plan_faults (two 1000000) (codes "1; 1; 1; TRIP; 4; 4; 1; 30; 5; 5; 2; 40; 1\n"
-        ++ codes "2; 2; 1; TRIP; 2; 2; 1; 0; 3; 3; 2; 10; 1\n"
-        ++ codes "2; 2; 2; EMPTY; 3; 3; 2; 10; 4; 4; 1; 14; 0\n")) 0 ≡ Some (fault.Trips 3))
+    ++ codes "2; 2; 1; TRIP; 2; 2; 1; 0; 3; 3; 2; 10; 1\n"
+    ++ codes "2; 2; 2; EMPTY; 3; 3; 2; 10; 4; 4; 1; 14; 0\n")) 0 ≡ Some (fault.Trips 3))
     -- two empty runs
     × (slice_get (plan_faults (two 1000000) (codes "1; 1; 1; TRIP; 2; 2; 1; 0; 3; 3; 2; 10; 1\n"
-        ++ codes "1; 1; 2; EMPTY; 3; 3; 2; 10; 4; 4; 1; 14; 0\n"
-        ++ codes "1; 1; 3; EMPTY; 3; 3; 2; 10; 4; 4; 1; 14; 0\n"
-        ++ codes "1; 1; 4; TRIP; 4; 4; 1; 30; 5; 5; 2; 40; 1\n")) 0 ≡ Some (fault.Trips 2))
+    ++ codes "1; 1; 2; EMPTY; 3; 3; 2; 10; 4; 4; 1; 14; 0\n"
+    ++ codes "1; 1; 3; EMPTY; 3; 3; 2; 10; 4; 4; 1; 14; 0\n"
+    ++ codes "1; 1; 4; TRIP; 4; 4; 1; 30; 5; 5; 2; 40; 1\n")) 0 ≡ Some (fault.Trips 2))
     -- a vehicle is left out
     × (slice_get (plan_faults (two 1000000) (codes "1; 1; 1; TRIP; 2; 2; 1; 0; 3; 3; 2; 10; 1\n"
-        ++ codes "3; 3; 1; TRIP; 4; 4; 1; 30; 5; 5; 2; 40; 1\n")) 0 ≡ Some (fault.Trips 2))
+    ++ codes "3; 3; 1; TRIP; 4; 4; 1; 30; 5; 5; 2; 40; 1\n")) 0 ≡ Some (fault.Trips 2))
     -- a circulation that is not the vehicle
     × (slice_get (plan_faults (two 1000000) (codes "2; 1; 1; TRIP; 2; 2; 1; 0; 3; 3; 2; 10; 1\n"
-        ++ codes "2; 2; 1; TRIP; 4; 4; 1; 30; 5; 5; 2; 40; 1\n")) 0 ≡ Some (fault.Trips 1))
+    ++ codes "2; 2; 1; TRIP; 4; 4; 1; 30; 5; 5; 2; 40; 1\n")) 0 ≡ Some (fault.Trips 1))
     -- an empty run of other minutes
     × (slice_get (plan_faults (two 1000000) (codes "1; 1; 1; TRIP; 2; 2; 1; 0; 3; 3; 2; 10; 1\n"
-        ++ codes "1; 1; 2; EMPTY; 3; 3; 2; 10; 4; 4; 1; 15; 0\n"
-        ++ codes "1; 1; 3; TRIP; 4; 4; 1; 30; 5; 5; 2; 40; 1\n")) 0 ≡ Some (fault.Trips 2))
+    ++ codes "1; 1; 2; EMPTY; 3; 3; 2; 10; 4; 4; 1; 15; 0\n"
+    ++ codes "1; 1; 3; TRIP; 4; 4; 1; 30; 5; 5; 2; 40; 1\n")) 0 ≡ Some (fault.Trips 2))
     -- an empty run of a line
     × (slice_get (plan_faults (two 1000000) (codes "1; 1; 1; TRIP; 2; 2; 1; 0; 3; 3; 2; 10; 1\n"
-        ++ codes "1; 1; 2; EMPTY; 3; 3; 2; 10; 4; 4; 1; 14; 1\n"
-        ++ codes "1; 1; 3; TRIP; 4; 4; 1; 30; 5; 5; 2; 40; 1\n")) 0 ≡ Some (fault.Trips 2))
+    ++ codes "1; 1; 2; EMPTY; 3; 3; 2; 10; 4; 4; 1; 14; 1\n"
+    ++ codes "1; 1; 3; TRIP; 4; 4; 1; 30; 5; 5; 2; 40; 1\n")) 0 ≡ Some (fault.Trips 2))
     -- an empty run that begins elsewhere
     × (slice_get (plan_faults (two 1000000) (codes "1; 1; 1; TRIP; 2; 2; 1; 0; 3; 3; 2; 10; 1\n"
-        ++ codes "1; 1; 2; EMPTY; 3; 3; 1; 10; 4; 4; 1; 14; 0\n"
-        ++ codes "1; 1; 3; TRIP; 4; 4; 1; 30; 5; 5; 2; 40; 1\n")) 0 ≡ Some (fault.Trips 2))
+    ++ codes "1; 1; 2; EMPTY; 3; 3; 1; 10; 4; 4; 1; 14; 0\n"
+    ++ codes "1; 1; 3; TRIP; 4; 4; 1; 30; 5; 5; 2; 40; 1\n")) 0 ≡ Some (fault.Trips 2))
     -- a row that repeats no trip; the end of the empty run before it is not looked at
     × (slice_get (plan_faults (two 1000000) (codes "1; 1; 1; TRIP; 2; 2; 1; 0; 3; 3; 2; 10; 1\n"
-        ++ codes "1; 1; 2; EMPTY; 3; 3; 2; 10; 4; 4; 1; 77; 0\n"
-        ++ codes "1; 1; 3; TRIP; 4; 4; 1; 31; 5; 5; 2; 40; 1\n")) 0 ≡ Some (fault.Trips 3))
+    ++ codes "1; 1; 2; EMPTY; 3; 3; 2; 10; 4; 4; 1; 77; 0\n"
+    ++ codes "1; 1; 3; TRIP; 4; 4; 1; 31; 5; 5; 2; 40; 1\n")) 0 ≡ Some (fault.Trips 3))
     -- a trip that has come before
     × (slice_get (plan_faults (two 1000000) (codes "1; 1; 1; TRIP; 2; 2; 1; 0; 3; 3; 2; 10; 1\n"
-        ++ codes "2; 2; 1; TRIP; 2; 2; 1; 0; 3; 3; 2; 10; 1\n"
-        ++ codes "3; 3; 1; TRIP; 4; 4; 1; 30; 5; 5; 2; 40; 1\n")) 0 ≡ Some (fault.Trips 2))
+    ++ codes "2; 2; 1; TRIP; 2; 2; 1; 0; 3; 3; 2; 10; 1\n"
+    ++ codes "3; 3; 1; TRIP; 4; 4; 1; 30; 5; 5; 2; 40; 1\n")) 0 ≡ Some (fault.Trips 2))
     -- a trip without a row
     × (slice_get (plan_faults (two 1000000) (codes "1; 1; 1; TRIP; 2; 2; 1; 0; 3; 3; 2; 10; 1\n")) 0 ≡ Some
-        (fault.Trips 0))
+    (fault.Trips 0))
     -- a link that may not follow
     × (slice_get (plan_faults (two 1000000) (codes "1; 1; 1; TRIP; 4; 4; 1; 30; 5; 5; 2; 40; 1\n"
-        ++ codes "1; 1; 2; EMPTY; 5; 5; 2; 40; 2; 2; 1; 44; 0\n"
-        ++ codes "1; 1; 3; TRIP; 2; 2; 1; 0; 3; 3; 2; 10; 1\n")) 0 ≡ Some (fault.Follow 0))
+    ++ codes "1; 1; 2; EMPTY; 5; 5; 2; 40; 2; 2; 1; 44; 0\n"
+    ++ codes "1; 1; 3; TRIP; 2; 2; 1; 0; 3; 3; 2; 10; 1\n")) 0 ≡ Some (fault.Follow 0))
     -- a break of form comes before it
     × (slice_get (plan_faults (two 1000000) (codes "1; 1; 1; TRIP; 4; 4; 1; 30; 5; 5; 2; 40; 1\n"
-        ++ codes "1; 1; 2; EMPTY; 5; 5; 2; 40; 2; 2; 1; 44; 0\n"
-        ++ codes "1; 1; 3; TRIP; 2; 2; 1; 0; 3; 3; 2; 10; 1\n"
-        ++ codes "1; 1; 4; TRIP; 2; 2; 1; 0; 3; 3; 2; 10; 1\n")) 0 ≡ Some (fault.Trips 4))
+    ++ codes "1; 1; 2; EMPTY; 5; 5; 2; 40; 2; 2; 1; 44; 0\n"
+    ++ codes "1; 1; 3; TRIP; 2; 2; 1; 0; 3; 3; 2; 10; 1\n"
+    ++ codes "1; 1; 4; TRIP; 2; 2; 1; 0; 3; 3; 2; 10; 1\n")) 0 ≡ Some (fault.Trips 4))
     -- rows are numbered as in the text
     × (slice_get (plan_faults (two 1000000) (codes "# a comment\n"
-        ++ codes "1; 1; 1; TRIP; 2; 2; 1; 0; 3; 3; 2; 10; 1\n"
-        ++ codes "1; 1; 2; TRIP; 4; 4; 1; 30; 5; 5; 2; 40; 1\n")) 0 ≡ Some (fault.Trips 3))
+    ++ codes "1; 1; 1; TRIP; 2; 2; 1; 0; 3; 3; 2; 10; 1\n"
+    ++ codes "1; 1; 2; TRIP; 4; 4; 1; 30; 5; 5; 2; 40; 1\n")) 0 ≡ Some (fault.Trips 3))
     -- a link between two stops that no walk joins: its minutes are not looked at
     × (plan_faults (trips (trip 1 1 0 4 10 ∷ trip 2 1 30 2 40 ∷ []) 2 0)
-        (codes "1; 1; 1; TRIP; 2; 2; 1; 0; 3; 3; 4; 10; 1\n1; 1; 2; EMPTY; 3; 3; 4; 10; 4; 4; 1; 99; 0\n"
-        ++ codes "1; 1; 3; TRIP; 4; 4; 1; 30; 5; 5; 2; 40; 1\n") ≡ fault.Follow 1 ∷ [])
+    (codes "1; 1; 1; TRIP; 2; 2; 1; 0; 3; 3; 4; 10; 1\n1; 1; 2; EMPTY; 3; 3; 4; 10; 4; 4; 1; 99; 0\n"
+    ++ codes "1; 1; 3; TRIP; 4; 4; 1; 30; 5; 5; 2; 40; 1\n") ≡ fault.Follow 1 ∷ [])
 unfolding on_rows
-two_trips_from_any_hand = (refl, refl, refl, refl, refl, refl, refl, refl, refl, refl, refl, refl, refl, refl,
-    refl, refl, refl, refl, refl)
+two_trips_from_any_hand = (
+  refl,
+  refl,
+  refl,
+  refl,
+  refl,
+  refl,
+  refl,
+  refl,
+  refl,
+  refl,
+  refl,
+  refl,
+  refl,
+  refl,
+  refl,
+  refl,
+  refl,
+  refl,
+  refl,
+)

@@ -22,11 +22,11 @@ four = (0 ∷ 3 ∷ []) ∷ (2 ∷ 1 ∷ []) ∷ (4 ∷ 7 ∷ []) ∷ (6 ∷ 5 �
 rows_of_schedules :
     (map (as_told eight) (records_by schedule_row (table_of schedule_columns schedule)) ≡ rows_from eight 1 four)
     × (map (λ i. length (filter (nat_eq i) (concat four))) (range_with_len 0 8)
-        ≡ 1 ∷ 1 ∷ 1 ∷ 1 ∷ 1 ∷ 1 ∷ 1 ∷ 1 ∷ [])
+    ≡ 1 ∷ 1 ∷ 1 ∷ 1 ∷ 1 ∷ 1 ∷ 1 ∷ 1 ∷ [])
     -- vehicles in any order
     × (map (as_told (two 1000000)) (records_by schedule_row (table_of schedule_columns
-        (codes "1; 1; 1; TRIP; 4; 4; 1; 30; 5; 5; 2; 40; 1\n" ++ codes "2; 2; 1; TRIP; 2; 2; 1; 0; 3; 3; 2; 10; 1\n")))
-        ≡ rows_from (two 1000000) 1 ((1 ∷ []) ∷ (0 ∷ []) ∷ []))
+    (codes "1; 1; 1; TRIP; 4; 4; 1; 30; 5; 5; 2; 40; 1\n" ++ codes "2; 2; 1; TRIP; 2; 2; 1; 0; 3; 3; 2; 10; 1\n")))
+    ≡ rows_from (two 1000000) 1 ((1 ∷ []) ∷ (0 ∷ []) ∷ []))
 unfolding rows_behind rows_from least_sum walks_within least_of trips_of network_of stops_of by_id table_of
     cells_from cell_of values rows cleaned spelling_of value_of value_at fixed_of whole_of
 rows_of_schedules = (refl, refl, refl)
@@ -37,14 +37,14 @@ nowhere = trips (trip 1 1 0 4 10 ∷ trip 2 1 30 2 40 ∷ []) 2 0
 
 walks_looked_at :
     (map (as_told nowhere) (records_by schedule_row (table_of schedule_columns
-        (codes "1; 1; 1; TRIP; 2; 2; 1; 0; 3; 3; 4; 10; 1\n1; 1; 2; EMPTY; 3; 3; 4; 10; 4; 4; 1; 99; 0\n"
-        ++ codes "1; 1; 3; TRIP; 4; 4; 1; 30; 5; 5; 2; 40; 1\n")))
-        ≡ rows_from nowhere 1 ((0 ∷ 1 ∷ []) ∷ []))
+    (codes "1; 1; 1; TRIP; 2; 2; 1; 0; 3; 3; 4; 10; 1\n1; 1; 2; EMPTY; 3; 3; 4; 10; 4; 4; 1; 99; 0\n"
+    ++ codes "1; 1; 3; TRIP; 4; 4; 1; 30; 5; 5; 2; 40; 1\n")))
+    ≡ rows_from nowhere 1 ((0 ∷ 1 ∷ []) ∷ []))
     -- where a walk joins them, it is told as it stands: here a minute too late
     × (slice_get (map (λ row. row.run.end.time) (map (as_told (two 1000000)) (records_by schedule_row
-        (table_of schedule_columns (codes "1; 1; 1; TRIP; 2; 2; 1; 0; 3; 3; 2; 10; 1\n"
-        ++ codes "1; 1; 2; EMPTY; 3; 3; 2; 10; 4; 4; 1; 15; 0\n"
-        ++ codes "1; 1; 3; TRIP; 4; 4; 1; 30; 5; 5; 2; 40; 1\n"))))) 1 ≡ Some 15)
+    (table_of schedule_columns (codes "1; 1; 1; TRIP; 2; 2; 1; 0; 3; 3; 2; 10; 1\n"
+    ++ codes "1; 1; 2; EMPTY; 3; 3; 2; 10; 4; 4; 1; 15; 0\n"
+    ++ codes "1; 1; 3; TRIP; 4; 4; 1; 30; 5; 5; 2; 40; 1\n"))))) 1 ≡ Some 15)
 unfolding nowhere rows_behind rows_from least_sum walks_within least_of table_of cells_from cell_of values
     rows cleaned spelling_of value_of value_at fixed_of whole_of
 walks_looked_at = (refl, refl)
