@@ -1,10 +1,6 @@
 // The table of a line concept.
 ghost use Rattle.std.specs.Prelude.{◌≡◌, ◌<◌, ◌+◌, ◌∷◌, ◌++◌, [], length, slice_get};
-ghost use Rattle.std.specs.Prelude.{slice_index_or};
 ghost use Rattle.std.specs.Prelude.{nat_eq, option_map, Some, IfOk, OnOk};
-ghost use Rattle.std.specs.Ordering.{int_eq};
-ghost use lib.Pointwise.{pointwise};
-ghost use Rattle.tables.specs.Tables.{cell_at, no_row};
 ghost use Rattle.line_search.specs.ConceptTables.{concept_rows, line_rows, row_at, row_count};
 ghost use Rattle.line_search.specs.Judged.{same_cells};
 
@@ -90,34 +86,9 @@ pub(crate) fn have_same_cells(table: &Table<4>, other: &Table<4>) -> bool
         return false;
     }
     for row in 0..table.len() {
-        if !is_same_row(table, other, row) {
+        if table.row(row) != other.row(row) {
             return false;
         }
     }
     true
-}
-
-// Whether two tables have the same cells in a row.
-fn is_same_row(table: &Table<4>, other: &Table<4>, row: usize) -> bool
-    requires table { row < length table.now }
-    requires other { row < length other.now }
-    ensures { result ≡ pointwise int_eq (slice_index_or table.now row no_row).cells
-        (slice_index_or other.now row no_row).cells }
-{
-    let _rows = table.len();
-    let _others = other.len();
-    is_same_cell(table, other, row, 0)
-        && is_same_cell(table, other, row, 1)
-        && is_same_cell(table, other, row, 2)
-        && is_same_cell(table, other, row, 3)
-}
-
-// Whether two tables have the same cell in a row and a column.
-fn is_same_cell(table: &Table<4>, other: &Table<4>, row: usize, column: usize) -> bool
-    requires table { row < length table.now }
-    requires other { row < length other.now }
-    requires column { column < 4 }
-    ensures { result ≡ int_eq (cell_at table.now row column) (cell_at other.now row column) }
-{
-    table.cell(row, column) == other.cell(row, column)
 }

@@ -2,7 +2,7 @@
 ghost use Rattle.std.specs.Prelude.{◌≡◌, ◌<◌, length, map, take, slice_index_or, IfOk, OnOk};
 ghost use Rattle.std.specs.Ordering.{int_eq};
 ghost use lib.Pointwise.{pointwise};
-ghost use Rattle.tables.specs.Tables.{cell_at, no_row};
+ghost use Rattle.tables.specs.Tables.{no_row};
 ghost use Rattle.line_search.specs.ConceptTables.{concept_rows};
 ghost use Rattle.line_search.specs.PinnedConcepts.{by_lines, places_of};
 ghost use Rattle.line_search.specs.PoolPlaces.{cells_of, grouped, placed, plain_rows};
@@ -103,17 +103,8 @@ fn is_same_place(at: &PlacedEdge, table: &Table<4>, row: usize) -> bool
     ensures { result ≡ pointwise int_eq (cells_of at.now)
         (take 3 (slice_index_or table.now row no_row).cells) }
 {
-    let _rows = table.len();
-    is_cell(at.line, table, row, 0)
-        && is_cell(at.order, table, row, 1)
-        && is_cell(at.edge, table, row, 2)
-}
-
-// Whether a table has a cell in a row and a column.
-fn is_cell(cell: i64, table: &Table<4>, row: usize, column: usize) -> bool
-    requires table { row < length table.now }
-    requires column { column < 4 }
-    ensures { result ≡ int_eq cell (cell_at table.now row column) }
-{
-    cell == table.cell(row, column)
+    match table.row(row) {
+        [line, order, edge, ..] => { at.line == *line && at.order == *order && at.edge == *edge }
+        _ => false,
+    }
 }

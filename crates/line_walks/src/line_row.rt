@@ -36,9 +36,8 @@ fn cell_or_zero<const C: usize>(table: &Table<C>, row: usize, column: usize) -> 
     requires { row < length table.now }
     ensures { result ≡ cell_at table.now row column }
 {
-    if column < C {
-        return table.cell(row, column);
+    match table.row(row).get(column) {
+        Some(cell) => *cell,
+        None => 0,
     }
-    let _rows = table.len();
-    0
 }

@@ -8,6 +8,7 @@ ghost use Rattle.pesp.specs.Marks.{IsSettled, sets_of};
 ghost use Rattle.pesp.specs.Revising.{IsReady};
 ghost use Rattle.pesp.specs.SearchEnds.{CountsEntries, EndIsRight, EndsAs};
 ghost use Rattle.pesp.specs.Searches.{AreFirst, Branches, TakesEntry};
+ghost use Rattle.pesp.specs.Timetables.{IsProblem};
 
 use crate::children::{keep_time, next_child};
 use crate::flags::EventFlags;
@@ -59,7 +60,6 @@ pub fn search_times<L: Ledger>(
     ensures steps { CountsEntries (entries_listed budget (listing pesp.now)) steps.old steps.new
         result }
 {
-    let _ = pesp.event_count();
     listed_times(alloc, pesp, budget, steps)
 }
 
@@ -70,14 +70,16 @@ fn listed_times<L: Ledger>(
     budget: u64,
     steps: &mut Steps<L>,
 ) -> Result<SearchEnd, NoMemory>
+    ensures problem { IsProblem pesp.now }
     ensures found { IfOk result (EndsAs budget (listing pesp.now)) }
     ensures steps { CountsEntries (entries_listed budget (listing pesp.now)) steps.old steps.new
         result }
 {
+    let events = pesp.event_count();
     let period = pesp.period();
     let mut sets = first_sets(alloc, pesp, period)?;
     let graph = ConstraintGraph::new(alloc, pesp, period as usize)?;
-    let mut changed = EventFlags::all(alloc, pesp.event_count())?;
+    let mut changed = EventFlags::all(alloc, events)?;
     let mut from = 0;
     for entry in 0..budget {
         steps.tick();

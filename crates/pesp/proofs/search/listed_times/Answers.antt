@@ -29,6 +29,7 @@ returns-in-Found g c =
     (Some c.in-Found.times.items) c.loop-entry.invariant.searched c.loop-entry-test.true taken in
     let listed = ended.3 in
     record {
+      problem = c.event_count-events.ensures.problem;
       found = (ended.0, ended.1, ended.2);
       steps = omega (arith, c.tick.ensures, c.loop-entry.invariant.steps, listed);
     }
@@ -43,6 +44,7 @@ returns-in-Last g c =
     None c.loop-entry.invariant.searched c.loop-entry-test.true taken in
     let listed = ended.3 in
     record {
+      problem = c.event_count-events.ensures.problem;
       found = (ended.0, ended.1);
       steps = omega (arith, c.tick.ensures, c.loop-entry.invariant.steps, listed);
     }
@@ -56,6 +58,7 @@ returns g c =
     c.loop-entry.invariant.searched) in
     let listed = ended.1 in
     record {
+      problem = c.event_count-events.ensures.problem;
       found = ended.0;
       steps = omega (arith, c.loop-entry.invariant.steps, listed, spent);
     }
@@ -64,14 +67,14 @@ pub loop-entry-init : goal.loop-entry-init
 loop-entry-init g c = record {
   searched = search_begun c.args.pesp.now c.in_ok-sets.sets c.in_ok-sets.ensures;
   ready = all_ready c.args.pesp.now c.in_ok-sets.sets c.in_ok-changed.changed
-      c.event_count.ensures.problem (c.in_ok-changed.ensures.events ∙ c.event_count.ensures.count)
+      c.event_count-events.ensures.problem (c.in_ok-changed.ensures.events ∙ c.event_count-events.ensures.count)
       (λ event low. c.in_ok-changed.ensures.all event (omega (
         arith,
         low,
-        c.event_count.ensures.count,
+        c.event_count-events.ensures.count,
       )))
       c.in_ok-sets.ensures.saved
-      (first_full c.in_ok-sets.sets.sets _ _ c.event_count.ensures.problem.some
+      (first_full c.in_ok-sets.sets.sets _ _ c.event_count-events.ensures.problem.some
       c.in_ok-sets.ensures.first);
   settled = λ event low. absurd (omega (arith, low));
   steps = omega arith;

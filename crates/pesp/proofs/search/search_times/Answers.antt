@@ -4,11 +4,11 @@ use Rattle.pesp.proofs.search.search_times.Goals as goal
 
 pub returns-clause-right : goal.returns-clause-right
 returns-clause-right g c =
-    result_right c.args.pesp.now c.args.budget c.event_count.ensures.problem c.listed_times.result
+    result_right c.args.pesp.now c.args.budget c.listed_times.ensures.problem c.listed_times.result
     c.listed_times.ensures.found
 
 pub returns-clause-finds : goal.returns-clause-finds
-returns-clause-finds g c = listing_right c.args.pesp.now c.event_count.ensures.problem
+returns-clause-finds g c = listing_right c.args.pesp.now c.listed_times.ensures.problem
 
 pub returns-clause-listed : goal.returns-clause-listed
 returns-clause-listed g c = listing_whole c.args.pesp.now
