@@ -3,8 +3,7 @@ use Rattle.std.proofs.Common.{◌≡◌, ℕ, ◌+◌, ◌%◌, ◌<◌, ◌≤�
 use Rattle.std.proofs.Common.{MatchBool, refl, ap, sym, ◌∙◌, subst, arith, eqb-true, eq-eqb}
 use Rattle.std.proofs.lemmas.Bool.{and_from, false≢true, le-ltb, ne_eqb}
 use Rattle.bit_rows.specs.Bits.{Bits, has, has_bit, word_of}
-use Rattle.link_plans.proofs.Certified.{by_bound}
-use Rattle.link_plans.proofs.Linking.{by_number}
+use Rattle.link_plans.proofs.Common.{by_bound, by_number}
 use Rattle.assignment.specs.ClaimablePlaces.{IsInRow, IsPut, IsRowOf}
 use Rattle.plan_num.proofs.Tests.{and_false}
 

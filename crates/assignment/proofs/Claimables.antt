@@ -1,18 +1,12 @@
 -- The places that can be claimed, as they are claimed, put back, and taken out.
-use Rattle.std.proofs.Common.{◌≡◌, ◌≢◌, ℕ, ◌+◌, ◌<◌, ◌≤◌, true, false, is_some, Contains, List}
-use Rattle.std.proofs.Common.{length, Option, Some, None, ap, sym, ◌∙◌, subst, arith}
-use Rattle.std.proofs.Common.{get_or-set_same, get_or-set_other, inl, inr}
-use Rattle.std.proofs.lemmas.Bool.{cases_Bool, false≢true}
-use Rattle.std.proofs.lemmas.Grind.{get_or_default_zero}
-use Rattle.std.proofs.lemmas.List.Kept.{AllPairs-from_increasing}
-use Rattle.std.proofs.lemmas.List.Elements.{Contains-get_or}
-use Rattle.std.proofs.lemmas.Option.{slice_get_within}
+use Rattle.plan_num.proofs.Common.{◌≡◌, ◌≢◌, ℕ, ◌+◌, ◌<◌, ◌≤◌, true, false, is_some, Contains, List}
+use Rattle.plan_num.proofs.Common.{length, Option, Some, None, ap, sym, ◌∙◌, subst, arith}
+use Rattle.plan_num.proofs.Common.{get_or-set_same, get_or-set_other, inl, inr, cases_Bool}
+use Rattle.plan_num.proofs.Common.{false≢true, get_or_default_zero, AllPairs-from_increasing}
+use Rattle.plan_num.proofs.Common.{Contains-get_or, slice_get_within}
 use Rattle.bit_rows.proofs.CommonColumns.{common_all, common_rise, common_sound}
 use Rattle.bit_rows.specs.Bits.{Bits, common, has}
-use Rattle.link_plans.specs.Potentials.{at}
-use Rattle.link_plans.proofs.Linking.{some_of}
-use Rattle.link_plans.proofs.Linking.{by_number}
-use Rattle.link_plans.specs.Plans.{next}
+use Rattle.link_plans.proofs.Common.{at, some_of, by_number, next}
 use Rattle.plan_search.specs.declared.claim.Claim.{Claim}
 use Rattle.assignment.specs.Choices.{AgreeBefore, ArePlaces, AreRight, IsUndecided}
 use Rattle.assignment.specs.ClaimablePlaces.{AreClaimable, ArePutBack, IsPut, IsTakenOut}

@@ -1,12 +1,10 @@
 -- What one more claim leaves, and what is claimed where places are expanded.
-use Rattle.std.proofs.Common.{◌≡◌, ◌≢◌, ℕ, zero, suc, ◌+◌, ◌<◌, true, is_some, List, [], ◌∷◌, ◌++◌}
-use Rattle.std.proofs.Common.{length, slice_set, slice_get, Option, Some, None, refl, ap, sym, ◌∙◌}
-use Rattle.std.proofs.Common.{subst, arith, length-append}
-use Rattle.std.proofs.lemmas.List.{length-set, get_or-set_same, get_or-set_other}
-use Rattle.std.proofs.lemmas.Option.{none-some, same_Some}
-use Rattle.link_plans.proofs.Linking.{by_number}
+use Rattle.plan_num.proofs.Common.{◌≡◌, ◌≢◌, ℕ, zero, suc, ◌+◌, ◌<◌, true, is_some, List, [], ◌∷◌}
+use Rattle.plan_num.proofs.Common.{◌++◌, length, slice_set, slice_get, Option, Some, None, refl, ap}
+use Rattle.plan_num.proofs.Common.{sym, ◌∙◌, subst, arith, length-append, length-set}
+use Rattle.plan_num.proofs.Common.{get_or-set_same, get_or-set_other, none-some, same_Some}
+use Rattle.link_plans.proofs.Common.{by_number, at}
 use Rattle.bit_rows.specs.Bits.{Bits}
-use Rattle.link_plans.specs.Potentials.{at}
 use Rattle.plan_search.specs.declared.claim.Claim.{Claim}
 use Rattle.assignment.specs.ClaimablePlaces.{AreClaimable}
 use Rattle.plan_search.specs.Claims.{ClaimsParts, claim_at}

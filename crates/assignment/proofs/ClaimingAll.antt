@@ -2,13 +2,10 @@
 use Rattle.std.proofs.Common.{◌≡◌, ◌≢◌, ℕ, ◌+◌, ◌<◌, ◌≤◌, true, false, List, length, Option, Some}
 use Rattle.std.proofs.Common.{None, IfSome, refl, ap, sym, ◌∙◌, subst, arith}
 use Rattle.std.proofs.lemmas.Option.{none-some, same_Some, slice_get_within}
-use Rattle.link_plans.proofs.Linking.{some_of}
-use Rattle.link_plans.proofs.Linking.{by_number}
-use Rattle.link_plans.specs.Potentials.{at}
+use Rattle.link_plans.proofs.Common.{some_of, by_number, at, place_of}
 use Rattle.plan_search.specs.declared.claim.Claim.{Claim}
 use Rattle.plan_search.specs.Claims.{ClaimsParts, claim_at}
 use Rattle.assignment.specs.ClaimablePlaces.{AreClaimable, AreTies, IsPut, IsRowOf}
-use Rattle.link_plans.specs.Places.{place_of}
 use Rattle.plan_search.specs.Searches.{Search, IsTightBy, IsLeft, IsClaim}
 use Rattle.assignment.specs.Choices.{ArePlaces, IsUndecided, is_claimed, AllClaimed, AreRight, AreMore, AreOthers}
 use Rattle.bit_rows.specs.Bits.{Bits, has}

@@ -1,22 +1,14 @@
 -- Potentials that are shifted along a closed set of places: where a trip's own place is outside and
 -- another one inside, no tight plan that agrees with this one on what is decided gives it the other
 -- one.
-use Rattle.std.proofs.Common.{◌≡◌, ℕ, ℤ, pos, ◌+◌, ◌-◌, ◌<◌, ◌≤◌, nat_lt, Bool, true, false, List}
-use Rattle.std.proofs.Common.{sum, Option, Some, None, unwrap_or, refl, ap, sym, ◌∙◌, arith}
-use Rattle.std.proofs.lemmas.Bool.{lt-ltb, le-ltb}
-use Rattle.std.proofs.lemmas.Int.{ints}
-use Rattle.std.proofs.lemmas.List.{get_or_past}
-use Rattle.link_plans.specs.Links.{Links}
-use Rattle.link_plans.specs.Plans.{next, is_next, IsPlan}
-use Rattle.link_plans.proofs.Linking.{by_number, not_next, never_next}
-use Rattle.link_plans.proofs.Totals.{gains_from}
-use Rattle.link_plans.specs.Potentials.{PotentialParts, at, AreOver, IsTight}
-use Rattle.link_plans.proofs.Certified.{by_bound}
-use Rattle.link_plans.proofs.TightGains.{AreCovering, AreTight, tight_gains, then_tight}
+use Rattle.plan_num.proofs.Common.{◌≡◌, ℕ, ℤ, pos, ◌+◌, ◌-◌, ◌<◌, ◌≤◌, nat_lt, Bool, true, false}
+use Rattle.plan_num.proofs.Common.{List, sum, Option, Some, None, unwrap_or, refl, ap, sym, ◌∙◌}
+use Rattle.plan_num.proofs.Common.{arith, lt-ltb, le-ltb, ints, get_or_past}
+use Rattle.link_plans.proofs.Common.{Links, next, is_next, IsPlan, by_number, not_next, never_next}
+use Rattle.link_plans.proofs.Common.{gains_from, PotentialParts, at, AreOver, IsTight, by_bound}
+use Rattle.link_plans.proofs.Common.{AreCovering, AreTight, tight_gains, then_tight, place_of}
+use Rattle.link_plans.proofs.Common.{has_next, values, values_at, values_size, values_past}
 use Rattle.plan_search.specs.Searches.{IsTightAt}
-use Rattle.link_plans.specs.Places.{place_of}
-use Rattle.link_plans.proofs.Moves.{has_next}
-use Rattle.link_plans.proofs.Values.{values, values_at, values_size, values_past}
 use Rattle.assignment.specs.Choices.{IsUndecided, AgreeBefore, AreWithin}
 
 -- a set of places, as 1 for each of them: with the place of an undecided trip it has all undecided

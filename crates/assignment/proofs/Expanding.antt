@@ -1,21 +1,14 @@
 -- Claimed places are expanded, one after another.
-use Rattle.std.proofs.Common.{◌≡◌, ℕ, ◌+◌, ◌<◌, ◌≤◌, true, false, is_some, List, length, slice_get}
-use Rattle.std.proofs.Common.{Option, Some, None, Result, Ok, Err, OnOk, refl, ap, sym, ◌∙◌, subst}
-use Rattle.std.proofs.Common.{arith}
-use Rattle.std.proofs.lemmas.Bool.{false≢true}
-use Rattle.std.proofs.lemmas.List.{get_or_past}
-use Rattle.std.proofs.lemmas.Option.{same_Some, slice_get_within, slice_get-get_or}
-use Rattle.link_plans.specs.Plans.{next, is_next}
-use Rattle.link_plans.proofs.Linking.{some_of}
-use Rattle.link_plans.proofs.Linking.{by_number, not_next}
-use Rattle.link_plans.specs.Potentials.{at}
-use Rattle.link_plans.proofs.Certified.{by_bound}
+use Rattle.plan_num.proofs.Common.{◌≡◌, ℕ, ◌+◌, ◌<◌, ◌≤◌, true, false, is_some, List, length}
+use Rattle.plan_num.proofs.Common.{slice_get, Option, Some, None, Result, Ok, Err, OnOk, refl, ap}
+use Rattle.plan_num.proofs.Common.{sym, ◌∙◌, subst, arith, false≢true, get_or_past, same_Some}
+use Rattle.plan_num.proofs.Common.{slice_get_within, slice_get-get_or}
+use Rattle.link_plans.proofs.Common.{next, is_next, some_of, by_number, not_next, at, by_bound}
+use Rattle.link_plans.proofs.Common.{place_of, has_next, successor_past}
 use Rattle.plan_search.specs.Claims.{ClaimsParts}
-use Rattle.link_plans.specs.Places.{place_of}
 use Rattle.plan_search.specs.Searches.{Search, IsLeft}
 use Rattle.assignment.specs.Choices.{is_claimed, AllClaimed, IsExpanded, LastExpanded, AreExpanded}
 use Rattle.assignment.specs.Choices.{AreRight, AreMore, AreOthers, IsSearch}
-use Rattle.link_plans.proofs.Moves.{has_next, successor_past}
 use Rattle.assignment.proofs.ClaimingAll.{still_claimed, gone_on}
 use Rattle.assignment.proofs.Claimed.{AreGoing, at_place}
 

@@ -1,23 +1,14 @@
 -- At which places a trip is tight, by its links.
-use Rattle.std.proofs.Common.{◌≡◌, ◌≢◌, ℕ, pos, ◌<◌, ◌≤◌, ◌+◌, ◌-◌, nat_eq, true, false, MatchBool}
-use Rattle.std.proofs.Common.{List, length, slice_get, Option, Some, None, IfSome, ap, sym, ◌∙◌}
-use Rattle.std.proofs.Common.{subst, arith}
-use Rattle.std.proofs.lemmas.Bool.{false≢true}
-use Rattle.std.proofs.lemmas.Option.{none-some}
+use Rattle.plan_num.proofs.Common.{◌≡◌, ◌≢◌, ℕ, pos, ◌<◌, ◌≤◌, ◌+◌, ◌-◌, nat_eq, true, false}
+use Rattle.plan_num.proofs.Common.{MatchBool, List, length, slice_get, Option, Some, None, IfSome}
+use Rattle.plan_num.proofs.Common.{ap, sym, ◌∙◌, subst, arith, false≢true, none-some}
 use Rattle.bit_rows.specs.Bits.{Bits, has}
-use Rattle.link_plans.proofs.Linking.{by_number}
-use Rattle.link_plans.specs.Links.{Links}
-use Rattle.link_plans.specs.Potentials.{PotentialParts, at}
-use Rattle.link_plans.specs.declared.link_table.Link.{Link}
+use Rattle.link_plans.proofs.Common.{by_number, Links, PotentialParts, at, Link, end_of, reached}
+use Rattle.link_plans.proofs.Common.{IsRow, worth, Covers, gap_first, gap_next, reached_last}
+use Rattle.link_plans.proofs.Common.{reached_next, reached_within, link_covered, place_of}
 use Rattle.assignment.specs.ClaimablePlaces.{AreTies, IsInRow, IsPut, IsRowOf}
-use Rattle.link_plans.specs.LinkRows.{end_of, reached, IsRow}
 use Rattle.plan_search.specs.Searches.{IsTightBy}
-use Rattle.link_plans.specs.LinkRows.{worth}
-use Rattle.link_plans.specs.Slacks.{Covers}
-use Rattle.link_plans.proofs.LinkRows.{gap_first, gap_next, reached_last, reached_next, reached_within}
-use Rattle.link_plans.proofs.LinkSlacks.{link_covered}
 use Rattle.plan_search.proofs.ShiftedTrees.{pos_worth}
-use Rattle.link_plans.specs.Places.{place_of}
 use Rattle.assignment.proofs.BitsOfPlaces.{row_step, row_up}
 
 module _ (links : Links) (potentials : PotentialParts) (i : ℕ) (row : List Link)

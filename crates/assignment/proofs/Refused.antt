@@ -1,21 +1,14 @@
 -- The places that a search has claimed and expanded are a closed set, so no tight plan that agrees
 -- on what is decided gives them to the trip that looks for a place.
-use Rattle.std.proofs.Common.{◌≡◌, ℕ, ◌<◌, ◌≤◌, true, false, is_some, Bool, List, length, take}
-use Rattle.std.proofs.Common.{slice_get, Option, Some, None, refl, ap, sym, ◌∙◌, arith}
-use Rattle.std.proofs.lemmas.Bool.{false≢true}
-use Rattle.std.proofs.lemmas.List.{get_or-take, length-take}
-use Rattle.std.proofs.lemmas.Option.{slice_get_within}
-use Rattle.link_plans.specs.Plans.{next, is_next, IsPlan}
-use Rattle.link_plans.proofs.Linking.{some_of}
-use Rattle.link_plans.proofs.Linking.{followed, next_found}
-use Rattle.link_plans.specs.Potentials.{IsTight}
-use Rattle.link_plans.proofs.Certified.{by_bound}
+use Rattle.plan_num.proofs.Common.{◌≡◌, ℕ, ◌<◌, ◌≤◌, true, false, is_some, Bool, List, length, take}
+use Rattle.plan_num.proofs.Common.{slice_get, Option, Some, None, refl, ap, sym, ◌∙◌, arith}
+use Rattle.plan_num.proofs.Common.{false≢true, get_or-take, length-take, slice_get_within}
+use Rattle.link_plans.proofs.Common.{next, is_next, IsPlan, some_of, followed, next_found, IsTight}
+use Rattle.link_plans.proofs.Common.{by_bound, place_of, has_next}
 use Rattle.plan_search.specs.Claims.{ClaimsParts, claim_at}
-use Rattle.link_plans.specs.Places.{place_of}
 use Rattle.plan_search.specs.Searches.{Search, IsTightAt}
 use Rattle.assignment.specs.Choices.{IsUndecided, is_claimed, IsExpanded, AreExpanded, AreRight}
 use Rattle.assignment.specs.Choices.{AgreeBefore, AreWithin, IsSearch}
-use Rattle.link_plans.proofs.Moves.{has_next}
 use Rattle.assignment.proofs.ClosedPlaces.{IsClosed, AreDecided, stays_outside}
 
 -- 1 for a place of a set

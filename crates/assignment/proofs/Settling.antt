@@ -1,22 +1,17 @@
 -- A trip has its place for good: its own one, or another that it was handed.
-use Rattle.std.proofs.Common.{◌≡◌, ◌≢◌, ℕ, ◌+◌, ◌<◌, ◌≤◌, true, false, is_some, List, length}
-use Rattle.std.proofs.Common.{slice_set, take, Option, Some, None, MatchOption, Result, Ok, Err, IfOk}
-use Rattle.std.proofs.Common.{refl, ap, sym, ◌∙◌, subst, arith}
-use Rattle.std.proofs.lemmas.List.{length-set, get_or-take, get_or_past}
-use Rattle.std.proofs.lemmas.Option.{none-some}
-use Rattle.link_plans.specs.Plans.{next, is_next, IsPlan, ComesNoLater, IsFirstBest}
-use Rattle.link_plans.specs.Links.{Links, AreLinks}
-use Rattle.link_plans.proofs.Linking.{some_of}
-use Rattle.link_plans.proofs.Linking.{by_number, never_next, not_next}
-use Rattle.link_plans.specs.Potentials.{PotentialParts, AreValid, IsTight}
-use Rattle.link_plans.proofs.Certified.{by_bound, gains_all, tight_best}
+use Rattle.plan_num.proofs.Common.{◌≡◌, ◌≢◌, ℕ, ◌+◌, ◌<◌, ◌≤◌, true, false, is_some, List, length}
+use Rattle.plan_num.proofs.Common.{slice_set, take, Option, Some, None, MatchOption, Result, Ok}
+use Rattle.plan_num.proofs.Common.{Err, IfOk, refl, ap, sym, ◌∙◌, subst, arith, length-set}
+use Rattle.plan_num.proofs.Common.{get_or-take, get_or_past, none-some}
+use Rattle.link_plans.proofs.Common.{next, is_next, IsPlan, ComesNoLater, IsFirstBest, Links}
+use Rattle.link_plans.proofs.Common.{AreLinks, some_of, by_number, never_next, not_next}
+use Rattle.link_plans.proofs.Common.{PotentialParts, AreValid, IsTight, by_bound, gains_all}
+use Rattle.link_plans.proofs.Common.{tight_best, place_of, successor_at, moved_is, moved_other}
 use Rattle.plan_search.specs.declared.claim.Claim.{Claim}
 use Rattle.plan_search.specs.Claims.{ClaimsParts, claim_at}
-use Rattle.link_plans.specs.Places.{place_of, successor_at}
 use Rattle.plan_search.specs.Searches.{Search, IsLeft, IsClaim, IsTightBut, ComesFrom, IsFound, IsHandedOn}
 use Rattle.assignment.specs.Choices.{is_claimed, AreRight, AgreeBefore, AreWithin, IsSearch}
 use Rattle.assignment.specs.Choices.{IsFirst, IsSought, IsLeast, IsSettled}
-use Rattle.link_plans.proofs.Moves.{moved_is, moved_other}
 
 -- a place that comes no later
 no_later : (count : ℕ) (mine other : Option ℕ) → ((j : ℕ) → other ≡ Some j → j < count)

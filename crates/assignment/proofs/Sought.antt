@@ -1,18 +1,12 @@
 -- The places that a trip claims, one after another: those before the first that it may have are
 -- refused.
-use Rattle.std.proofs.Common.{◌≡◌, ℕ, zero, suc, ◌+◌, ◌-◌, ◌<◌, ◌≤◌, true, false, is_some, inl, inr}
-use Rattle.std.proofs.Common.{List, [], ◌∷◌, ◌++◌, length, replicate, slice_get, Option, Some, None}
-use Rattle.std.proofs.Common.{refl, ap, sym, ◌∙◌, subst, arith, length-append}
-use Rattle.std.proofs.lemmas.Bool.{cases_Bool, false≢true}
-use Rattle.std.proofs.lemmas.List.{length-replicate}
-use Rattle.std.proofs.lemmas.Option.{none-some}
-use Rattle.link_plans.specs.Plans.{next}
-use Rattle.link_plans.proofs.Linking.{by_number}
-use Rattle.link_plans.specs.Potentials.{at}
-use Rattle.link_plans.proofs.Certified.{by_bound}
+use Rattle.plan_num.proofs.Common.{◌≡◌, ℕ, zero, suc, ◌+◌, ◌-◌, ◌<◌, ◌≤◌, true, false, is_some, inl}
+use Rattle.plan_num.proofs.Common.{inr, List, [], ◌∷◌, ◌++◌, length, replicate, slice_get, Option}
+use Rattle.plan_num.proofs.Common.{Some, None, refl, ap, sym, ◌∙◌, subst, arith, length-append}
+use Rattle.plan_num.proofs.Common.{cases_Bool, false≢true, length-replicate, none-some}
+use Rattle.link_plans.proofs.Common.{next, by_number, at, by_bound, place_of}
 use Rattle.plan_search.specs.declared.claim.Claim.{Claim}
 use Rattle.plan_search.specs.Claims.{ClaimsParts, claim_at}
-use Rattle.link_plans.specs.Places.{place_of}
 use Rattle.plan_search.specs.Searches.{Search, IsTightBy, IsClaim}
 use Rattle.assignment.specs.ClaimablePlaces.{AreClaimable, AreTies, IsPut}
 use Rattle.assignment.specs.Choices.{ArePlaces, IsUndecided, is_claimed, AreExpanded, AreRight}

@@ -1,23 +1,18 @@
 -- Links that gain less than nothing change neither which plans gain the most nor what their
 -- canonical potentials are.
-use Rattle.std.proofs.Common.{◌≡◌, ℕ, ℤ, pos, negsuc, neg_ℤ, ◌+◌, ◌≤ℤ◌, ◌+ℤ◌, is_some, Bool, true, false, cond}
-use Rattle.std.proofs.Common.{List, [], ◌∷◌, get_or, Option, Some, None, option_map, IfSome}
-use Rattle.std.proofs.Common.{option_and_then, refl, ap, sym, ◌∙◌, subst, arith}
-use Rattle.std.proofs.lemmas.Int.{ints}
-use Rattle.std.proofs.lemmas.Option.{none-some}
-use Rattle.link_plans.specs.Links.{Links, AreLinks}
-use Rattle.link_plans.specs.LinkRows.{worth, worthy}
-use Rattle.link_plans.specs.Plans.{next, is_trip, IsPlan, IsFirstBest}
+use Rattle.plan_num.proofs.Common.{◌≡◌, ℕ, ℤ, pos, negsuc, neg_ℤ, ◌+◌, ◌≤ℤ◌, ◌+ℤ◌, is_some, Bool}
+use Rattle.plan_num.proofs.Common.{true, false, cond, List, [], ◌∷◌, get_or, Option, Some, None}
+use Rattle.plan_num.proofs.Common.{option_map, IfSome, option_and_then, refl, ap, sym, ◌∙◌, subst}
+use Rattle.plan_num.proofs.Common.{arith, ints, none-some}
+use Rattle.link_plans.proofs.Common.{Links, AreLinks, worth, worthy, next, is_trip, IsPlan}
+use Rattle.link_plans.proofs.Common.{IsFirstBest, PotentialParts, at, AreValid, IsTight, gains_all}
+use Rattle.link_plans.proofs.Common.{tight_best, worthy_links, tight_valid}
 use Rattle.canonical_potentials.specs.Drops.{DropParts, AreFound, RowKept, LinkKept, NextKept}
 use Rattle.canonical_potentials.specs.Drops.{TripKept, AreKept, ArePassed}
-use Rattle.link_plans.specs.Potentials.{PotentialParts, at, AreValid, IsTight}
 use Rattle.canonical_potentials.specs.Residual.{Node, root, left, right, arc, walk_cost}
 use Rattle.canonical_potentials.specs.Rounds.{canonical}
-use Rattle.link_plans.proofs.Certified.{gains_all, tight_best}
-use Rattle.link_plans.proofs.LinkLists.{worthy_links}
 use Rattle.canonical_potentials.proofs.PassedRows.{passed_canonical}
 use Rattle.canonical_potentials.proofs.Rounds.{canonical_is, one_canonical, rounds_end}
-use Rattle.link_plans.proofs.TightValid.{tight_valid}
 
 -- what is worth something gains this, and the other way round
 worth_up : (it : Option ℤ) (gain : ℤ) → option_map pos (worth it) ≡ Some gain → it ≡ Some gain

@@ -1,13 +1,10 @@
 -- Columns that pass a test, word by word.
-use Rattle.std.proofs.Common.{◌≡◌, ◌∙◌, inl, inr, ℕ, zero, suc, ◌+◌, ◌-◌, ◌*◌, ◌/◌, ◌%◌, ◌<◌, ◌≤◌}
-use Rattle.std.proofs.Common.{Bool, true, false, cond, ◌&&◌, List, [], ◌∷◌, ◌++◌, map, filter, Some}
-use Rattle.std.proofs.Common.{None, bit_and, w64, refl, ap, sym, arith}
-use Rattle.std.specs.List.{range_with_len}
+use Rattle.plan_num.proofs.Common.{◌≡◌, ◌∙◌, inl, inr, ℕ, zero, suc, ◌+◌, ◌-◌, ◌*◌, ◌/◌, ◌%◌, ◌<◌}
+use Rattle.plan_num.proofs.Common.{◌≤◌, Bool, true, false, cond, ◌&&◌, List, [], ◌∷◌, ◌++◌, map}
+use Rattle.plan_num.proofs.Common.{filter, Some, None, bit_and, w64, refl, ap, sym, arith}
+use Rattle.plan_num.proofs.Common.{range_with_len, cases_eq, false≢true, le-ltb, append-nil}
+use Rattle.plan_num.proofs.Common.{append_assoc, filter-append, and_le_l}
 use Rattle.std.specs.Int.{bit_not}
-use Rattle.std.proofs.lemmas.Bool.{cases_eq, false≢true, le-ltb}
-use Rattle.std.proofs.lemmas.List.{append-nil, append_assoc}
-use Rattle.std.proofs.lemmas.List.Elements.{filter-append}
-use Rattle.std.proofs.lemmas.Nat.{and_le_l}
 use Rattle.bit_rows.specs.Bits.{AreBits, Bits, IsFirstBit, common, has, has_bit, one_bit, places_in}
 use Rattle.bit_rows.specs.Bits.{with_bit, word_of, words_of}
 use Rattle.bit_rows.proofs.RowBits.{bit_is, bit_there}

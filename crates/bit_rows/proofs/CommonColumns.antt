@@ -1,13 +1,10 @@
 -- The common columns of two rows: both rows have a bit there, all such columns are among them, and
 -- they rise.
-use Rattle.std.proofs.Common.{◌≡◌, ◌∙◌, ℕ, zero, suc, ◌+◌, ◌<◌, Bool, true, List, [], ◌∷◌, Contains}
-use Rattle.std.proofs.Common.{filter, inl, inr, ap, arith}
-use Rattle.std.specs.List.{range_with_len}
-use Rattle.std.specs.List.Sorted.{IsStrictlyIncreasing}
-use Rattle.std.proofs.lemmas.Bool.{and_from, and_parts, cases_Bool, ltb-true}
-use Rattle.std.proofs.lemmas.List.Elements.{All-contains, filter_passes}
-use Rattle.std.proofs.lemmas.List.FromFn.{get_or-range_with_len, length-range_with_len}
-use Rattle.std.proofs.lemmas.List.Kept.{IsStrictlyIncreasing-filter}
+use Rattle.plan_num.proofs.Common.{◌≡◌, ◌∙◌, ℕ, zero, suc, ◌+◌, ◌<◌, Bool, true, List, [], ◌∷◌}
+use Rattle.plan_num.proofs.Common.{Contains, filter, inl, inr, ap, arith, range_with_len}
+use Rattle.plan_num.proofs.Common.{IsStrictlyIncreasing, and_from, and_parts, cases_Bool, ltb-true}
+use Rattle.plan_num.proofs.Common.{All-contains, filter_passes, get_or-range_with_len}
+use Rattle.plan_num.proofs.Common.{length-range_with_len, IsStrictlyIncreasing-filter}
 use Rattle.bit_rows.specs.Bits.{Bits, common, has}
 
 contains_filter : (p : ℕ → Bool) (xs : List ℕ) (x : ℕ) → Contains xs x → p x ≡ true

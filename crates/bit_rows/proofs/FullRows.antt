@@ -1,12 +1,10 @@
 -- Rows of which all bits are set.
-use Rattle.std.proofs.Common.{◌≡◌, ◌∙◌, ◌⊎◌, inl, inr, ℕ, suc, ◌+◌, ◌-◌, ◌*◌, ◌/◌, ◌%◌, ◌^◌, ◌<◌}
-use Rattle.std.proofs.Common.{◌≤◌, nat_lt, true, ◌&&◌, List, ◌∷◌, [], ◌++◌, length, get_or, ap, sym}
-use Rattle.std.proofs.Common.{subst, arith}
+use Rattle.plan_num.proofs.Common.{◌≡◌, ◌∙◌, ◌⊎◌, inl, inr, ℕ, suc, ◌+◌, ◌-◌, ◌*◌, ◌/◌, ◌%◌, ◌^◌}
+use Rattle.plan_num.proofs.Common.{◌<◌, ◌≤◌, nat_lt, true, ◌&&◌, List, ◌∷◌, [], ◌++◌, length}
+use Rattle.plan_num.proofs.Common.{get_or, ap, sym, subst, arith, get_or-append_seam, and_from}
+use Rattle.plan_num.proofs.Common.{cases_lt, lt-ltb, le-ltb, get_or_append_left, length_push}
+use Rattle.plan_num.proofs.Common.{mod-mul-add}
 use Rattle.std.proofs.Math.Nat.{mul-le-mul_right}
-use Rattle.std.proofs.Math.Seq.{get_or-append_seam}
-use Rattle.std.proofs.lemmas.Bool.{and_from, cases_lt, lt-ltb, le-ltb}
-use Rattle.std.proofs.lemmas.List.{get_or_append_left, length_push}
-use Rattle.std.proofs.lemmas.Nat.{mod-mul-add}
 use Rattle.bit_rows.specs.Bits.{AreBits, Bits, has, has_bit, words_of}
 use Rattle.bit_rows.proofs.RowBits.{bit_there}
 use Rattle.bit_rows.proofs.WordBits.{all_bits}

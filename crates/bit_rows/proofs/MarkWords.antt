@@ -1,10 +1,9 @@
 -- Marks of places as bits of words, with a bit for each word without which no mark stands in it.
-use Rattle.std.proofs.Common.{◌≡◌, ◌≢◌, ◌∙◌, ℕ, zero, suc, ◌+◌, ◌*◌, ◌/◌, ◌%◌, ◌<◌, ◌≤◌, Bool, false, List, ◌∷◌, length, map}
-use Rattle.std.proofs.Common.{get_or, slice_set, None, Some, Option, refl, ap, sym, arith}
-use Rattle.std.specs.Prelude.{replicate}
-use Rattle.std.specs.List.{range_with_len}
-use Rattle.std.proofs.lemmas.List.{get_or_past, get_or-set_other, get_or-set_same, length-set}
-use Rattle.std.proofs.lemmas.List.FromFn.{get_or-map-range_with_len, length-map-range_with_len}
+use Rattle.plan_num.proofs.Common.{◌≡◌, ◌≢◌, ◌∙◌, ℕ, zero, suc, ◌+◌, ◌*◌, ◌/◌, ◌%◌, ◌<◌, ◌≤◌, Bool}
+use Rattle.plan_num.proofs.Common.{false, List, ◌∷◌, length, map, get_or, slice_set, None, Some}
+use Rattle.plan_num.proofs.Common.{Option, refl, ap, sym, arith, replicate, range_with_len}
+use Rattle.plan_num.proofs.Common.{get_or_past, get_or-set_other, get_or-set_same, length-set}
+use Rattle.plan_num.proofs.Common.{get_or-map-range_with_len, length-map-range_with_len}
 use Rattle.bit_rows.specs.Bits.{IsFirstBit, has_bit, marked, with_bit}
 use Rattle.bit_rows.proofs.WordBits.{with_other, with_same, zero_bit}
 use Rattle.bit_rows.specs.Markings.{AreBlocked, IsNext, IsNextBit, IsNextWord, IsWithin, marks_of}

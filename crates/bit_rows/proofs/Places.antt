@@ -1,10 +1,9 @@
 -- Lists that tell one thing of each place.
-use Rattle.std.proofs.Common.{◌≡◌, ◌≢◌, ◌∙◌, ℕ, ◌+◌, ◌<◌, true, false, eqb}
-use Rattle.std.proofs.Common.{length, map, get_or, slice_set, refl, ap, sym, arith}
-use Rattle.std.specs.List.{range_with_len}
-use Rattle.std.proofs.lemmas.Bool.{eqb-true, eqb-false}
-use Rattle.std.proofs.lemmas.List.{ext_get_or, get_or-set_same, get_or-set_other, length-set}
-use Rattle.std.proofs.lemmas.List.FromFn.{get_or-map-range_with_len, length-map-range_with_len}
+use Rattle.plan_num.proofs.Common.{◌≡◌, ◌≢◌, ◌∙◌, ℕ, ◌+◌, ◌<◌, true, false, eqb, length, map}
+use Rattle.plan_num.proofs.Common.{get_or, slice_set, refl, ap, sym, arith, range_with_len}
+use Rattle.plan_num.proofs.Common.{eqb-true, eqb-false, ext_get_or, get_or-set_same}
+use Rattle.plan_num.proofs.Common.{get_or-set_other, length-set, get_or-map-range_with_len}
+use Rattle.plan_num.proofs.Common.{length-map-range_with_len}
 
 -- what is told of a place changes at one of them
 pub told_anew : {X : Type 0} (f g : ℕ → X) (a n i : ℕ) (x : X) → i < n → g (a + i) ≡ x

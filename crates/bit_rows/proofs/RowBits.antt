@@ -1,10 +1,9 @@
 -- Rows of bits, of which one word is replaced or one bit is put.
-use Rattle.std.proofs.Common.{◌≡◌, ◌∙◌, ℕ, ◌+◌, ◌*◌, ◌/◌, ◌%◌, ◌<◌, ◌≤◌, ◌==◌, nat_lt, Bool, false}
-use Rattle.std.proofs.Common.{◌&&◌, List, length, get_or, All, if◌then◌else◌, ap, sym, arith}
+use Rattle.plan_num.proofs.Common.{◌≡◌, ◌∙◌, ℕ, ◌+◌, ◌*◌, ◌/◌, ◌%◌, ◌<◌, ◌≤◌, ◌==◌, nat_lt, Bool}
+use Rattle.plan_num.proofs.Common.{false, ◌&&◌, List, length, get_or, All, if◌then◌else◌, ap, sym}
+use Rattle.plan_num.proofs.Common.{arith, and_right, cases_eq, cases_lt, eq-eqb, le-ltb, lt-ltb}
+use Rattle.plan_num.proofs.Common.{get_or-set_other, get_or-set_same, get_or_past, div-mul-add}
 use Rattle.std.proofs.Math.Nat.{mul-le-mul_right}
-use Rattle.std.proofs.lemmas.Bool.{and_right, cases_eq, cases_lt, eq-eqb, le-ltb, lt-ltb}
-use Rattle.std.proofs.lemmas.List.{get_or-set_other, get_or-set_same, get_or_past}
-use Rattle.std.proofs.lemmas.Nat.{div-mul-add}
 use Rattle.bit_rows.specs.Bits.{AreBits, Bits, FitsAt, has, has_bit, place_of, with_bit, with_word}
 use Rattle.bit_rows.specs.Bits.{word_of, words_of}
 use Rattle.bit_rows.proofs.WordBits.{with_other, with_same, zero_bit}

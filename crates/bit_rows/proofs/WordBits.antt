@@ -1,15 +1,14 @@
 -- Bits of words, and of lists of words.
-use Rattle.std.proofs.Common.{◌≡◌, ◌∙◌, ◌⊎◌, inl, inr, ℕ, suc, ◌+◌, ◌-◌, ◌*◌, ◌/◌, ◌%◌, ◌^◌, ◌<◌}
-use Rattle.std.proofs.Common.{◌≤◌, ◌==◌, if◌then◌else◌, nat_lt, bit_and, bit_or, w64, Bool, true}
-use Rattle.std.proofs.Common.{false, ◌&&◌, ◌||◌, List, get_or, Some, None, refl, ap, sym, arith}
-use Rattle.std.specs.Int.{bit_at, leading_zeros, trailing_zeros}
-use Rattle.std.proofs.lemmas.Bool.{cases_eq, cases_lt, eq-eqb, eqb-true, ne_eqb}
-use Rattle.std.proofs.lemmas.Bool.{false≢true, lt-ltb, le-ltb}
-use Rattle.std.proofs.lemmas.Bool.{and_parts, ltb-true}
+use Rattle.plan_num.proofs.Common.{◌≡◌, ◌∙◌, ◌⊎◌, inl, inr, ℕ, suc, ◌+◌, ◌-◌, ◌*◌, ◌/◌, ◌%◌, ◌^◌}
+use Rattle.plan_num.proofs.Common.{◌<◌, ◌≤◌, ◌==◌, if◌then◌else◌, nat_lt, bit_and, bit_or, w64}
+use Rattle.plan_num.proofs.Common.{Bool, true, false, ◌&&◌, ◌||◌, List, get_or, Some, None, refl}
+use Rattle.plan_num.proofs.Common.{ap, sym, arith, bit_at, leading_zeros, cases_eq, cases_lt}
+use Rattle.plan_num.proofs.Common.{eq-eqb, eqb-true, ne_eqb, false≢true, lt-ltb, le-ltb, and_parts}
+use Rattle.plan_num.proofs.Common.{ltb-true, pow-succ', div-mul-add, pow_pos}
+use Rattle.std.specs.Int.{trailing_zeros}
 use Rattle.std.proofs.Math.Bool.{and_comm}
-use Rattle.std.proofs.Math.Nat.{pow-succ'}
-use Rattle.std.proofs.lemmas.Nat.{div-mul-add, leading_top}
-use Rattle.std.proofs.lemmas.Nat.{one_shl, pow_pos, shr-shr}
+use Rattle.std.proofs.lemmas.Nat.{leading_top}
+use Rattle.std.proofs.lemmas.Nat.{one_shl, shr-shr}
 use Rattle.std.proofs.lemmas.Nat.Bits.{bit_at-lt, bit_at-zero, bit_at_above, bit_at_and}
 use Rattle.std.proofs.lemmas.Nat.Bits.{bit_at_cat_high}
 use Rattle.std.proofs.lemmas.Nat.Bits.{bit_at_cat_low, bit_at_clear_other, bit_at_clear_same}

@@ -1,12 +1,10 @@
 -- A search entry by entry, and what it found at its end.
-use Rattle.std.proofs.Common.{◌≡◌, ℕ, zero, suc, ◌+◌, ◌≤◌, ◌<◌, ◌∙◌, List, [], ◌∷◌, ◌++◌, length}
-use Rattle.std.proofs.Common.{take, arith, ap, sym, subst, refl, Option, Some, None, IfSome, cond}
-use Rattle.std.proofs.Common.{nat_le, Bool, true, false, ℤ}
-use Rattle.std.proofs.lemmas.Bool.{le-leb, leb-true, lt-leb}
-use Rattle.std.proofs.lemmas.List.{append_assoc, append-nil, length-append, map-append, take_all}
-use Rattle.std.proofs.Math.Nat.{min-eq_left, min-eq_right}
-use Rattle.std.proofs.Math.Seq.{take-append_seam}
-use Rattle.std.specs.List.{AllByRecursion}
+use Rattle.plan_num.proofs.Common.{◌≡◌, ℕ, zero, suc, ◌+◌, ◌≤◌, ◌<◌, ◌∙◌, List, [], ◌∷◌, ◌++◌}
+use Rattle.plan_num.proofs.Common.{length, take, arith, ap, sym, subst, refl, Option, Some, None}
+use Rattle.plan_num.proofs.Common.{IfSome, cond, nat_le, Bool, true, false, ℤ, le-leb, leb-true}
+use Rattle.plan_num.proofs.Common.{lt-leb, append_assoc, append-nil, length-append, map-append}
+use Rattle.plan_num.proofs.Common.{take_all, min-eq_left, min-eq_right, take-append_seam}
+use Rattle.plan_num.proofs.Common.{AllByRecursion}
 use Rattle.branch_and_bound.specs.Branchings.{BranchingParts, Entry, IsBranching, best_after}
 use Rattle.branch_and_bound.specs.Branchings.{nodes_in}
 use Rattle.branch_and_bound.specs.Listings.{entries_by, entries_within, found_within, listing}

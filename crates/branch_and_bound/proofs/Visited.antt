@@ -1,13 +1,8 @@
 -- What the entries of a region come to: a tree that shows each cost up to that of the best one.
-use Rattle.std.proofs.Common.{◌≡◌, ℕ, ℤ, pos, zero, suc, ◌≤◌, ◌+◌, ◌+ℤ◌, ◌≤ℤ◌, List, [], ◌∷◌, ◌++◌}
-use Rattle.std.proofs.Common.{Option, Some, None, IfSome, ap, sym, ◌∙◌, refl, arith, subst}
-use Rattle.std.proofs.Common.{⊎_elim}
-use Rattle.std.specs.Prelude.{filter_map}
-use Rattle.std.specs.List.{last_or}
-use Rattle.std.proofs.lemmas.Int.{ints}
-use Rattle.std.proofs.lemmas.List.{map-append}
-use Rattle.std.proofs.lemmas.List.Elements.{filter_map-append}
-use Rattle.std.proofs.lemmas.Option.{none-some}
+use Rattle.plan_num.proofs.Common.{◌≡◌, ℕ, ℤ, pos, zero, suc, ◌≤◌, ◌+◌, ◌+ℤ◌, ◌≤ℤ◌, List, [], ◌∷◌}
+use Rattle.plan_num.proofs.Common.{◌++◌, Option, Some, None, IfSome, ap, sym, ◌∙◌, refl, arith}
+use Rattle.plan_num.proofs.Common.{subst, ⊎_elim, filter_map, last_or, ints, map-append}
+use Rattle.plan_num.proofs.Common.{filter_map-append, none-some}
 use Rattle.branch_and_bound.specs.Branchings.{BranchingParts, Entry, AtMost, CostsAtLeastIn}
 use Rattle.branch_and_bound.specs.Branchings.{IsBranching, best_after, nodes_in}
 use Rattle.branch_and_bound.specs.Listings.{entries_by, entries_within, listing}

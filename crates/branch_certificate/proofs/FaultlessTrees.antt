@@ -1,31 +1,19 @@
 -- A text without a fault as a tree is one.
-use Rattle.std.proofs.Common.{◌≡◌, ℕ, ℤ, zero, suc, pos, negsuc, ◌+◌, ◌^◌, ◌<◌, ◌≤◌, ◌≤ℤ◌, ◌<ℤ◌}
-use Rattle.std.proofs.Common.{arith, Bool, true, false, cond, not, ◌||◌, nat_lt, List, [], ◌∷◌}
-use Rattle.std.proofs.Common.{length, take, get_or, slice_get, unsigned_abs, int_lt, position, refl}
-use Rattle.std.proofs.Common.{ap, sym, ◌∙◌, subst, Option, Some, None, All}
-use Rattle.std.specs.List.Sorted.{IsStrictlySortedBy}
-use Rattle.std.specs.Ordering.{int_cmp, int_eq, MatchOrdering}
+use Rattle.plan_num.proofs.Common.{◌≡◌, ℕ, ℤ, zero, suc, pos, negsuc, ◌+◌, ◌^◌, ◌<◌, ◌≤◌, ◌≤ℤ◌}
+use Rattle.plan_num.proofs.Common.{◌<ℤ◌, arith, Bool, true, false, cond, not, ◌||◌, nat_lt, List}
+use Rattle.plan_num.proofs.Common.{[], ◌∷◌, length, take, get_or, slice_get, unsigned_abs, int_lt}
+use Rattle.plan_num.proofs.Common.{position, refl, ap, sym, ◌∙◌, subst, Option, Some, None, All}
+use Rattle.plan_num.proofs.Common.{IsStrictlySortedBy, int_cmp, int_eq, MatchOrdering, int_ranks}
+use Rattle.plan_num.proofs.Common.{ltb-false, ltb-true, ints, none-some, All-map, All-nil}
+use Rattle.plan_num.proofs.Common.{position-Some}
 use Rattle.std.specs.declared.cmp.Ordering.TheVariants.{Less}
-use Rattle.std.specs.Cmp.{int_ranks}
-use Rattle.std.proofs.lemmas.Bool.{ltb-false, ltb-true}
-use Rattle.std.proofs.lemmas.Int.{ints}
-use Rattle.std.proofs.lemmas.Option.{none-some}
-use Rattle.std.proofs.lemmas.List.Elements.{All-map, All-nil}
-use Rattle.std.proofs.lemmas.List.Quantifiers.{position-Some}
 use Rattle.tables.specs.declared.file_id.FileId.TheVariants as file
-use Rattle.tables.specs.declared.row_why.RowWhy.{RowWhy}
+use Rattle.tables.proofs.Common.{RowWhy, tree_columns, Input, broken_whys, records}
+use Rattle.tables.proofs.Common.{table_row_faults, table_of, TableRow, no_row, InColumns}
+use Rattle.tables.proofs.Common.{none_breaks, parts_sound, records_all, table_sound}
+use Rattle.tables.proofs.Common.{whole_rule_sound, SoundBefore, table_in_columns}
 use Rattle.tables.specs.declared.row_why.RowWhy.TheVariants as why
-use Rattle.tables.specs.Columns.{tree_columns}
-use Rattle.tables.specs.Inputs.{Input, broken_whys, records, table_row_faults}
-use Rattle.tables.specs.Reading.{table_of}
-use Rattle.tables.specs.Tables.{TableRow, no_row}
-use Rattle.tables.specs.Writing.{InColumns}
-use Rattle.tables.proofs.Inputs.{none_breaks, parts_sound, records_all, table_sound}
-use Rattle.tables.proofs.Inputs.{whole_rule_sound, SoundBefore}
-use Rattle.tables.proofs.Ranges.{table_in_columns}
-use Rattle.line_cost_model.specs.declared.edge.BoundedEdge.{BoundedEdge}
-use Rattle.line_cost_model.specs.declared.side.Side.{Side}
-use Rattle.line_cost_model.specs.Problems.{IsId, IsProblem, ProblemParts}
+use Rattle.line_cost_model.proofs.Common.{BoundedEdge, Side, IsId, IsProblem, ProblemParts}
 use Rattle.line_concepts.specs.declared.node.Node.TheVariants as node
 use Rattle.branch_certificate.specs.declared.read_so_far.ReadSoFar.{ReadSoFar}
 use Rattle.branch_certificate.specs.declared.row_says.RowSays.{RowSays}

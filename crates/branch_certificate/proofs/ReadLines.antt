@@ -1,23 +1,15 @@
 -- A text of a tree that is read row by row, with no table: faults of cells come before all others.
-use Rattle.std.proofs.Common.{◌≡◌, ℕ, ◌+◌, ◌<◌, ◌≤◌, List, [], ◌∷◌, length, map, drop, get_or}
-use Rattle.std.proofs.Common.{slice_get, refl, sym, ap, ◌∙◌, arith, Option, Some, None, Err, All}
-use Rattle.std.proofs.Common.{length-drop}
-use Rattle.std.specs.List.{flat_map}
-use Rattle.std.proofs.lemmas.List.{drop_more}
-use Rattle.std.proofs.lemmas.List.Elements.{All-nil, All-cons}
+use Rattle.plan_num.proofs.Common.{◌≡◌, ℕ, ◌+◌, ◌<◌, ◌≤◌, List, [], ◌∷◌, length, map, drop, get_or}
+use Rattle.plan_num.proofs.Common.{slice_get, refl, sym, ap, ◌∙◌, arith, Option, Some, None, Err}
+use Rattle.plan_num.proofs.Common.{All, length-drop, flat_map, drop_more, All-nil, All-cons}
 use Rattle.tables.specs.declared.file_id.FileId.TheVariants as file
-use Rattle.tables.specs.declared.read_fault.ReadFault.{ReadFault}
+use Rattle.tables.proofs.Common.{ReadFault, RowFault, Refusal, tree_columns, cell_faults, or_else}
+use Rattle.tables.proofs.Common.{faults, table_row, ReadGives, TableRow, no_row, InColumns}
+use Rattle.tables.proofs.Common.{row_in_columns}
 use Rattle.tables.specs.declared.read_fault.ReadFault.TheVariants as row_fault
-use Rattle.tables.specs.declared.read_fault.RowFault.{RowFault}
-use Rattle.tables.specs.declared.refusal.Refusal.{Refusal}
 use Rattle.tables.specs.declared.refusal.Refusal.TheVariants as refusal
-use Rattle.tables.specs.Columns.{tree_columns}
-use Rattle.tables.specs.Inputs.{cell_faults, or_else}
-use Rattle.tables.specs.Reading.{faults, row_faults, table_row, ReadGives}
+use Rattle.tables.specs.Reading.{row_faults}
 use Rattle.text_fields.specs.Rows.{Row}
-use Rattle.tables.specs.Tables.{TableRow, no_row}
-use Rattle.tables.specs.Writing.{InColumns}
-use Rattle.tables.proofs.Ranges.{row_in_columns}
 use Rattle.branch_certificate.specs.declared.read_fault.TreeReadFault.{TreeReadFault}
 use Rattle.branch_certificate.specs.declared.read_so_far.ReadSoFar.{ReadSoFar}
 use Rattle.branch_certificate.specs.ReadRows.{IsFirst, IsInOrder, IsReadSoFar, IsReadUpTo}

@@ -1,18 +1,13 @@
 -- What a row of each kind says, and for which of the six rules it is refused.
-use Rattle.std.proofs.Common.{◌≡◌, ℕ, ℤ, zero, suc, pos, negsuc, ◌^◌, ◌+◌, ◌<◌, ◌≤◌, ◌≤ℤ◌, arith}
-use Rattle.std.proofs.Common.{Bool, true, false, cond, not, ◌||◌, ◌&&◌, List, [], ◌∷◌, ◌++◌, length}
-use Rattle.std.proofs.Common.{position, slice_get, unsigned_abs, int_lt, refl, ap, subst, unwrap_or}
-use Rattle.std.proofs.Common.{◌∙◌, Option, Some, None}
-use Rattle.std.specs.List.{list_any, position_or_len}
-use Rattle.std.specs.Ordering.{int_eq}
-use Rattle.std.proofs.lemmas.Bool.{ltb-false, not-true, not-false}
-use Rattle.std.proofs.lemmas.Option.{same_Some}
-use Rattle.std.proofs.lemmas.Int.{ints}
-use Rattle.std.proofs.lemmas.List.Folds.{list_any_at}
-use Rattle.std.proofs.lemmas.List.Quantifiers.{position-Some}
-use Rattle.tables.specs.declared.row_why.RowWhy.{RowWhy}
+use Rattle.plan_num.proofs.Common.{◌≡◌, ℕ, ℤ, zero, suc, pos, negsuc, ◌^◌, ◌+◌, ◌<◌, ◌≤◌, ◌≤ℤ◌}
+use Rattle.plan_num.proofs.Common.{arith, Bool, true, false, cond, not, ◌||◌, ◌&&◌, List, [], ◌∷◌}
+use Rattle.plan_num.proofs.Common.{◌++◌, length, position, slice_get, unsigned_abs, int_lt, refl}
+use Rattle.plan_num.proofs.Common.{ap, subst, unwrap_or, ◌∙◌, Option, Some, None, list_any}
+use Rattle.plan_num.proofs.Common.{position_or_len, int_eq, ltb-false, not-true, not-false}
+use Rattle.plan_num.proofs.Common.{same_Some, ints, list_any_at, position-Some}
+use Rattle.tables.proofs.Common.{RowWhy}
 use Rattle.tables.specs.declared.row_why.RowWhy.TheVariants as why
-use Rattle.line_cost_model.specs.declared.side.Side.{Side}
+use Rattle.line_cost_model.proofs.Common.{Side}
 use Rattle.line_concepts.specs.declared.node.Node.TheVariants as node
 use Rattle.branch_certificate.specs.declared.tree_row.TreeRow.{TreeRow}
 use Rattle.branch_certificate.specs.ReadRows.{IsTreeRow, first_why, IsRefused, IsRefusedIf}

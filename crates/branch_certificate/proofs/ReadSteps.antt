@@ -1,17 +1,11 @@
 -- What is known after some rows of a tree, with one row more.
-use Rattle.std.proofs.Common.{◌≡◌, ℕ, ℤ, pos, negsuc, suc, ◌≤ℤ◌, ◌+◌, ◌-◌, ◌<◌, ◌≤◌, arith, Bool}
-use Rattle.std.proofs.Common.{true, false, cond, not, ◌||◌, ◌&&◌, nat_lt, int_lt, List, [], ◌∷◌}
-use Rattle.std.proofs.Common.{◌++◌, length, get_or, map, take, unsigned_abs, refl, ap, sym, ◌∙◌}
-use Rattle.std.proofs.Common.{append_assoc, append-nil, Option, Some, None, All}
-use Rattle.std.specs.List.{prefix_len}
-use Rattle.std.proofs.lemmas.Bool.{lt-ltb, le-ltb, ltb-false, cases_lt}
-use Rattle.std.proofs.lemmas.Int.{ints}
-use Rattle.std.proofs.lemmas.List.{reverse-append}
-use Rattle.std.proofs.lemmas.List.Elements.{All-nil, All-push}
-use Rattle.std.proofs.lemmas.List.Sums.{fold_push}
-use Rattle.line_cost_model.specs.declared.multipliers.Multiplier.{Multiplier}
-use Rattle.line_cost_model.specs.Multipliers.{AreMultipliers, IsAmount}
-use Rattle.line_cost_model.proofs.Pushed.{multipliers_push}
+use Rattle.plan_num.proofs.Common.{◌≡◌, ℕ, ℤ, pos, negsuc, suc, ◌≤ℤ◌, ◌+◌, ◌-◌, ◌<◌, ◌≤◌, arith}
+use Rattle.plan_num.proofs.Common.{Bool, true, false, cond, not, ◌||◌, ◌&&◌, nat_lt, int_lt, List}
+use Rattle.plan_num.proofs.Common.{[], ◌∷◌, ◌++◌, length, get_or, map, take, unsigned_abs, refl, ap}
+use Rattle.plan_num.proofs.Common.{sym, ◌∙◌, append_assoc, append-nil, Option, Some, None, All}
+use Rattle.plan_num.proofs.Common.{prefix_len, lt-ltb, le-ltb, ltb-false, cases_lt, ints}
+use Rattle.plan_num.proofs.Common.{reverse-append, All-nil, All-push, fold_push}
+use Rattle.line_cost_model.proofs.Common.{Multiplier, AreMultipliers, IsAmount, multipliers_push}
 use Rattle.line_concepts.specs.declared.node.Node.{Node}
 use Rattle.line_concepts.specs.declared.node.Node.TheVariants as node
 use Rattle.branch_certificate.specs.declared.open_bound.OpenBound.{OpenBound}

@@ -1,9 +1,9 @@
 -- Any row that is taken behind others, and the end of the rows.
-use Rattle.std.proofs.Common.{◌≡◌, ℕ, ℤ, Bool, arith, true, false, cond, not, ◌||◌, ◌&&◌, nat_lt}
-use Rattle.std.proofs.Common.{List, [], ◌∷◌, ◌++◌, refl, ap, sym, ◌∙◌, append-nil, Option, Some}
-use Rattle.std.proofs.Common.{None, option_map, unwrap_or, All}
-use Rattle.std.proofs.lemmas.List.Elements.{All-push}
-use Rattle.tables.specs.declared.row_why.RowWhy.{RowWhy}
+use Rattle.plan_num.proofs.Common.{◌≡◌, ℕ, ℤ, Bool, arith, true, false, cond, not, ◌||◌, ◌&&◌}
+use Rattle.plan_num.proofs.Common.{nat_lt, List, [], ◌∷◌, ◌++◌, refl, ap, sym, ◌∙◌, append-nil}
+use Rattle.plan_num.proofs.Common.{Option, Some, None, option_map, unwrap_or, All, All-push}
+use Rattle.plan_num.proofs.Common.{not-true}
+use Rattle.tables.proofs.Common.{RowWhy}
 use Rattle.tables.specs.declared.row_why.RowWhy.TheVariants as why
 use Rattle.line_concepts.specs.declared.node.Node.{Node}
 use Rattle.branch_certificate.specs.declared.open_bound.OpenBound.{OpenBound}
@@ -17,7 +17,6 @@ use Rattle.branch_certificate.specs.ReadRows.{takes_row, closed, with_row, first
 use Rattle.branch_certificate.specs.TreeFiles.{NamedIds, is_due, falls_back, nodes_of}
 use Rattle.branch_certificate.proofs.ReadSteps.{node_more, bound_more, multiplier_more, due_told}
 use Rattle.branch_certificate.proofs.ReadSteps.{ended, ended_sound}
-use Rattle.std.proofs.lemmas.Bool.{not-true}
 
 -- ---- any row
 

@@ -1,19 +1,15 @@
 -- A text of a tree that is read, or refused by its cells, by its rows or as a whole.
-use Rattle.std.proofs.Common.{◌≡◌, ℕ, arith, Bool, true, false, List, [], get_or, slice_get, refl}
-use Rattle.std.proofs.Common.{subst, sym, ap, ◌∙◌, Some, Err, All}
-use Rattle.std.proofs.lemmas.List.{length-map}
+use Rattle.plan_num.proofs.Common.{◌≡◌, ℕ, arith, Bool, true, false, List, [], get_or, slice_get}
+use Rattle.plan_num.proofs.Common.{refl, subst, sym, ap, ◌∙◌, Some, Err, All, length-map}
 use Rattle.tables.specs.declared.file_id.FileId.TheVariants as file
-use Rattle.tables.specs.declared.refusal.Refusal.{Refusal}
+use Rattle.tables.proofs.Common.{Refusal, tree_columns, Input, cell_faults, records}
+use Rattle.tables.proofs.Common.{table_row_faults, table_of, TableRow, refused_cells}
+use Rattle.tables.proofs.Common.{faults_of_table, refused_rows, refused_whole, no_faults}
+use Rattle.tables.proofs.Common.{whole_rule_broken, whole_rule_kept}
 use Rattle.tables.specs.declared.refusal.Refusal.TheVariants as refusal
 use Rattle.tables.specs.declared.refusal.StageFault.TheVariants as stage
 use Rattle.tables.specs.declared.row_why.RowWhy.TheVariants as why
-use Rattle.tables.specs.Columns.{tree_columns}
-use Rattle.tables.specs.Inputs.{Input, cell_faults, records, table_row_faults}
-use Rattle.tables.specs.Reading.{table_of}
-use Rattle.tables.specs.Tables.{TableRow}
-use Rattle.tables.proofs.Inputs.{refused_cells, faults_of_table, refused_rows, refused_whole}
-use Rattle.tables.proofs.Inputs.{no_faults, whole_rule_broken, whole_rule_kept}
-use Rattle.line_cost_model.specs.Problems.{ProblemParts}
+use Rattle.line_cost_model.proofs.Common.{ProblemParts}
 use Rattle.line_concepts.specs.declared.node.Node.{Node}
 use Rattle.line_concepts.specs.declared.node.Node.TheVariants as node
 use Rattle.branch_certificate.specs.declared.read_fault.TreeReadFault.{TreeReadFault}

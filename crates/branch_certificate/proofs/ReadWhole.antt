@@ -4,11 +4,9 @@ use Rattle.std.proofs.Common.{length, take, get_or, slice_get, subst, refl, sym,
 use Rattle.std.proofs.Common.{None}
 use Rattle.tables.specs.declared.file_id.FileId.TheVariants as file
 use Rattle.tables.specs.declared.refusal.Refusal.TheVariants as refusal
-use Rattle.tables.specs.declared.row_why.RowWhy.{RowWhy}
+use Rattle.tables.proofs.Common.{RowWhy, records, broken_whys, table_row_faults, TableRow, no_row}
+use Rattle.tables.proofs.Common.{row_number, SoundBefore, row_met, row_refused, records_more}
 use Rattle.tables.specs.declared.row_why.RowWhy.TheVariants as why
-use Rattle.tables.specs.Inputs.{records, broken_whys, table_row_faults}
-use Rattle.tables.specs.Tables.{TableRow, no_row, row_number}
-use Rattle.tables.proofs.Inputs.{SoundBefore, row_met, row_refused, records_more}
 use Rattle.branch_certificate.specs.declared.read_so_far.ReadSoFar.{ReadSoFar}
 use Rattle.branch_certificate.specs.declared.row_says.RowSays.{RowSays}
 use Rattle.branch_certificate.specs.declared.tree_row.TreeRow.{TreeRow}

@@ -1,28 +1,20 @@
 -- A text without a fault as a tree has exactly the rows of that tree, so it is written anew row by
 -- row.
-use Rattle.std.proofs.Common.{◌≡◌, ℕ, ℤ, pos, arith, Bool, true, false, cond, not, List, [], ◌∷◌}
-use Rattle.std.proofs.Common.{◌++◌, length, map, slice_get, refl, ap, sym, ◌∙◌, Some, All}
-use Rattle.std.proofs.Common.{append-nil, append_assoc, Err, Ok, Result}
-use Rattle.std.specs.List.{AllByRecursion, flat_map}
-use Rattle.std.proofs.lemmas.Bool.{ltb-false, ltb-true, not-false}
-use Rattle.std.proofs.lemmas.Bool.Decides.{Decides-int_eq}
-use Rattle.std.proofs.lemmas.Grind.{flat_map-append}
-use Rattle.std.proofs.lemmas.List.Elements.{All-head, All-tail}
+use Rattle.plan_num.proofs.Common.{◌≡◌, ℕ, ℤ, pos, arith, Bool, true, false, cond, not, List, []}
+use Rattle.plan_num.proofs.Common.{◌∷◌, ◌++◌, length, map, slice_get, refl, ap, sym, ◌∙◌, Some, All}
+use Rattle.plan_num.proofs.Common.{append-nil, append_assoc, Err, Ok, Result, AllByRecursion}
+use Rattle.plan_num.proofs.Common.{flat_map, ltb-false, ltb-true, not-false, Decides-int_eq}
+use Rattle.plan_num.proofs.Common.{flat_map-append, All-head, All-tail}
 use Rattle.tables.specs.declared.file_id.FileId.TheVariants as file
 use Rattle.tables.specs.declared.row_why.RowWhy.TheVariants as why
-use Rattle.tables.specs.Columns.{tree_columns}
-use Rattle.tables.specs.Inputs.{numbered, records, row_faults}
-use Rattle.tables.specs.declared.read_fault.ReadFault.{ReadFault}
+use Rattle.tables.proofs.Common.{tree_columns, numbered, records, ReadFault, RowFault, faults}
+use Rattle.tables.proofs.Common.{table_of, table_row, TableRow, InColumns, line_text, KeepRules}
+use Rattle.tables.proofs.Common.{parts_sound, table_sound, whole_rule_sound, table_in_columns}
+use Rattle.tables.specs.Inputs.{row_faults}
 use Rattle.tables.specs.declared.read_fault.ReadFault.TheVariants as read
-use Rattle.tables.specs.declared.read_fault.RowFault.{RowFault}
-use Rattle.tables.specs.Reading.{faults, table_of, table_row}
 use Rattle.text_fields.specs.Rows.{Row}
-use Rattle.tables.specs.Tables.{TableRow}
-use Rattle.tables.specs.Writing.{InColumns, line_text, table_text}
-use Rattle.tables.proofs.Accepted.{KeepRules}
-use Rattle.tables.proofs.Inputs.{parts_sound, table_sound, whole_rule_sound}
-use Rattle.tables.proofs.Ranges.{table_in_columns}
-use Rattle.line_cost_model.specs.Problems.{ProblemParts}
+use Rattle.tables.specs.Writing.{table_text}
+use Rattle.line_cost_model.proofs.Common.{ProblemParts}
 use Rattle.branch_certificate.specs.declared.tree_row.TreeRow.{TreeRow}
 use Rattle.branch_certificate.specs.ReadRows.{IsTreeRow}
 use Rattle.branch_certificate.specs.TreeFiles.{NamedIds, due_after}

@@ -1,22 +1,14 @@
 -- A row of a tree that keeps the rules is the row of its node.
-use Rattle.std.proofs.Common.{◌≡◌, ℕ, ℤ, zero, suc, pos, negsuc, ◌≤ℤ◌, arith, Bool, true, false}
-use Rattle.std.proofs.Common.{cond, not, ◌||◌, ◌&&◌, List, [], ◌∷◌, ◌++◌, length, map, slice_get}
-use Rattle.std.proofs.Common.{unsigned_abs, int_lt, int_eq, position, refl, ap, sym, subst, ◌∙◌}
-use Rattle.std.proofs.Common.{Option, Some, None, append-nil, option_map, unwrap_or, is_some}
-use Rattle.std.specs.List.{AllByRecursion, flat_map, list_any}
-use Rattle.std.proofs.lemmas.Bool.{ltb-false, not-false}
-use Rattle.std.proofs.lemmas.Bool.Decides.{Decides-int_eq}
-use Rattle.std.proofs.lemmas.Int.{ints}
-use Rattle.std.proofs.lemmas.List.{length-map}
-use Rattle.std.proofs.lemmas.List.Quantifiers.{position-Some}
-use Rattle.tables.specs.declared.row_why.RowWhy.{RowWhy}
-use Rattle.tables.specs.Inputs.{RowRule, broken_whys}
-use Rattle.tables.specs.Tables.{TableRow}
-use Rattle.tables.proofs.Accepted.{KeepRules}
+use Rattle.plan_num.proofs.Common.{◌≡◌, ℕ, ℤ, zero, suc, pos, negsuc, ◌≤ℤ◌, arith, Bool, true}
+use Rattle.plan_num.proofs.Common.{false, cond, not, ◌||◌, ◌&&◌, List, [], ◌∷◌, ◌++◌, length, map}
+use Rattle.plan_num.proofs.Common.{slice_get, unsigned_abs, int_lt, int_eq, position, refl, ap, sym}
+use Rattle.plan_num.proofs.Common.{subst, ◌∙◌, Option, Some, None, append-nil, option_map}
+use Rattle.plan_num.proofs.Common.{unwrap_or, is_some, AllByRecursion, flat_map, list_any}
+use Rattle.plan_num.proofs.Common.{ltb-false, not-false, Decides-int_eq, ints, length-map}
+use Rattle.plan_num.proofs.Common.{position-Some}
+use Rattle.tables.proofs.Common.{RowWhy, RowRule, broken_whys, TableRow, KeepRules}
 use Rattle.plan_num.proofs.Found.{any_is}
-use Rattle.line_cost_model.specs.declared.edge.BoundedEdge.{BoundedEdge}
-use Rattle.line_cost_model.specs.declared.multipliers.Multiplier.{Multiplier}
-use Rattle.line_cost_model.specs.Problems.{CostedLine, ProblemParts}
+use Rattle.line_cost_model.proofs.Common.{BoundedEdge, Multiplier, CostedLine, ProblemParts}
 use Rattle.line_concepts.specs.declared.node.Node.{Node}
 use Rattle.line_concepts.specs.declared.node.Node.TheVariants as node
 use Rattle.branch_certificate.specs.declared.tree_row.TreeRow.{TreeRow}

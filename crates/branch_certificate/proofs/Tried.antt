@@ -2,7 +2,7 @@
 use Rattle.std.proofs.Common.{◌≡◌, ℕ, List, [], ◌∷◌, ◌++◌, refl, pos, codes, slice_get, Some}
 use Rattle.std.specs.Fmt.{digits}
 use Rattle.tables.specs.declared.file_id.FileId.TheVariants as file
-use Rattle.tables.specs.declared.refusal.Refusal.{Refusal}
+use Rattle.tables.proofs.Common.{Refusal}
 use Rattle.tables.specs.declared.refusal.Refusal.TheVariants as refusal
 use Rattle.tables.specs.declared.row_why.RowWhy.TheVariants as why
 use Rattle.tables.specs.Inputs.{input_faults, row_faults}
@@ -11,7 +11,7 @@ use Rattle.text_fields.specs.Rows.{rows, cleaned}
 use Rattle.tables.specs.Writing.{cell_text, cell_texts, joined, table_text}
 use Rattle.plan_num.specs.Number.{spelling_of, value_of, value_at, fixed_of, whole_of}
 use Rattle.plan_num.specs.Print.{digits_at}
-use Rattle.line_cost_model.specs.Problems.{ProblemParts}
+use Rattle.line_cost_model.proofs.Common.{ProblemParts}
 use Rattle.line_cost_model.specs.DualBounds.{bound_by}
 use Rattle.line_concepts.specs.declared.fault.TreeFault.TheVariants as fault
 use Rattle.line_concepts.specs.TreeFaults.{tree_faults}

@@ -1,18 +1,12 @@
 -- The rows of a tree that is written are in the ranges of their columns.
-use Rattle.std.proofs.Common.{◌≡◌, ◌≤◌, ◌<◌, ℕ, ℤ, pos, zero, suc, ◌≤ℤ◌, arith, List, [], ◌∷◌}
-use Rattle.std.proofs.Common.{length, map, slice_get, subst, option_map, unwrap_or, All, Some}
-use Rattle.std.specs.List.{flat_map}
-use Rattle.std.proofs.lemmas.Int.{ints}
-use Rattle.std.proofs.lemmas.List.Elements.{All-nil, All-cons, All-head, All-tail, All-append}
-use Rattle.tables.specs.Columns.{tree_columns}
-use Rattle.tables.specs.Tables.{TableRow}
-use Rattle.tables.specs.Writing.{InColumns}
-use Rattle.line_cost_model.specs.declared.edge.BoundedEdge.{BoundedEdge}
-use Rattle.line_cost_model.specs.declared.multipliers.Multiplier.{Multiplier}
-use Rattle.line_cost_model.specs.declared.side.Side.{Side}
+use Rattle.plan_num.proofs.Common.{◌≡◌, ◌≤◌, ◌<◌, ℕ, ℤ, pos, zero, suc, ◌≤ℤ◌, arith, List, [], ◌∷◌}
+use Rattle.plan_num.proofs.Common.{length, map, slice_get, subst, option_map, unwrap_or, All, Some}
+use Rattle.plan_num.proofs.Common.{flat_map, ints, All-nil, All-cons, All-head, All-tail}
+use Rattle.plan_num.proofs.Common.{All-append}
+use Rattle.tables.proofs.Common.{tree_columns, TableRow, InColumns}
+use Rattle.line_cost_model.proofs.Common.{BoundedEdge, Multiplier, Side, IsAmount, CostedLine, IsId}
+use Rattle.line_cost_model.proofs.Common.{IsProblem, ProblemParts}
 use Rattle.line_cost_model.specs.declared.side.Side.TheVariants as side
-use Rattle.line_cost_model.specs.Multipliers.{IsAmount}
-use Rattle.line_cost_model.specs.Problems.{CostedLine, IsId, IsProblem, ProblemParts}
 use Rattle.line_concepts.specs.declared.node.Node.{Node}
 use Rattle.line_concepts.specs.declared.node.Node.TheVariants as node
 use Rattle.branch_certificate.specs.TreeTexts.{CanBeWritten, edge_id, line_id, node_rows}

@@ -1,23 +1,18 @@
 -- The text of a tree, node by node.
-use Rattle.std.proofs.Common.{◌≡◌, ℕ, ◌+◌, ◌≤◌, List, [], ◌∷◌, ◌++◌, length, take, slice_get}
-use Rattle.std.proofs.Common.{get_or, Some, All, ap, subst, sym, ◌∙◌, refl, arith, append_assoc}
-use Rattle.std.specs.List.{flat_map}
-use Rattle.std.proofs.lemmas.Grind.{flat_map-append}
-use Rattle.std.proofs.lemmas.List.{take_all, take_more}
-use Rattle.std.proofs.lemmas.List.Elements.{All-push}
-use Rattle.std.proofs.lemmas.Option.{get_or_from_slice_get, slice_get_within}
-use Rattle.tables.specs.Columns.{tree_columns}
-use Rattle.tables.specs.Writing.{line_text, table_text}
-use Rattle.tables.proofs.Headers.{plain_header}
-use Rattle.tables.proofs.WrittenBack.{written_back}
-use Rattle.line_cost_model.specs.Problems.{IsProblem, ProblemParts}
+use Rattle.plan_num.proofs.Common.{◌≡◌, ℕ, ◌+◌, ◌≤◌, List, [], ◌∷◌, ◌++◌, length, take, slice_get}
+use Rattle.plan_num.proofs.Common.{get_or, Some, All, ap, subst, sym, ◌∙◌, refl, arith}
+use Rattle.plan_num.proofs.Common.{append_assoc, flat_map, flat_map-append, take_all, take_more}
+use Rattle.plan_num.proofs.Common.{All-push, get_or_from_slice_get, slice_get_within}
+use Rattle.tables.proofs.Common.{tree_columns, line_text, plain_header, written_back}
+use Rattle.tables.proofs.Common.{columns_written}
+use Rattle.tables.specs.Writing.{table_text}
+use Rattle.line_cost_model.proofs.Common.{IsProblem, ProblemParts}
 use Rattle.line_concepts.specs.declared.node.Node.{Node}
 use Rattle.line_concepts.specs.declared.node.Node.TheVariants as node
 use Rattle.branch_certificate.specs.TreeTexts.{CanBeWritten, IsSmallSplit, ReadsBackAs, node_rows}
 use Rattle.line_concepts.specs.Nodes.{NamesWhatIs}
 use Rattle.branch_certificate.specs.TreeTexts.{tree_header, tree_text}
 use Rattle.branch_certificate.proofs.WriteInside.{rows_inside}
-use Rattle.tables.proofs.WrittenColumns.{columns_written}
 use Rattle.branch_certificate.proofs.WriteRows.{rows_more}
 use Rattle.branch_certificate.proofs.WriteTrees.{nodes_back}
 

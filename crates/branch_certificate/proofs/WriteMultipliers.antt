@@ -1,19 +1,13 @@
 -- The index of an id, and the rows of multipliers that are read back.
-use Rattle.std.proofs.Common.{◌≡◌, ℕ, ℤ, pos, zero, suc, ◌-◌, ◌<◌, arith, true, false, cond, not}
-use Rattle.std.proofs.Common.{◌||◌, nat_lt, int_eq, List, [], ◌∷◌, ◌++◌, length, get_or, map}
-use Rattle.std.proofs.Common.{position, slice_get, refl, sym, ap, subst, ◌∙◌, append_assoc}
-use Rattle.std.proofs.Common.{append-nil, Some, None, option_map, unwrap_or, All}
-use Rattle.std.specs.List.Sorted.{IsStrictlySortedBy}
-use Rattle.std.specs.Ordering.{int_cmp}
-use Rattle.std.proofs.lemmas.Bool.{lt-ltb, le-ltb}
-use Rattle.std.proofs.lemmas.Cmp.{int_cmp_total, tied_itself}
-use Rattle.std.proofs.lemmas.List.{get_or_default, length-map}
-use Rattle.tables.specs.declared.row_why.RowWhy.{RowWhy}
+use Rattle.plan_num.proofs.Common.{◌≡◌, ℕ, ℤ, pos, zero, suc, ◌-◌, ◌<◌, arith, true, false, cond}
+use Rattle.plan_num.proofs.Common.{not, ◌||◌, nat_lt, int_eq, List, [], ◌∷◌, ◌++◌, length, get_or}
+use Rattle.plan_num.proofs.Common.{map, position, slice_get, refl, sym, ap, subst, ◌∙◌}
+use Rattle.plan_num.proofs.Common.{append_assoc, append-nil, Some, None, option_map, unwrap_or, All}
+use Rattle.plan_num.proofs.Common.{IsStrictlySortedBy, int_cmp, lt-ltb, le-ltb, int_cmp_total}
+use Rattle.plan_num.proofs.Common.{tied_itself, get_or_default, length-map}
+use Rattle.tables.proofs.Common.{RowWhy, broken_whys, KeepRules}
 use Rattle.tables.specs.declared.row_why.RowWhy.TheVariants as why
-use Rattle.tables.specs.Inputs.{broken_whys}
-use Rattle.tables.proofs.Accepted.{KeepRules}
-use Rattle.line_cost_model.specs.declared.multipliers.Multiplier.{Multiplier}
-use Rattle.line_cost_model.specs.Multipliers.{IsAmount}
+use Rattle.line_cost_model.proofs.Common.{Multiplier, IsAmount}
 use Rattle.line_concepts.specs.declared.node.Node.{Node}
 use Rattle.line_concepts.specs.declared.node.Node.TheVariants as node
 use Rattle.branch_certificate.specs.declared.open_bound.OpenBound.{OpenBound}

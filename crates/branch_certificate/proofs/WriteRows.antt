@@ -1,13 +1,9 @@
 -- The rows of nodes and of multipliers, one after the other.
-use Rattle.std.proofs.Common.{◌≡◌, ℕ, ℤ, pos, zero, suc, ◌+◌, ◌<◌, arith, List, [], ◌∷◌, ◌++◌, take}
-use Rattle.std.proofs.Common.{slice_get, ap, subst, sym, ◌∙◌, append_assoc, append-nil, Some}
-use Rattle.std.proofs.Common.{option_map, All}
-use Rattle.std.specs.List.{flat_map}
-use Rattle.std.proofs.lemmas.Grind.{flat_map-append}
-use Rattle.tables.specs.Columns.{tree_columns}
-use Rattle.tables.specs.Tables.{TableRow}
-use Rattle.tables.specs.Writing.{line_text}
-use Rattle.line_cost_model.specs.declared.multipliers.Multiplier.{Multiplier}
+use Rattle.plan_num.proofs.Common.{◌≡◌, ℕ, ℤ, pos, zero, suc, ◌+◌, ◌<◌, arith, List, [], ◌∷◌, ◌++◌}
+use Rattle.plan_num.proofs.Common.{take, slice_get, ap, subst, sym, ◌∙◌, append_assoc, append-nil}
+use Rattle.plan_num.proofs.Common.{Some, option_map, All, flat_map, flat_map-append}
+use Rattle.tables.proofs.Common.{tree_columns, TableRow, line_text}
+use Rattle.line_cost_model.proofs.Common.{Multiplier}
 use Rattle.branch_certificate.specs.TreeTexts.{cells_row}
 
 -- the line of a row behind others

@@ -1,27 +1,16 @@
 -- A tree that is written is read back.
-use Rattle.std.proofs.Common.{◌≡◌, ℕ, ℤ, pos, ◌<◌, ◌≤◌, ◌≤ℤ◌, ◌^◌, arith, Bool, true, false, not}
-use Rattle.std.proofs.Common.{nat_lt, int_eq, List, [], ◌∷◌, ◌++◌, length, get_or, map, refl, sym}
-use Rattle.std.proofs.Common.{ap, subst, ◌∙◌, append_assoc, append-nil, All}
-use Rattle.std.specs.List.{flat_map}
-use Rattle.std.proofs.lemmas.Bool.Decides.{Decides-int_eq}
-use Rattle.std.proofs.lemmas.Int.{ints}
-use Rattle.std.proofs.lemmas.List.{length-map, map-append}
-use Rattle.std.proofs.lemmas.List.Elements.{All-head, All-tail}
-use Rattle.std.proofs.lemmas.Simd.{map-map}
+use Rattle.plan_num.proofs.Common.{◌≡◌, ℕ, ℤ, pos, ◌<◌, ◌≤◌, ◌≤ℤ◌, ◌^◌, arith, Bool, true, false}
+use Rattle.plan_num.proofs.Common.{not, nat_lt, int_eq, List, [], ◌∷◌, ◌++◌, length, get_or, map}
+use Rattle.plan_num.proofs.Common.{refl, sym, ap, subst, ◌∙◌, append_assoc, append-nil, All}
+use Rattle.plan_num.proofs.Common.{flat_map, Decides-int_eq, ints, length-map, map-append, All-head}
+use Rattle.plan_num.proofs.Common.{All-tail, map-map}
 use Rattle.tables.specs.declared.row_why.RowWhy.TheVariants as why
 use Rattle.tables.specs.declared.file_id.FileId.TheVariants as file
-use Rattle.tables.specs.Columns.{tree_columns}
-use Rattle.tables.specs.Inputs.{records}
-use Rattle.tables.specs.Reading.{table_of}
-use Rattle.tables.specs.Tables.{TableRow}
-use Rattle.tables.specs.Writing.{ReadsBack}
-use Rattle.tables.proofs.Accepted.{KeepRules, accepted, whole_accepted}
-use Rattle.line_cost_model.specs.declared.edge.BoundedEdge.{BoundedEdge}
-use Rattle.line_cost_model.specs.declared.multipliers.Multiplier.{Multiplier}
-use Rattle.line_cost_model.specs.declared.side.Side.{Side}
+use Rattle.tables.proofs.Common.{tree_columns, records, table_of, TableRow, ReadsBack, KeepRules}
+use Rattle.tables.proofs.Common.{accepted, whole_accepted}
+use Rattle.line_cost_model.proofs.Common.{BoundedEdge, Multiplier, Side, IsAmount, CostedLine, IsId}
+use Rattle.line_cost_model.proofs.Common.{IsProblem, ProblemParts}
 use Rattle.line_cost_model.specs.declared.side.Side.TheVariants as side
-use Rattle.line_cost_model.specs.Multipliers.{IsAmount}
-use Rattle.line_cost_model.specs.Problems.{CostedLine, IsId, IsProblem, ProblemParts}
 use Rattle.line_concepts.specs.declared.node.Node.{Node}
 use Rattle.line_concepts.specs.declared.node.Node.TheVariants as node
 use Rattle.branch_certificate.specs.declared.tree_row.TreeRow.{TreeRow}

@@ -1,15 +1,11 @@
 -- A walk that goes on over an arc, and what it leaves of the numbers of nodes.
-use Rattle.std.proofs.Common.{◌≡◌, ℕ, ℤ, zero, suc, pos, neg_ℤ, ◌+◌, ◌<◌, ◌≤◌, ◌+ℤ◌, ◌-ℤ◌, ◌≤ℤ◌}
-use Rattle.std.proofs.Common.{◌||◌, Bool, true, false, List, [], ◌∷◌, length, sum, get_or}
-use Rattle.std.proofs.Common.{slice_set, Option, Some, None, option_map, option_and_then, refl, ap}
-use Rattle.std.proofs.Common.{sym, ◌∙◌, subst, arith, get_or-set_same, get_or-set_other}
-use Rattle.std.proofs.lemmas.Bool.{false≢true, or_parts}
-use Rattle.std.proofs.lemmas.Int.{ints}
-use Rattle.std.proofs.lemmas.List.{length-set}
-use Rattle.std.proofs.lemmas.List.Sums.{sum_by-cons}
-use Rattle.std.proofs.lemmas.Option.{none-some, same_Some}
-use Rattle.link_plans.specs.Links.{Links}
-use Rattle.link_plans.proofs.Linking.{by_number}
+use Rattle.plan_num.proofs.Common.{◌≡◌, ℕ, ℤ, zero, suc, pos, neg_ℤ, ◌+◌, ◌<◌, ◌≤◌, ◌+ℤ◌, ◌-ℤ◌}
+use Rattle.plan_num.proofs.Common.{◌≤ℤ◌, ◌||◌, Bool, true, false, List, [], ◌∷◌, length, sum}
+use Rattle.plan_num.proofs.Common.{get_or, slice_set, Option, Some, None, option_map}
+use Rattle.plan_num.proofs.Common.{option_and_then, refl, ap, sym, ◌∙◌, subst, arith}
+use Rattle.plan_num.proofs.Common.{get_or-set_same, get_or-set_other, false≢true, or_parts, ints}
+use Rattle.plan_num.proofs.Common.{length-set, sum_by-cons, none-some, same_Some}
+use Rattle.link_plans.proofs.Common.{Links, by_number}
 use Rattle.canonical_potentials.specs.Drops.{DropParts, drop_at, AreFound, depth, one_if, IsStep}
 use Rattle.canonical_potentials.specs.Residual.{Node, root, left, right, arc, walk_cost}
 

@@ -2,12 +2,8 @@
 use Rattle.std.proofs.Common.{◌≡◌, ℕ, ◌+◌, ◌-◌, ◌<◌, ◌≤◌, ◌||◌, Bool, true, false, List, length}
 use Rattle.std.proofs.Common.{slice_get, get_or, Option, Some, ap, subst, arith}
 use Rattle.std.proofs.lemmas.Option.{slice_get_within}
-use Rattle.link_plans.specs.Plans.{next, is_next}
-use Rattle.link_plans.specs.Links.{Links}
+use Rattle.link_plans.proofs.Common.{next, is_next, Links, link_to, IsRow, Link, by_bound}
 use Rattle.canonical_potentials.specs.Drops.{DropParts, one_if, IsStep, RowKept, NextKept, RootKept, TripPassed}
-use Rattle.link_plans.specs.LinkRows.{link_to, IsRow}
-use Rattle.link_plans.specs.declared.link_table.Link.{Link}
-use Rattle.link_plans.proofs.Certified.{by_bound}
 use Rattle.canonical_potentials.proofs.Deeper.{no_step, two_steps}
 
 -- many arcs as one step; where nothing has changed, something is kept

@@ -1,22 +1,16 @@
 -- Where a round finds no better walk, the numbers tell the canonical potentials: a link that gains less
 -- than nothing makes no walk better that goes on to the root.
-use Rattle.std.proofs.Common.{◌≡◌, ℕ, ℤ, pos, negsuc, neg_ℤ, ◌+◌, ◌-◌, ◌<◌, ◌≤◌, ◌+ℤ◌, ◌-ℤ◌, ◌≤ℤ◌}
-use Rattle.std.proofs.Common.{◌&&◌, not, is_some, Bool, true, false, cond, List, ◌∷◌, map, get_or}
-use Rattle.std.proofs.Common.{Option, Some, None, IfSome, refl, ap, sym, ◌∙◌, subst, arith}
-use Rattle.std.specs.Int.{int_max}
-use Rattle.std.specs.List.{range_with_len}
-use Rattle.std.proofs.lemmas.Bool.{lt-ltb}
-use Rattle.std.proofs.lemmas.Int.{ints, int_max_is}
-use Rattle.std.proofs.lemmas.List.{get_or-map, length-map}
-use Rattle.std.proofs.lemmas.List.FromFn.{get_or-map-range_with_len, length-range_with_len}
-use Rattle.link_plans.specs.Links.{Links, AreLinks}
-use Rattle.link_plans.specs.Plans.{next, is_next}
-use Rattle.link_plans.proofs.Linking.{next_found}
+use Rattle.plan_num.proofs.Common.{◌≡◌, ℕ, ℤ, pos, negsuc, neg_ℤ, ◌+◌, ◌-◌, ◌<◌, ◌≤◌, ◌+ℤ◌, ◌-ℤ◌}
+use Rattle.plan_num.proofs.Common.{◌≤ℤ◌, ◌&&◌, not, is_some, Bool, true, false, cond, List, ◌∷◌}
+use Rattle.plan_num.proofs.Common.{map, get_or, Option, Some, None, IfSome, refl, ap, sym, ◌∙◌}
+use Rattle.plan_num.proofs.Common.{subst, arith, int_max, range_with_len, lt-ltb, ints, int_max_is}
+use Rattle.plan_num.proofs.Common.{get_or-map, length-map, get_or-map-range_with_len}
+use Rattle.plan_num.proofs.Common.{length-range_with_len}
+use Rattle.link_plans.proofs.Common.{Links, AreLinks, next, is_next, next_found, worth}
+use Rattle.link_plans.proofs.Common.{PotentialParts, at, AreValid}
 use Rattle.canonical_potentials.specs.Canonical.{AreCanonical}
 use Rattle.canonical_potentials.specs.Drops.{DropParts, AreDropsOver, IsSearched, LinkKept}
 use Rattle.canonical_potentials.specs.Drops.{NextKept, RootKept, AreKept, ArePassed, potentials_by}
-use Rattle.link_plans.specs.LinkRows.{worth}
-use Rattle.link_plans.specs.Potentials.{PotentialParts, at, AreValid}
 use Rattle.canonical_potentials.specs.Residual.{root, left, right, arc, free_arc, walk_cost, IsLeastCost}
 use Rattle.canonical_potentials.proofs.Deeper.{joined}
 use Rattle.canonical_potentials.proofs.Rounds.{canonical_is, same_numbers}

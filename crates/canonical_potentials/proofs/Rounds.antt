@@ -1,27 +1,20 @@
 -- Rounds over all arcs find the least costs of walks.
-use Rattle.std.proofs.Common.{◌≡◌, ℕ, ℤ, zero, suc, pos, negsuc, neg_ℤ, ◌+◌, ◌*◌, ◌<◌, ◌≤◌, ◌==◌}
-use Rattle.std.proofs.Common.{◌+ℤ◌, ◌-ℤ◌, ◌≤ℤ◌, ◌&&◌, nat_lt, not, max, is_some, Bool, true, false}
-use Rattle.std.proofs.Common.{cond, List, [], ◌∷◌, length, sum, fold, get_or, unsigned_abs, Option}
-use Rattle.std.proofs.Common.{Some, None, IfSome, option_map, Result, Ok, Err, IfOk, refl, ap, sym}
-use Rattle.std.proofs.Common.{◌∙◌, subst, arith}
-use Rattle.std.specs.Int.{int_max}
-use Rattle.std.specs.List.{range_with_len}
-use Rattle.std.proofs.Math.ListN.{get_or-eq_default}
-use Rattle.std.proofs.lemmas.Bool.{eqb-true, eqb-false, lt-ltb}
-use Rattle.std.proofs.lemmas.Int.{ints}
-use Rattle.std.proofs.lemmas.List.{length-map}
-use Rattle.std.proofs.lemmas.List.FromFn.{get_or-map-range_with_len, length-range_with_len}
-use Rattle.std.proofs.lemmas.List.Sums.{sum_by-cons}
-use Rattle.link_plans.specs.Plans.{next, is_next, plan_gain, IsPlan}
-use Rattle.link_plans.specs.Links.{Links, AreLinks}
+use Rattle.plan_num.proofs.Common.{◌≡◌, ℕ, ℤ, zero, suc, pos, negsuc, neg_ℤ, ◌+◌, ◌*◌, ◌<◌, ◌≤◌}
+use Rattle.plan_num.proofs.Common.{◌==◌, ◌+ℤ◌, ◌-ℤ◌, ◌≤ℤ◌, ◌&&◌, nat_lt, not, max, is_some, Bool}
+use Rattle.plan_num.proofs.Common.{true, false, cond, List, [], ◌∷◌, length, sum, fold, get_or}
+use Rattle.plan_num.proofs.Common.{unsigned_abs, Option, Some, None, IfSome, option_map, Result, Ok}
+use Rattle.plan_num.proofs.Common.{Err, IfOk, refl, ap, sym, ◌∙◌, subst, arith, int_max}
+use Rattle.plan_num.proofs.Common.{range_with_len, get_or-eq_default, eqb-true, eqb-false, lt-ltb}
+use Rattle.plan_num.proofs.Common.{ints, length-map, get_or-map-range_with_len}
+use Rattle.plan_num.proofs.Common.{length-range_with_len, sum_by-cons}
+use Rattle.link_plans.proofs.Common.{next, is_next, plan_gain, IsPlan, Links, AreLinks}
+use Rattle.link_plans.proofs.Common.{PotentialParts, at, total, ArePotentials, AreValid, by_bound}
 use Rattle.canonical_potentials.specs.Canonical.{AreCanonical}
 use Rattle.canonical_potentials.specs.Drops.{DropParts, drop_at, AreFound, depth, IsSearched}
 use Rattle.canonical_potentials.specs.Drops.{PairKept, LinkKept, NextKept, RootKept, AreKept}
-use Rattle.link_plans.specs.Potentials.{PotentialParts, at, total, ArePotentials, AreValid}
 use Rattle.canonical_potentials.specs.Residual.{Node, root, left, right, arc, free_arc, walk_cost, IsLeastCost}
 use Rattle.canonical_potentials.specs.Rounds.{not_below, over_arc, over, greatest, furthest, round}
 use Rattle.canonical_potentials.specs.Rounds.{settled, no_drops, canonical}
-use Rattle.link_plans.proofs.Certified.{by_bound}
 use Rattle.canonical_potentials.proofs.Deeper.{joined}
 use Rattle.canonical_potentials.proofs.Settled.{searched_first, settled_canonical, settled_small, settled_valid}
 use Rattle.canonical_potentials.proofs.Shallow.{walk_least, back_arc}

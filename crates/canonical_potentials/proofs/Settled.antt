@@ -1,28 +1,21 @@
 -- Numbers that no arc makes better are the least costs of walks, and their potentials are valid.
-use Rattle.std.proofs.Common.{◌≡◌, ℕ, ℤ, zero, suc, pos, neg_ℤ, ◌+◌, ◌-◌, ◌<◌, ◌≤◌, ◌+ℤ◌, ◌-ℤ◌}
-use Rattle.std.proofs.Common.{◌≤ℤ◌, ◌&&◌, nat_lt, not, is_some, Bool, true, false, cond, List, []}
-use Rattle.std.proofs.Common.{map, get_or, replicate, Option, Some, None, IfSome}
-use Rattle.std.proofs.Common.{option_map, unwrap_or, refl, ap, sym, ◌∙◌, subst, arith}
-use Rattle.std.specs.Int.{int_max}
-use Rattle.std.proofs.Math.ListN.{get_or-eq_default}
-use Rattle.std.proofs.lemmas.Bool.{and_parts, ltb-true, not-true}
-use Rattle.std.proofs.lemmas.Int.{ints, int_max_is}
-use Rattle.std.proofs.lemmas.List.{length-map, length-replicate, get_or-map, get_or_default}
-use Rattle.std.proofs.lemmas.List.Elements.{All-map}
-use Rattle.std.proofs.lemmas.Option.{none-some, same_Some}
-use Rattle.link_plans.specs.Plans.{next, is_next, is_trip, IsPlan}
-use Rattle.link_plans.specs.Links.{Links, AreLinks}
-use Rattle.link_plans.proofs.Linking.{some_of}
-use Rattle.link_plans.proofs.Linking.{next_found, followed, is_trip_same}
+use Rattle.plan_num.proofs.Common.{◌≡◌, ℕ, ℤ, zero, suc, pos, neg_ℤ, ◌+◌, ◌-◌, ◌<◌, ◌≤◌, ◌+ℤ◌, ◌-ℤ◌}
+use Rattle.plan_num.proofs.Common.{◌≤ℤ◌, ◌&&◌, nat_lt, not, is_some, Bool, true, false, cond, List}
+use Rattle.plan_num.proofs.Common.{[], map, get_or, replicate, Option, Some, None, IfSome}
+use Rattle.plan_num.proofs.Common.{option_map, unwrap_or, refl, ap, sym, ◌∙◌, subst, arith, int_max}
+use Rattle.plan_num.proofs.Common.{get_or-eq_default, and_parts, ltb-true, not-true, ints}
+use Rattle.plan_num.proofs.Common.{int_max_is, length-map, length-replicate, get_or-map}
+use Rattle.plan_num.proofs.Common.{get_or_default, All-map, none-some, same_Some}
+use Rattle.link_plans.proofs.Common.{next, is_next, is_trip, IsPlan, Links, AreLinks, some_of}
+use Rattle.link_plans.proofs.Common.{next_found, followed, is_trip_same, PotentialParts, at}
+use Rattle.link_plans.proofs.Common.{IsSmall, ArePotentials, AreOver, AreValid, by_bound}
+use Rattle.link_plans.proofs.Common.{AreCovering, AreTight, tight_gains}
 use Rattle.canonical_potentials.specs.Canonical.{AreCanonical}
 use Rattle.canonical_potentials.specs.Drops.{DropParts, drop_at, AreFound, AreDropsOver, IsSearched}
 use Rattle.canonical_potentials.specs.Drops.{NextKept, RootKept, AreKept, potentials_by}
-use Rattle.link_plans.specs.Potentials.{PotentialParts, at, IsSmall, ArePotentials, AreOver, AreValid}
 use Rattle.canonical_potentials.specs.Residual.{Node, root, left, right, arc, walk_cost, IsLeastCost}
-use Rattle.link_plans.proofs.Certified.{by_bound}
 use Rattle.canonical_potentials.proofs.Deeper.{walk_bound}
 use Rattle.canonical_potentials.proofs.Shallow.{free_is, found_most}
-use Rattle.link_plans.proofs.TightGains.{AreCovering, AreTight, tight_gains}
 
 -- ---- before all passes
 

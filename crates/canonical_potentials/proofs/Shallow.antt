@@ -1,21 +1,15 @@
 -- Where potentials are valid, no walk goes further below 0 than all of them together.
-use Rattle.std.proofs.Common.{◌≡◌, ℕ, ℤ, zero, suc, pos, neg_ℤ, ◌+◌, ◌*◌, ◌≤◌, ◌+ℤ◌, ◌-ℤ◌, ◌≤ℤ◌}
-use Rattle.std.proofs.Common.{nat_lt, not, is_some, Bool, true, false, cond, List, [], ◌∷◌, length}
-use Rattle.std.proofs.Common.{unwrap_or, sum, get_or, Option, Some, None, IfSome, option_map, refl, ap, sym}
-use Rattle.std.proofs.Common.{◌∙◌, arith}
-use Rattle.std.proofs.lemmas.Bool.{false≢true, and_parts, not-true}
-use Rattle.std.proofs.lemmas.Int.{ints}
-use Rattle.std.proofs.lemmas.List.Sums.{sum_by-cons}
-use Rattle.std.proofs.lemmas.Option.{none-some, same_Some}
-use Rattle.link_plans.specs.Plans.{next, is_trip, IsPlan}
-use Rattle.link_plans.specs.Links.{Links, AreLinks}
-use Rattle.link_plans.proofs.Linking.{is_trip_same, same_is_trip}
+use Rattle.plan_num.proofs.Common.{◌≡◌, ℕ, ℤ, zero, suc, pos, neg_ℤ, ◌+◌, ◌*◌, ◌≤◌, ◌+ℤ◌, ◌-ℤ◌}
+use Rattle.plan_num.proofs.Common.{◌≤ℤ◌, nat_lt, not, is_some, Bool, true, false, cond, List, []}
+use Rattle.plan_num.proofs.Common.{◌∷◌, length, unwrap_or, sum, get_or, Option, Some, None, IfSome}
+use Rattle.plan_num.proofs.Common.{option_map, refl, ap, sym, ◌∙◌, arith, false≢true, and_parts}
+use Rattle.plan_num.proofs.Common.{not-true, ints, sum_by-cons, none-some, same_Some}
+use Rattle.link_plans.proofs.Common.{next, is_trip, IsPlan, Links, AreLinks, is_trip_same}
+use Rattle.link_plans.proofs.Common.{same_is_trip, PotentialParts, at, total, AreValid, IsTight}
+use Rattle.link_plans.proofs.Common.{gains_all, gains_from, gains_more}
 use Rattle.canonical_potentials.specs.Drops.{DropParts, drop_at, IsSearched}
-use Rattle.link_plans.specs.Potentials.{PotentialParts, at, total, AreValid, IsTight}
 use Rattle.canonical_potentials.specs.Residual.{Node, root, left, right, arc, free_arc, walk_cost}
-use Rattle.link_plans.proofs.Certified.{gains_all}
 use Rattle.canonical_potentials.proofs.Deeper.{joined, walk_bound}
-use Rattle.link_plans.proofs.Totals.{gains_from, gains_more}
 
 -- one of some numbers is no more than their sum
 one_of_sum : (numbers : List ℕ) (k : ℕ) → at numbers k ≤ sum numbers

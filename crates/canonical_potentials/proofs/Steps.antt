@@ -1,19 +1,13 @@
 -- Steps over arcs, as they are made.
-use Rattle.std.proofs.Common.{◌≡◌, ℕ, ℤ, pos, neg_ℤ, ◌+◌, ◌*◌, ◌<◌, ◌≤◌, ◌+ℤ◌, ◌≤ℤ◌, ◌&&◌}
-use Rattle.std.proofs.Common.{not, is_some, Bool, true, false, List, [], ◌∷◌, suc, length, sum}
-use Rattle.std.proofs.Common.{get_or, slice_set, Option, Some, None, IfSome, option_map, refl, ap}
-use Rattle.std.proofs.Common.{sym, ◌∙◌, subst, arith}
-use Rattle.std.proofs.lemmas.Bool.{false≢true, lt-ltb}
-use Rattle.std.proofs.lemmas.Int.{ints}
-use Rattle.std.proofs.lemmas.List.Sums.{sum_by-cons}
-use Rattle.link_plans.specs.Plans.{next, is_next}
-use Rattle.link_plans.specs.Links.{Links, AreLinks}
+use Rattle.plan_num.proofs.Common.{◌≡◌, ℕ, ℤ, pos, neg_ℤ, ◌+◌, ◌*◌, ◌<◌, ◌≤◌, ◌+ℤ◌, ◌≤ℤ◌, ◌&&◌, not}
+use Rattle.plan_num.proofs.Common.{is_some, Bool, true, false, List, [], ◌∷◌, suc, length, sum}
+use Rattle.plan_num.proofs.Common.{get_or, slice_set, Option, Some, None, IfSome, option_map, refl}
+use Rattle.plan_num.proofs.Common.{ap, sym, ◌∙◌, subst, arith, false≢true, lt-ltb, ints}
+use Rattle.plan_num.proofs.Common.{sum_by-cons}
+use Rattle.link_plans.proofs.Common.{next, is_next, Links, AreLinks, worth, at, worth_is}
 use Rattle.canonical_potentials.specs.Drops.{DropParts, depth, IsStep, IsSearched, IsRaised, LinkKept}
-use Rattle.link_plans.specs.LinkRows.{worth}
-use Rattle.link_plans.specs.Potentials.{at}
 use Rattle.canonical_potentials.specs.Residual.{root, left, right, free_arc}
 use Rattle.canonical_potentials.proofs.Deeper.{step_root, step_left, step_right}
-use Rattle.link_plans.proofs.LinkRows.{worth_is}
 use Rattle.canonical_potentials.proofs.Shallow.{pair_most, back_arc, found_most}
 
 -- what is known stays known behind a step

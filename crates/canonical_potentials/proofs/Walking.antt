@@ -6,7 +6,7 @@ use Rattle.std.proofs.lemmas.List.FromFn.{map-range_with_len_more}
 use Rattle.std.proofs.lemmas.List.Sorted.{IsPermutation-swap_remove}
 use Rattle.canonical_potentials.specs.declared.walk.Waiting.{Waiting}
 use Rattle.canonical_potentials.specs.Drops.{DropParts}
-use Rattle.link_plans.specs.Potentials.{at}
+use Rattle.link_plans.proofs.Common.{at}
 use Rattle.canonical_potentials.specs.Walks.{reach, IsFurthest, IsTakenOut, middle, root_waits, trip_waits}
 
 -- of the first nodes none reaches further than some number, and the best of them so far

@@ -1,15 +1,13 @@
 -- The ids of words, one after the other.
-use Rattle.std.proofs.Common.{◌≡◌, ℕ, ℤ, ◌+◌, ◌<◌, ◌≤◌, List, [], ◌∷◌, ◌++◌, length, map, drop}
-use Rattle.std.proofs.Common.{Option, Some, None, option_map, string_bytes, refl, ap, sym, ◌∙◌, append_assoc, arith}
-use Rattle.std.specs.Prelude.{slice_index_or}
+use Rattle.plan_num.proofs.Common.{◌≡◌, ℕ, ℤ, ◌+◌, ◌<◌, ◌≤◌, List, [], ◌∷◌, ◌++◌, length, map, drop}
+use Rattle.plan_num.proofs.Common.{Option, Some, None, option_map, string_bytes, refl, ap, sym, ◌∙◌}
+use Rattle.plan_num.proofs.Common.{append_assoc, arith, slice_index_or, at_drop_more, Bool, true}
+use Rattle.plan_num.proofs.Common.{false, cond, not, ◌&&◌, ◌||◌, ◌⊎◌, ⊎_elim, nat_le}
+use Rattle.plan_num.proofs.Common.{option_and_then, suc, length-map, AllByRecursion, list_any}
+use Rattle.plan_num.proofs.Common.{int_eq, and_parts, false≢true, lt-leb, true≢false, not-true}
 use Rattle.std.specs.declared.alloc.Global.{Global}
 use Rattle.std.specs.declared.string.String.{String}
-use Rattle.std.proofs.lemmas.List.{at_drop_more}
-use Rattle.std.proofs.Common.{Bool, true, false, cond, not, ◌&&◌, ◌||◌, ◌⊎◌, ⊎_elim, nat_le, option_and_then, suc}
-use Rattle.std.proofs.lemmas.List.{length-map}
-use Rattle.std.specs.List.{AllByRecursion, IsDistinct, list_any}
-use Rattle.std.specs.Ordering.{int_eq}
-use Rattle.std.proofs.lemmas.Bool.{and_parts, false≢true, lt-leb, true≢false, not-true}
+use Rattle.std.specs.List.{IsDistinct}
 use Rattle.plan_num.specs.Terminals.{AreTerminals}
 use Rattle.command_line.specs.FormWords.{are_apart, id_in, ids_in, pool_form, pool_of_ids, sized_form, with_id}
 use Rattle.command_line.specs.declared.form.Form.TheVariants.{Pool}

@@ -1,15 +1,12 @@
 -- Reading a file goes section by section, and into the files that it includes.
-use Rattle.std.proofs.Common.{◌≡◌, ℕ, zero, suc, ◌+◌, ◌-◌, ◌<◌, ◌≤◌, Bool, true, false, eqb, ltb}
-use Rattle.std.proofs.Common.{List, [], ◌∷◌, ◌++◌, length, get_or, drop}
-use Rattle.std.proofs.Common.{Option, Some, None, IfSome, IfOk, Result, Ok, Err, string_bytes, refl}
-use Rattle.std.proofs.Common.{sym, ap, ◌∙◌, subst, arith}
+use Rattle.plan_num.proofs.Common.{◌≡◌, ℕ, zero, suc, ◌+◌, ◌-◌, ◌<◌, ◌≤◌, Bool, true, false, eqb}
+use Rattle.plan_num.proofs.Common.{ltb, List, [], ◌∷◌, ◌++◌, length, get_or, drop, Option, Some}
+use Rattle.plan_num.proofs.Common.{None, IfSome, IfOk, Result, Ok, Err, string_bytes, refl, sym, ap}
+use Rattle.plan_num.proofs.Common.{◌∙◌, subst, arith, flat_map, nat_tests, append_assoc, drop_all}
+use Rattle.plan_num.proofs.Common.{drop_more}
 use Rattle.std.proofs.Math.Numerals.{sub-one}
-use Rattle.std.specs.List.{flat_map}
-use Rattle.std.proofs.lemmas.Bool.Decides.{nat_tests}
-use Rattle.std.proofs.lemmas.List.{append_assoc, drop_all, drop_more}
-use Rattle.plan_files.specs.declared.store.Got.{Got}
-use Rattle.plan_files.specs.declared.store.Got.TheVariants.{Bytes, Absent, TooLong as Long}
-use Rattle.plan_files.specs.Folder.{Folder}
+use Rattle.plan_files.proofs.Common.{Got, Bytes, Absent, Folder}
+use Rattle.plan_files.specs.declared.store.Got.TheVariants.{TooLong as Long}
 use Rattle.config_keys.specs.declared.config_end.ConfigEnd.{ConfigEnd}
 use Rattle.config_keys.specs.declared.config_end.ConfigEnd.TheVariants.{Refused, FileFault, NoMemory}
 use Rattle.config_keys.specs.declared.config_fault.ConfigFault.{ConfigFault}

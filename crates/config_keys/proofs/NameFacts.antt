@@ -1,15 +1,10 @@
 -- Names of included files are text.
-use Rattle.std.proofs.Common.{◌≡◌, ℕ, ◌<◌, Bool, true, false, List, length, get_or, ⊎_elim, arith}
-use Rattle.std.proofs.Common.{Bor, Option, Result, Ok, Err, MatchResult, MatchOption, ◌&&◌, not}
-use Rattle.std.proofs.Common.{refl, nat_eq, codes}
-use Rattle.std.specs.List.{list_all, ends_with}
-use Rattle.std.specs.Result.{result_ok}
-use Rattle.std.specs.Str.{IsUtf8}
-use Rattle.std.proofs.lemmas.Str.{IsUtf8-from_ascii}
-use Rattle.std.proofs.lemmas.List.{get_or_past}
-use Rattle.std.proofs.lemmas.List.Sums.{AllPass-from_list_all}
-use Rattle.std.proofs.lemmas.Bool.{cases_lt}
-use Rattle.std.proofs.lemmas.Bool.Decides.{nat_tests}
+use Rattle.plan_num.proofs.Common.{◌≡◌, ℕ, ◌<◌, Bool, true, false, List, length, get_or, ⊎_elim}
+use Rattle.plan_num.proofs.Common.{arith, Bor, Option, Result, Ok, Err, MatchResult, MatchOption}
+use Rattle.plan_num.proofs.Common.{◌&&◌, not, refl, nat_eq, codes, list_all, result_ok, IsUtf8}
+use Rattle.plan_num.proofs.Common.{IsUtf8-from_ascii, get_or_past, AllPass-from_list_all, cases_lt}
+use Rattle.plan_num.proofs.Common.{nat_tests}
+use Rattle.std.specs.List.{ends_with}
 use Rattle.config_keys.specs.Includes.{is_name_byte, has_two_points, is_inside}
 use Rattle.plan_num.proofs.Tests.{first_true}
 

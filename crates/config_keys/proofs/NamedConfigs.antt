@@ -1,12 +1,10 @@
 -- The fault of a config names its config file, or one that this can include.
-use Rattle.std.proofs.Common.{arith, ◌≡◌, ℕ, zero, suc, Bool, true, false, eqb, List, [], ◌∷◌, ◌++◌}
-use Rattle.std.proofs.Common.{◌+◌, length, nat_lt, Option, Some, None, IfSome, IfErr, Ok, Err, refl}
-use Rattle.std.specs.Prelude.{if◌then◌else◌}
-use Rattle.std.specs.List.{flat_map}
-use Rattle.std.specs.Option.{option_map_or}
-use Rattle.plan_files.specs.declared.store.Got.{Got}
-use Rattle.plan_files.specs.declared.store.Got.TheVariants.{Bytes, Absent, TooLong as Long}
-use Rattle.giv_files.specs.declared.key.Key.{Key}
+use Rattle.plan_num.proofs.Common.{arith, ◌≡◌, ℕ, zero, suc, Bool, true, false, eqb, List, [], ◌∷◌}
+use Rattle.plan_num.proofs.Common.{◌++◌, ◌+◌, length, nat_lt, Option, Some, None, IfSome, IfErr, Ok}
+use Rattle.plan_num.proofs.Common.{Err, refl, if◌then◌else◌, flat_map, option_map_or}
+use Rattle.plan_files.proofs.Common.{Got, Bytes, Absent}
+use Rattle.plan_files.specs.declared.store.Got.TheVariants.{TooLong as Long}
+use Rattle.giv_files.proofs.Common.{Key}
 use Rattle.text_fields.specs.Rows.{Row, rows, has_mark}
 use Rattle.tables.specs.declared.row_why.RowWhy.TheVariants as why
 use Rattle.config_keys.specs.declared.config_fault.ConfigFault.{ConfigFault}

@@ -1,7 +1,6 @@
 -- What a row says.
-use Rattle.std.proofs.Common.{◌≡◌, ◌≢◌, ℕ, Bool, true, false, eqb, List, [], length, Some, None}
-use Rattle.std.proofs.Common.{string_bytes, slice_index_or, refl, arith}
-use Rattle.std.proofs.lemmas.Bool.Decides.{nat_tests}
+use Rattle.plan_num.proofs.Common.{◌≡◌, ◌≢◌, ℕ, Bool, true, false, eqb, List, [], length, Some}
+use Rattle.plan_num.proofs.Common.{None, string_bytes, slice_index_or, refl, arith, nat_tests}
 use Rattle.tables.specs.declared.row_why.RowWhy.TheVariants as why
 use Rattle.text_fields.specs.Rows.{Row}
 use Rattle.config_keys.specs.declared.config_fault.ConfigFault.TheVariants as fault

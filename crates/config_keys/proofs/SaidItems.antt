@@ -1,18 +1,10 @@
 -- What is said of keys, as items.
-use Rattle.std.proofs.Common.{arith, ◌≡◌, ℕ, ◌+◌, Bool, true, false, cond, eqb, List, [], ◌∷◌, ◌++◌}
-use Rattle.std.proofs.Common.{take, get_or, length, ◌<◌, ◌≤◌, Option, Some, None, refl, sym, ap}
-use Rattle.std.proofs.Common.{◌∙◌}
-use Rattle.std.specs.List.{flat_map}
-use Rattle.std.specs.Option.{option_map_or}
-use Rattle.std.specs.Str.{bytes_eq}
-use Rattle.std.proofs.lemmas.List.{take_all, take_more}
-use Rattle.std.proofs.lemmas.List.Concat.{flat_map-append}
-use Rattle.std.proofs.lemmas.Bool.{eqb-true}
-use Rattle.std.proofs.lemmas.Bool.Decides.{nat_tests}
-use Rattle.giv_files.specs.declared.key.Key.{Key}
+use Rattle.plan_num.proofs.Common.{arith, ◌≡◌, ℕ, ◌+◌, Bool, true, false, cond, eqb, List, [], ◌∷◌}
+use Rattle.plan_num.proofs.Common.{◌++◌, take, get_or, length, ◌<◌, ◌≤◌, Option, Some, None, refl}
+use Rattle.plan_num.proofs.Common.{sym, ap, ◌∙◌, flat_map, option_map_or, bytes_eq, take_all}
+use Rattle.plan_num.proofs.Common.{take_more, flat_map-append, eqb-true, nat_tests}
+use Rattle.giv_files.proofs.Common.{Key, all_keys, key_place, key_name, same_key}
 use Rattle.giv_files.specs.declared.key.Key.TheVariants as key
-use Rattle.giv_files.specs.Keys.{all_keys, key_place, key_name}
-use Rattle.giv_files.proofs.KeyPlaces.{same_key}
 use Rattle.config_keys.specs.declared.reading.Reading.{Reading}
 use Rattle.config_keys.specs.declared.said.Said.{Said}
 use Rattle.config_keys.specs.Items.{Item, Setting, first_fault, include_count, last_said}

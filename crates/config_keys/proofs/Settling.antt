@@ -1,24 +1,17 @@
 -- Values of keys that are settled, and what holds of them.
-use Rattle.std.proofs.Common.{arith, ◌≡◌, ℕ, ℤ, pos, ◌+◌, ◌<◌, ◌≤◌, Bool, true, false, cond, not}
-use Rattle.std.proofs.Common.{List, [], ◌∷◌, ◌++◌, length, map, take, drop, get_or, Option, Some}
-use Rattle.std.proofs.Common.{None, is_some, unwrap_or, Ok, Err, refl, ap, sym, subst, ◌∙◌}
-use Rattle.std.specs.List.{filter, find, list_all}
-use Rattle.std.specs.Option.{option_map, option_map_or}
-use Rattle.std.proofs.lemmas.Bool.{eqb-true}
-use Rattle.std.proofs.lemmas.List.{take_all, take_more, take-append-drop, get_or-map, map-append, append-nil}
-use Rattle.std.proofs.lemmas.List.Elements.{filter_more}
-use Rattle.std.proofs.lemmas.List.Folds.{find-append}
-use Rattle.giv_files.specs.declared.key.Key.{Key}
+use Rattle.plan_num.proofs.Common.{arith, ◌≡◌, ℕ, ℤ, pos, ◌+◌, ◌<◌, ◌≤◌, Bool, true, false, cond}
+use Rattle.plan_num.proofs.Common.{not, List, [], ◌∷◌, ◌++◌, length, map, take, drop, get_or}
+use Rattle.plan_num.proofs.Common.{Option, Some, None, is_some, unwrap_or, Ok, Err, refl, ap, sym}
+use Rattle.plan_num.proofs.Common.{subst, ◌∙◌, filter, find, list_all, option_map, option_map_or}
+use Rattle.plan_num.proofs.Common.{eqb-true, take_all, take_more, take-append-drop, get_or-map}
+use Rattle.plan_num.proofs.Common.{map-append, append-nil, filter_more, find-append}
+use Rattle.giv_files.proofs.Common.{Key, Setting, Stage, CrossRule, cross_rule, keeps_bound, keeps}
+use Rattle.giv_files.proofs.Common.{keeps_rule, kept_if, spelled_as, all_keys, key_place, is_key}
+use Rattle.giv_files.proofs.Common.{key_kind, key_default, allows, has_key, SettingsFit, value_of}
+use Rattle.giv_files.proofs.Common.{key_there, same_key}
 use Rattle.giv_files.specs.declared.key.Key.TheVariants as key
-use Rattle.giv_files.specs.declared.setting.Setting.{Setting}
-use Rattle.giv_files.specs.declared.stage.Stage.{Stage}
-use Rattle.giv_files.specs.declared.cross_rule.CrossRule.{CrossRule}
-use Rattle.giv_files.specs.CrossRules.{cross_rule, keeps_bound, keeps, keeps_rule}
-use Rattle.giv_files.specs.KeyKinds.{kept_if, spelled_as}
-use Rattle.giv_files.specs.Keys.{all_keys, key_place, is_key, key_kind, key_default, allows, has_key, stage_keys}
-use Rattle.giv_files.specs.Settings.{SettingsFit, value_of}
-use Rattle.giv_files.proofs.KeyPlaces.{key_there, same_key}
-use Rattle.plan_files.specs.declared.store.Got.{Got}
+use Rattle.giv_files.specs.Keys.{stage_keys}
+use Rattle.plan_files.proofs.Common.{Got}
 use Rattle.config_keys.specs.declared.config_fault.ConfigFault.{ConfigFault}
 use Rattle.config_keys.specs.declared.config_fault.ConfigFault.TheVariants as fault
 use Rattle.config_keys.specs.Items.{config_items, first_fault}

@@ -1,8 +1,7 @@
 -- Reading goes on over items.
-use Rattle.std.proofs.Common.{◌≡◌, ℕ, ◌+◌, Bool, true, false, cond, List, [], ◌∷◌, ◌++◌}
-use Rattle.std.proofs.Common.{Option, Some, None, refl, sym, ◌∙◌, arith, ltb, zero-add, add-zero}
-use Rattle.std.proofs.Common.{Result, Ok, Err}
-use Rattle.std.specs.Str.{bytes_eq}
+use Rattle.plan_num.proofs.Common.{◌≡◌, ℕ, ◌+◌, Bool, true, false, cond, List, [], ◌∷◌, ◌++◌}
+use Rattle.plan_num.proofs.Common.{Option, Some, None, refl, sym, ◌∙◌, arith, ltb, zero-add}
+use Rattle.plan_num.proofs.Common.{add-zero, Result, Ok, Err, bytes_eq}
 use Rattle.config_keys.specs.declared.config_fault.ConfigFault.{ConfigFault}
 use Rattle.config_keys.specs.declared.config_fault.ConfigFault.TheVariants as fault
 use Rattle.config_keys.specs.declared.config_end.ConfigEnd.{ConfigEnd}

@@ -1,8 +1,7 @@
 -- What was read of a dataset's config settles its settings.
 use Rattle.std.proofs.Common.{◌≡◌, ℤ, List, Option, Some, None, IfSome, Result, Ok, Err, refl, ap, sym, ◌∙◌}
-use Rattle.plan_files.specs.Folder.{Folder}
-use Rattle.giv_files.specs.declared.key.Key.{Key}
-use Rattle.giv_files.specs.Keys.{key_name}
+use Rattle.plan_files.proofs.Common.{Folder}
+use Rattle.giv_files.proofs.Common.{Key, key_name}
 use Rattle.config_keys.specs.declared.config_end.ConfigEnd.{ConfigEnd}
 use Rattle.config_keys.specs.declared.config_end.ConfigEnd.TheVariants.{Refused, FileFault, NoMemory}
 use Rattle.config_keys.specs.declared.reading.Reading.{Reading}

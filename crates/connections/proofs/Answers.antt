@@ -1,19 +1,14 @@
 -- What is found breaks no rule.
-use Rattle.std.proofs.Common.{◌≡◌, ℕ, ℤ, suc, ◌<◌, ◌&&◌, ◌||◌, ◌==◌, nat_lt, not, Bool, true, false, List, [], ◌∷◌}
-use Rattle.std.proofs.Common.{◌++◌, length, get_or, Some, None, ap, sym, ◌∙◌, refl, arith, inl, inr, subst}
-use Rattle.std.specs.Cmp.{nat_eq_equiv}
-use Rattle.std.specs.Cmp.Derive.{both_true}
-use Rattle.std.specs.Prelude.{All, Contains, slice_get}
-use Rattle.std.specs.List.{list_any, range_with_len}
-use Rattle.std.specs.Option.{option_map_or}
-use Rattle.std.proofs.lemmas.Bool.{both_ways, lt-ltb, ltb-true, or_from, false_from_ne_true as false_from}
+use Rattle.plan_num.proofs.Common.{◌≡◌, ℕ, ℤ, suc, ◌<◌, ◌&&◌, ◌||◌, ◌==◌, nat_lt, not, Bool, true}
+use Rattle.plan_num.proofs.Common.{false, List, [], ◌∷◌, ◌++◌, length, get_or, Some, None, ap, sym}
+use Rattle.plan_num.proofs.Common.{◌∙◌, refl, arith, inl, inr, subst, nat_eq_equiv, both_true, All}
+use Rattle.plan_num.proofs.Common.{Contains, slice_get, list_any, range_with_len, option_map_or}
+use Rattle.plan_num.proofs.Common.{both_ways, lt-ltb, ltb-true, or_from, Decides-eqb, All-cons}
+use Rattle.plan_num.proofs.Common.{All-contains_itself, list_any_none, any_passes_from_place}
+use Rattle.plan_num.proofs.Common.{list_any-from_Contains, slice_get-get_or}
+use Rattle.std.proofs.lemmas.Bool.{false_from_ne_true as false_from}
 use Rattle.std.proofs.lemmas.Bool.{and_right as false_right, and_parts as both}
-use Rattle.std.proofs.lemmas.Bool.Decides.{Decides-eqb}
-use Rattle.std.proofs.lemmas.List.Elements.{All-cons, All-contains_itself}
-use Rattle.std.proofs.lemmas.List.Folds.{list_any_none}
-use Rattle.std.proofs.lemmas.Map.Keys.{any_passes_from_place}
-use Rattle.std.proofs.lemmas.Map.Views.{Contains-from_any, list_any-from_Contains}
-use Rattle.std.proofs.lemmas.Option.{slice_get-get_or}
+use Rattle.std.proofs.lemmas.Map.Views.{Contains-from_any}
 use Rattle.connections.specs.declared.found.Found.{Found}
 use Rattle.connections.specs.declared.rule.JourneyRule.TheVariants as rule
 use Rattle.connections.specs.Earliest.{IsAnswer, IsNoLater, IsToldJourney, is_before, is_rising}

@@ -1,8 +1,6 @@
 -- The first rule that is broken, by the tests of all.
-use Rattle.std.proofs.Common.{◌≡◌, ℤ, ◌||◌, Bool, true, false, not, ◌++◌, Option, Some, refl}
-use Rattle.std.specs.Bool.{then_some}
-use Rattle.std.specs.Prelude.{slice_get}
-use Rattle.std.proofs.lemmas.Bool.{both_ways}
+use Rattle.plan_num.proofs.Common.{◌≡◌, ℤ, ◌||◌, Bool, true, false, not, ◌++◌, Option, Some, refl}
+use Rattle.plan_num.proofs.Common.{then_some, slice_get, both_ways}
 use Rattle.connections.specs.declared.found.Found.{Found}
 use Rattle.connections.specs.declared.rule.JourneyRule.{JourneyRule}
 use Rattle.connections.specs.declared.rule.JourneyRule.TheVariants as rule

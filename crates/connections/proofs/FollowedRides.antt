@@ -1,14 +1,11 @@
 -- Links that are followed from the first one on get to the end of a list of events exactly where it is
 -- a ride.
-use Rattle.std.proofs.Common.{◌≡◌, ℕ, suc, ◌≤◌, ◌&&◌, ◌==◌, nat_le, Bool, true, false, List, []}
-use Rattle.std.proofs.Common.{◌∷◌, length, get_or, All, refl, sym, ap, ◌∙◌, subst, arith, inl, inr}
-use Rattle.std.specs.List.{list_all, list_any}
-use Rattle.std.proofs.lemmas.Bool.{and_from, and_parts, both_ways, le-leb, leb-true, false_from_ne_true, cases_Bool}
-use Rattle.std.proofs.lemmas.Bool.Decides.{Decides-eqb}
-use Rattle.std.proofs.lemmas.List.Elements.{All-head, All-tail}
-use Rattle.std.proofs.lemmas.List.Folds.{Any-from_list_any, list_any_at}
-use Rattle.std.proofs.lemmas.Map.Keys.{any_passes_from_place}
-use Rattle.std.proofs.lemmas.Option.{slice_get_read}
+use Rattle.plan_num.proofs.Common.{◌≡◌, ℕ, suc, ◌≤◌, ◌&&◌, ◌==◌, nat_le, Bool, true, false, List}
+use Rattle.plan_num.proofs.Common.{[], ◌∷◌, length, get_or, All, refl, sym, ap, ◌∙◌, subst, arith}
+use Rattle.plan_num.proofs.Common.{inl, inr, list_all, list_any, and_from, and_parts, both_ways}
+use Rattle.plan_num.proofs.Common.{le-leb, leb-true, false_from_ne_true, cases_Bool, Decides-eqb}
+use Rattle.plan_num.proofs.Common.{All-head, All-tail, Any-from_list_any, list_any_at}
+use Rattle.plan_num.proofs.Common.{any_passes_from_place, slice_get_read}
 use Rattle.connections.specs.declared.connection.Connection.{Connection}
 use Rattle.connections.specs.declared.links.Link.{Link}
 use Rattle.connections.specs.Journeys.{leads, neighbours}

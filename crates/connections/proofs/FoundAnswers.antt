@@ -1,13 +1,10 @@
 -- What is found along the ways is the answer.
-use Rattle.std.proofs.Common.{◌≡◌, ◌∙◌, ℕ, ℤ, ◌<◌, ◌&&◌, ◌==◌, Bool, true, false, List, [], ◌∷◌, length, get_or, All}
-use Rattle.std.proofs.Common.{Option, Some, None, refl, ap, sym, subst, arith}
-use Rattle.std.specs.List.{list_any}
-use Rattle.std.specs.Option.{option_map_or}
-use Rattle.std.proofs.lemmas.Bool.{and_from, and_parts, both_ways, leb-true, and_parts as both, false_from_ne_true}
-use Rattle.std.proofs.lemmas.Bool.Decides.{Decides-eqb}
-use Rattle.std.proofs.lemmas.List.Elements.{All-tail}
-use Rattle.std.proofs.lemmas.Map.Keys.{any_passes_from_place}
-use Rattle.std.proofs.lemmas.Option.{same_Some}
+use Rattle.plan_num.proofs.Common.{◌≡◌, ◌∙◌, ℕ, ℤ, ◌<◌, ◌&&◌, ◌==◌, Bool, true, false, List, []}
+use Rattle.plan_num.proofs.Common.{◌∷◌, length, get_or, All, Option, Some, None, refl, ap, sym}
+use Rattle.plan_num.proofs.Common.{subst, arith, list_any, option_map_or, and_from, and_parts}
+use Rattle.plan_num.proofs.Common.{both_ways, leb-true, false_from_ne_true, Decides-eqb, All-tail}
+use Rattle.plan_num.proofs.Common.{any_passes_from_place, same_Some}
+use Rattle.std.proofs.lemmas.Bool.{and_parts as both}
 use Rattle.connections.specs.declared.connection.Connection.{Connection}
 use Rattle.connections.specs.declared.found.Found.{Found}
 use Rattle.connections.specs.declared.way.Way.{Way}

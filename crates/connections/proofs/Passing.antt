@@ -1,17 +1,13 @@
 -- A set of events that breaks no rule proves that no journey arrives earlier.
-use Rattle.std.proofs.Common.{◌≡◌, ℕ, ℤ, ◌<◌, ◌≤◌, ◌&&◌, ◌||◌, ◌==◌, nat_lt, nat_eq, not, Bool}
-use Rattle.std.proofs.Common.{true, false, List, [], ◌∷◌, ◌++◌, length, get_or, Option, Some, None}
-use Rattle.std.proofs.Common.{ap, sym, ◌∙◌, refl, arith, ◌⊎◌, inl, inr, subst}
-use Rattle.std.specs.Prelude.{All, IfNone, slice_get}
-use Rattle.std.specs.List.{list_any, range_with_len}
-use Rattle.std.specs.Option.{option_map_or}
-use Rattle.std.proofs.lemmas.Bool.{both_ways, ltb-false, ltb-true, lt-ltb, and_parts as both, true_from_ne_false}
-use Rattle.std.proofs.lemmas.Bool.Decides.{Decides-eqb}
-use Rattle.std.proofs.lemmas.List.Elements.{All-contains}
-use Rattle.std.proofs.lemmas.List.Folds.{Any-from_list_any}
-use Rattle.std.proofs.lemmas.List.FromFn.{get_or-range_with_len, length-range_with_len}
-use Rattle.std.proofs.lemmas.Map.Keys.{any_passes_from_place}
-use Rattle.std.proofs.lemmas.Option.{slice_get_cases, slice_get_read}
+use Rattle.plan_num.proofs.Common.{◌≡◌, ℕ, ℤ, ◌<◌, ◌≤◌, ◌&&◌, ◌||◌, ◌==◌, nat_lt, nat_eq, not, Bool}
+use Rattle.plan_num.proofs.Common.{true, false, List, [], ◌∷◌, ◌++◌, length, get_or, Option, Some}
+use Rattle.plan_num.proofs.Common.{None, ap, sym, ◌∙◌, refl, arith, ◌⊎◌, inl, inr, subst, All}
+use Rattle.plan_num.proofs.Common.{IfNone, slice_get, list_any, range_with_len, option_map_or}
+use Rattle.plan_num.proofs.Common.{both_ways, ltb-false, ltb-true, lt-ltb, true_from_ne_false}
+use Rattle.plan_num.proofs.Common.{Decides-eqb, All-contains, Any-from_list_any}
+use Rattle.plan_num.proofs.Common.{get_or-range_with_len, length-range_with_len}
+use Rattle.plan_num.proofs.Common.{any_passes_from_place, slice_get_cases, slice_get_read}
+use Rattle.std.proofs.lemmas.Bool.{and_parts as both}
 use Rattle.connections.specs.declared.connection.Connection.{Connection}
 use Rattle.connections.specs.declared.found.Found.{Found}
 use Rattle.connections.specs.declared.rule.JourneyRule.{JourneyRule}

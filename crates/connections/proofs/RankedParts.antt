@@ -1,15 +1,12 @@
 -- Events and connections with ranks are a net, with its links; and so are those that pass the test.
-use Rattle.std.proofs.Common.{◌≡◌, ◌∙◌, ℕ, ◌+◌, ◌<◌, ◌&&◌, nat_eq, nat_le, nat_lt, true, List, length}
-use Rattle.std.proofs.Common.{get_or, slice_get, All, Some, refl, ap, sym, subst, arith}
-use Rattle.std.specs.List.{enumerate_from, list_all}
-use Rattle.std.specs.List.Sorted.{IsNonDecreasingBy, IsPermutation}
-use Rattle.std.proofs.lemmas.Bool.{and_parts, eqb-true, leb-true, ltb-true}
-use Rattle.std.proofs.lemmas.List.{get_or-map, length-map}
-use Rattle.std.proofs.lemmas.List.Elements.{All-map}
-use Rattle.std.proofs.lemmas.List.FromFn.{get_or-enumerate_from, length-enumerate_from}
-use Rattle.std.proofs.lemmas.List.Sorted.{All-permutation, Contains-permutation}
-use Rattle.std.proofs.lemmas.List.Sums.{AllPass-from_list_all}
-use Rattle.std.proofs.lemmas.Option.{get_or_from_slice_get, slice_get-get_or, slice_get_within}
+use Rattle.plan_num.proofs.Common.{◌≡◌, ◌∙◌, ℕ, ◌+◌, ◌<◌, ◌&&◌, nat_eq, nat_le, nat_lt, true, List}
+use Rattle.plan_num.proofs.Common.{length, get_or, slice_get, All, Some, refl, ap, sym, subst}
+use Rattle.plan_num.proofs.Common.{arith, enumerate_from, list_all, IsNonDecreasingBy}
+use Rattle.plan_num.proofs.Common.{IsPermutation, and_parts, eqb-true, leb-true, ltb-true}
+use Rattle.plan_num.proofs.Common.{get_or-map, length-map, All-map, get_or-enumerate_from}
+use Rattle.plan_num.proofs.Common.{length-enumerate_from, All-permutation, Contains-permutation}
+use Rattle.plan_num.proofs.Common.{AllPass-from_list_all, get_or_from_slice_get, slice_get-get_or}
+use Rattle.plan_num.proofs.Common.{slice_get_within}
 use Rattle.connections.specs.declared.connection.Connection.{Connection}
 use Rattle.connections.specs.declared.links.Link.{Link}
 use Rattle.connections.specs.Links.{IsInTurn, IsLinked, link_of, links_of}

@@ -1,14 +1,13 @@
 -- Lists of events that rise, and the last event of a list.
-use Rattle.std.proofs.Common.{◌≡◌, ℕ, zero, suc, ◌+◌, ◌-◌, ◌<◌, ◌≤◌, ◌⊎◌, inl, inr, nat_lt, nat_eq}
-use Rattle.std.proofs.Common.{true, List, [], ◌∷◌, length, get_or, slice_get, Result, Ok, Err, refl}
-use Rattle.std.proofs.Common.{sym, subst, ◌∙◌, arith, is_ok}
-use Rattle.std.specs.List.Sorted.{IsBinarySearchResult, IsNonDecreasingBy, IsStrictlyIncreasing}
-use Rattle.std.specs.Ordering.{nat_cmp}
-use Rattle.std.specs.Result.{MatchResult}
-use Rattle.std.proofs.lemmas.Bool.{and_from, and_parts, cases_lt, eq-eqb, lt-ltb, ltb-true, ne_eqb}
-use Rattle.std.proofs.lemmas.List.{get_or_default}
-use Rattle.std.proofs.lemmas.List.Folds.{list_any_at, list_any_none}
-use Rattle.std.proofs.lemmas.List.Sorted.{IsNonDecreasingBy-from_all_adjacent, searched}
+use Rattle.plan_num.proofs.Common.{◌≡◌, ℕ, zero, suc, ◌+◌, ◌-◌, ◌<◌, ◌≤◌, ◌⊎◌, inl, inr, nat_lt}
+use Rattle.plan_num.proofs.Common.{nat_eq, true, List, [], ◌∷◌, length, get_or, slice_get, Result}
+use Rattle.plan_num.proofs.Common.{Ok, Err, refl, sym, subst, ◌∙◌, arith, IsNonDecreasingBy}
+use Rattle.plan_num.proofs.Common.{IsStrictlyIncreasing, nat_cmp, MatchResult, and_from, and_parts}
+use Rattle.plan_num.proofs.Common.{cases_lt, eq-eqb, lt-ltb, ltb-true, ne_eqb, get_or_default}
+use Rattle.plan_num.proofs.Common.{list_any_at, list_any_none, searched}
+use Rattle.std.proofs.Common.{is_ok}
+use Rattle.std.specs.List.Sorted.{IsBinarySearchResult}
+use Rattle.std.proofs.lemmas.List.Sorted.{IsNonDecreasingBy-from_all_adjacent}
 use Rattle.connections.specs.Earliest.{is_rising}
 use Rattle.connections.specs.Journeys.{last_of}
 use Rattle.connections.specs.Judged.{is_in}

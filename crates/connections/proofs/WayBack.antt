@@ -1,11 +1,8 @@
 -- A journey that is built backward along the ways.
-use Rattle.std.proofs.Common.{◌≡◌, ◌∙◌, ℕ, zero, suc, ◌+◌, ◌<◌, ◌≤◌, ◌⊎◌, inl, inr, true, false}
-use Rattle.std.proofs.Common.{List, [], ◌∷◌, ◌++◌, length, reverse, get_or, slice_get, All, Some}
-use Rattle.std.proofs.Common.{refl, ap, sym, arith}
-use Rattle.std.proofs.lemmas.Bool.{both_ways, cases_lt, cond_both}
-use Rattle.std.proofs.lemmas.List.{get_or_past, reverse-append}
-use Rattle.std.proofs.lemmas.List.Elements.{All-cons}
-use Rattle.std.proofs.lemmas.Option.{get_or_from_slice_get}
+use Rattle.plan_num.proofs.Common.{◌≡◌, ◌∙◌, ℕ, zero, suc, ◌+◌, ◌<◌, ◌≤◌, ◌⊎◌, inl, inr, true}
+use Rattle.plan_num.proofs.Common.{false, List, [], ◌∷◌, ◌++◌, length, reverse, get_or, slice_get}
+use Rattle.plan_num.proofs.Common.{All, Some, refl, ap, sym, arith, both_ways, cases_lt, cond_both}
+use Rattle.plan_num.proofs.Common.{get_or_past, reverse-append, All-cons, get_or_from_slice_get}
 use Rattle.connections.specs.declared.connection.Connection.{Connection}
 use Rattle.connections.specs.declared.links.Link.{Link}
 use Rattle.connections.specs.declared.way.Way.{Way}

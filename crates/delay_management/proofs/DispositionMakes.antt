@@ -1,20 +1,13 @@
 -- Which files the stage of dispositions makes, and which it names where it refuses a row.
 use Rattle.std.proofs.Common.{◌≡◌, true, Bool, Ok, Err, ap, lit<}
-use Rattle.tables.specs.declared.file_id.FileId.{FileId}
+use Rattle.tables.proofs.Common.{FileId, Refusal, input_faults, NamesInput, AllName, input_names}
+use Rattle.tables.proofs.Common.{names_both}
 use Rattle.tables.specs.declared.file_id.FileId.TheVariants as file
-use Rattle.giv_files.specs.declared.made.Made.{Made}
-use Rattle.tables.specs.declared.refusal.Refusal.{Refusal}
+use Rattle.giv_files.proofs.Common.{Made, MakesAs, ids_of, BundleParts, input_text, refused_names}
+use Rattle.giv_files.proofs.Common.{made_unless}
 use Rattle.giv_files.specs.declared.stage.Stage.TheVariants as stage
-use Rattle.tables.specs.Inputs.{input_faults}
-use Rattle.giv_files.specs.MadeLists.{MakesAs, ids_of}
-use Rattle.tables.specs.NamedFiles.{NamesInput}
-use Rattle.giv_files.specs.Settings.{BundleParts}
-use Rattle.giv_files.specs.StageCalls.{input_text}
-use Rattle.tables.proofs.Named.{AllName, input_names, names_both}
-use Rattle.giv_files.proofs.StageCalls.{refused_names}
-use Rattle.giv_files.proofs.StageCalls.{made_unless}
-use Rattle.event_tables.specs.Delays.{activity_delay_input, event_delay_input}
-use Rattle.event_tables.specs.ExpandedFiles.{expanded_activity_ids, expanded_event_ids}
+use Rattle.event_tables.proofs.Common.{activity_delay_input, event_delay_input}
+use Rattle.event_tables.proofs.Common.{expanded_activity_ids, expanded_event_ids}
 use Rattle.delay_management.specs.DispositionStage.{activities_in, delay_faults, disposed_of, disposition_faults}
 use Rattle.delay_management.specs.DispositionStage.{disposition_stage, events_in, made_faults}
 

@@ -1,43 +1,31 @@
 -- The disposition that is made is right over what the stage was given.
-use Rattle.std.proofs.Common.{filter, ◌≡◌, ◌∙◌, ℕ, ◌<◌, ◌≤◌, List, [], ◌++◌, length, map, All}
-use Rattle.std.proofs.Common.{Result, Ok, Err, IfOk, None, refl, sym, subst, arith}
-use Rattle.std.specs.List.{range_with_len}
-use Rattle.std.proofs.lemmas.List.{length-map}
-use Rattle.std.proofs.lemmas.List.Elements.{All-append, All-contains}
-use Rattle.giv_files.specs.declared.made.Made.{Made}
-use Rattle.tables.specs.declared.refusal.StageFault.{StageFault}
+use Rattle.plan_num.proofs.Common.{filter, ◌≡◌, ◌∙◌, ℕ, ◌<◌, ◌≤◌, List, [], ◌++◌, length, map, All}
+use Rattle.plan_num.proofs.Common.{Result, Ok, Err, IfOk, None, refl, sym, subst, arith}
+use Rattle.plan_num.proofs.Common.{range_with_len, length-map, All-append, All-contains}
+use Rattle.giv_files.proofs.Common.{Made, BundleParts, Fits, StageGives, made_unless, none_unless}
+use Rattle.tables.proofs.Common.{StageFault, input_faults}
 use Rattle.giv_files.specs.declared.stage.Stage.TheVariants as stage
-use Rattle.tables.specs.Inputs.{input_faults}
-use Rattle.giv_files.specs.Settings.{BundleParts, Fits}
-use Rattle.giv_files.specs.StageCalls.{StageGives}
-use Rattle.giv_files.proofs.StageCalls.{made_unless, none_unless}
-use Rattle.event_tables.specs.DisposedTimes.{disposed_time_input}
-use Rattle.event_tables.specs.ExpandedFiles.{expanded_event_ids}
-use Rattle.propagation.specs.declared.reason.Reason.{Reason}
-use Rattle.propagation.specs.declared.step.Activity.{Activity}
+use Rattle.event_tables.proofs.Common.{disposed_time_input, expanded_event_ids}
+use Rattle.propagation.proofs.Common.{Reason, Activity, named_activity, canonical_reason, IsLeast}
+use Rattle.propagation.proofs.Common.{least_times, AreChanges, DelayProblem, GoesForward, IsForward}
+use Rattle.propagation.proofs.Common.{minutes, steps_with, is_kept, times_alone, reasons_below}
+use Rattle.propagation.proofs.Common.{back_all, front_all, forward_with, reasons_prove_least}
+use Rattle.propagation.proofs.Common.{disposition_is_one, kept_are_changes, least_is_one}
+use Rattle.propagation.proofs.Common.{least_times_are_least, steps_fewer, least_small}
+use Rattle.propagation.proofs.Common.{written_reasons_are_right, LATEST}
 use Rattle.delay_management.specs.InputProblems.{day_event}
 use Rattle.delay_management.specs.DispositionStage.{disposed_of, disposition_faults, disposition_stage, events_in}
 use Rattle.delay_management.specs.DispositionStage.{kept_in, problem_in, reasons_text, times_text}
-use Rattle.propagation.specs.Reasons.{named_activity, canonical_reason, canonical_reasons}
+use Rattle.propagation.specs.Reasons.{canonical_reasons}
 use Rattle.delay_management.specs.Judged.{Passes, first_broken_rule}
-use Rattle.propagation.specs.LeastTimes.{IsLeast, least_times}
-use Rattle.propagation.specs.Problems.{AreChanges, DelayProblem, GoesForward, IsForward, minutes, steps_with}
 use Rattle.delay_management.specs.RightDispositions.{DispositionIsRight}
-use Rattle.propagation.specs.Waiting.{is_kept, kept_changes, times_alone}
+use Rattle.propagation.specs.Waiting.{kept_changes}
 use Rattle.delay_management.specs.WaitSettings.{wait_of}
-use Rattle.propagation.proofs.Canonical.{reasons_below}
 use Rattle.delay_management.proofs.InputsSound.{activity_ids, are_inputs, earliest_soon, events_few, problem_forward}
 use Rattle.delay_management.proofs.InputsSound.{steps_short, turnover_few}
 use Rattle.delay_management.proofs.JudgedTexts.{none_told, told_by}
-use Rattle.propagation.proofs.PassIsLeast.{back_all, front_all}
-use Rattle.propagation.proofs.ReasonsProve.{forward_with, reasons_prove_least}
-use Rattle.propagation.proofs.Rounds.{disposition_is_one, kept_are_changes, least_is_one, least_times_are_least}
-use Rattle.propagation.proofs.Rounds.{steps_fewer}
-use Rattle.propagation.proofs.SmallTimes.{least_small}
 use Rattle.delay_management.proofs.TextsBack.{reasons_again, times_accepted, times_again}
-use Rattle.propagation.proofs.WrittenReasons.{written_reasons_are_right}
 use Rattle.delay_management.proofs.WrittenRows.{reasons_fit, times_fit}
-use Rattle.propagation.specs.declared.times.TheConstants.{LATEST}
 
 -- changes that are kept are changes
 among : (problem : DelayProblem) (bundle : BundleParts)

@@ -1,19 +1,13 @@
 -- Whether an event is early, or its reason is right, by the activities that count and the turns.
-use Rattle.std.proofs.Common.{arith, ◌≡◌, ◌∙◌, ℕ, ◌==◌, ◌&&◌, ◌||◌, Bool, true, false, nat_eq}
-use Rattle.std.proofs.Common.{nat_lt, List, [], ◌∷◌, ◌++◌, map, filter, refl, ap, sym}
-use Rattle.std.specs.List.{list_any}
-use Rattle.std.proofs.lemmas.List.Folds.{list_any-append}
-use Rattle.propagation.specs.declared.reason.Reason.{Reason}
+use Rattle.plan_num.proofs.Common.{arith, ◌≡◌, ◌∙◌, ℕ, ◌==◌, ◌&&◌, ◌||◌, Bool, true, false, nat_eq}
+use Rattle.plan_num.proofs.Common.{nat_lt, List, [], ◌∷◌, ◌++◌, map, filter, refl, ap, sym}
+use Rattle.plan_num.proofs.Common.{list_any, list_any-append}
+use Rattle.propagation.proofs.Common.{Reason, Activity, Step, is_early_by, is_just, is_right_by}
+use Rattle.propagation.proofs.Common.{asked, time_at, is_source, is_turn, names, DelayProblem}
+use Rattle.propagation.proofs.Common.{earliest_at, steps_with, is_right, is_tight, reason_for}
+use Rattle.propagation.proofs.Common.{or_assoc}
 use Rattle.propagation.specs.declared.reason.Reason.TheVariants as reason
-use Rattle.propagation.specs.declared.step.Activity.{Activity}
-use Rattle.propagation.specs.declared.step.Step.{Step}
-use Rattle.propagation.specs.EarlyEvents.{is_early_by, is_just, is_right_by}
 use Rattle.delay_management.specs.Judged.{is_early}
-use Rattle.propagation.specs.LeastTimes.{asked, time_at}
-use Rattle.propagation.specs.Marks.{is_source, is_turn, names}
-use Rattle.propagation.specs.Problems.{DelayProblem, earliest_at, steps_with}
-use Rattle.propagation.specs.Reasons.{is_right, is_tight, reason_for}
-use Rattle.propagation.proofs.MarksTell.{or_assoc}
 use Rattle.plan_num.proofs.Tests.{and_false, or_false}
 use Rattle.plan_num.proofs.Found.{any_mapped}
 

@@ -1,30 +1,18 @@
 -- Inputs without a fault go forward.
-use Rattle.std.proofs.Common.{◌≡◌, ◌∙◌, ℕ, ◌+◌, ◌<◌, ◌≤◌, Bool, true, false, not, List}
-use Rattle.std.proofs.Common.{length, filter, get_or, All, refl, ap, sym, subst, arith}
-use Rattle.std.specs.List.{range_with_len}
-use Rattle.std.proofs.lemmas.List.{length-map}
-use Rattle.std.proofs.lemmas.List.Elements.{All-append, All-filter, All-map, All-weaker, filter_passes}
-use Rattle.std.proofs.lemmas.List.Filters.{length-filter_both}
-use Rattle.std.proofs.lemmas.Simd.{map-map}
-use Rattle.event_tables.specs.declared.delay_row.DelayRow.{DelayRow}
-use Rattle.event_tables.specs.declared.expanded_activity.ExpandedActivity.{ExpandedActivity}
-use Rattle.event_tables.specs.declared.expanded_event.ExpandedEvent.{ExpandedEvent}
-use Rattle.event_tables.specs.declared.schedule_row.ScheduleRow.{ScheduleRow}
-use Rattle.event_tables.specs.Delays.{AreDelays}
-use Rattle.event_tables.specs.ExpandedFiles.{AreExpandedActivities, AreExpandedEvents, IsExpandedActivity}
-use Rattle.event_tables.specs.ForwardOrder.{goes_forward, stands_before as rows_before}
-use Rattle.event_tables.specs.Places.{AreNumbered, IsOneOf}
-use Rattle.event_tables.specs.Schedules.{AreScheduleRows, IsScheduleRow, is_empty_row}
-use Rattle.event_tables.proofs.RanksRise.{at, at_places, id_at}
-use Rattle.propagation.specs.declared.day_event.DayEvent.{DayEvent}
-use Rattle.propagation.specs.declared.step.Activity.{Activity}
-use Rattle.propagation.specs.declared.step.Step.{Step}
-use Rattle.propagation.specs.DayEvents.{stands_before}
-use Rattle.propagation.specs.Links.{IsDay, parts_of}
-use Rattle.propagation.specs.Problems.{DelayProblem, GoesForward, IsForward}
+use Rattle.plan_num.proofs.Common.{◌≡◌, ◌∙◌, ℕ, ◌+◌, ◌<◌, ◌≤◌, Bool, true, false, not, List, length}
+use Rattle.plan_num.proofs.Common.{filter, get_or, All, refl, ap, sym, subst, arith, range_with_len}
+use Rattle.plan_num.proofs.Common.{length-map, All-append, All-filter, All-map, All-weaker}
+use Rattle.plan_num.proofs.Common.{filter_passes, length-filter_both, map-map}
+use Rattle.event_tables.proofs.Common.{DelayRow, ExpandedActivity, ExpandedEvent, ScheduleRow}
+use Rattle.event_tables.proofs.Common.{AreDelays, AreExpandedActivities, AreExpandedEvents}
+use Rattle.event_tables.proofs.Common.{IsExpandedActivity, goes_forward, AreNumbered, IsOneOf}
+use Rattle.event_tables.proofs.Common.{AreScheduleRows, IsScheduleRow, is_empty_row, at, at_places}
+use Rattle.event_tables.proofs.Common.{id_at}
+use Rattle.event_tables.specs.ForwardOrder.{stands_before as rows_before}
+use Rattle.propagation.proofs.Common.{DayEvent, Activity, Step, stands_before, IsDay, parts_of}
+use Rattle.propagation.proofs.Common.{DelayProblem, GoesForward, IsForward, steps_all}
 use Rattle.delay_management.specs.InputProblems.{activities_of, day_event, day_events, delayed, earliest_of, index_of}
 use Rattle.delay_management.specs.InputProblems.{is_of, problem_over, turn_of}
-use Rattle.propagation.proofs.PassIsLeast.{steps_all}
 use Rattle.delay_management.proofs.SoonInputs.{day_at, ids_rise, none_early, steps_gain}
 
 forward_step : (events : List ExpandedEvent) (from to : ℕ) (step : Step)

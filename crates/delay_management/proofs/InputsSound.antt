@@ -1,35 +1,26 @@
 -- What is known of inputs without a fault.
-use Rattle.std.proofs.Common.{◌≡◌, ◌≤◌, Bool, true, false, List, [], ◌++◌, length, map, filter}
-use Rattle.std.proofs.Common.{get_or, All, refl, sym, subst, arith}
-use Rattle.std.proofs.lemmas.Int.{ints}
-use Rattle.std.proofs.lemmas.List.{length-map}
-use Rattle.std.proofs.lemmas.List.Elements.{All-append, All-filter, All-map}
+use Rattle.plan_num.proofs.Common.{◌≡◌, ◌≤◌, Bool, true, false, List, [], ◌++◌, length, map, filter}
+use Rattle.plan_num.proofs.Common.{get_or, All, refl, sym, subst, arith, ints, length-map}
+use Rattle.plan_num.proofs.Common.{All-append, All-filter, All-map}
 use Rattle.tables.specs.declared.file_id.FileId.TheVariants as file
 use Rattle.tables.specs.declared.row_why.RowWhy.TheVariants as why
 use Rattle.giv_files.specs.declared.key.Key.TheVariants as key
 use Rattle.giv_files.specs.declared.stage.Stage.TheVariants as stage
-use Rattle.tables.specs.Inputs.{input_faults, records_of}
-use Rattle.giv_files.specs.Settings.{BundleParts, Fits, SettingsFit}
-use Rattle.giv_files.specs.StageCalls.{input_text}
-use Rattle.tables.proofs.Ranges.{back_none, front_none}
-use Rattle.giv_files.proofs.SettingFacts.{amount_within}
-use Rattle.event_tables.specs.declared.expanded_activity.ExpandedActivity.{ExpandedActivity}
-use Rattle.event_tables.specs.declared.expanded_event.ExpandedEvent.{ExpandedEvent}
-use Rattle.event_tables.specs.declared.schedule_row.ScheduleRow.{ScheduleRow}
-use Rattle.event_tables.specs.Delays.{AreDelays, activity_delay_input, event_delay_input}
-use Rattle.event_tables.specs.ExpandedFiles.{AreExpandedActivities, AreExpandedEvents}
-use Rattle.event_tables.specs.Schedules.{AreScheduleRows, is_empty_row}
-use Rattle.event_tables.proofs.SoundFiles.{expanded_activities_sound, expanded_events_sound}
-use Rattle.event_tables.proofs.SoundTrips.{delays_sound, schedule_rows_sound}
+use Rattle.tables.proofs.Common.{input_faults, records_of, back_none, front_none}
+use Rattle.giv_files.proofs.Common.{BundleParts, Fits, SettingsFit, input_text, amount_within}
+use Rattle.event_tables.proofs.Common.{ExpandedActivity, ExpandedEvent, ScheduleRow, AreDelays}
+use Rattle.event_tables.proofs.Common.{activity_delay_input, event_delay_input}
+use Rattle.event_tables.proofs.Common.{AreExpandedActivities, AreExpandedEvents, AreScheduleRows}
+use Rattle.event_tables.proofs.Common.{is_empty_row, expanded_activities_sound}
+use Rattle.event_tables.proofs.Common.{expanded_events_sound, delays_sound, schedule_rows_sound}
 use Rattle.delay_management.specs.DispositionStage.{activities_in, activity_delay_faults, activity_delays_in}
 use Rattle.delay_management.specs.DispositionStage.{activity_faults, delay_faults, disposition_faults}
 use Rattle.delay_management.specs.DispositionStage.{event_delay_faults, event_delays_in, event_faults, events_in}
 use Rattle.delay_management.specs.DispositionStage.{made_faults, problem_in, schedule_faults, schedule_in, turnover_in}
-use Rattle.propagation.specs.Problems.{IsForward, minutes, steps_with}
+use Rattle.propagation.proofs.Common.{IsForward, minutes, steps_with, steps_all}
 use Rattle.delay_management.specs.InputProblems.{activities_of, day_event, delayed, earliest_of, is_of, turn_of}
 use Rattle.delay_management.proofs.SoonInputs.{delay_below}
 use Rattle.delay_management.proofs.ForwardInputs.{inputs_go_forward, some_ids}
-use Rattle.propagation.proofs.PassIsLeast.{steps_all}
 
 -- what is read of inputs without a fault
 pub record AreInputs (bundle : BundleParts) : Type 0 where

@@ -1,28 +1,20 @@
 -- From what is found to the first rule that is broken.
-use Rattle.std.proofs.Common.{arith, ◌≡◌, ◌∙◌, ℕ, not, Bool, true, false, cond, List, [], ◌∷◌, ◌++◌}
-use Rattle.std.proofs.Common.{length, map, filter, slice_get, Option, Some, None, Result, Ok, Err}
-use Rattle.std.proofs.Common.{IfOk, IfNone, option_map, refl, ap, sym}
-use Rattle.std.specs.List.{range_with_len}
-use Rattle.std.proofs.lemmas.Option.{same_Some, slice_get-map}
-use Rattle.tables.specs.Columns.{disposed_columns}
-use Rattle.tables.specs.Reading.{table_of}
-use Rattle.giv_files.specs.Settings.{BundleParts}
-use Rattle.tables.specs.Tables.{TableRow}
-use Rattle.event_tables.specs.Cells.{disposed_time}
-use Rattle.tables.specs.RowsOfTables.{records_by}
+use Rattle.plan_num.proofs.Common.{arith, ◌≡◌, ◌∙◌, ℕ, not, Bool, true, false, cond, List, [], ◌∷◌}
+use Rattle.plan_num.proofs.Common.{◌++◌, length, map, filter, slice_get, Option, Some, None, Result}
+use Rattle.plan_num.proofs.Common.{Ok, Err, IfOk, IfNone, option_map, refl, ap, sym, range_with_len}
+use Rattle.plan_num.proofs.Common.{same_Some, slice_get-map}
+use Rattle.tables.proofs.Common.{disposed_columns, table_of, TableRow, records_by}
+use Rattle.giv_files.proofs.Common.{BundleParts}
+use Rattle.event_tables.proofs.Common.{disposed_time}
 use Rattle.delay_management.specs.declared.fault.ReasonFault.{ReasonFault}
 use Rattle.delay_management.specs.declared.fault.ReasonFault.TheVariants as fault
-use Rattle.propagation.specs.declared.reason.Reason.{Reason}
+use Rattle.propagation.proofs.Common.{Reason, Activity, Step, is_early_by, is_right_by}
+use Rattle.propagation.proofs.Common.{DelayProblem, steps_with, filter_alike}
 use Rattle.delay_management.specs.DispositionStage.{ReasonRow, disposition_faults, kept_in, problem_in}
-use Rattle.propagation.specs.declared.step.Activity.{Activity}
-use Rattle.propagation.specs.declared.step.Step.{Step}
-use Rattle.propagation.specs.EarlyEvents.{is_early_by, is_right_by}
 use Rattle.delay_management.specs.Judged.{Passes, are_all, broken_reasons, broken_rows, broken_times, broken_where}
 use Rattle.delay_management.specs.Judged.{events_where, first_broken_rule, is_early, is_table, is_wrong, reason_faults}
-use Rattle.propagation.specs.Problems.{DelayProblem, steps_with}
 use Rattle.delay_management.proofs.DispositionReads.{breaking_none, passing}
 use Rattle.delay_management.proofs.EventTests.{early_is, right_is}
-use Rattle.propagation.proofs.MarksTell.{filter_alike}
 
 first_mapped : {X Y : Type 0} (f : X → Y) (xs : List X) (rest : List Y) (x : X) → Some x ≡ slice_get xs 0
     → Some (f x) ≡ slice_get (map f xs ++ rest) 0

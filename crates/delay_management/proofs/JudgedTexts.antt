@@ -1,31 +1,22 @@
 -- Two texts that break no rule of a disposition hold feasible times with right reasons, and
 -- conversely.
-use Rattle.std.proofs.Common.{◌≡◌, ◌∙◌, ℕ, zero, suc, ◌+◌, ◌<◌, ◌≤◌, ◌==◌, ◌||◌, not, Bool, true}
-use Rattle.std.proofs.Common.{false, cond, eqb, ltb, nat_eq, nat_lt, List, [], ◌∷◌, length, map}
-use Rattle.std.proofs.Common.{filter, get_or, slice_get, All, None, refl, ap, sym, arith}
-use Rattle.std.specs.List.{enumerate_from, list_all, list_any, range_with_len}
-use Rattle.std.proofs.lemmas.Bool.{and_from, and_parts, eq-eqb, eqb-true, ltb-false, ltb-true, le-ltb, not-false}
-use Rattle.std.proofs.lemmas.Bool.{or_parts}
-use Rattle.std.proofs.lemmas.List.{length-map}
-use Rattle.std.proofs.lemmas.List.FromFn.{length-enumerate_from}
-use Rattle.tables.specs.Columns.{disposed_columns, reasons_columns}
-use Rattle.tables.specs.Reading.{faults}
-use Rattle.tables.proofs.Ranges.{back_none, front_none}
-use Rattle.event_tables.specs.declared.disposed_time.DisposedTime.{DisposedTime}
-use Rattle.event_tables.specs.Cells.{disposed_time}
-use Rattle.tables.specs.RowsOfTables.{ReadsAs}
+use Rattle.plan_num.proofs.Common.{◌≡◌, ◌∙◌, ℕ, zero, suc, ◌+◌, ◌<◌, ◌≤◌, ◌==◌, ◌||◌, not, Bool}
+use Rattle.plan_num.proofs.Common.{true, false, cond, eqb, ltb, nat_eq, nat_lt, List, [], ◌∷◌}
+use Rattle.plan_num.proofs.Common.{length, map, filter, get_or, slice_get, All, None, refl, ap, sym}
+use Rattle.plan_num.proofs.Common.{arith, enumerate_from, list_all, list_any, range_with_len}
+use Rattle.plan_num.proofs.Common.{and_from, and_parts, eq-eqb, eqb-true, ltb-false, ltb-true}
+use Rattle.plan_num.proofs.Common.{le-ltb, not-false, or_parts, length-map, length-enumerate_from}
+use Rattle.tables.proofs.Common.{disposed_columns, reasons_columns, faults, back_none, front_none}
+use Rattle.tables.proofs.Common.{ReadsAs}
+use Rattle.event_tables.proofs.Common.{DisposedTime, disposed_time}
 use Rattle.delay_management.specs.declared.fault.ReasonFault.{ReasonFault}
 use Rattle.delay_management.specs.declared.fault.ReasonFault.TheVariants as fault
-use Rattle.propagation.specs.declared.reason.Reason.{Reason}
+use Rattle.propagation.proofs.Common.{Reason, Activity, Step, IsFeasible, DelayProblem, steps_with}
+use Rattle.propagation.proofs.Common.{AreRight}
 use Rattle.delay_management.specs.DispositionStage.{ReasonRow, reason_rows, time_rows}
-use Rattle.propagation.specs.declared.step.Activity.{Activity}
-use Rattle.propagation.specs.declared.step.Step.{Step}
 use Rattle.delay_management.specs.Judged.{are_all, broken_reasons, broken_rows, broken_rules, broken_times}
 use Rattle.delay_management.specs.Judged.{broken_where, events_where, first_broken_rule, is_early, is_table, is_wrong}
 use Rattle.delay_management.specs.Judged.{reason_faults, reason_row, reasons_read, times_read}
-use Rattle.propagation.specs.LeastTimes.{IsFeasible}
-use Rattle.propagation.specs.Problems.{DelayProblem, steps_with}
-use Rattle.propagation.specs.Reasons.{AreRight}
 use Rattle.delay_management.proofs.WrittenRows.{reasons_from, times_from}
 use Rattle.plan_num.proofs.Lists.{unmapped, none_first, none_long}
 

@@ -2,7 +2,7 @@
 use Rattle.std.proofs.Common.{arith, ◌≡◌, ◌∙◌, ℕ, List, [], ◌∷◌, ◌++◌, append_assoc, codes, decimal}
 use Rattle.std.proofs.Common.{Result, Ok, Err, IfOk, ap}
 use Rattle.giv_files.specs.declared.stage.Stage.TheVariants as stage
-use Rattle.giv_files.specs.ReportLines.{count_text, report_line}
+use Rattle.giv_files.proofs.Common.{count_text, report_line}
 
 pieces : (d c m s t u : List ℕ)
     → d ++ (c ++ (((m ++ s) ++ t) ++ u)) ≡ ((d ++ c) ++ m) ++ (s ++ (t ++ u))

@@ -1,38 +1,20 @@
 -- Inputs without a fault gain little on the way, their changes stand by id, and no event is early.
-use Rattle.std.proofs.Common.{◌≡◌, ◌∙◌, ℕ, suc, ◌+◌, ◌-◌, ◌<◌, ◌≤◌, Bool, true, false, not, cond}
-use Rattle.std.proofs.Common.{eqb, List, [], ◌∷◌, length, map, filter, get_or, All, Some, refl, ap}
-use Rattle.std.proofs.Common.{sym, arith}
-use Rattle.std.specs.List.Sorted.{IsStrictlyIncreasing}
-use Rattle.std.proofs.lemmas.Bool.{ltb-false, not-false, not-true}
-use Rattle.std.proofs.lemmas.Int.{ints}
-use Rattle.std.proofs.lemmas.List.{get_or-map, length-map}
-use Rattle.std.proofs.lemmas.List.Elements.{All-filter, All-map, filter_passes}
-use Rattle.std.proofs.lemmas.List.Kept.{AllPairs-filter}
-use Rattle.std.specs.List.{AllPairs}
-use Rattle.tables.specs.Columns.{delays_columns}
-use Rattle.tables.specs.Writing.{InColumns}
-use Rattle.event_tables.specs.declared.delay_row.DelayRow.{DelayRow}
-use Rattle.event_tables.specs.declared.expanded_activity.ExpandedActivity.{ExpandedActivity}
-use Rattle.event_tables.specs.declared.expanded_event.ExpandedEvent.{ExpandedEvent}
-use Rattle.event_tables.specs.declared.schedule_row.ScheduleRow.{ScheduleRow}
-use Rattle.event_tables.specs.Cells.{delay_cells, expanded_activity, expanded_event}
-use Rattle.event_tables.specs.Delays.{AreDelays}
-use Rattle.event_tables.specs.ExpandedFiles.{AreExpandedActivities, AreExpandedEvents}
-use Rattle.event_tables.specs.ForwardOrder.{both_pass, event_with}
-use Rattle.event_tables.specs.Places.{AreNumbered}
-use Rattle.event_tables.specs.Schedules.{AreScheduleRows, IsScheduleRow, has_room, is_empty_row}
-use Rattle.event_tables.proofs.Numbering.{find_numbered}
-use Rattle.event_tables.proofs.RanksRise.{id_at}
-use Rattle.propagation.proofs.RanksRise.{planned_rises}
-use Rattle.propagation.specs.declared.day_event.DayEvent.{DayEvent}
-use Rattle.propagation.specs.declared.step.Activity.{Activity}
-use Rattle.propagation.specs.declared.step.Step.{Step}
-use Rattle.propagation.specs.DayEvents.{no_event}
-use Rattle.propagation.specs.Links.{GainsLittle}
-use Rattle.propagation.specs.Problems.{DelayProblem, GoesForward, event_at, minutes, planned_at, steps_with}
+use Rattle.plan_num.proofs.Common.{◌≡◌, ◌∙◌, ℕ, suc, ◌+◌, ◌-◌, ◌<◌, ◌≤◌, Bool, true, false, not}
+use Rattle.plan_num.proofs.Common.{cond, eqb, List, [], ◌∷◌, length, map, filter, get_or, All, Some}
+use Rattle.plan_num.proofs.Common.{refl, ap, sym, arith, IsStrictlyIncreasing, ltb-false, not-false}
+use Rattle.plan_num.proofs.Common.{not-true, ints, get_or-map, length-map, All-filter, All-map}
+use Rattle.plan_num.proofs.Common.{filter_passes, AllPairs-filter, AllPairs}
+use Rattle.tables.proofs.Common.{delays_columns, InColumns}
+use Rattle.event_tables.proofs.Common.{DelayRow, ExpandedActivity, ExpandedEvent, ScheduleRow}
+use Rattle.event_tables.proofs.Common.{delay_cells, expanded_activity, expanded_event, AreDelays}
+use Rattle.event_tables.proofs.Common.{AreExpandedActivities, AreExpandedEvents, both_pass}
+use Rattle.event_tables.proofs.Common.{event_with, AreNumbered, AreScheduleRows, IsScheduleRow}
+use Rattle.event_tables.proofs.Common.{has_room, is_empty_row, find_numbered, id_at}
+use Rattle.propagation.proofs.Common.{planned_rises, DayEvent, Activity, Step, no_event}
+use Rattle.propagation.proofs.Common.{GainsLittle, DelayProblem, GoesForward, event_at, minutes}
+use Rattle.propagation.proofs.Common.{planned_at, steps_with, steps_all}
 use Rattle.delay_management.specs.InputProblems.{activities_of, day_event, day_events, delay_of, delayed, earliest_of}
 use Rattle.delay_management.specs.InputProblems.{index_of, is_of, problem_over, turn_of}
-use Rattle.propagation.proofs.PassIsLeast.{steps_all}
 
 -- an event of a day is that of the row at its place
 pub day_at : (events : List ExpandedEvent) (event : ℕ) → event < length events

@@ -1,19 +1,12 @@
 -- What the stage of dispositions gives.
 use Rattle.std.proofs.Common.{◌≡◌, ◌∙◌, ℕ, ℤ, Bool, List, [], Ok, Err, ap, arith}
-use Rattle.giv_files.specs.declared.made.Made.{Made}
-use Rattle.tables.specs.declared.refusal.StageFault.{StageFault}
-use Rattle.tables.specs.Inputs.{Refuses}
-use Rattle.giv_files.specs.Settings.{BundleParts}
-use Rattle.giv_files.specs.StageCalls.{StageGives}
+use Rattle.giv_files.proofs.Common.{Made, BundleParts, StageGives}
+use Rattle.tables.proofs.Common.{StageFault, Refuses}
 use Rattle.giv_files.proofs.StageCalls as calls
-use Rattle.propagation.specs.declared.reason.Reason.{Reason}
-use Rattle.propagation.specs.declared.step.Activity.{Activity}
+use Rattle.propagation.proofs.Common.{Reason, Activity, least_times, DelayProblem}
+use Rattle.propagation.proofs.Common.{canonical_reasons, chosen_changes, kept_changes}
 use Rattle.delay_management.specs.DispositionStage.{disposed_of, disposition_faults, disposition_made}
 use Rattle.delay_management.specs.DispositionStage.{disposition_stage, kept_in, problem_in}
-use Rattle.propagation.specs.LeastTimes.{least_times}
-use Rattle.propagation.specs.Problems.{DelayProblem}
-use Rattle.propagation.specs.Reasons.{canonical_reasons}
-use Rattle.propagation.specs.Waiting.{chosen_changes, kept_changes}
 use Rattle.delay_management.specs.WaitSettings.{wait_of}
 
 pub stage_refused : (bundle : BundleParts) (fault : StageFault) → Refuses (disposition_faults bundle) fault

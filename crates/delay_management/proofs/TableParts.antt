@@ -1,10 +1,8 @@
 -- Parts of what the rows of a table stand for, one after the other.
-use Rattle.std.proofs.Common.{◌≡◌, ◌∙◌, ℕ, ℤ, ◌+◌, ◌<◌, List, []}
-use Rattle.std.proofs.Common.{◌∷◌, ◌++◌, get_or, length, map, take, ap, sym, arith}
-use Rattle.std.proofs.lemmas.List.{get_or-map, length-map, take_more}
-use Rattle.std.proofs.lemmas.Simd.{map-map}
-use Rattle.tables.specs.Tables.{TableRow, no_row}
-use Rattle.tables.specs.RowsOfTables.{records_by}
+use Rattle.plan_num.proofs.Common.{◌≡◌, ◌∙◌, ℕ, ℤ, ◌+◌, ◌<◌, List, [], ◌∷◌, ◌++◌, get_or, length}
+use Rattle.plan_num.proofs.Common.{map, take, ap, sym, arith, get_or-map, length-map, take_more}
+use Rattle.plan_num.proofs.Common.{map-map}
+use Rattle.tables.proofs.Common.{TableRow, no_row, records_by}
 
 module _ {X Y : Type 0} (of : List ℤ → X) (part : X → Y) (table : List TableRow) (i : ℕ) where
   abbrev whole : TableRow → Y

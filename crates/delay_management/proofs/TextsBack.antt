@@ -1,32 +1,19 @@
 -- The texts that are made, read again, are the times and the reasons, and break no rule of their
 -- kind.
-use Rattle.std.proofs.Common.{◌≡◌, ◌∙◌, ℕ, ℤ, ◌+◌, ◌≤◌, List, [], ◌∷◌, ◌++◌, length, map, All, refl}
-use Rattle.std.proofs.Common.{ap, sym, subst, arith}
-use Rattle.std.specs.List.{list_any, range_with_len}
-use Rattle.std.proofs.lemmas.Bool.{eq-eqb, le-ltb, ne_eqb}
-use Rattle.std.proofs.lemmas.List.{length_push}
-use Rattle.std.proofs.lemmas.List.Elements.{All-map}
-use Rattle.std.proofs.lemmas.Simd.{map-map}
-use Rattle.tables.specs.declared.column.ColumnKind.{ColumnKind}
+use Rattle.plan_num.proofs.Common.{◌≡◌, ◌∙◌, ℕ, ℤ, ◌+◌, ◌≤◌, List, [], ◌∷◌, ◌++◌, length, map, All}
+use Rattle.plan_num.proofs.Common.{refl, ap, sym, subst, arith, list_any, range_with_len, eq-eqb}
+use Rattle.plan_num.proofs.Common.{le-ltb, ne_eqb, length_push, All-map, map-map}
+use Rattle.tables.proofs.Common.{ColumnKind, disposed_columns, reasons_columns, broken_whys}
+use Rattle.tables.proofs.Common.{input_faults, records, table_of, TableRow, InColumns, ReadsBack}
+use Rattle.tables.proofs.Common.{KeepRules, accepted, whole_accepted, plain_header, written_back}
+use Rattle.tables.proofs.Common.{ReadsAs, records_by, rows_by, columns_written}
 use Rattle.tables.specs.declared.row_why.RowWhy.TheVariants as why
 use Rattle.tables.specs.declared.file_id.FileId.TheVariants as file
-use Rattle.tables.specs.Columns.{disposed_columns, reasons_columns}
-use Rattle.tables.specs.Inputs.{broken_whys, input_faults, records}
-use Rattle.tables.specs.Reading.{table_of}
-use Rattle.tables.specs.Tables.{TableRow}
-use Rattle.tables.specs.Writing.{InColumns, ReadsBack}
-use Rattle.tables.proofs.Accepted.{KeepRules, accepted, whole_accepted}
-use Rattle.tables.proofs.Headers.{plain_header}
-use Rattle.tables.proofs.WrittenBack.{written_back}
-use Rattle.event_tables.specs.declared.disposed_time.DisposedTime.{DisposedTime}
-use Rattle.event_tables.specs.Cells.{disposed_time, disposed_time_cells}
-use Rattle.event_tables.specs.DisposedTimes.{disposed_time_input, disposed_time_rules}
-use Rattle.event_tables.specs.Headers.{disposed_time_header}
-use Rattle.event_tables.specs.Places.{is_none_of}
-use Rattle.tables.specs.RowsOfTables.{ReadsAs, records_by, rows_by}
-use Rattle.tables.proofs.WrittenColumns.{columns_written}
-use Rattle.event_tables.proofs.Numbering.{none_of_places, some_missing}
-use Rattle.propagation.specs.declared.reason.Reason.{Reason}
+use Rattle.event_tables.proofs.Common.{DisposedTime, disposed_time, disposed_time_cells}
+use Rattle.event_tables.proofs.Common.{disposed_time_input, disposed_time_rules}
+use Rattle.event_tables.proofs.Common.{disposed_time_header, is_none_of, none_of_places}
+use Rattle.event_tables.proofs.Common.{some_missing}
+use Rattle.propagation.proofs.Common.{Reason}
 use Rattle.propagation.specs.declared.reason.Reason.TheVariants as reason
 use Rattle.delay_management.specs.DispositionStage.{ReasonRow, reason_cells, reason_rows, reasons_header, reasons_text}
 use Rattle.delay_management.specs.DispositionStage.{time_rows, times_text}

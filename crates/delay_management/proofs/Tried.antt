@@ -5,28 +5,26 @@ use Rattle.std.proofs.Common.{false}
 use Rattle.std.specs.Fmt.{digits}
 use Rattle.tables.specs.declared.file_id.FileId.TheVariants as file
 use Rattle.giv_files.specs.declared.key.Key.TheVariants as key
-use Rattle.giv_files.specs.declared.made.Made.{Made}
+use Rattle.giv_files.proofs.Common.{Made, BundleParts}
 use Rattle.tables.specs.declared.row_why.RowWhy.TheVariants as why
 use Rattle.tables.specs.declared.refusal.Refusal.TheVariants as refusal
 use Rattle.giv_files.specs.declared.stage.Stage.TheVariants as stage
-use Rattle.tables.specs.Inputs.{input_faults, row_faults}
-use Rattle.tables.specs.Reading.{faults, table_of, cells_from, cell_of, errors, values, row_whys}
+use Rattle.tables.proofs.Common.{input_faults, row_faults, faults, table_of, cells_from, cell_of}
+use Rattle.tables.proofs.Common.{errors, values, row_whys, cell_text, cell_texts, joined}
+use Rattle.tables.proofs.Common.{table_text}
 use Rattle.text_fields.specs.Rows.{rows, cleaned}
-use Rattle.giv_files.specs.Settings.{BundleParts}
-use Rattle.tables.specs.Writing.{cell_text, cell_texts, joined, table_text}
 use Rattle.plan_num.specs.Number.{spelling_of, value_of, value_at, fixed_of, whole_of}
 use Rattle.plan_num.specs.Print.{digits_at}
-use Rattle.event_tables.specs.Headers.{disposed_time_header}
+use Rattle.event_tables.proofs.Common.{disposed_time_header}
 use Rattle.delay_management.specs.declared.fault.ReasonFault.{ReasonFault}
 use Rattle.delay_management.specs.declared.fault.ReasonFault.TheVariants as fault
 use Rattle.delay_management.specs.DispositionStage.{reasons_header, events_in, activities_in, schedule_in}
 use Rattle.delay_management.specs.DispositionStage.{event_delays_in, activity_delays_in, problem_in, kept_in}
 use Rattle.delay_management.specs.DispositionStage.{disposed_of, disposition_stage, disposition_faults}
 use Rattle.delay_management.specs.Judged.{first_broken_rule}
-use Rattle.propagation.specs.LeastTimes.{pushed_often, least_times}
+use Rattle.propagation.proofs.Common.{pushed_often, least_times, canonical_reasons, chosen_changes}
+use Rattle.propagation.proofs.Common.{kept_changes}
 use Rattle.delay_management.specs.InputProblems.{delay_of}
-use Rattle.propagation.specs.Reasons.{canonical_reasons}
-use Rattle.propagation.specs.Waiting.{chosen_changes, kept_changes}
 
 -- what computes on the texts of a small dataset
 unfoldable on_texts : ⊤

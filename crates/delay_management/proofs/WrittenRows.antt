@@ -1,22 +1,13 @@
 -- The rows of times and of reasons, in their columns.
-use Rattle.std.proofs.Common.{◌≡◌, ◌∙◌, ℕ, suc, ◌+◌, ◌<◌, ◌≤◌, List, [], ◌∷◌, ◌++◌, length, map, take, get_or, All}
-use Rattle.std.proofs.Common.{refl, ap, arith}
-use Rattle.std.specs.List.{enumerate_from}
-use Rattle.std.proofs.lemmas.Int.{ints}
-use Rattle.std.proofs.lemmas.List.{get_or-map, length-map, take_all, take_more}
-use Rattle.std.proofs.lemmas.List.Elements.{All-cons, All-map, All-nil}
-use Rattle.std.proofs.lemmas.List.FromFn.{get_or-enumerate_from, length-enumerate_from}
-use Rattle.tables.specs.Columns.{disposed_columns, reasons_columns}
-use Rattle.tables.specs.Tables.{TableRow}
-use Rattle.tables.specs.Writing.{InColumns}
-use Rattle.event_tables.specs.declared.disposed_time.DisposedTime.{DisposedTime}
-use Rattle.event_tables.specs.Cells.{disposed_time_cells}
-use Rattle.tables.specs.RowsOfTables.{rows_by}
-use Rattle.propagation.specs.declared.reason.Reason.{Reason}
+use Rattle.plan_num.proofs.Common.{◌≡◌, ◌∙◌, ℕ, suc, ◌+◌, ◌<◌, ◌≤◌, List, [], ◌∷◌, ◌++◌, length}
+use Rattle.plan_num.proofs.Common.{map, take, get_or, All, refl, ap, arith, enumerate_from, ints}
+use Rattle.plan_num.proofs.Common.{get_or-map, length-map, take_all, take_more, All-cons, All-map}
+use Rattle.plan_num.proofs.Common.{All-nil, get_or-enumerate_from, length-enumerate_from}
+use Rattle.tables.proofs.Common.{disposed_columns, reasons_columns, TableRow, InColumns, rows_by}
+use Rattle.event_tables.proofs.Common.{DisposedTime, disposed_time_cells}
+use Rattle.propagation.proofs.Common.{Reason, named_activity, LATEST}
 use Rattle.propagation.specs.declared.reason.Reason.TheVariants as reason
 use Rattle.delay_management.specs.DispositionStage.{ReasonRow, reason_cells, reason_place, reason_rows, time_rows}
-use Rattle.propagation.specs.Reasons.{named_activity}
-use Rattle.propagation.specs.declared.times.TheConstants.{LATEST}
 
 -- ---- one row more, of rows that are numbered from 1
 

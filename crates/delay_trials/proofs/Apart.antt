@@ -1,7 +1,6 @@
 -- What stands in a list where one place was set.
-use Rattle.std.proofs.Common.{◌≡◌, ◌≢◌, ◌∙◌, ℕ, ◌<◌, List, length, get_or, slice_set}
-use Rattle.std.proofs.Common.{ap}
-use Rattle.std.proofs.lemmas.List.{get_or-set_same, get_or-set_other, set-get_or, set-set}
+use Rattle.plan_num.proofs.Common.{◌≡◌, ◌≢◌, ◌∙◌, ℕ, ◌<◌, List, length, get_or, slice_set, ap}
+use Rattle.plan_num.proofs.Common.{get_or-set_same, get_or-set_other, set-get_or, set-set}
 
 module _ {X : Type 0} (old new : List X) (place : ℕ) (x d : X) (is : new ≡ slice_set old place x) where
   pub set_here : place < length old → get_or new place d ≡ x

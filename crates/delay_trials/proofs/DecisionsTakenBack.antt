@@ -1,30 +1,21 @@
 -- Changes that are kept one after the other, and taken back.
-use Rattle.std.proofs.Common.{◌≡◌, ◌∙◌, ℕ, zero, suc, ◌+◌, ◌<◌, ◌≤◌, ◌⊎◌, inl, inr, Bool, true}
-use Rattle.std.proofs.Common.{false, List, [], ◌∷◌, ◌++◌, length, get_or, not, slice_set, All}
-use Rattle.std.proofs.Common.{Option, None, Some, ap, refl, sym, subst, arith}
-use Rattle.std.specs.Prelude.{replicate}
-use Rattle.std.specs.List.{items_where_true}
-use Rattle.std.proofs.lemmas.Bool.{false≢true}
-use Rattle.std.proofs.Math.ListN.{get_or-eq_default}
-use Rattle.std.proofs.lemmas.List.{get_or_default}
-use Rattle.std.proofs.lemmas.List.FromFn.{get_or-map-range_with_len}
-use Rattle.std.proofs.lemmas.List.Sorted.{All-permutation}
-use Rattle.propagation.proofs.RanksRise.{rank_rises}
-use Rattle.propagation.specs.declared.links.Link.{Link}
+use Rattle.plan_num.proofs.Common.{◌≡◌, ◌∙◌, ℕ, zero, suc, ◌+◌, ◌<◌, ◌≤◌, ◌⊎◌, inl, inr, Bool, true}
+use Rattle.plan_num.proofs.Common.{false, List, [], ◌∷◌, ◌++◌, length, get_or, not, slice_set, All}
+use Rattle.plan_num.proofs.Common.{Option, None, Some, ap, refl, sym, subst, arith, replicate}
+use Rattle.plan_num.proofs.Common.{items_where_true, false≢true, get_or-eq_default, get_or_default}
+use Rattle.plan_num.proofs.Common.{get_or-map-range_with_len, All-permutation}
+use Rattle.propagation.proofs.Common.{rank_rises, Link, Activity, IsFeasible, IsLeast, asked}
+use Rattle.propagation.proofs.Common.{least_times, time_at, GainsLittle, IsLinked, counts, links_of}
+use Rattle.propagation.proofs.Common.{DelayProblem, GoesForward, IsForward, chosen_changes}
+use Rattle.propagation.proofs.Common.{all_chosen, change_steps, links_all, links_hold, steps_hold}
 use Rattle.delay_trials.specs.declared.moved_event.Moved.{Moved}
-use Rattle.propagation.specs.declared.step.Activity.{Activity}
 use Rattle.delay_trials.specs.declared.taken.Taken.{Taken}
-use Rattle.propagation.specs.LeastTimes.{IsFeasible, IsLeast, asked, least_times, time_at}
-use Rattle.propagation.specs.Links.{GainsLittle, IsLinked, counts, links_of}
 use Rattle.delay_trials.specs.OnTrial.{AreOnce, AreSaved, DropsNotes, Follows, Gives, GoesBack, GoesBackBy, IsHeld}
 use Rattle.delay_trials.specs.OnTrial.{IsSettlingBut, IsTaken, IsTrial, NoneWaits, StartsTrial, TrialTimes, decided_in}
 use Rattle.delay_trials.specs.OnTrial.{rewound}
-use Rattle.propagation.specs.Problems.{DelayProblem, GoesForward, IsForward}
 use Rattle.delay_trials.specs.Trials.{is_decided, is_kept, kept_of, times_of}
-use Rattle.propagation.specs.Waiting.{chosen_changes}
 use Rattle.bit_rows.proofs.Cases.{by_less, by_same}
 use Rattle.delay_trials.proofs.Apart.{set_back, set_here, set_there}
-use Rattle.propagation.proofs.PassIsLeast.{all_chosen, change_steps, links_all, links_hold, steps_hold}
 use Rattle.delay_trials.proofs.Settling.{all_held, is_least, least_small}
 use Rattle.delay_trials.proofs.TrialFacts.{dropped_on, kept_less, kept_on, kept_size, least_each, not_kept, open_flag}
 use Rattle.delay_trials.proofs.TrialFacts.{open_more, starts, trial_least}

@@ -1,15 +1,12 @@
 -- The ends of changes by their events, and where those of an event begin.
-use Rattle.std.proofs.Common.{◌≡◌, ℕ, ◌+◌, ◌<◌, ◌≤◌, true, false, ltb, List, [], ◌∷◌, ◌++◌, length}
-use Rattle.std.proofs.Common.{get_or, nat_eq, All, ap, arith}
-use Rattle.std.specs.List.{Contains}
-use Rattle.std.specs.List.Sorted.{IsNonDecreasingBy, IsPartitionPoint, IsPermutation}
-use Rattle.std.proofs.lemmas.Bool.{eqb-false}
-use Rattle.std.proofs.lemmas.List.{get_or_default}
-use Rattle.std.proofs.lemmas.List.Elements.{All-append, All-cons, All-contains, All-contains_itself, All-nil}
-use Rattle.std.proofs.lemmas.List.Elements.{Contains-append_left, Contains-push}
-use Rattle.std.proofs.lemmas.List.Sorted.{All-permutation, IsPermutation-sym}
+use Rattle.plan_num.proofs.Common.{◌≡◌, ℕ, ◌+◌, ◌<◌, ◌≤◌, true, false, ltb, List, [], ◌∷◌, ◌++◌}
+use Rattle.plan_num.proofs.Common.{length, get_or, nat_eq, All, ap, arith, Contains}
+use Rattle.plan_num.proofs.Common.{IsNonDecreasingBy, IsPartitionPoint, IsPermutation, eqb-false}
+use Rattle.plan_num.proofs.Common.{get_or_default, All-append, All-cons, All-contains}
+use Rattle.plan_num.proofs.Common.{All-contains_itself, All-nil, Contains-append_left}
+use Rattle.plan_num.proofs.Common.{Contains-push, All-permutation, IsPermutation-sym}
 use Rattle.delay_trials.specs.declared.ends.ChangeEnd.{ChangeEnd}
-use Rattle.propagation.specs.declared.step.Activity.{Activity}
+use Rattle.propagation.proofs.Common.{Activity}
 use Rattle.delay_trials.specs.ChangeEnds.{HasEnds, HasNone, IsFirst}
 use Rattle.bit_rows.proofs.Cases.{by_less}
 

@@ -1,17 +1,13 @@
 -- What times on trial tell, where one of them, a change or a note is another one.
-use Rattle.std.proofs.Common.{◌≡◌, ◌∙◌, ℕ, ℤ, ◌<◌, ◌≤◌, ◌+ℤ◌, ◌&&◌, Bool, false, List, ◌∷◌, ◌++◌}
-use Rattle.std.proofs.Common.{length, get_or, slice_set, All, Option, None, Some, ap, sym, subst}
-use Rattle.std.proofs.Common.{arith}
-use Rattle.std.specs.Prelude.{MatchOption, option_to_list, replicate, reverse}
-use Rattle.std.proofs.lemmas.List.{append-nil, length-reverse, length-set}
-use Rattle.std.proofs.lemmas.List.Elements.{All-head, All-set, All-tail}
-use Rattle.std.proofs.lemmas.Int.{ints}
-use Rattle.propagation.specs.declared.day_event.DayEvent.{DayEvent}
+use Rattle.plan_num.proofs.Common.{◌≡◌, ◌∙◌, ℕ, ℤ, ◌<◌, ◌≤◌, ◌+ℤ◌, ◌&&◌, Bool, false, List, ◌∷◌}
+use Rattle.plan_num.proofs.Common.{◌++◌, length, get_or, slice_set, All, Option, None, Some, ap}
+use Rattle.plan_num.proofs.Common.{sym, subst, arith, MatchOption, option_to_list, replicate}
+use Rattle.plan_num.proofs.Common.{reverse, append-nil, length-reverse, length-set, All-head}
+use Rattle.plan_num.proofs.Common.{All-set, All-tail, ints}
+use Rattle.propagation.proofs.Common.{DayEvent, Activity, delay_at, is_broken, more_delay, time_at}
+use Rattle.propagation.proofs.Common.{LATEST}
 use Rattle.delay_trials.specs.declared.ends.ChangeEnd.{ChangeEnd}
 use Rattle.delay_trials.specs.declared.moved_event.Moved.{Moved}
-use Rattle.propagation.specs.declared.step.Activity.{Activity}
-use Rattle.propagation.specs.Lateness.{delay_at, is_broken, more_delay}
-use Rattle.propagation.specs.LeastTimes.{time_at}
 use Rattle.delay_trials.specs.OnTrial.{AreTested, IsLastMoved, IsOnTrial, TrialTimes}
 use Rattle.delay_trials.specs.OpenChanges.{OpenParts}
 use Rattle.delay_trials.specs.Stillness.{MayHaveLimits}
@@ -20,7 +16,6 @@ use Rattle.delay_trials.proofs.RunningDelay.{Bounded, delay_bounded, later_at}
 use Rattle.delay_trials.proofs.Testing.{one_tested, same_size}
 use Rattle.delay_trials.proofs.TrialFacts.{reversed}
 use Rattle.delay_trials.proofs.Turning.{limits_again}
-use Rattle.propagation.specs.declared.times.TheConstants.{LATEST}
 
 -- a note is of an event of so many, and of a time that is not too large
 abbrev pub IsSound : ℕ → Moved → Type 0

@@ -1,17 +1,13 @@
 -- The delay of all arrivals where the time of one event is another one.
-use Rattle.std.proofs.Common.{◌≡◌, ◌∙◌, ℕ, ℤ, zero, suc, ◌+◌, ◌*◌, ◌<◌, ◌≤◌, ◌+ℤ◌, ◌-ℤ◌, ◌≤ℤ◌, pos}
-use Rattle.std.proofs.Common.{cond, Bool, true, false, List, [], ◌∷◌, length, get_or, slice_set}
-use Rattle.std.proofs.Common.{All, ap, of_z, to_z, subst, arith}
-use Rattle.std.specs.Prelude.{filter, neg_ℤ, zip}
-use Rattle.std.specs.List.{fold}
-use Rattle.std.proofs.lemmas.Int.{ints, to_z-of_z}
+use Rattle.plan_num.proofs.Common.{◌≡◌, ◌∙◌, ℕ, ℤ, zero, suc, ◌+◌, ◌*◌, ◌<◌, ◌≤◌, ◌+ℤ◌, ◌-ℤ◌, ◌≤ℤ◌}
+use Rattle.plan_num.proofs.Common.{pos, cond, Bool, true, false, List, [], ◌∷◌, length, get_or}
+use Rattle.plan_num.proofs.Common.{slice_set, All, ap, of_z, to_z, subst, arith, filter, neg_ℤ, zip}
+use Rattle.plan_num.proofs.Common.{fold, ints}
+use Rattle.std.proofs.lemmas.Int.{to_z-of_z}
 use mir.Syntax.{w128}
 use mir.Val.{SFits}
-use Rattle.propagation.specs.declared.day_event.DayEvent.{DayEvent}
-use Rattle.propagation.specs.Lateness.{arrives, delay_at, lateness, more_delay}
-use Rattle.propagation.specs.LeastTimes.{time_at}
-use Rattle.propagation.specs.Problems.{planned_at}
-use Rattle.propagation.specs.declared.times.TheConstants.{LATEST}
+use Rattle.propagation.proofs.Common.{DayEvent, arrives, delay_at, lateness, more_delay, time_at}
+use Rattle.propagation.proofs.Common.{planned_at, LATEST}
 
 abbrev Timed : Type 0
 Timed = DayEvent × ℕ

@@ -1,28 +1,20 @@
 -- Times on the way to the least ones: links that wait are looked at in their order, and heads that are made later
 -- let the links out of them wait.
-use Rattle.std.proofs.Common.{◌≡◌, ◌≢◌, ◌∙◌, ℕ, ◌+◌, ◌<◌, ◌≤◌, ◌⊎◌, inl, inr, Bool, true, false}
-use Rattle.std.proofs.Common.{cond, List, [], ◌∷◌, ◌++◌, length, get_or, slice_set, All, None, ap}
-use Rattle.std.proofs.Common.{sym, subst, arith}
-use Rattle.std.proofs.lemmas.Bool.{false≢true, lt-ltb}
-use Rattle.std.proofs.lemmas.List.{append_assoc, get_or_default}
-use Rattle.propagation.specs.DayEvents.{forward_rank}
-use Rattle.propagation.specs.declared.links.Link.{Link}
+use Rattle.plan_num.proofs.Common.{◌≡◌, ◌≢◌, ◌∙◌, ℕ, ◌+◌, ◌<◌, ◌≤◌, ◌⊎◌, inl, inr, Bool, true}
+use Rattle.plan_num.proofs.Common.{false, cond, List, [], ◌∷◌, ◌++◌, length, get_or, slice_set, All}
+use Rattle.plan_num.proofs.Common.{None, ap, sym, subst, arith, false≢true, lt-ltb, append_assoc}
+use Rattle.plan_num.proofs.Common.{get_or_default}
+use Rattle.propagation.proofs.Common.{forward_rank, Link, Step, IsLeast, asked, later, least_times}
+use Rattle.propagation.proofs.Common.{time_at, IsLinked, counts, head_pushed, DelayProblem, Joins}
+use Rattle.propagation.proofs.Common.{chosen_changes, is_pushed, all_join, chosen_are_changes}
+use Rattle.propagation.proofs.Common.{links_hold, pass_is, steps_hold, least_is_one}
+use Rattle.propagation.proofs.Common.{least_times_are_least, all_slow, pass_small, LATEST}
 use Rattle.delay_trials.specs.declared.moved_event.Moved.{Moved}
-use Rattle.propagation.specs.declared.step.Step.{Step}
-use Rattle.propagation.specs.LeastTimes.{IsLeast, asked, later, least_times, time_at}
-use Rattle.propagation.specs.Links.{IsLinked, counts, head_pushed}
 use Rattle.bit_rows.specs.Markings.{IsNext}
 use Rattle.delay_trials.specs.OnTrial.{Follows, IsHeld, IsSettling, IsSettlingBut, NoneWaits, Pushes, TrialTimes}
 use Rattle.delay_trials.specs.OnTrial.{WaitBy, rewound}
-use Rattle.propagation.specs.Problems.{DelayProblem, Joins}
-use Rattle.propagation.specs.Waiting.{chosen_changes}
 use Rattle.bit_rows.proofs.Cases.{by_less, by_same}
 use Rattle.delay_trials.proofs.Apart.{set_back, set_here, set_there}
-use Rattle.propagation.proofs.ForwardPass.{is_pushed}
-use Rattle.propagation.proofs.PassIsLeast.{all_join, chosen_are_changes, links_hold, pass_is, steps_hold}
-use Rattle.propagation.proofs.Rounds.{least_is_one, least_times_are_least}
-use Rattle.propagation.proofs.SoonTimes.{all_slow, pass_small}
-use Rattle.propagation.specs.declared.times.TheConstants.{LATEST}
 
 -- ---- times before can be had again
 

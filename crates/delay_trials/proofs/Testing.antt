@@ -1,10 +1,8 @@
 -- Which open changes times break, one after the other.
-use Rattle.std.proofs.Common.{◌≡◌, ◌≢◌, ◌∙◌, ℕ, ◌+◌, ◌<◌, ◌&&◌, Bool, false, List, length}
-use Rattle.std.proofs.Common.{get_or, slice_set, ap, sym, subst, arith}
-use Rattle.std.proofs.lemmas.List.{length-set}
+use Rattle.plan_num.proofs.Common.{◌≡◌, ◌≢◌, ◌∙◌, ℕ, ◌+◌, ◌<◌, ◌&&◌, Bool, false, List, length}
+use Rattle.plan_num.proofs.Common.{get_or, slice_set, ap, sym, subst, arith, length-set}
 use Rattle.delay_trials.specs.declared.ends.ChangeEnd.{ChangeEnd}
-use Rattle.propagation.specs.declared.step.Activity.{Activity}
-use Rattle.propagation.specs.Lateness.{is_broken}
+use Rattle.propagation.proofs.Common.{Activity, is_broken}
 use Rattle.delay_trials.specs.Stillness.{TestsSome}
 use Rattle.bit_rows.proofs.Cases.{by_less, by_same}
 use Rattle.delay_trials.proofs.Apart.{set_here, set_there}

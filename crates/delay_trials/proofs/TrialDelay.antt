@@ -1,14 +1,9 @@
 -- How late arrivals are behind decisions: never below 0, and not too much.
-use Rattle.std.proofs.Common.{◌≡◌, ℕ, ℤ, suc, ◌+◌, ◌*◌, ◌<◌, ◌≤◌, ◌+ℤ◌, ◌≤ℤ◌, pos, cond, Bool, true}
-use Rattle.std.proofs.Common.{false, List, [], ◌∷◌, length, All, subst, arith}
-use Rattle.std.specs.Prelude.{filter, zip}
-use Rattle.std.specs.List.{fold}
-use Rattle.std.proofs.lemmas.Int.{ints}
-use Rattle.propagation.specs.declared.day_event.DayEvent.{DayEvent}
-use Rattle.propagation.specs.declared.step.Activity.{Activity}
-use Rattle.propagation.specs.LeastTimes.{IsLeast, time_at}
-use Rattle.propagation.specs.Lateness.{arrives, delay_at, lateness}
-use Rattle.propagation.specs.Problems.{DelayProblem, earliest_at, planned_at}
+use Rattle.plan_num.proofs.Common.{◌≡◌, ℕ, ℤ, suc, ◌+◌, ◌*◌, ◌<◌, ◌≤◌, ◌+ℤ◌, ◌≤ℤ◌, pos, cond, Bool}
+use Rattle.plan_num.proofs.Common.{true, false, List, [], ◌∷◌, length, All, subst, arith, filter}
+use Rattle.plan_num.proofs.Common.{zip, fold, ints}
+use Rattle.propagation.proofs.Common.{DayEvent, Activity, IsLeast, time_at, arrives, delay_at}
+use Rattle.propagation.proofs.Common.{lateness, DelayProblem, earliest_at, planned_at}
 
 record Within (sum : ℤ) (count : ℕ) : Type 0 where
   least : pos 0 ≤ℤ sum

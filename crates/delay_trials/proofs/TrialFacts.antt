@@ -1,25 +1,19 @@
 -- Decisions one after the other, and the least times behind each.
-use Rattle.std.proofs.Common.{◌≢◌, ◌≡◌, ◌∙◌, ℕ, zero, suc, ◌+◌, ◌<◌, ◌≤◌, ◌&&◌, ◌||◌, not, cond}
-use Rattle.std.proofs.Common.{eqb, nat_lt, Bool, true, false, List, [], ◌∷◌, ◌++◌, length, map}
-use Rattle.std.proofs.Common.{get_or, slice_get, slice_set, All, Option, Some, None, refl, ap, sym}
-use Rattle.std.proofs.Common.{subst, arith}
-use Rattle.std.specs.Prelude.{option_map, position, replicate, reverse}
-use Rattle.std.specs.List.{enumerate_from, prefix_len, range_with_len}
-use Rattle.std.proofs.lemmas.Bool.{both_ways, eq-eqb, ne_eqb, ltb-true, ltb-false, lt-ltb, le-ltb}
-use Rattle.std.proofs.lemmas.List.{reverse-append}
-use Rattle.std.proofs.lemmas.List.FromFn.{get_or-map-range_with_len, length-enumerate_from, length-map-range_with_len}
+use Rattle.plan_num.proofs.Common.{◌≢◌, ◌≡◌, ◌∙◌, ℕ, zero, suc, ◌+◌, ◌<◌, ◌≤◌, ◌&&◌, ◌||◌, not}
+use Rattle.plan_num.proofs.Common.{cond, eqb, nat_lt, Bool, true, false, List, [], ◌∷◌, ◌++◌}
+use Rattle.plan_num.proofs.Common.{length, map, get_or, slice_get, slice_set, All, Option, Some}
+use Rattle.plan_num.proofs.Common.{None, refl, ap, sym, subst, arith, option_map, position}
+use Rattle.plan_num.proofs.Common.{replicate, reverse, enumerate_from, prefix_len, range_with_len}
+use Rattle.plan_num.proofs.Common.{both_ways, eq-eqb, ne_eqb, ltb-true, ltb-false, lt-ltb, le-ltb}
+use Rattle.plan_num.proofs.Common.{reverse-append, get_or-map-range_with_len, length-enumerate_from}
+use Rattle.plan_num.proofs.Common.{length-map-range_with_len}
 use Rattle.delay_trials.specs.declared.decided.Decided.{Decided}
-use Rattle.propagation.specs.declared.step.Activity.{Activity}
-use Rattle.propagation.specs.LeastTimes.{IsLeast, least_times}
-use Rattle.propagation.specs.Problems.{DelayProblem, IsForward}
+use Rattle.propagation.proofs.Common.{Activity, IsLeast, least_times, DelayProblem, IsForward}
+use Rattle.propagation.proofs.Common.{is_broken, chosen_changes, chosen_are_changes, placed_at}
+use Rattle.propagation.proofs.Common.{told_alike, least_times_are_least}
 use Rattle.delay_trials.specs.OnTrial.{AreOnce, IsTrial, kept_flags, open_flags}
-use Rattle.propagation.specs.Lateness.{is_broken}
 use Rattle.delay_trials.specs.Trials.{TrialParts, first_broken, is_decided, is_kept, kept_of, times_of}
-use Rattle.propagation.specs.Waiting.{chosen_changes}
-use Rattle.propagation.proofs.PassIsLeast.{chosen_are_changes, placed_at}
 use Rattle.bit_rows.proofs.Places.{told_anew}
-use Rattle.propagation.proofs.Places.{told_alike}
-use Rattle.propagation.proofs.Rounds.{least_times_are_least}
 
 -- ---- lists from behind
 

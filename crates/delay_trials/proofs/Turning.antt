@@ -1,17 +1,13 @@
 -- How far events may be moved before a change turns from broken to not broken, or back.
-use Rattle.std.proofs.Common.{◌≡◌, ◌≢◌, ◌∙◌, ℕ, ◌+◌, ◌*◌, ◌/◌, ◌<◌, ◌≤◌, ◌&&◌, ◌⊎◌, inl, inr, min, nat_lt, Bool, false}
-use Rattle.std.proofs.Common.{List, [], length, get_or, slice_set, ap, subst, arith}
-use Rattle.std.specs.Prelude.{replicate}
-use Rattle.std.specs.List.{Contains}
-use Rattle.std.specs.List.Sorted.{IsNonDecreasingBy}
+use Rattle.plan_num.proofs.Common.{◌≡◌, ◌≢◌, ◌∙◌, ℕ, ◌+◌, ◌*◌, ◌/◌, ◌<◌, ◌≤◌, ◌&&◌, ◌⊎◌, inl, inr}
+use Rattle.plan_num.proofs.Common.{min, nat_lt, Bool, false, List, [], length, get_or, slice_set}
+use Rattle.plan_num.proofs.Common.{ap, subst, arith, replicate, Contains, IsNonDecreasingBy}
+use Rattle.plan_num.proofs.Common.{get_or-replicate, length-replicate}
 use Rattle.std.proofs.Math.Nat.{min-le_left, min-le_right}
-use Rattle.std.proofs.lemmas.List.{get_or-replicate, length-replicate}
 use Rattle.delay_trials.specs.declared.ends.ChangeEnd.{ChangeEnd}
-use Rattle.propagation.specs.declared.step.Activity.{Activity}
+use Rattle.propagation.proofs.Common.{Activity, is_broken, minutes}
 use Rattle.delay_trials.specs.ChangeEnds.{HasEnds, HasNone, IsFirst}
-use Rattle.propagation.specs.Lateness.{is_broken}
 use Rattle.delay_trials.specs.OnTrial.{AreTested, AreTestedBut}
-use Rattle.propagation.specs.Problems.{minutes}
 use Rattle.delay_trials.specs.Stillness.{AreLimits, AreStill, IsTested, MayHaveLimits, TestsSome, room_of}
 use Rattle.bit_rows.proofs.Cases.{by_less, by_same}
 use Rattle.delay_trials.proofs.Apart.{set_there}

@@ -1,10 +1,8 @@
 -- The links of a rank wait, one after the other.
-use Rattle.std.proofs.Common.{◌≡◌, ◌≢◌, ◌∙◌, ℕ, ◌+◌, ◌<◌, ◌≤◌, ◌⊎◌, inl, inr, Bool, true, false, List, length, get_or}
-use Rattle.std.proofs.Common.{slice_set, ap, sym, subst, arith}
-use Rattle.std.specs.List.Sorted.{IsNonDecreasingBy}
-use Rattle.std.proofs.lemmas.Bool.{false≢true}
-use Rattle.std.proofs.lemmas.List.{get_or_default, length-set}
-use Rattle.propagation.specs.declared.links.Link.{Link}
+use Rattle.plan_num.proofs.Common.{◌≡◌, ◌≢◌, ◌∙◌, ℕ, ◌+◌, ◌<◌, ◌≤◌, ◌⊎◌, inl, inr, Bool, true}
+use Rattle.plan_num.proofs.Common.{false, List, length, get_or, slice_set, ap, sym, subst, arith}
+use Rattle.plan_num.proofs.Common.{IsNonDecreasingBy, false≢true, get_or_default, length-set}
+use Rattle.propagation.proofs.Common.{Link}
 use Rattle.delay_trials.specs.OnTrial.{WaitBy}
 use Rattle.bit_rows.proofs.Cases.{by_less, by_same}
 use Rattle.delay_trials.proofs.Apart.{set_here, set_there}

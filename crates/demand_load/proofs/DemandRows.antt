@@ -1,16 +1,12 @@
 -- Rows of demand: their rules, and the paths of their customers.
-use Rattle.std.proofs.Common.{◌≡◌, ℕ, ℤ, pos, int_lt, Bool, true, false, not, ◌&&◌, cond, List}
-use Rattle.std.proofs.Common.{[], ◌∷◌, ◌++◌, slice_get, refl, ap, ◌∙◌, arith}
-use Rattle.std.proofs.Common.{unsigned_abs, Some, None, unwrap_or, is_some}
-use Rattle.std.proofs.Common.{position}
-use Rattle.std.specs.Ordering.{int_eq}
+use Rattle.plan_num.proofs.Common.{◌≡◌, ℕ, ℤ, pos, int_lt, Bool, true, false, not, ◌&&◌, cond, List}
+use Rattle.plan_num.proofs.Common.{[], ◌∷◌, ◌++◌, slice_get, refl, ap, ◌∙◌, arith, unsigned_abs}
+use Rattle.plan_num.proofs.Common.{Some, None, unwrap_or, is_some, position, int_eq}
 use Rattle.tables.specs.declared.row_why.RowWhy.TheVariants as why
-use Rattle.tables.specs.Inputs.{broken_whys}
+use Rattle.tables.proofs.Common.{broken_whys}
 use Rattle.plan_num.proofs.Found.{any_is}
 use Rattle.ptn_network.specs.Ids.{is_unknown}
-use Rattle.walks.specs.Networks.{NetworkParts}
-use Rattle.walks.specs.RisingIds.{index_in}
-use Rattle.walks.specs.Walks.{edge_length, least_sum}
+use Rattle.walks.proofs.Common.{NetworkParts, index_in, edge_length, least_sum}
 use Rattle.demand_load.specs.declared.demand_row.DemandRow.{DemandRow}
 use Rattle.demand_load.specs.Demand.{demand_input, is_joined, row_load}
 use Rattle.demand_paths.specs.Wanted.{goes_over}

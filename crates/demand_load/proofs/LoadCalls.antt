@@ -1,21 +1,14 @@
 -- The stage of loads, from what each of its inputs gives.
-use Rattle.std.proofs.Common.{arith, ◌≡◌, ◌≢◌, ℕ, cond, true, false, List, [], length, map, ap}
-use Rattle.std.proofs.Common.{refl, subst, sym, ◌∙◌, Ok, Err}
-use Rattle.std.proofs.lemmas.Bool.{ne_eqb, eq-eqb}
-use Rattle.std.proofs.lemmas.List.{length-map}
-use Rattle.std.proofs.lemmas.List.FromFn.{length-map-range_with_len}
+use Rattle.plan_num.proofs.Common.{arith, ◌≡◌, ◌≢◌, ℕ, cond, true, false, List, [], length, map, ap}
+use Rattle.plan_num.proofs.Common.{refl, subst, sym, ◌∙◌, Ok, Err, ne_eqb, eq-eqb, length-map}
+use Rattle.plan_num.proofs.Common.{length-map-range_with_len}
 use Rattle.giv_files.specs.declared.key.Key.TheVariants as key
-use Rattle.giv_files.specs.declared.made.Made.{Made}
-use Rattle.tables.specs.declared.refusal.StageFault.{StageFault}
-use Rattle.giv_files.specs.declared.setting.Setting.{Setting}
+use Rattle.giv_files.proofs.Common.{Made, Setting, BundleParts, SettingsFit, Fits, amount}
+use Rattle.giv_files.proofs.Common.{input_text, StageGives, amount_within, stage_refused}
+use Rattle.tables.proofs.Common.{StageFault, Refuses, or_else, input_faults, records_of}
+use Rattle.tables.proofs.Common.{refused_append, refused_before}
 use Rattle.giv_files.specs.declared.stage.Stage.TheVariants as stage
-use Rattle.tables.specs.Inputs.{Refuses, or_else, input_faults, records_of}
-use Rattle.giv_files.specs.Settings.{BundleParts, SettingsFit, Fits, amount}
-use Rattle.giv_files.specs.StageCalls.{input_text, StageGives}
-use Rattle.tables.proofs.Inputs.{refused_append}
-use Rattle.giv_files.proofs.SettingFacts.{amount_within}
-use Rattle.giv_files.proofs.StageCalls.{stage_refused}
-use Rattle.walks.specs.Networks.{NetworkParts}
+use Rattle.walks.proofs.Common.{NetworkParts}
 use Rattle.ptn_network.specs.Networks.{network_of, network_faults}
 use Rattle.ptn_network.specs.declared.edge_load.EdgeLoad.{EdgeLoad}
 use Rattle.demand_load.specs.Demand.{demand_input, demand_loads}
@@ -24,7 +17,6 @@ use Rattle.ptn_network.specs.Loads.{load_input, loads_of}
 use Rattle.ptn_network.proofs.LoadRows.{loads_count as edge_loads_count}
 use Rattle.demand_load.specs.LoadStage.{takes_demand, bounded, loads_by, text_faults, frequency_faults, load_faults, loads_in, load_stage}
 use Rattle.demand_load.specs.LoadTables.{loads_made, HasSpread}
-use Rattle.tables.proofs.InTurn.{refused_before}
 
 -- the settings of a bundle that fits are within their ranges
 pub settings_fit : (bundle : BundleParts) → bundle.stage ≡ stage.Load → Fits bundle

@@ -1,10 +1,7 @@
 -- Which files the stage of loads makes.
 use Rattle.std.proofs.Common.{◌≡◌, Ok, ap, lit<}
-use Rattle.giv_files.specs.declared.made.Made.{Made}
+use Rattle.giv_files.proofs.Common.{Made, MakesAs, ids_of, BundleParts, made_unless}
 use Rattle.giv_files.specs.declared.stage.Stage.TheVariants as stage
-use Rattle.giv_files.specs.MadeLists.{MakesAs, ids_of}
-use Rattle.giv_files.specs.Settings.{BundleParts}
-use Rattle.giv_files.proofs.StageCalls.{made_unless}
 use Rattle.demand_load.specs.LoadStage.{load_stage}
 
 -- they are those that the stage is to make

@@ -1,18 +1,12 @@
 -- Which files the stage of loads names where it refuses a row.
 use Rattle.std.proofs.Common.{◌≡◌, ℕ, pos, Bool, true, false, cond, List, unsigned_abs, int_lt, Err}
 use Rattle.tables.specs.declared.counted.Counted.TheVariants as counted
-use Rattle.tables.specs.declared.file_id.FileId.{FileId}
+use Rattle.tables.proofs.Common.{FileId, Refusal, input_faults, NamesInput, AllName, names_both}
+use Rattle.tables.proofs.Common.{names_or_else, names_where, input_names}
 use Rattle.tables.specs.declared.file_id.FileId.TheVariants as file
-use Rattle.tables.specs.declared.refusal.Refusal.{Refusal}
 use Rattle.tables.specs.declared.refusal.Refusal.TheVariants as refusal
-use Rattle.giv_files.specs.declared.setting.Setting.{Setting}
-use Rattle.tables.specs.Inputs.{input_faults}
-use Rattle.giv_files.specs.Settings.{BundleParts}
-use Rattle.giv_files.specs.StageCalls.{input_text}
-use Rattle.tables.specs.NamedFiles.{NamesInput}
-use Rattle.tables.proofs.Named.{AllName, names_both, names_or_else, names_where, input_names}
-use Rattle.giv_files.proofs.StageCalls.{refused_names}
-use Rattle.walks.specs.Networks.{NetworkParts}
+use Rattle.giv_files.proofs.Common.{Setting, BundleParts, input_text, refused_names}
+use Rattle.walks.proofs.Common.{NetworkParts}
 use Rattle.ptn_network.specs.Networks.{network_faults}
 use Rattle.ptn_network.proofs.NamedFaults.{network_names}
 use Rattle.demand_load.specs.Demand.{demand_input}

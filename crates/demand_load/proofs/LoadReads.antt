@@ -1,26 +1,19 @@
 -- The loads that are made, read again, are right.
 use Rattle.std.proofs.Common.{◌≡◌, refl, ap, sym, arith, Ok}
-use Rattle.giv_files.specs.declared.made.Made.{Made}
+use Rattle.giv_files.proofs.Common.{Made, BundleParts, Fits, input_text, made_unless, none_unless}
 use Rattle.giv_files.specs.declared.stage.Stage.TheVariants as stage
-use Rattle.tables.specs.Columns.{load_columns}
-use Rattle.giv_files.specs.Settings.{BundleParts, Fits}
-use Rattle.giv_files.specs.StageCalls.{input_text}
-use Rattle.tables.specs.Writing.{table_text, ReadsBack}
-use Rattle.tables.proofs.Ranges.{front_none, back_none}
-use Rattle.giv_files.proofs.StageCalls.{made_unless, none_unless}
-use Rattle.tables.proofs.WrittenBack.{written_back}
+use Rattle.tables.proofs.Common.{load_columns, table_text, ReadsBack, front_none, back_none}
+use Rattle.tables.proofs.Common.{written_back, plain_header, columns_written, none_after}
+use Rattle.tables.proofs.Common.{none_first}
 use Rattle.ptn_network.specs.Networks.{network_faults}
 use Rattle.ptn_network.proofs.Sound.{network_sound}
 use Rattle.demand_load.specs.LoadStage.{load_faults, load_stage, loads_in, network_in, text_faults}
 use Rattle.demand_load.specs.LoadTables.{load_header, load_rows}
 use Rattle.demand_load.specs.RightLoads.{LoadsAreRight}
 use Rattle.demand_load.proofs.LoadCalls.{loads_count}
-use Rattle.tables.proofs.Headers.{plain_header}
 use Rattle.demand_load.proofs.LoadRows.{all_rare, rows_in_columns}
-use Rattle.tables.proofs.WrittenColumns.{columns_written}
 use Rattle.demand_load.proofs.LoadsAccepted.{loads_accepted}
 use Rattle.demand_load.proofs.SoundLoads.{edges_named, loads_sound}
-use Rattle.tables.proofs.InTurn.{none_after, none_first}
 
 -- what the stage makes of inputs without a fault
 pub loads_are_right : (bundle : BundleParts) (made : Made) → bundle.stage ≡ stage.Load → Fits bundle

@@ -1,17 +1,12 @@
 -- The rows of the table of loads, and that their cells are in their columns.
-use Rattle.std.proofs.Common.{◌≡◌, ℕ, pos, ◌+◌, ◌<◌, ◌≤◌, ◌≤ℤ◌, int_lt, Bool, true, false, cond}
-use Rattle.std.proofs.Common.{List, [], ◌∷◌, ◌++◌, length, take, get_or, refl, ap, sym, ◌∙◌, arith}
-use Rattle.std.proofs.Common.{All, unsigned_abs}
-use Rattle.std.proofs.lemmas.List.{take_more, take_all, length-take-le}
-use Rattle.std.proofs.lemmas.List.Elements.{All-nil, All-cons, All-head, All-tail}
+use Rattle.plan_num.proofs.Common.{◌≡◌, ℕ, pos, ◌+◌, ◌<◌, ◌≤◌, ◌≤ℤ◌, int_lt, Bool, true, false}
+use Rattle.plan_num.proofs.Common.{cond, List, [], ◌∷◌, ◌++◌, length, take, get_or, refl, ap, sym}
+use Rattle.plan_num.proofs.Common.{◌∙◌, arith, All, unsigned_abs, take_more, take_all}
+use Rattle.plan_num.proofs.Common.{length-take-le, All-nil, All-cons, All-head, All-tail}
 use Rattle.tables.specs.declared.counted.Counted.TheVariants as counted
-use Rattle.tables.specs.declared.refusal.Refusal.{Refusal}
+use Rattle.tables.proofs.Common.{Refusal, load_columns, TableRow, InColumns, back_none}
 use Rattle.tables.specs.declared.refusal.Refusal.TheVariants as refusal
-use Rattle.tables.specs.Columns.{load_columns}
-use Rattle.tables.specs.Tables.{TableRow}
-use Rattle.tables.specs.Writing.{InColumns}
-use Rattle.tables.proofs.Ranges.{back_none}
-use Rattle.walks.specs.declared.edge.Edge.{Edge}
+use Rattle.walks.proofs.Common.{Edge}
 use Rattle.ptn_network.specs.declared.edge_load.EdgeLoad.{EdgeLoad}
 use Rattle.ptn_network.specs.Loads.{IsBounded}
 use Rattle.demand_load.specs.LoadTables.{load_row, load_rows, HasId}

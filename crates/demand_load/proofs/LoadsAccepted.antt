@@ -1,19 +1,14 @@
 -- The loads that are made are accepted by the rules of their kind.
-use Rattle.std.proofs.Common.{◌≡◌, ℕ, ℤ, int_lt, ◌≤ℤ◌, Bool, true, false, not, is_some, Option}
-use Rattle.std.proofs.Common.{Some, None, option_map, List, [], ◌∷◌, length, map, refl, ap, subst}
-use Rattle.std.proofs.Common.{sym, ◌∙◌, arith, All}
-use Rattle.std.specs.List.{AllByRecursion, list_any}
-use Rattle.std.specs.List.Sorted.{IsStrictlySortedBy}
-use Rattle.std.specs.Ordering.{int_eq, int_cmp}
-use Rattle.std.proofs.lemmas.List.Elements.{All-head, All-tail}
+use Rattle.plan_num.proofs.Common.{◌≡◌, ℕ, ℤ, int_lt, ◌≤ℤ◌, Bool, true, false, not, is_some, Option}
+use Rattle.plan_num.proofs.Common.{Some, None, option_map, List, [], ◌∷◌, length, map, refl, ap}
+use Rattle.plan_num.proofs.Common.{subst, sym, ◌∙◌, arith, All, AllByRecursion, list_any}
+use Rattle.plan_num.proofs.Common.{IsStrictlySortedBy, int_eq, int_cmp, All-head, All-tail}
 use Rattle.tables.specs.declared.file_id.FileId.TheVariants as file
 use Rattle.tables.specs.declared.row_why.RowWhy.TheVariants as why
-use Rattle.tables.specs.Columns.{load_columns}
-use Rattle.tables.specs.Inputs.{records, input_faults}
-use Rattle.tables.specs.Writing.{ReadsBack}
-use Rattle.tables.proofs.Accepted.{accepted, whole_accepted, all_keep, each_known, none_missing}
+use Rattle.tables.proofs.Common.{load_columns, records, input_faults, ReadsBack, accepted}
+use Rattle.tables.proofs.Common.{whole_accepted, all_keep, each_known, none_missing}
 use Rattle.plan_num.proofs.Found.{any_mapped, any_found}
-use Rattle.walks.specs.declared.edge.Edge.{Edge}
+use Rattle.walks.proofs.Common.{Edge}
 use Rattle.ptn_network.specs.declared.edge_load.EdgeLoad.{EdgeLoad}
 use Rattle.ptn_network.specs.Ids.{edge_with}
 use Rattle.ptn_network.specs.Loads.{load_input, load_rules, given_for, IsBounded}

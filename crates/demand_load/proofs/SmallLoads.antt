@@ -1,14 +1,8 @@
 -- Rows have not many customers, so loads are not great.
-use Rattle.std.proofs.Common.{ℕ, ℤ, pos, ◌*◌, ◌≤◌, ◌≤ℤ◌, Bool, true, false, cond, List, length}
-use Rattle.std.proofs.Common.{arith, unsigned_abs}
-use Rattle.std.specs.List.{All}
-use Rattle.std.proofs.lemmas.List.Elements.{All-map, All-weaker}
-use Rattle.std.proofs.lemmas.List.Sums.{sum_by-le}
-use Rattle.tables.specs.Columns.{od_columns}
-use Rattle.tables.specs.Tables.{TableRow}
-use Rattle.tables.specs.Inputs.{records}
-use Rattle.tables.specs.Writing.{InColumns}
-use Rattle.walks.specs.Networks.{NetworkParts}
+use Rattle.plan_num.proofs.Common.{ℕ, ℤ, pos, ◌*◌, ◌≤◌, ◌≤ℤ◌, Bool, true, false, cond, List, length}
+use Rattle.plan_num.proofs.Common.{arith, unsigned_abs, All, All-map, All-weaker, sum_by-le}
+use Rattle.tables.proofs.Common.{od_columns, TableRow, records, InColumns}
+use Rattle.walks.proofs.Common.{NetworkParts}
 use Rattle.demand_load.specs.declared.demand_row.DemandRow.{DemandRow}
 use Rattle.demand_load.specs.Demand.{demand_input, demand_row, row_load, load_of}
 

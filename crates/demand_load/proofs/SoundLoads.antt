@@ -1,22 +1,15 @@
 -- What holds of the loads of each text without a fault.
-use Rattle.std.proofs.Common.{◌≡◌, ℕ, ℤ, pos, ◌≤◌, true, false, cond, List, [], ◌∷◌, length, map}
-use Rattle.std.proofs.Common.{get_or, refl, arith, lit<}
-use Rattle.std.specs.List.{All, range_with_len}
-use Rattle.std.specs.Map.{values_of}
-use Rattle.std.proofs.lemmas.List.Elements.{All-nil, All-cons, All-head, All-tail, All-map, All-weaker}
+use Rattle.plan_num.proofs.Common.{◌≡◌, ℕ, ℤ, pos, ◌≤◌, true, false, cond, List, [], ◌∷◌, length}
+use Rattle.plan_num.proofs.Common.{map, get_or, refl, arith, lit<, All, range_with_len, values_of}
+use Rattle.plan_num.proofs.Common.{All-nil, All-cons, All-head, All-tail, All-map, All-weaker}
 use Rattle.tables.specs.declared.column.ColumnKind.TheVariants as kind
 use Rattle.tables.specs.declared.counted.Counted.TheVariants as counted
-use Rattle.giv_files.specs.declared.setting.Setting.{Setting}
-use Rattle.tables.specs.Columns.{edge_columns}
-use Rattle.tables.specs.Inputs.{records, records_of, row_limit, input_faults}
-use Rattle.tables.specs.Reading.{table_of}
-use Rattle.tables.specs.Tables.{TableRow}
-use Rattle.tables.specs.Writing.{InColumns}
-use Rattle.tables.proofs.Inputs.{few_rows, sound_rows}
-use Rattle.tables.proofs.Ranges.{back_none}
-use Rattle.tables.proofs.WriteFacts.{in_column}
+use Rattle.giv_files.proofs.Common.{Setting}
+use Rattle.tables.proofs.Common.{edge_columns, records, records_of, row_limit, input_faults}
+use Rattle.tables.proofs.Common.{table_of, TableRow, InColumns, few_rows, sound_rows, back_none}
+use Rattle.tables.proofs.Common.{in_column}
 use Rattle.ptn_network.specs.Inputs.{stop_input, edge_input, edge_row}
-use Rattle.walks.specs.Networks.{NetworkParts}
+use Rattle.walks.proofs.Common.{NetworkParts, all_by_id}
 use Rattle.ptn_network.specs.Networks.{edge_of, edge_entry, stops_of, network_of, network_faults}
 use Rattle.demand_load.specs.Demand.{demand_input, demand_loads, load_of}
 use Rattle.tables.specs.declared.file_id.FileId.TheVariants as file
@@ -24,7 +17,6 @@ use Rattle.ptn_network.specs.Loads.{load_input, loads_of, IsBounded, IsLoad}
 use Rattle.ptn_network.proofs.LoadRows.{loads_sound as edge_loads_sound}
 use Rattle.demand_load.specs.LoadStage.{bounded, takes_demand, loads_by, text_faults}
 use Rattle.demand_load.specs.LoadTables.{HasId}
-use Rattle.walks.proofs.RisingIds.{all_by_id}
 use Rattle.demand_load.proofs.SmallLoads.{few_customers, load_small}
 
 -- ---- the ids of edges

@@ -4,25 +4,21 @@ use Rattle.std.specs.Fmt.{digits}
 use Rattle.tables.specs.declared.counted.Counted.TheVariants as counted
 use Rattle.tables.specs.declared.file_id.FileId.TheVariants as file
 use Rattle.giv_files.specs.declared.key.Key.TheVariants as key
-use Rattle.giv_files.specs.declared.made.Made.{Made}
+use Rattle.giv_files.proofs.Common.{Made, BundleParts}
 use Rattle.tables.specs.declared.row_why.RowWhy.TheVariants as why
-use Rattle.tables.specs.declared.refusal.Refusal.{Refusal}
+use Rattle.tables.proofs.Common.{Refusal, input_faults, row_faults, faults, table_of, cells_from}
+use Rattle.tables.proofs.Common.{cell_of, errors, values, row_whys, cell_text, cell_texts, joined}
+use Rattle.tables.proofs.Common.{table_text}
 use Rattle.tables.specs.declared.refusal.Refusal.TheVariants as refusal
 use Rattle.giv_files.specs.declared.stage.Stage.TheVariants as stage
-use Rattle.tables.specs.Inputs.{input_faults, row_faults}
-use Rattle.tables.specs.Reading.{faults, table_of, cells_from, cell_of, errors, values, row_whys}
 use Rattle.text_fields.specs.Rows.{rows, cleaned}
-use Rattle.giv_files.specs.Settings.{BundleParts}
-use Rattle.tables.specs.Writing.{cell_text, cell_texts, joined, table_text}
 use Rattle.plan_num.specs.Number.{spelling_of, value_of, value_at, fixed_of, whole_of}
 use Rattle.plan_num.specs.Print.{digits_at}
 use Rattle.ptn_network.specs.Loads.{loads_of}
-use Rattle.walks.specs.declared.edge.Edge.{Edge}
-use Rattle.walks.specs.Networks.{NetworkParts}
+use Rattle.walks.proofs.Common.{Edge, NetworkParts, by_id, path}
 use Rattle.ptn_network.specs.Networks.{stops_of, network_of, network_faults}
-use Rattle.walks.specs.RisingIds.{by_id}
 use Rattle.walks.specs.Walks.{walks_within, least_of, least_sum}
-use Rattle.walks.specs.Paths.{path_within, path}
+use Rattle.walks.specs.Paths.{path_within}
 use Rattle.demand_load.specs.LoadTables.{load_header}
 use Rattle.demand_load.specs.LoadStage.{loads_by, text_faults, load_stage}
 

@@ -1,16 +1,13 @@
 -- Stops by their distance.
-use Rattle.std.proofs.Common.{◌≡◌, ℕ, ℤ, ◌<◌, ◌≤◌, nat_eq, List, length, get_or, map, slice_get}
-use Rattle.std.proofs.Common.{unsigned_abs, option_map, unwrap_or, Option, Some, refl, ap, subst}
-use Rattle.std.proofs.Common.{sym, ◌∙◌, arith, inl, inr}
-use Rattle.std.specs.List.{list_any, range_with_len, Contains}
-use Rattle.std.specs.List.Sorted.{IsNonDecreasingBy, IsPermutation}
-use Rattle.std.proofs.lemmas.List.{get_or-map, length-map}
-use Rattle.std.proofs.lemmas.List.Elements.{All-from_get_or, Contains-get_or}
-use Rattle.std.proofs.lemmas.List.FromFn.{get_or-map-range_with_len, length-map-range_with_len}
-use Rattle.std.proofs.lemmas.List.Sorted.{All-permutation, Contains-permutation, length_permutation}
-use Rattle.std.proofs.lemmas.Option.{get_or_from_slice_get}
-use Rattle.walks.specs.Networks.{NetworkParts}
-use Rattle.walks.specs.Paths.{PathParts, path, paths_from}
+use Rattle.plan_num.proofs.Common.{◌≡◌, ℕ, ℤ, ◌<◌, ◌≤◌, nat_eq, List, length, get_or, map}
+use Rattle.plan_num.proofs.Common.{slice_get, unsigned_abs, option_map, unwrap_or, Option, Some}
+use Rattle.plan_num.proofs.Common.{refl, ap, subst, sym, ◌∙◌, arith, inl, inr, list_any}
+use Rattle.plan_num.proofs.Common.{range_with_len, Contains, IsNonDecreasingBy, IsPermutation}
+use Rattle.plan_num.proofs.Common.{get_or-map, length-map, All-from_get_or, Contains-get_or}
+use Rattle.plan_num.proofs.Common.{get_or-map-range_with_len, length-map-range_with_len}
+use Rattle.plan_num.proofs.Common.{All-permutation, Contains-permutation, length_permutation}
+use Rattle.plan_num.proofs.Common.{get_or_from_slice_get}
+use Rattle.walks.proofs.Common.{NetworkParts, PathParts, path, paths_from}
 use Rattle.plan_num.proofs.Members.{Contains-map}
 use Rattle.demand_paths.specs.declared.far_stop.FarStop.{FarStop}
 use Rattle.demand_paths.specs.Wanted.{distance, far_stop, goes_over, sum_where, AreByDistance, NobodyLeft}

@@ -1,22 +1,18 @@
 -- Customers are handed back along the last edges of paths.
-use Rattle.std.proofs.Common.{◌≡◌, ◌≢◌, ℕ, zero, suc, ◌+◌, ◌<◌, ◌≤◌, Bool, true, false, ◌||◌, cond}
-use Rattle.std.proofs.Common.{nat_eq, List, [], ◌∷◌, ◌++◌, length, get_or, set, slice_get, refl, ap}
-use Rattle.std.proofs.Common.{subst, sym, ◌∙◌, arith, Option, Some, None, is_some, unwrap_or, inl}
-use Rattle.std.proofs.Common.{inr, add-zero, get_or-set_other, get_or-set_same}
-use Rattle.std.specs.List.{All, list_any, cons_option}
-use Rattle.std.proofs.lemmas.Bool.{cases_eq, eq-eqb, eqb-true, ne_eqb, false≢true}
-use Rattle.std.proofs.lemmas.List.{length-set}
-use Rattle.std.proofs.lemmas.List.Elements.{All-get_or, filter_map-append}
-use Rattle.std.proofs.lemmas.List.Folds.{list_any-append}
-use Rattle.std.proofs.lemmas.Option.{slice_get-get_or, same_Some}
-use Rattle.walks.specs.declared.edge.Edge.{Edge}
-use Rattle.walks.specs.Networks.{NetworkParts, IsEdge, IsNetwork}
-use Rattle.walks.specs.Walks.{edge_length, least_sums, IsWalk, AreLeastSums}
-use Rattle.walks.specs.Paths.{last_edge, stop_before, path_within, path, length_to, edges_at, PathParts, ArePaths}
-use Rattle.walks.proofs.LastWalks.{splits, across_back}
-use Rattle.walks.proofs.PathEdges.{some_length, last_is_step, last_is_new, comes_from}
-use Rattle.walks.proofs.PathSteps.{no_edge, none_there, none_before, last_step, last_known, last_there, before_there}
-use Rattle.walks.proofs.ShortestPaths.{path_shortest}
+use Rattle.plan_num.proofs.Common.{◌≡◌, ◌≢◌, ℕ, zero, suc, ◌+◌, ◌<◌, ◌≤◌, Bool, true, false, ◌||◌}
+use Rattle.plan_num.proofs.Common.{cond, nat_eq, List, [], ◌∷◌, ◌++◌, length, get_or, set}
+use Rattle.plan_num.proofs.Common.{slice_get, refl, ap, subst, sym, ◌∙◌, arith, Option, Some, None}
+use Rattle.plan_num.proofs.Common.{is_some, unwrap_or, inl, inr, add-zero, get_or-set_other}
+use Rattle.plan_num.proofs.Common.{get_or-set_same, All, list_any, cons_option, cases_eq, eq-eqb}
+use Rattle.plan_num.proofs.Common.{eqb-true, ne_eqb, false≢true, length-set, All-get_or}
+use Rattle.plan_num.proofs.Common.{filter_map-append, list_any-append, slice_get-get_or, same_Some}
+use Rattle.walks.proofs.Common.{Edge, NetworkParts, IsEdge, IsNetwork, edge_length, least_sums}
+use Rattle.walks.proofs.Common.{IsWalk, AreLeastSums, last_edge, stop_before, path, length_to}
+use Rattle.walks.proofs.Common.{edges_at, PathParts, ArePaths, splits, across_back, some_length}
+use Rattle.walks.proofs.Common.{last_is_step, last_is_new, comes_from, no_edge, none_there}
+use Rattle.walks.proofs.Common.{none_before, last_step, last_known, last_there, before_there}
+use Rattle.walks.proofs.Common.{path_shortest}
+use Rattle.walks.specs.Paths.{path_within}
 use Rattle.walks.proofs.Walks as walks
 use Rattle.demand_paths.specs.Wanted.{distance, goes_over, sum_where, everyone, NobodyLeft}
 use Rattle.demand_paths.proofs.WantedSums.{moved, sum_where-one, sum_where-set}

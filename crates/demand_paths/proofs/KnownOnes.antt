@@ -1,14 +1,9 @@
 -- Paths that are known.
-use Rattle.std.proofs.Common.{◌≡◌, ℕ, pos, ◌<◌, List}
-use Rattle.std.proofs.Common.{[], ◌∷◌, ◌++◌, length, get_or, refl, arith}
-use Rattle.std.proofs.Common.{Option, Some, None, option_map, is_some}
-use Rattle.std.proofs.lemmas.Bool.{cases_lt}
-use Rattle.std.proofs.lemmas.List.{get_or_push, get_or_past, length_push}
-use Rattle.std.proofs.lemmas.List.FromFn.{get_or-map-range_with_len}
-use Rattle.std.proofs.Math.ListN.{get_or-append}
-use Rattle.walks.specs.Networks.{NetworkParts}
-use Rattle.walks.specs.Walks.{edge_length, least_sum}
-use Rattle.walks.specs.Paths.{PathParts, paths_from}
+use Rattle.plan_num.proofs.Common.{◌≡◌, ℕ, pos, ◌<◌, List, [], ◌∷◌, ◌++◌, length, get_or, refl}
+use Rattle.plan_num.proofs.Common.{arith, Option, Some, None, option_map, is_some, cases_lt}
+use Rattle.plan_num.proofs.Common.{get_or_push, get_or_past, length_push, get_or-map-range_with_len}
+use Rattle.plan_num.proofs.Common.{get_or-append}
+use Rattle.walks.proofs.Common.{NetworkParts, edge_length, least_sum, PathParts, paths_from}
 
 -- one more place without paths
 pub none_more : (known : List (Option PathParts)) (from : ℕ)

@@ -1,10 +1,8 @@
 -- The lists of customers who want to go, by the stop where they start.
-use Rattle.std.proofs.Common.{◌≡◌, ℕ, ◌+◌, ◌<◌, ◌≤◌, Bool, true, false, cond, List, [], length}
-use Rattle.std.proofs.Common.{get_or, set, replicate, refl, ap, arith, get_or-set_other}
-use Rattle.std.proofs.Common.{get_or-set_same}
-use Rattle.std.proofs.lemmas.Bool.{cases_eq}
-use Rattle.std.proofs.lemmas.List.{length-set}
-use Rattle.walks.specs.Networks.{NetworkParts}
+use Rattle.plan_num.proofs.Common.{◌≡◌, ℕ, ◌+◌, ◌<◌, ◌≤◌, Bool, true, false, cond, List, [], length}
+use Rattle.plan_num.proofs.Common.{get_or, set, replicate, refl, ap, arith, get_or-set_other}
+use Rattle.plan_num.proofs.Common.{get_or-set_same, cases_eq, length-set}
+use Rattle.walks.proofs.Common.{NetworkParts}
 use Rattle.demand_paths.specs.Wanted.{sum_where, sum_between, everyone, AreWanted}
 use Rattle.demand_paths.proofs.WantedSums.{sum_where-set, sum_where-one, sum_where-zeros, sum_between-set, sum_between-one}
 

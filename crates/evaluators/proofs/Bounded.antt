@@ -1,31 +1,20 @@
 -- Numbers of inputs without a fault that are not too great.
-use Rattle.std.proofs.Common.{◌≡◌, ◌≤◌, ◌≤ℤ◌, ℕ, ℤ, pos, negsuc, ◌*◌, true, false, cond, List, []}
-use Rattle.std.proofs.Common.{◌∷◌, length, get_or, refl, arith, All, Some, option_map, unwrap_or}
-use Rattle.std.proofs.Common.{unsigned_abs}
-use Rattle.std.specs.List.{sum_by}
-use Rattle.std.specs.Ordering.{int_eq}
-use Rattle.std.proofs.lemmas.Int.{ints}
-use Rattle.std.proofs.lemmas.List.Elements.{All-cons, All-head, All-tail, All-map, All-filter}
-use Rattle.std.proofs.lemmas.List.Filters.{length-filter_both}
-use Rattle.std.proofs.lemmas.List.Sums.{sum_by-le}
-use Rattle.tables.specs.Columns.{pool_cost_columns, concept_columns}
-use Rattle.tables.specs.Inputs.{input_faults, records_of}
-use Rattle.tables.specs.Tables.{TableRow}
-use Rattle.tables.specs.Writing.{InColumns}
-use Rattle.tables.proofs.Inputs.{few_rows, sound_rows}
-use Rattle.event_tables.specs.declared.disposed_time.DisposedTime.{DisposedTime}
-use Rattle.event_tables.specs.declared.expanded_event.ExpandedEvent.{ExpandedEvent}
-use Rattle.event_tables.specs.declared.schedule_row.ScheduleRow.{ScheduleRow}
-use Rattle.event_tables.specs.DisposedTimes.{AreDisposedTimes}
-use Rattle.event_tables.specs.Schedules.{AreScheduleRows}
+use Rattle.plan_num.proofs.Common.{◌≡◌, ◌≤◌, ◌≤ℤ◌, ℕ, ℤ, pos, negsuc, ◌*◌, true, false, cond, List}
+use Rattle.plan_num.proofs.Common.{[], ◌∷◌, length, get_or, refl, arith, All, Some, option_map}
+use Rattle.plan_num.proofs.Common.{unwrap_or, unsigned_abs, sum_by, int_eq, ints, All-cons}
+use Rattle.plan_num.proofs.Common.{All-head, All-tail, All-map, All-filter, length-filter_both}
+use Rattle.plan_num.proofs.Common.{sum_by-le, mul-le}
+use Rattle.tables.proofs.Common.{pool_cost_columns, concept_columns, input_faults, records_of}
+use Rattle.tables.proofs.Common.{TableRow, InColumns, few_rows, sound_rows}
+use Rattle.event_tables.proofs.Common.{DisposedTime, ExpandedEvent, ScheduleRow, AreDisposedTimes}
+use Rattle.event_tables.proofs.Common.{AreScheduleRows}
 use Rattle.evaluators.specs.declared.rows.CostRow.{CostRow}
 use Rattle.evaluators.specs.declared.rows.LineRow.{LineRow}
 use Rattle.evaluators.specs.FirstRows.{firsts}
 use Rattle.evaluators.specs.Statistic.{cost_of, cost_of_runs, times_of}
 use Rattle.evaluators.specs.StatisticInputs.{concept_input, cost_input, cost_row, cost_with, line_limit, line_row}
 use Rattle.evaluators.specs.StatisticInputs.{lines_of}
-use Rattle.propagation.specs.declared.times.TheConstants.{LATEST}
-use Rattle.std.proofs.lemmas.Nat.{mul-le}
+use Rattle.propagation.proofs.Common.{LATEST}
 
 -- ---- costs and frequencies
 

@@ -1,17 +1,12 @@
 -- The rules of the file of the line concept, row by row.
-use Rattle.std.proofs.Common.{◌≡◌, ℕ, ℤ, ◌+◌, ◌<◌, not, Bool, true, false, cond, eqb, List, [], ◌∷◌}
-use Rattle.std.proofs.Common.{◌++◌, length, map, take, drop, get_or, slice_get, refl, ap, sym, ◌∙◌}
-use Rattle.std.proofs.Common.{Option, Some, None, option_map, is_some, arith}
-use Rattle.std.specs.List.{find}
-use Rattle.std.specs.Option.{option_or}
-use Rattle.std.specs.Ordering.{int_eq}
-use Rattle.std.proofs.lemmas.Bool.Decides.{Decides-int_eq}
-use Rattle.std.proofs.lemmas.Cmp.{int_eq_equiv}
-use Rattle.std.proofs.lemmas.List.{drop_more, get_or-map, length-map, take-append-drop, take-map}
-use Rattle.std.proofs.lemmas.List.Folds.{find-append}
+use Rattle.plan_num.proofs.Common.{◌≡◌, ℕ, ℤ, ◌+◌, ◌<◌, not, Bool, true, false, cond, eqb, List, []}
+use Rattle.plan_num.proofs.Common.{◌∷◌, ◌++◌, length, map, take, drop, get_or, slice_get, refl, ap}
+use Rattle.plan_num.proofs.Common.{sym, ◌∙◌, Option, Some, None, option_map, is_some, arith, find}
+use Rattle.plan_num.proofs.Common.{option_or, int_eq, Decides-int_eq, int_eq_equiv, drop_more}
+use Rattle.plan_num.proofs.Common.{get_or-map, length-map, take-append-drop, find-append}
+use Rattle.std.proofs.lemmas.List.{take-map}
 use Rattle.tables.specs.declared.row_why.RowWhy.TheVariants as why
-use Rattle.tables.specs.Inputs.{broken_whys, records}
-use Rattle.tables.specs.Tables.{TableRow, no_row}
+use Rattle.tables.proofs.Common.{broken_whys, records, TableRow, no_row}
 use Rattle.evaluators.specs.declared.costed_line.CostedLine.{CostedLine}
 use Rattle.evaluators.specs.declared.rows.CostRow.{CostRow}
 use Rattle.evaluators.specs.declared.rows.LineRow.{LineRow}

@@ -1,13 +1,8 @@
 -- The first rows of keys, one row after the other.
-use Rattle.std.proofs.Common.{arith, ◌≡◌, ℕ, ℤ, ◌+◌, ◌<◌, ◌||◌, Bool, true, false, not, cond, List}
-use Rattle.std.proofs.Common.{[], ◌∷◌, ◌++◌, length, filter, get_or, take, refl, ap, sym, ◌∙◌}
-use Rattle.std.proofs.Common.{append-nil, Some}
-use Rattle.std.specs.List.{find, list_any}
-use Rattle.std.specs.Ordering.{int_eq}
-use Rattle.std.proofs.lemmas.Bool.{false≢true}
-use Rattle.std.proofs.lemmas.Cmp.{int_eq_equiv}
-use Rattle.std.proofs.lemmas.List.{length_push, take_more}
-use Rattle.std.proofs.lemmas.List.Elements.{filter-append}
+use Rattle.plan_num.proofs.Common.{arith, ◌≡◌, ℕ, ℤ, ◌+◌, ◌<◌, ◌||◌, Bool, true, false, not, cond}
+use Rattle.plan_num.proofs.Common.{List, [], ◌∷◌, ◌++◌, length, filter, get_or, take, refl, ap, sym}
+use Rattle.plan_num.proofs.Common.{◌∙◌, append-nil, Some, find, list_any, int_eq, false≢true}
+use Rattle.plan_num.proofs.Common.{int_eq_equiv, length_push, take_more, filter-append}
 use Rattle.evaluators.specs.FirstRows.{firsts}
 use Rattle.plan_num.proofs.Lists.{find_passing, any_push}
 

@@ -1,45 +1,32 @@
 -- The statistic of inputs without a fault can be printed.
-use Rattle.std.proofs.Common.{◌≡◌, ◌≤◌, ◌≤ℤ◌, ℕ, suc, ℤ, pos, neg_ℤ, ◌*◌, ◌+◌, ◌-◌, ◌+ℤ◌, ltb, true}
-use Rattle.std.proofs.Common.{Bool, false, cond, not, List, [], ◌∷◌, ◌++◌, length, map, filter, zip}
-use Rattle.std.proofs.Common.{get_or, refl, sym, subst, arith, All, None}
-use Rattle.std.specs.List.{fold}
-use Rattle.std.proofs.lemmas.Int.{ints}
-use Rattle.std.proofs.lemmas.List.{length-map}
-use Rattle.std.proofs.lemmas.List.Elements.{All-filter, All-head, All-tail}
-use Rattle.std.proofs.lemmas.List.Filters.{length-filter_both}
-use Rattle.std.proofs.lemmas.List.Sums.{sum_by-le}
+use Rattle.plan_num.proofs.Common.{◌≡◌, ◌≤◌, ◌≤ℤ◌, ℕ, suc, ℤ, pos, neg_ℤ, ◌*◌, ◌+◌, ◌-◌, ◌+ℤ◌, ltb}
+use Rattle.plan_num.proofs.Common.{true, Bool, false, cond, not, List, [], ◌∷◌, ◌++◌, length, map}
+use Rattle.plan_num.proofs.Common.{filter, zip, get_or, refl, sym, subst, arith, All, None, fold}
+use Rattle.plan_num.proofs.Common.{ints, length-map, All-filter, All-head, All-tail}
+use Rattle.plan_num.proofs.Common.{length-filter_both, sum_by-le, mul-le}
 use Rattle.tables.specs.declared.counted.Counted.TheVariants as counted
 use Rattle.tables.specs.declared.file_id.FileId.TheVariants as file
 use Rattle.giv_files.specs.declared.key.Key.TheVariants as key
 use Rattle.giv_files.specs.declared.stage.Stage.TheVariants as stage
-use Rattle.tables.specs.Inputs.{input_faults, records_of, row_limit}
-use Rattle.giv_files.specs.Settings.{BundleParts, Fits, SettingsFit, amount}
-use Rattle.giv_files.specs.StageCalls.{input_text}
-use Rattle.tables.proofs.Inputs.{few_rows}
-use Rattle.tables.proofs.Ranges.{front_none, back_none}
-use Rattle.giv_files.proofs.SettingFacts.{amount_within}
-use Rattle.event_tables.specs.declared.periodic_kind.PeriodicKind.{PeriodicKind}
+use Rattle.tables.proofs.Common.{input_faults, records_of, row_limit, few_rows, front_none}
+use Rattle.tables.proofs.Common.{back_none}
+use Rattle.giv_files.proofs.Common.{BundleParts, Fits, SettingsFit, amount, input_text}
+use Rattle.giv_files.proofs.Common.{amount_within}
+use Rattle.event_tables.proofs.Common.{PeriodicKind, ExpandedEvent, PeriodicActivity, PeriodicTime}
+use Rattle.event_tables.proofs.Common.{ScheduleRow, disposed_time_input, AreDisposedTimes}
+use Rattle.event_tables.proofs.Common.{AreExpandedEvents, AreExpandedActivities}
+use Rattle.event_tables.proofs.Common.{expanded_activity_input, expanded_event_ids}
+use Rattle.event_tables.proofs.Common.{expanded_event_input, ArePeriodicActivities}
+use Rattle.event_tables.proofs.Common.{periodic_activity_input, periodic_event_ids}
+use Rattle.event_tables.proofs.Common.{periodic_event_input, periodic_time_input, same_kind}
+use Rattle.event_tables.proofs.Common.{AreScheduleRows, is_empty_row, schedule_input, trip_input}
+use Rattle.event_tables.proofs.Common.{expanded_activities_sound, expanded_events_sound}
+use Rattle.event_tables.proofs.Common.{periodic_activities_sound, periodic_events_sound}
+use Rattle.event_tables.proofs.Common.{disposed_times_sound, schedule_rows_sound}
 use Rattle.event_tables.specs.declared.periodic_kind.PeriodicKind.TheVariants as kind
-use Rattle.event_tables.specs.declared.expanded_event.ExpandedEvent.{ExpandedEvent}
-use Rattle.event_tables.specs.declared.periodic_activity.PeriodicActivity.{PeriodicActivity}
-use Rattle.event_tables.specs.declared.periodic_time.PeriodicTime.{PeriodicTime}
-use Rattle.event_tables.specs.declared.schedule_row.ScheduleRow.{ScheduleRow}
-use Rattle.event_tables.specs.DisposedTimes.{disposed_time_input, AreDisposedTimes}
-use Rattle.event_tables.specs.ExpandedFiles.{AreExpandedEvents, AreExpandedActivities, expanded_activity_input}
-use Rattle.event_tables.specs.ExpandedFiles.{expanded_event_ids, expanded_event_input}
-use Rattle.event_tables.specs.PeriodicFiles.{ArePeriodicActivities, periodic_activity_input, periodic_event_ids}
-use Rattle.event_tables.specs.PeriodicFiles.{periodic_event_input, periodic_time_input}
-use Rattle.event_tables.specs.RunRules.{same_kind}
-use Rattle.event_tables.specs.Schedules.{AreScheduleRows, is_empty_row, schedule_input}
-use Rattle.event_tables.specs.Trips.{trip_input}
-use Rattle.event_tables.proofs.SoundFiles.{expanded_activities_sound, expanded_events_sound, periodic_activities_sound}
-use Rattle.event_tables.proofs.SoundFiles.{periodic_events_sound}
-use Rattle.event_tables.proofs.SoundTimes.{disposed_times_sound}
-use Rattle.event_tables.proofs.SoundTrips.{schedule_rows_sound}
 use Rattle.pesp.proofs.LeastTensions.{rest}
-use Rattle.propagation.specs.Lateness.{is_missed}
+use Rattle.propagation.proofs.Common.{is_missed, later, latest, LATEST}
 use Rattle.delay_management.specs.DayLateness.{arrives, lateness}
-use Rattle.propagation.specs.LeastTimes.{later, latest}
 use Rattle.delay_management.specs.InputProblems.{delayed, is_of}
 use Rattle.evaluators.specs.declared.day_values.DayValues.{DayValues}
 use Rattle.evaluators.specs.Bounds.{IsSmall}
@@ -52,9 +39,7 @@ use Rattle.evaluators.specs.StatisticStage.{faults_between, faults_over, line_fa
 use Rattle.evaluators.specs.StatisticStage.{periodic_events_of, periodic_part, statistic_faults, statistic_in}
 use Rattle.evaluators.specs.StatisticStage.{trip_part}
 use Rattle.evaluators.proofs.Bounded.{cost_sum_below, costs_below, lines_few, rows_few, times_below}
-use Rattle.propagation.specs.declared.times.TheConstants.{LATEST}
 use Rattle.plan_num.proofs.Lists.{filter_few}
-use Rattle.std.proofs.lemmas.Nat.{mul-le}
 
 -- ---- lines
 

@@ -1,10 +1,8 @@
 -- The lines that were seen, one row after the other.
-use Rattle.std.proofs.Common.{◌≡◌, ℕ, ℤ, ◌+◌, ◌<◌, ◌||◌, not, Bool, true, false, cond, List, []}
-use Rattle.std.proofs.Common.{◌∷◌, ◌++◌, length, map, take, get_or, refl, ap, sym, ◌∙◌}
-use Rattle.std.specs.List.{list_any}
-use Rattle.std.specs.Ordering.{int_eq}
-use Rattle.std.proofs.lemmas.List.{map_more, take_more}
-use Rattle.tables.specs.Tables.{TableRow}
+use Rattle.plan_num.proofs.Common.{◌≡◌, ℕ, ℤ, ◌+◌, ◌<◌, ◌||◌, not, Bool, true, false, cond, List}
+use Rattle.plan_num.proofs.Common.{[], ◌∷◌, ◌++◌, length, map, take, get_or, refl, ap, sym, ◌∙◌}
+use Rattle.plan_num.proofs.Common.{list_any, int_eq, map_more, take_more}
+use Rattle.tables.proofs.Common.{TableRow}
 use Rattle.evaluators.specs.FirstRows.{firsts}
 use Rattle.evaluators.proofs.FirstRowFacts.{firsts_push, is_old, new_counts, old_counts}
 use Rattle.plan_num.proofs.Lists.{any_push}

@@ -1,12 +1,8 @@
 -- The file of the statistic that is made, read again, is right.
-use Rattle.std.proofs.Common.{◌≡◌, Ok, Err, Result, arith}
-use Rattle.std.specs.Prelude.{IfOk}
-use Rattle.giv_files.specs.declared.made.Made.{Made}
-use Rattle.tables.specs.declared.refusal.StageFault.{StageFault}
+use Rattle.plan_num.proofs.Common.{◌≡◌, Ok, Err, Result, arith, IfOk}
+use Rattle.giv_files.proofs.Common.{Made, BundleParts, Fits, StageGives, made_unless, none_unless}
+use Rattle.tables.proofs.Common.{StageFault}
 use Rattle.giv_files.specs.declared.stage.Stage.TheVariants as stage
-use Rattle.giv_files.specs.Settings.{BundleParts, Fits}
-use Rattle.giv_files.specs.StageCalls.{StageGives}
-use Rattle.giv_files.proofs.StageCalls.{made_unless, none_unless}
 use Rattle.plan_num.proofs.ReadBack.{number_back}
 use Rattle.evaluators.specs.RightStatistic.{StatisticIsRight}
 use Rattle.evaluators.specs.StatisticStage.{statistic_stage}

@@ -1,19 +1,17 @@
 -- The rows of the text of a statistic.
-use Rattle.std.proofs.Common.{◌≡◌, ◌<◌, ◌≤ℤ◌, ◌^◌, ◌+◌, ℕ, ℤ, pos, negsuc, neg_ℤ, true, List, []}
-use Rattle.std.proofs.Common.{◌∷◌, ◌++◌, length, map, refl, ap, sym, ◌∙◌, arith, codes, ne_eqb}
-use Rattle.std.proofs.Common.{append-nil, append_assoc, length-append}
-use Rattle.std.specs.List.{flat_map, list_all}
-use Rattle.std.proofs.lemmas.Int.{ints}
+use Rattle.plan_num.proofs.Common.{◌≡◌, ◌<◌, ◌≤ℤ◌, ◌^◌, ◌+◌, ℕ, ℤ, pos, negsuc, neg_ℤ, true, List}
+use Rattle.plan_num.proofs.Common.{[], ◌∷◌, ◌++◌, length, map, refl, ap, sym, ◌∙◌, arith, codes}
+use Rattle.plan_num.proofs.Common.{ne_eqb, append-nil, append_assoc, length-append, flat_map}
+use Rattle.plan_num.proofs.Common.{list_all, ints}
 use Rattle.plan_num.specs.Number.{is_number_byte}
 use Rattle.plan_num.specs.Print.{fixed_text}
 use Rattle.plan_num.proofs.Printed.{decimal_some}
 use Rattle.plan_num.proofs.ReadBack.{magnitude_bytes}
 use Rattle.text_fields.specs.Rows.{Row, parts_of, rows}
 use Rattle.tables.specs.Writing.{joined}
-use Rattle.tables.proofs.CellTexts.{number_plain, plain_word}
-use Rattle.tables.proofs.Headers.{plain_header}
-use Rattle.tables.proofs.PlainBytes.{AreCells, IsCell, all_weaker, cells_quiet, cells_row, is_plain, line_cut}
-use Rattle.tables.proofs.PlainBytes.{line_some, quiet_line, quiet_stripped}
+use Rattle.tables.proofs.Common.{number_plain, plain_word, plain_header, AreCells, IsCell}
+use Rattle.tables.proofs.Common.{all_weaker, cells_quiet, cells_row, is_plain, line_cut, line_some}
+use Rattle.tables.proofs.Common.{quiet_line, quiet_stripped}
 use Rattle.text_fields.proofs.RowsLeft.{all_left, numbered_step, rows_left}
 use Rattle.evaluators.specs.declared.measure.Measure.{Measure}
 use Rattle.evaluators.specs.declared.measure.Measure.TheVariants as measure

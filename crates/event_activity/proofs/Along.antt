@@ -1,17 +1,12 @@
 -- The stops of a line's walk, and what stands along a line.
-use Rattle.std.proofs.Common.{◌≡◌, ℕ, pos, ◌-◌, ◌<◌, arith, All, List, [], ◌∷◌, length, get_or}
-use Rattle.std.proofs.Common.{refl, subst, sym, Option, Some}
-use Rattle.std.specs.List.{cons_option}
-use Rattle.std.proofs.lemmas.List.{get_or-reverse, length-reverse}
-use Rattle.std.proofs.lemmas.List.Elements.{All-nil, All-cons, All-head, All-tail, All-get_or}
-use Rattle.std.proofs.lemmas.Option.{slice_get-get_or, same_Some}
-use Rattle.event_tables.specs.declared.direction.Direction.{Direction}
+use Rattle.plan_num.proofs.Common.{◌≡◌, ℕ, pos, ◌-◌, ◌<◌, arith, All, List, [], ◌∷◌, length, get_or}
+use Rattle.plan_num.proofs.Common.{refl, subst, sym, Option, Some, cons_option, get_or-reverse}
+use Rattle.plan_num.proofs.Common.{length-reverse, All-nil, All-cons, All-head, All-tail}
+use Rattle.plan_num.proofs.Common.{All-get_or, slice_get-get_or, same_Some}
+use Rattle.event_tables.proofs.Common.{Direction}
 use Rattle.event_tables.specs.declared.direction.Direction.TheVariants as direction
 use Rattle.line_walks.specs.Pools.{LineParts, walk_from, walk_of, IsLine}
-use Rattle.walks.specs.declared.edge.Edge.{Edge}
-use Rattle.walks.specs.Networks.{NetworkParts, IsEdge, IsNetwork}
-use Rattle.walks.specs.Paths.{edges_at}
-use Rattle.walks.specs.Walks.{across}
+use Rattle.walks.proofs.Common.{Edge, NetworkParts, IsEdge, IsNetwork, edges_at, across}
 use Rattle.event_activity.specs.Runs.{along}
 use Rattle.event_activity.proofs.Crossings.{step_of}
 

@@ -1,8 +1,7 @@
 -- The lists of events by their keys have all events that an event is joined to.
-use Rattle.std.proofs.Common.{◌≡◌, ℕ, ◌%◌, ◌<◌, ◌≤◌, arith, Bool, true, List, [], ◌∷◌, length}
-use Rattle.std.proofs.Common.{filter, get_or, refl}
-use Rattle.std.proofs.lemmas.Bool.{eq-eqb, cases_Bool, both_ways, false_from_ne_true}
-use Rattle.std.proofs.lemmas.List.Sums.{length-filter, count_by-le-length}
+use Rattle.plan_num.proofs.Common.{◌≡◌, ℕ, ◌%◌, ◌<◌, ◌≤◌, arith, Bool, true, List, [], ◌∷◌, length}
+use Rattle.plan_num.proofs.Common.{filter, get_or, refl, eq-eqb, cases_Bool, both_ways}
+use Rattle.plan_num.proofs.Common.{false_from_ne_true, length-filter, count_by-le-length}
 use Rattle.event_activity.specs.declared.joining.Joining.{Joining}
 use Rattle.event_activity.specs.declared.joining.Joining.TheVariants as joining
 use Rattle.event_activity.specs.declared.run_event.RunEvent.{RunEvent}

@@ -1,18 +1,12 @@
 -- Each drive of a run goes over its edge, from the one of its ends to the other.
-use Rattle.std.proofs.Common.{◌≡◌, ℕ, zero, suc, ◌+◌, ◌*◌, ◌-◌, ◌/◌, ◌%◌, ◌<◌, arith, ◌⊎◌, inl, inr}
-use Rattle.std.proofs.Common.{All, List, [], ◌∷◌, length, get_or, refl, ap, subst, sym, ◌∙◌, Some}
-use Rattle.std.proofs.Common.{None}
-use Rattle.std.specs.List.{cons_option}
-use Rattle.std.proofs.lemmas.List.{get_or-reverse}
-use Rattle.std.proofs.lemmas.List.Elements.{All-head, All-tail}
-use Rattle.std.proofs.lemmas.Option.{slice_get-get_or, same_Some}
-use Rattle.event_tables.specs.declared.direction.Direction.{Direction}
+use Rattle.plan_num.proofs.Common.{◌≡◌, ℕ, zero, suc, ◌+◌, ◌*◌, ◌-◌, ◌/◌, ◌%◌, ◌<◌, arith, ◌⊎◌, inl}
+use Rattle.plan_num.proofs.Common.{inr, All, List, [], ◌∷◌, length, get_or, refl, ap, subst, sym}
+use Rattle.plan_num.proofs.Common.{◌∙◌, Some, None, cons_option, get_or-reverse, All-head, All-tail}
+use Rattle.plan_num.proofs.Common.{slice_get-get_or, same_Some}
+use Rattle.event_tables.proofs.Common.{Direction}
 use Rattle.event_tables.specs.declared.direction.Direction.TheVariants as direction
 use Rattle.line_walks.specs.Pools.{LineParts, walk_from, or_walk, walk_of, IsLine}
-use Rattle.walks.specs.declared.edge.Edge.{Edge}
-use Rattle.walks.specs.Networks.{NetworkParts}
-use Rattle.walks.specs.Paths.{edges_at}
-use Rattle.walks.specs.Walks.{across}
+use Rattle.walks.proofs.Common.{Edge, NetworkParts, edges_at, across}
 use Rattle.event_activity.specs.ActivitiesOfRuns.{Crosses}
 use Rattle.event_activity.specs.Runs.{along, no_edge, edge_at, stop_id, run_event}
 

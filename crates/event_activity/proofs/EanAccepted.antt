@@ -1,22 +1,14 @@
 -- The files that are made are accepted by the rules of their kinds.
-use Rattle.std.proofs.Common.{◌≡◌, ℕ, ◌≤◌, All, List, [], ◌∷◌, length, refl, subst, sym, arith}
-use Rattle.std.specs.List.{range_with_len}
-use Rattle.std.proofs.lemmas.Bool.{le-ltb}
-use Rattle.std.proofs.lemmas.List.Elements.{recursion_from_All}
-use Rattle.tables.specs.Columns.{events_p_columns, activities_p_columns}
-use Rattle.tables.specs.Inputs.{records, broken_whys, input_faults}
-use Rattle.tables.specs.Writing.{ReadsBack}
-use Rattle.tables.proofs.Accepted.{KeepRules, accepted}
-use Rattle.tables.proofs.InTurn.{under_limit}
-use Rattle.event_tables.specs.declared.periodic_activity.PeriodicActivity.{PeriodicActivity}
-use Rattle.event_tables.specs.declared.periodic_event.PeriodicEvent.{PeriodicEvent}
-use Rattle.event_tables.specs.Cells.{periodic_event, periodic_activity, periodic_event_cells, periodic_activity_cells}
-use Rattle.event_tables.specs.PeriodicFiles.{periodic_event_input, periodic_activity_input, IsPeriodicActivity}
-use Rattle.event_tables.specs.Places.{known_ends, bounds_in_order, AreNumbered}
-use Rattle.tables.specs.RowsOfTables.{rows_by}
-use Rattle.event_tables.proofs.CellsBack.{periodic_event_same, periodic_activity_same}
-use Rattle.event_tables.proofs.PlacesKept.{is_known, places_keep}
-use Rattle.event_tables.proofs.WrittenRecords.{records_back}
+use Rattle.plan_num.proofs.Common.{◌≡◌, ℕ, ◌≤◌, All, List, [], ◌∷◌, length, refl, subst, sym, arith}
+use Rattle.plan_num.proofs.Common.{range_with_len, le-ltb, recursion_from_All}
+use Rattle.tables.proofs.Common.{events_p_columns, activities_p_columns, records, broken_whys}
+use Rattle.tables.proofs.Common.{input_faults, ReadsBack, KeepRules, accepted, under_limit, rows_by}
+use Rattle.event_tables.proofs.Common.{PeriodicActivity, PeriodicEvent, periodic_event}
+use Rattle.event_tables.proofs.Common.{periodic_activity, periodic_event_cells}
+use Rattle.event_tables.proofs.Common.{periodic_activity_cells, periodic_event_input}
+use Rattle.event_tables.proofs.Common.{periodic_activity_input, IsPeriodicActivity, known_ends}
+use Rattle.event_tables.proofs.Common.{bounds_in_order, AreNumbered, periodic_event_same}
+use Rattle.event_tables.proofs.Common.{periodic_activity_same, is_known, places_keep, records_back}
 use Rattle.tables.specs.declared.counted.Counted.TheVariants as counted
 
 -- an activity between events with bounds in order keeps the rules of its row

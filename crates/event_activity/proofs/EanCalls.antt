@@ -2,23 +2,18 @@
 use Rattle.std.proofs.Common.{arith, ◌≡◌, ℕ, ◌<◌, ◌≤◌, List, [], length, subst, sym, ◌∙◌, Result}
 use Rattle.std.proofs.Common.{Ok, Err}
 use Rattle.tables.specs.declared.counted.Counted.TheVariants as counted
-use Rattle.giv_files.specs.declared.made.Made.{Made}
+use Rattle.giv_files.proofs.Common.{Made, Setting, BundleParts, input_text, StageGives}
+use Rattle.giv_files.proofs.Common.{stage_refused}
 use Rattle.tables.specs.declared.refusal.Refusal.TheVariants as refusal
-use Rattle.tables.specs.declared.refusal.StageFault.{StageFault}
+use Rattle.tables.proofs.Common.{StageFault, Refuses, UnlessFault, or_else, refused_append}
+use Rattle.tables.proofs.Common.{refused_before, after_none}
 use Rattle.tables.specs.declared.refusal.StageFault.TheVariants as fault
-use Rattle.giv_files.specs.declared.setting.Setting.{Setting}
-use Rattle.tables.specs.Inputs.{Refuses, UnlessFault, or_else}
-use Rattle.giv_files.specs.Settings.{BundleParts}
-use Rattle.giv_files.specs.StageCalls.{input_text, StageGives}
-use Rattle.tables.proofs.Inputs.{refused_append}
-use Rattle.tables.proofs.InTurn.{refused_before, after_none}
-use Rattle.giv_files.proofs.StageCalls.{stage_refused}
 use Rattle.event_activity.specs.declared.run_event.RunEvent.{RunEvent}
 use Rattle.event_activity.specs.Activities.{concept_activities}
 use Rattle.event_activity.specs.EanStage.{ean_made, ean_faults, ean_stage, events_in, activities_in, long_activities, too_many, rows_of}
 use Rattle.event_activity.specs.Runs.{concept_events}
 use Rattle.line_walks.specs.Pools.{LineParts, concept_of, concept_faults}
-use Rattle.walks.specs.Networks.{NetworkParts}
+use Rattle.walks.proofs.Common.{NetworkParts}
 use Rattle.ptn_network.specs.Networks.{network_of, network_faults}
 
 module _ (bundle : BundleParts) where

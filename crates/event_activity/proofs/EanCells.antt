@@ -1,18 +1,14 @@
 -- The cells of events and of activities are in their columns.
-use Rattle.std.proofs.Common.{ℕ, pos, ◌≤◌, ◌≤ℤ◌, arith, All, List, refl}
-use Rattle.std.proofs.lemmas.Int.{ints}
-use Rattle.std.proofs.lemmas.List.Elements.{All-map, All-weaker}
+use Rattle.plan_num.proofs.Common.{ℕ, pos, ◌≤◌, ◌≤ℤ◌, arith, All, List, refl, ints, All-map}
+use Rattle.plan_num.proofs.Common.{All-weaker}
 use Rattle.tables.specs.declared.words.WordTable.TheVariants as table
-use Rattle.tables.specs.Columns.{events_p_columns, activities_p_columns, word}
-use Rattle.tables.specs.Writing.{InColumn, InColumns}
+use Rattle.tables.proofs.Common.{events_p_columns, activities_p_columns, word, InColumn, InColumns}
 use Rattle.event_tables.specs.declared.direction.Direction.TheVariants as direction
 use Rattle.event_tables.specs.declared.event_kind.EventKind.TheVariants as event
-use Rattle.event_tables.specs.declared.periodic_activity.PeriodicActivity.{PeriodicActivity}
-use Rattle.event_tables.specs.declared.periodic_event.PeriodicEvent.{PeriodicEvent}
-use Rattle.event_tables.specs.declared.periodic_kind.PeriodicKind.{PeriodicKind}
+use Rattle.event_tables.proofs.Common.{PeriodicActivity, PeriodicEvent, PeriodicKind}
+use Rattle.event_tables.proofs.Common.{periodic_event_cells, periodic_activity_cells}
+use Rattle.event_tables.proofs.Common.{periodic_kind_place}
 use Rattle.event_tables.specs.declared.periodic_kind.PeriodicKind.TheVariants as kind
-use Rattle.event_tables.specs.Cells.{periodic_event_cells, periodic_activity_cells}
-use Rattle.event_tables.specs.Kinds.{periodic_kind_place}
 use Rattle.event_activity.specs.declared.run_event.RunEvent.{RunEvent}
 use Rattle.event_activity.specs.EanStage.{rows_of}
 use Rattle.event_activity.specs.Fitting.{IsNumbered}

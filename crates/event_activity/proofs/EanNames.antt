@@ -1,19 +1,13 @@
 -- Which files the stage of events and activities names where it refuses a row.
 use Rattle.std.proofs.Common.{◌≡◌, ℕ, Bool, true, List, [], ◌∷◌, Err, arith}
-use Rattle.tables.specs.declared.counted.Counted.{Counted}
+use Rattle.tables.proofs.Common.{Counted, FileId, Refusal, limit_faults, row_limit, NamesInput}
+use Rattle.tables.proofs.Common.{AllName, names_both, names_or_else, input_names}
 use Rattle.tables.specs.declared.counted.Counted.TheVariants as counted
-use Rattle.tables.specs.declared.file_id.FileId.{FileId}
 use Rattle.tables.specs.declared.file_id.FileId.TheVariants as file
-use Rattle.tables.specs.declared.refusal.Refusal.{Refusal}
 use Rattle.tables.specs.declared.refusal.Refusal.TheVariants as refusal
-use Rattle.tables.specs.Inputs.{limit_faults, row_limit}
-use Rattle.tables.specs.NamedFiles.{NamesInput}
-use Rattle.giv_files.specs.Settings.{BundleParts}
-use Rattle.giv_files.specs.StageCalls.{input_text}
-use Rattle.tables.proofs.Named.{AllName, names_both, names_or_else, input_names}
-use Rattle.giv_files.proofs.StageCalls.{refused_names}
+use Rattle.giv_files.proofs.Common.{BundleParts, input_text, refused_names}
 use Rattle.line_walks.specs.Pools.{line_faults, concept_faults}
-use Rattle.walks.specs.Networks.{NetworkParts}
+use Rattle.walks.proofs.Common.{NetworkParts}
 use Rattle.ptn_network.specs.Networks.{network_faults}
 use Rattle.ptn_network.proofs.NamedFaults.{network_names}
 use Rattle.event_activity.specs.EanStage.{network_in, ean_faults, ean_stage, events_in, activities_in, too_many}

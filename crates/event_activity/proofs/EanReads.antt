@@ -1,33 +1,22 @@
 -- The events and activities that are made, read again, are right.
-use Rattle.std.proofs.Common.{◌≡◌, ℕ, ◌≤◌, All, Contains, unsigned_abs, List, [], length, map, refl}
-use Rattle.std.proofs.Common.{ap, subst, sym, arith, Ok, Err, Result}
-use Rattle.std.specs.Prelude.{IfOk}
-use Rattle.std.specs.List.{range_with_len}
-use Rattle.std.proofs.lemmas.List.{length-map}
-use Rattle.std.proofs.lemmas.List.Elements.{All-weaker}
+use Rattle.plan_num.proofs.Common.{◌≡◌, ℕ, ◌≤◌, All, Contains, unsigned_abs, List, [], length, map}
+use Rattle.plan_num.proofs.Common.{refl, ap, subst, sym, arith, Ok, Err, Result, IfOk}
+use Rattle.plan_num.proofs.Common.{range_with_len, length-map, All-weaker}
 use Rattle.tables.specs.declared.counted.Counted.TheVariants as counted
-use Rattle.giv_files.specs.declared.made.Made.{Made}
-use Rattle.tables.specs.declared.refusal.StageFault.{StageFault}
+use Rattle.giv_files.proofs.Common.{Made, BundleParts, Fits, input_text, StageGives, made_unless}
+use Rattle.giv_files.proofs.Common.{none_unless}
+use Rattle.tables.proofs.Common.{StageFault, events_p_columns, activities_p_columns, input_faults}
+use Rattle.tables.proofs.Common.{records_of, row_limit, ReadsBack, plain_header, limits_sound}
+use Rattle.tables.proofs.Common.{none_first, none_after, front_none, back_none, ReadsAs, rows_by}
+use Rattle.tables.proofs.Common.{file_text, columns_written}
 use Rattle.giv_files.specs.declared.stage.Stage.TheVariants as stage
-use Rattle.tables.specs.Columns.{events_p_columns, activities_p_columns}
-use Rattle.tables.specs.Inputs.{input_faults, records_of, row_limit}
-use Rattle.giv_files.specs.Settings.{BundleParts, Fits}
-use Rattle.giv_files.specs.StageCalls.{input_text, StageGives}
-use Rattle.tables.specs.Writing.{ReadsBack}
-use Rattle.tables.proofs.Headers.{plain_header}
-use Rattle.tables.proofs.Inputs.{limits_sound}
-use Rattle.tables.proofs.InTurn.{none_first, none_after}
-use Rattle.tables.proofs.Ranges.{front_none, back_none}
-use Rattle.giv_files.proofs.StageCalls.{made_unless, none_unless}
-use Rattle.event_tables.specs.declared.periodic_event.PeriodicEvent.{PeriodicEvent}
-use Rattle.event_tables.specs.Cells.{periodic_event, periodic_activity, periodic_event_cells, periodic_activity_cells}
-use Rattle.event_tables.specs.Headers.{periodic_event_header, periodic_activity_header}
-use Rattle.event_tables.specs.PeriodicFiles.{periodic_event_input, periodic_activity_input, periodic_event_ids, IsPeriodicActivity}
-use Rattle.tables.specs.RowsOfTables.{ReadsAs, rows_by, file_text}
-use Rattle.event_tables.specs.RunRules.{KeepRunRules}
-use Rattle.tables.proofs.WrittenColumns.{columns_written}
-use Rattle.event_tables.proofs.CellsBack.{periodic_event_same, periodic_activity_same}
-use Rattle.event_tables.proofs.WrittenRecords.{file_back, text_as}
+use Rattle.event_tables.proofs.Common.{PeriodicEvent, periodic_event, periodic_activity}
+use Rattle.event_tables.proofs.Common.{periodic_event_cells, periodic_activity_cells}
+use Rattle.event_tables.proofs.Common.{periodic_event_header, periodic_activity_header}
+use Rattle.event_tables.proofs.Common.{periodic_event_input, periodic_activity_input}
+use Rattle.event_tables.proofs.Common.{periodic_event_ids, IsPeriodicActivity, KeepRunRules}
+use Rattle.event_tables.proofs.Common.{periodic_event_same, periodic_activity_same, file_back}
+use Rattle.event_tables.proofs.Common.{text_as}
 use Rattle.event_activity.specs.declared.run_event.RunEvent.{RunEvent}
 use Rattle.event_activity.specs.EanStage.{network_in, lines_in, events_in, activities_in, ean_faults, ean_stage, rows_of, too_many}
 use Rattle.event_activity.specs.Fitting.{IsNumbered}

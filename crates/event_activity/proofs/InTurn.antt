@@ -1,18 +1,14 @@
 -- Events that stand in turn: neighbours of one run are at places one after the other, and a new run
 -- begins behind a whole one.
-use Rattle.std.proofs.Common.{◌≡◌, ℕ, zero, suc, ◌+◌, ◌*◌, ◌%◌, ◌==◌, ◌<◌, ◌≤◌, arith, Bool, ◌&&◌}
-use Rattle.std.proofs.Common.{true, false, All, MatchBool, List, [], ◌∷◌, ◌++◌, length, map}
-use Rattle.std.proofs.Common.{unsigned_abs, refl, subst, sym}
-use Rattle.std.specs.List.{flat_map, range_with_len, enumerate_from}
-use Rattle.std.proofs.lemmas.Bool.{eq-eqb, ne_eqb, and_left as line_false}
-use Rattle.std.proofs.lemmas.List.{append_assoc}
-use Rattle.std.proofs.lemmas.List.Elements.{All-nil, All-cons}
-use Rattle.event_tables.specs.declared.direction.Direction.{Direction}
+use Rattle.plan_num.proofs.Common.{◌≡◌, ℕ, zero, suc, ◌+◌, ◌*◌, ◌%◌, ◌==◌, ◌<◌, ◌≤◌, arith, Bool}
+use Rattle.plan_num.proofs.Common.{◌&&◌, true, false, All, MatchBool, List, [], ◌∷◌, ◌++◌, length}
+use Rattle.plan_num.proofs.Common.{map, unsigned_abs, refl, subst, sym, flat_map, range_with_len}
+use Rattle.plan_num.proofs.Common.{enumerate_from, eq-eqb, ne_eqb, append_assoc, All-nil, All-cons}
+use Rattle.std.proofs.lemmas.Bool.{and_left as line_false}
+use Rattle.event_tables.proofs.Common.{Direction, event_kind_at, same_direction, same_run}
 use Rattle.event_tables.specs.declared.direction.Direction.TheVariants as direction
-use Rattle.event_tables.specs.Kinds.{event_kind_at, same_direction}
-use Rattle.event_tables.specs.PeriodicRuns.{same_run}
 use Rattle.line_walks.specs.Pools.{LineParts}
-use Rattle.walks.specs.Networks.{NetworkParts}
+use Rattle.walks.proofs.Common.{NetworkParts}
 use Rattle.event_activity.specs.declared.run_event.RunEvent.{RunEvent}
 use Rattle.event_activity.specs.ActivitiesOfRuns.{Crosses}
 use Rattle.event_activity.specs.Runs.{run_event, run, runs, line_events, with_id}

@@ -5,17 +5,14 @@ use Rattle.std.proofs.Common.{false, not, Contains, List, [], ◌∷◌, length,
 use Rattle.std.proofs.Common.{refl, ap, subst, sym, ◌∙◌}
 use Rattle.std.proofs.lemmas.Bool.{eq-eqb, eqb-true, ne_eqb, and_parts, not-true, MatchBool-at_true}
 use Rattle.std.proofs.lemmas.List.Elements.{All-weaker, All-contains}
-use Rattle.giv_files.specs.declared.setting.Setting.{Setting}
-use Rattle.event_tables.specs.declared.periodic_activity.PeriodicActivity.{PeriodicActivity}
-use Rattle.event_tables.specs.declared.periodic_event.PeriodicEvent.{PeriodicEvent}
-use Rattle.event_tables.specs.declared.periodic_kind.PeriodicKind.{PeriodicKind}
+use Rattle.giv_files.proofs.Common.{Setting}
+use Rattle.event_tables.proofs.Common.{PeriodicActivity, PeriodicEvent, PeriodicKind}
+use Rattle.event_tables.proofs.Common.{periodic_event, is_arrival, event_kind_at, is_next, joins}
+use Rattle.event_tables.proofs.Common.{same_run, lacks_way, goes_between, is_placed, drives_at_once}
+use Rattle.event_tables.proofs.Common.{is_stray, KeepRunRules}
 use Rattle.event_tables.specs.declared.periodic_kind.PeriodicKind.TheVariants as kinds
-use Rattle.event_tables.specs.Cells.{periodic_event}
-use Rattle.event_tables.specs.Kinds.{is_arrival, event_kind_at}
-use Rattle.event_tables.specs.PeriodicRuns.{is_next, joins, same_run}
-use Rattle.event_tables.specs.RunRules.{lacks_way, goes_between, is_placed, drives_at_once, is_stray, KeepRunRules}
 use Rattle.line_walks.specs.Pools.{LineParts}
-use Rattle.walks.specs.Networks.{NetworkParts, IsEdge}
+use Rattle.walks.proofs.Common.{NetworkParts, IsEdge}
 use Rattle.plan_num.proofs.Members.{Contains-map as contains_map}
 use Rattle.event_activity.specs.declared.run_event.RunEvent.{RunEvent}
 use Rattle.event_activity.specs.Activities.{bounds_from, concept_activities}

@@ -1,18 +1,15 @@
 -- The events of a line, and how many there are.
-use Rattle.std.proofs.Common.{◌≡◌, ℕ, ◌+◌, ◌*◌, ◌<◌, ◌≤◌, arith, List, length, map, take, ap, sym}
-use Rattle.std.proofs.Common.{◌∙◌, Some, option_map, slice_get}
-use Rattle.std.specs.List.{flat_map, enumerate_from}
-use Rattle.std.proofs.lemmas.Option.{slice_get-get_or, same_Some}
-use Rattle.std.proofs.lemmas.List.{length-append, length-map, take_all}
-use Rattle.std.proofs.lemmas.List.FromFn.{length-map-range_with_len, length-enumerate_from}
-use Rattle.event_tables.specs.declared.direction.Direction.{Direction}
+use Rattle.plan_num.proofs.Common.{◌≡◌, ℕ, ◌+◌, ◌*◌, ◌<◌, ◌≤◌, arith, List, length, map, take, ap}
+use Rattle.plan_num.proofs.Common.{sym, ◌∙◌, Some, option_map, slice_get, flat_map, enumerate_from}
+use Rattle.plan_num.proofs.Common.{slice_get-get_or, same_Some, length-append, length-map, take_all}
+use Rattle.plan_num.proofs.Common.{length-map-range_with_len, length-enumerate_from, mul-le}
+use Rattle.event_tables.proofs.Common.{Direction}
 use Rattle.event_tables.specs.declared.direction.Direction.TheVariants as direction
 use Rattle.line_walks.specs.Pools.{LineParts}
-use Rattle.walks.specs.Networks.{NetworkParts}
+use Rattle.walks.proofs.Common.{NetworkParts}
 use Rattle.event_activity.specs.declared.run_event.RunEvent.{RunEvent}
 use Rattle.event_activity.specs.Runs.{AreServed, no_line, line_at, runs, line_events, with_id, concept_events}
 use Rattle.plan_num.proofs.Added.{parts_size}
-use Rattle.std.proofs.lemmas.Nat.{mul-le}
 
 -- what a pool tells of the line at a place
 pub told_of : {A : Type 0} (field : LineParts → A) (lines : List LineParts) (line : ℕ) (x : A)

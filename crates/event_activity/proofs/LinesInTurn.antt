@@ -1,14 +1,11 @@
 -- The events of a line concept stand in turn.
-use Rattle.std.proofs.Common.{◌≡◌, ℤ, pos, negsuc, ◌==◌, ◌≤ℤ◌, arith, All, false, List, [], ◌∷◌}
-use Rattle.std.proofs.Common.{map, unsigned_abs, refl}
-use Rattle.std.specs.List.{flat_map, AllByRecursion}
+use Rattle.plan_num.proofs.Common.{◌≡◌, ℤ, pos, negsuc, ◌==◌, ◌≤ℤ◌, arith, All, false, List, []}
+use Rattle.plan_num.proofs.Common.{◌∷◌, map, unsigned_abs, refl, flat_map, AllByRecursion, int_cmp}
+use Rattle.plan_num.proofs.Common.{ints, All-head, All-tail}
 use Rattle.std.specs.List.Sorted.{IsStrictlySortedBy}
-use Rattle.std.specs.Ordering.{int_cmp}
 use Rattle.std.specs.declared.cmp.Ordering.TheVariants.{Less}
-use Rattle.std.proofs.lemmas.Int.{ints}
-use Rattle.std.proofs.lemmas.List.Elements.{All-head, All-tail}
 use Rattle.line_walks.specs.Pools.{LineParts, IsLine}
-use Rattle.walks.specs.Networks.{NetworkParts}
+use Rattle.walks.proofs.Common.{NetworkParts}
 use Rattle.event_activity.specs.Runs.{AreServed, line_events, concept_events}
 use Rattle.event_activity.proofs.Crossings.{drive_crosses}
 use Rattle.event_activity.proofs.InTurn.{InTurn, Starts, BeginsRun, OnOther, starts_append, line_starts, line_turn, numbered_turn, numbered_starts}

@@ -1,13 +1,10 @@
 -- What holds of the activities between events.
-use Rattle.std.proofs.Common.{◌≡◌, ℕ, ◌≤◌, arith, All, List, length, filter, subst, sym}
-use Rattle.std.specs.List.{flat_map}
-use Rattle.std.proofs.lemmas.List.Elements.{All-map, All-weaker, All-filter}
+use Rattle.plan_num.proofs.Common.{◌≡◌, ℕ, ◌≤◌, arith, All, List, length, filter, subst, sym}
+use Rattle.plan_num.proofs.Common.{flat_map, All-map, All-weaker, All-filter}
 use Rattle.giv_files.specs.declared.key.Key.TheVariants as key
-use Rattle.giv_files.specs.declared.setting.Setting.{Setting}
-use Rattle.event_tables.specs.declared.periodic_activity.PeriodicActivity.{PeriodicActivity}
-use Rattle.event_tables.specs.declared.periodic_kind.PeriodicKind.{PeriodicKind}
+use Rattle.giv_files.proofs.Common.{Setting}
+use Rattle.event_tables.proofs.Common.{PeriodicActivity, PeriodicKind, IsPeriodicActivity}
 use Rattle.event_tables.specs.declared.periodic_kind.PeriodicKind.TheVariants as activity
-use Rattle.event_tables.specs.PeriodicFiles.{IsPeriodicActivity}
 use Rattle.event_activity.specs.declared.joining.Joining.{Joining}
 use Rattle.event_activity.specs.declared.run_event.RunEvent.{RunEvent}
 use Rattle.event_activity.specs.Activities.{joined, kind_from, bounds_from, activity_of, from_event, joined_events, joinings, with_number, concept_activities}

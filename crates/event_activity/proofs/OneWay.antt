@@ -1,20 +1,13 @@
 -- Exactly one activity leads from an event to the next one of its run.
-use Rattle.std.proofs.Common.{◌≡◌, ℕ, suc, ◌+◌, ◌<◌, arith, Bool, ◌&&◌, true, false, cond, List, []}
-use Rattle.std.proofs.Common.{◌∷◌, length, map, filter, get_or, refl, ap, sym, ◌∙◌}
-use Rattle.std.specs.List.{flat_map, enumerate_from, count_by}
-use Rattle.std.proofs.lemmas.Bool.{eq-eqb, ne_eqb}
-use Rattle.std.proofs.lemmas.List.{get_or-map}
-use Rattle.std.proofs.lemmas.List.FromFn.{get_or-range_with_len}
-use Rattle.std.proofs.lemmas.List.Sums.{length-filter}
-use Rattle.giv_files.specs.declared.setting.Setting.{Setting}
-use Rattle.event_tables.specs.declared.event_kind.EventKind.{EventKind}
+use Rattle.plan_num.proofs.Common.{◌≡◌, ℕ, suc, ◌+◌, ◌<◌, arith, Bool, ◌&&◌, true, false, cond}
+use Rattle.plan_num.proofs.Common.{List, [], ◌∷◌, length, map, filter, get_or, refl, ap, sym, ◌∙◌}
+use Rattle.plan_num.proofs.Common.{flat_map, enumerate_from, count_by, eq-eqb, ne_eqb, get_or-map}
+use Rattle.plan_num.proofs.Common.{get_or-range_with_len, length-filter}
+use Rattle.giv_files.proofs.Common.{Setting}
+use Rattle.event_tables.proofs.Common.{EventKind, PeriodicActivity, is_arrival, same_run, is_next}
+use Rattle.event_tables.proofs.Common.{AreNumbered, way_on, same_kind, leads, lacks_way}
 use Rattle.event_tables.specs.declared.event_kind.EventKind.TheVariants as kinds
-use Rattle.event_tables.specs.declared.periodic_activity.PeriodicActivity.{PeriodicActivity}
 use Rattle.event_tables.specs.declared.periodic_kind.PeriodicKind.TheVariants as activity
-use Rattle.event_tables.specs.Kinds.{is_arrival}
-use Rattle.event_tables.specs.PeriodicRuns.{same_run, is_next}
-use Rattle.event_tables.specs.Places.{AreNumbered}
-use Rattle.event_tables.specs.RunRules.{way_on, same_kind, leads, lacks_way}
 use Rattle.event_activity.specs.declared.joining.Joining.{Joining}
 use Rattle.event_activity.specs.declared.joining.Joining.TheVariants as joining
 use Rattle.event_activity.specs.declared.run_event.RunEvent.{RunEvent}

@@ -1,12 +1,10 @@
 -- The activities between events are those that the kinds join and no others.
-use Rattle.std.proofs.Common.{◌≡◌, ℕ, zero, suc, arith, Bool, true, false, All, Contains, List, map}
-use Rattle.std.proofs.Common.{filter, refl, subst, sym}
-use Rattle.std.specs.List.{flat_map, enumerate_from}
-use Rattle.std.proofs.lemmas.Bool.{and_parts}
-use Rattle.std.proofs.lemmas.List.Elements.{All-map, All-weaker, All-filter, All-contains, All-contains_itself, filter_passes}
-use Rattle.giv_files.specs.declared.setting.Setting.{Setting}
-use Rattle.event_tables.specs.declared.periodic_activity.PeriodicActivity.{PeriodicActivity}
-use Rattle.event_tables.specs.declared.periodic_kind.PeriodicKind.{PeriodicKind}
+use Rattle.plan_num.proofs.Common.{◌≡◌, ℕ, zero, suc, arith, Bool, true, false, All, Contains, List}
+use Rattle.plan_num.proofs.Common.{map, filter, refl, subst, sym, flat_map, enumerate_from}
+use Rattle.plan_num.proofs.Common.{and_parts, All-map, All-weaker, All-filter, All-contains}
+use Rattle.plan_num.proofs.Common.{All-contains_itself, filter_passes}
+use Rattle.giv_files.proofs.Common.{Setting}
+use Rattle.event_tables.proofs.Common.{PeriodicActivity, PeriodicKind}
 use Rattle.event_tables.specs.declared.periodic_kind.PeriodicKind.TheVariants as kinds
 use Rattle.event_activity.specs.declared.bounds.Bounds.{Bounds}
 use Rattle.event_activity.specs.declared.joining.Joining.{Joining}

@@ -1,11 +1,7 @@
 -- What is written of events and of activities is read again, and their ids are their places.
-use Rattle.std.proofs.Common.{List, ap, sym, ◌∙◌, arith}
-use Rattle.std.specs.List.{range_with_len}
-use Rattle.std.proofs.lemmas.List.{length-map}
-use Rattle.std.proofs.lemmas.Simd.{map-map}
-use Rattle.giv_files.specs.declared.setting.Setting.{Setting}
-use Rattle.event_tables.specs.declared.periodic_event.PeriodicEvent.{PeriodicEvent}
-use Rattle.event_tables.specs.Places.{AreNumbered}
+use Rattle.plan_num.proofs.Common.{List, ap, sym, ◌∙◌, arith, range_with_len, length-map, map-map}
+use Rattle.giv_files.proofs.Common.{Setting}
+use Rattle.event_tables.proofs.Common.{PeriodicEvent, AreNumbered}
 use Rattle.event_activity.specs.declared.run_event.RunEvent.{RunEvent}
 use Rattle.event_activity.specs.Activities.{concept_activities}
 use Rattle.event_activity.specs.EanStage.{rows_of}
@@ -14,7 +10,7 @@ use Rattle.event_activity.proofs.LineEvents.{numbered_size}
 use Rattle.plan_num.proofs.Numbered.{numbers_are}
 use Rattle.event_activity.proofs.PlainEvents.{events_are}
 use Rattle.line_walks.specs.Pools.{LineParts}
-use Rattle.walks.specs.Networks.{NetworkParts}
+use Rattle.walks.proofs.Common.{NetworkParts}
 
 -- the ids of events are their places
 pub events_placed : (network : NetworkParts) (lines : List LineParts)

@@ -1,16 +1,13 @@
 -- The runs of events that stand in turn are whole, and what holds of neighbours in the list holds
 -- of
 -- those in each run.
-use Rattle.std.proofs.Common.{◌≡◌, ℕ, zero, suc, ◌+◌, ◌%◌, ◌<◌, arith, Bool, true, false, cond}
-use Rattle.std.proofs.Common.{MatchBool, List, [], ◌∷◌, ◌++◌, length, map, filter, refl, ap, subst}
-use Rattle.std.proofs.Common.{◌∙◌}
-use Rattle.std.specs.List.{flat_map, enumerate_from}
-use Rattle.std.proofs.lemmas.Bool.{eq-eqb, and_right}
-use Rattle.event_tables.specs.declared.periodic_event.PeriodicEvent.{PeriodicEvent}
-use Rattle.event_tables.specs.Kinds.{event_kind_at, event_kind_place}
-use Rattle.event_tables.specs.PeriodicRuns.{same_run, before_runs, runs_of, neighbours}
-use Rattle.event_tables.specs.RunRules.{breaks, broken_in, broken_events}
-use Rattle.walks.specs.Networks.{NetworkParts}
+use Rattle.plan_num.proofs.Common.{◌≡◌, ℕ, zero, suc, ◌+◌, ◌%◌, ◌<◌, arith, Bool, true, false, cond}
+use Rattle.plan_num.proofs.Common.{MatchBool, List, [], ◌∷◌, ◌++◌, length, map, filter, refl, ap}
+use Rattle.plan_num.proofs.Common.{subst, ◌∙◌, flat_map, enumerate_from, eq-eqb, and_right}
+use Rattle.event_tables.proofs.Common.{PeriodicEvent, event_kind_at, event_kind_place, same_run}
+use Rattle.event_tables.proofs.Common.{before_runs, neighbours, breaks, broken_in, broken_events}
+use Rattle.event_tables.specs.PeriodicRuns.{runs_of}
+use Rattle.walks.proofs.Common.{NetworkParts}
 use Rattle.event_activity.specs.declared.run_event.RunEvent.{RunEvent}
 use Rattle.event_activity.specs.EanStage.{rows_of}
 use Rattle.event_activity.proofs.InTurn.{InTurn, Starts, Onward, EndsRun, BeginsRun}

@@ -2,20 +2,14 @@
 use Rattle.std.proofs.Common.{◌≡◌, ℕ, ℤ, pos, ◌≤◌, ◌≤ℤ◌, lit<, All, List, [], length, subst, sym}
 use Rattle.std.proofs.lemmas.List.Elements.{All-map, All-weaker}
 use Rattle.tables.specs.declared.column.ColumnKind.TheVariants as column
-use Rattle.tables.specs.Columns.{stop_columns}
-use Rattle.tables.specs.Inputs.{records_of, input_faults}
-use Rattle.tables.specs.Reading.{table_of}
-use Rattle.tables.specs.Tables.{TableRow}
-use Rattle.tables.proofs.Inputs.{sound_rows}
-use Rattle.tables.proofs.Ranges.{front_none}
-use Rattle.tables.proofs.WriteFacts.{in_column}
+use Rattle.tables.proofs.Common.{stop_columns, records_of, input_faults, table_of, TableRow}
+use Rattle.tables.proofs.Common.{sound_rows, front_none, in_column}
 use Rattle.line_walks.specs.LineLengths.{IsModest}
 use Rattle.line_walks.specs.Pools.{LineParts, AreLines, concept_of, concept_faults}
 use Rattle.line_walks.proofs.SoundLines.{pool_sound}
-use Rattle.walks.proofs.RisingIds.{all_rising}
+use Rattle.walks.proofs.Common.{all_rising, NetworkParts, IsNetwork}
 use Rattle.line_walks.proofs.WholeLines.{whole_lines}
 use Rattle.ptn_network.specs.Inputs.{stop_input, stop_row}
-use Rattle.walks.specs.Networks.{NetworkParts, IsNetwork}
 use Rattle.ptn_network.specs.Networks.{stops_of, network_of, network_faults}
 use Rattle.ptn_network.proofs.Sound.{network_sound}
 use Rattle.event_activity.specs.Runs.{AreServed}

@@ -1,12 +1,10 @@
 -- The stop and the edge at a place of a run.
-use Rattle.std.proofs.Common.{◌≡◌, ℕ, ℤ, pos, negsuc, ◌+◌, ◌*◌, ◌/◌, ◌<◌, ◌≤◌, ◌≤ℤ◌, arith, List}
-use Rattle.std.proofs.Common.{length, get_or, ap, subst, sym, ◌∙◌, Some, slice_get, unsigned_abs}
-use Rattle.std.proofs.lemmas.Int.{ints}
-use Rattle.std.proofs.lemmas.List.Elements.{All-get_or}
-use Rattle.std.proofs.lemmas.Option.{slice_get-get_or, same_Some}
-use Rattle.event_tables.specs.declared.direction.Direction.{Direction}
+use Rattle.plan_num.proofs.Common.{◌≡◌, ℕ, ℤ, pos, negsuc, ◌+◌, ◌*◌, ◌/◌, ◌<◌, ◌≤◌, ◌≤ℤ◌, arith}
+use Rattle.plan_num.proofs.Common.{List, length, get_or, ap, subst, sym, ◌∙◌, Some, slice_get}
+use Rattle.plan_num.proofs.Common.{unsigned_abs, ints, All-get_or, slice_get-get_or, same_Some}
+use Rattle.event_tables.proofs.Common.{Direction}
 use Rattle.line_walks.specs.Pools.{LineParts, IsLine}
-use Rattle.walks.specs.Networks.{NetworkParts}
+use Rattle.walks.proofs.Common.{NetworkParts}
 use Rattle.event_activity.specs.Fitting.{IsId}
 use Rattle.event_activity.specs.Runs.{AreServed, along, no_line, line_at, stop_id}
 use Rattle.event_activity.proofs.Along.{all_along, length-along, stops_inside}

@@ -1,22 +1,17 @@
 -- The settings of a bundle that fits are in order and within their ranges.
-use Rattle.std.proofs.Common.{◌≡◌, ℤ, pos, negsuc, ◌*◌, ◌*ℤ◌, ◌≤◌, ◌≤ℤ◌, int_le, arith, Bool, eqb-true, true, List, [], ◌∷◌, unsigned_abs, refl, ap, subst, sym, ◌∙◌, Option, Some, unwrap_or, inl, inr}
-use Rattle.std.specs.Option.{option_map_or}
-use Rattle.std.specs.Int.Signed.{le_z_yes}
-use Rattle.std.specs.List.{list_all}
-use Rattle.std.proofs.lemmas.Bool.{and_parts, cases_Bool}
-use Rattle.std.proofs.lemmas.Float.{T_from_true}
-use Rattle.std.proofs.lemmas.Int.{ints}
-use Rattle.std.proofs.lemmas.Option.{same_Some}
-use Rattle.giv_files.specs.declared.key.Key.{Key}
+use Rattle.plan_num.proofs.Common.{◌≡◌, ℤ, pos, negsuc, ◌*◌, ◌≤◌, ◌≤ℤ◌, int_le, arith, Bool}
+use Rattle.plan_num.proofs.Common.{eqb-true, true, List, [], ◌∷◌, unsigned_abs, refl, ap, subst}
+use Rattle.plan_num.proofs.Common.{sym, ◌∙◌, Option, Some, unwrap_or, inl, inr, option_map_or}
+use Rattle.plan_num.proofs.Common.{le_z_yes, list_all, and_parts, cases_Bool, T_from_true, ints}
+use Rattle.plan_num.proofs.Common.{same_Some}
+use Rattle.std.proofs.Common.{◌*ℤ◌}
+use Rattle.giv_files.proofs.Common.{Key, Setting, keeps_rule, keeps, cross_rule, not_below, least}
+use Rattle.giv_files.proofs.Common.{greatest, is_key, key_kind, has_key, BundleParts, Fits}
+use Rattle.giv_files.proofs.Common.{SettingsFit, value_of, amount, is_uncrossed, same_key}
+use Rattle.giv_files.proofs.Common.{amount_within}
 use Rattle.giv_files.specs.declared.key.Key.TheVariants as key
-use Rattle.giv_files.specs.declared.setting.Setting.{Setting}
 use Rattle.giv_files.specs.declared.stage.Stage.TheVariants as stage
-use Rattle.giv_files.specs.CrossRules.{keeps_rule, keeps, cross_rule, not_below}
-use Rattle.giv_files.specs.KeyKinds.{least, greatest}
-use Rattle.giv_files.specs.Keys.{is_key, key_kind, has_key}
-use Rattle.giv_files.specs.Settings.{BundleParts, Fits, SettingsFit, value_of, amount, is_uncrossed}
-use Rattle.giv_files.proofs.KeyPlaces.{same_key}
-use Rattle.giv_files.proofs.SettingFacts.{key_there, amount_within}
+use Rattle.giv_files.proofs.SettingFacts.{key_there}
 use Rattle.event_activity.specs.Fitting.{AreTimely}
 
 -- the value of a key keeps the rule of the key

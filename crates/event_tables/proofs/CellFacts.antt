@@ -1,18 +1,12 @@
 -- The cells of a row in the ranges of their columns, and the record that they stand for.
-use Rattle.std.proofs.Common.{◌≡◌, ℕ, ℤ, pos, negsuc, zero, suc, ◌+◌, ◌<◌, ◌≤◌, ◌≤ℤ◌, arith, true}
-use Rattle.std.proofs.Common.{false, ◌&&◌, Bool, List, [], ◌∷◌, length, map, get_or, int_le, refl}
-use Rattle.std.proofs.Common.{ap, sym, subst, ◌∙◌, unsigned_abs}
-use Rattle.std.specs.List.{list_all, range_with_len}
-use Rattle.std.specs.Int.Signed.{le_z_yes}
-use Rattle.std.proofs.lemmas.Bool.{and_parts}
-use Rattle.std.proofs.lemmas.Float.{T_from_true}
-use Rattle.std.proofs.lemmas.Int.{ints}
-use Rattle.std.proofs.lemmas.List.Elements.{All-nil, All-cons}
-use Rattle.tables.specs.declared.column.ColumnKind.{ColumnKind}
+use Rattle.plan_num.proofs.Common.{◌≡◌, ℕ, ℤ, pos, negsuc, zero, suc, ◌+◌, ◌<◌, ◌≤◌, ◌≤ℤ◌, arith}
+use Rattle.plan_num.proofs.Common.{true, false, ◌&&◌, Bool, List, [], ◌∷◌, length, map, get_or}
+use Rattle.plan_num.proofs.Common.{int_le, refl, ap, sym, subst, ◌∙◌, unsigned_abs, list_all}
+use Rattle.plan_num.proofs.Common.{range_with_len, le_z_yes, and_parts, T_from_true, ints, All-nil}
+use Rattle.plan_num.proofs.Common.{All-cons}
+use Rattle.tables.proofs.Common.{ColumnKind, table_words, InColumn, InColumns}
 use Rattle.tables.specs.declared.column.ColumnKind.TheVariants as kind
 use Rattle.tables.specs.declared.words.WordTable.TheVariants as table
-use Rattle.tables.specs.Names.{table_words}
-use Rattle.tables.specs.Writing.{InColumn, InColumns}
 use Rattle.event_tables.specs.declared.activity_kind.ActivityKind.{ActivityKind}
 use Rattle.event_tables.specs.declared.activity_kind.ActivityKind.TheVariants as activity
 use Rattle.event_tables.specs.declared.direction.Direction.{Direction}

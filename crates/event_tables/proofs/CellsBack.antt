@@ -1,9 +1,8 @@
 -- Each record is the one of its cells, and cells in the ranges of their columns are those of their record.
 use Rattle.std.proofs.Common.{◌≡◌, ℤ, pos, arith, List, get_or, refl, sym}
-use Rattle.tables.specs.Columns.{events_p_columns, activities_p_columns, times_p_columns, events_x_columns}
-use Rattle.tables.specs.Columns.{activities_x_columns, trips_columns, schedule_columns, delays_columns}
-use Rattle.tables.specs.Columns.{disposed_columns}
-use Rattle.tables.specs.Writing.{InColumns}
+use Rattle.tables.proofs.Common.{events_p_columns, activities_p_columns, times_p_columns}
+use Rattle.tables.proofs.Common.{events_x_columns, activities_x_columns, trips_columns}
+use Rattle.tables.proofs.Common.{schedule_columns, delays_columns, disposed_columns, InColumns}
 use Rattle.event_tables.specs.declared.disposed_time.DisposedTime.{DisposedTime}
 use Rattle.event_tables.specs.declared.expanded_activity.ExpandedActivity.{ExpandedActivity}
 use Rattle.event_tables.specs.declared.expanded_event.ExpandedEvent.{ExpandedEvent}

@@ -1,11 +1,7 @@
 -- What holds of each record of a text that has no fault.
-use Rattle.std.proofs.Common.{◌≡◌, ℕ, ℤ, List, [], subst, sym, All}
-use Rattle.std.proofs.lemmas.List.Elements.{All-map}
-use Rattle.tables.specs.Inputs.{Input, broken_whys, records_of, input_faults}
-use Rattle.tables.specs.Reading.{table_of}
-use Rattle.tables.specs.Tables.{TableRow}
-use Rattle.tables.specs.Writing.{InColumns}
-use Rattle.tables.proofs.Inputs.{sound_rows}
+use Rattle.plan_num.proofs.Common.{◌≡◌, ℕ, ℤ, List, [], subst, sym, All, All-map}
+use Rattle.tables.proofs.Common.{Input, broken_whys, records_of, input_faults, table_of, TableRow}
+use Rattle.tables.proofs.Common.{InColumns, sound_rows}
 
 module _ {X : Type 0} (input : Input X) (text : List ℕ) (none : input_faults input text ≡ []) where
   -- each breaks no rule after some rows

@@ -1,3 +1,4 @@
+pub mod Common
 -- Other crates cite lemmas of CellFacts, CellsBack, Numbering, PlacesKept, RanksRise, SoundFiles,
 -- SoundTimes, SoundTrips and WrittenRecords.
 pub mod CellFacts

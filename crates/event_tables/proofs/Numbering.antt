@@ -1,20 +1,16 @@
 -- Ids that are the places of rows.
-use Rattle.std.proofs.Common.{◌≡◌, ◌≢◌, ◌==◌, ℕ, zero, suc, ◌+◌, ◌-◌, ◌<◌, ◌≤◌, arith, Bool, true}
-use Rattle.std.proofs.Common.{false, ◌||◌, nat_eq, nat_lt, eqb, ltb, List, [], ◌∷◌, ◌++◌, length}
-use Rattle.std.proofs.Common.{map, get_or, refl, ap, sym, subst, ◌∙◌, Some}
-use Rattle.std.proofs.lemmas.Bool.{eqb-true, ltb-true, eqb-false, ltb-false, ne_eqb, eq-eqb, lt-ltb, le-ltb, false≢true}
-use Rattle.std.proofs.lemmas.Bool.{not-false}
-use Rattle.std.proofs.lemmas.List.{length_push, length-map}
-use Rattle.std.proofs.lemmas.List.Folds.{list_any_at}
-use Rattle.std.proofs.lemmas.List.FromFn.{length-range_with_len, get_or-range_with_len}
-use Rattle.std.specs.List.{list_any, range_with_len, find}
-use Rattle.tables.specs.declared.file_id.FileId.{FileId}
+use Rattle.plan_num.proofs.Common.{◌≡◌, ◌≢◌, ◌==◌, ℕ, zero, suc, ◌+◌, ◌-◌, ◌<◌, ◌≤◌, arith, Bool}
+use Rattle.plan_num.proofs.Common.{true, false, ◌||◌, nat_eq, nat_lt, eqb, ltb, List, [], ◌∷◌, ◌++◌}
+use Rattle.plan_num.proofs.Common.{length, map, get_or, refl, ap, sym, subst, ◌∙◌, Some, eqb-true}
+use Rattle.plan_num.proofs.Common.{ltb-true, eqb-false, ltb-false, ne_eqb, eq-eqb, lt-ltb, le-ltb}
+use Rattle.plan_num.proofs.Common.{false≢true, not-false, length_push, length-map, list_any_at}
+use Rattle.plan_num.proofs.Common.{length-range_with_len, get_or-range_with_len, list_any}
+use Rattle.plan_num.proofs.Common.{range_with_len, find}
+use Rattle.tables.proofs.Common.{FileId, Input, RowRule, records_of, broken_whys, numbered}
+use Rattle.tables.proofs.Common.{input_faults, table_of, TableRow, rules_sound, parts_sound}
+use Rattle.tables.proofs.Common.{table_sound, front_none, back_none}
 use Rattle.tables.specs.declared.refusal.Refusal.TheVariants as refusal
-use Rattle.tables.specs.Inputs.{Input, RowRule, records_of, broken_whys, row_faults, numbered, input_faults}
-use Rattle.tables.specs.Reading.{table_of}
-use Rattle.tables.specs.Tables.{TableRow}
-use Rattle.tables.proofs.Inputs.{rules_sound, parts_sound, table_sound}
-use Rattle.tables.proofs.Ranges.{front_none, back_none}
+use Rattle.tables.specs.Inputs.{row_faults}
 use Rattle.event_tables.specs.Places.{own_place, is_none_of, AreNumbered, IsOneOf}
 use Rattle.plan_num.proofs.Lists.{unmapped}
 

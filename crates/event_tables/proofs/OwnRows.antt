@@ -1,18 +1,13 @@
 -- Rows of which no two have one id.
-use Rattle.std.proofs.Common.{◌≡◌, ℕ, pos, arith, false, nat_eq, List, [], ◌∷◌, ◌++◌, map, refl}
-use Rattle.std.proofs.Common.{sym, subst, ◌∙◌, append_assoc}
-use Rattle.std.specs.List.{list_any, IsDistinct}
-use Rattle.std.specs.Cmp.{nat_eq_equiv}
-use Rattle.std.specs.Ordering.{int_eq}
-use Rattle.std.proofs.lemmas.List.{append-nil, map_push}
-use Rattle.std.proofs.lemmas.Map.Keys.{IsDistinct-push}
-use Rattle.tables.specs.declared.file_id.FileId.{FileId}
+use Rattle.plan_num.proofs.Common.{◌≡◌, ℕ, pos, arith, false, nat_eq, List, [], ◌∷◌, ◌++◌, map}
+use Rattle.plan_num.proofs.Common.{refl, sym, subst, ◌∙◌, append_assoc, list_any, nat_eq_equiv}
+use Rattle.plan_num.proofs.Common.{int_eq, append-nil, map_push, IsDistinct-push}
+use Rattle.std.specs.List.{IsDistinct}
+use Rattle.tables.proofs.Common.{FileId, Input, RowRule, own_id, broken_whys, records_of}
+use Rattle.tables.proofs.Common.{input_faults, table_of, TableRow, parts_sound, table_sound}
+use Rattle.tables.proofs.Common.{front_none, back_none}
 use Rattle.tables.specs.declared.refusal.Refusal.TheVariants as refusal
-use Rattle.tables.specs.Inputs.{Input, RowRule, own_id, broken_whys, row_faults, records_of, input_faults}
-use Rattle.tables.specs.Reading.{table_of}
-use Rattle.tables.specs.Tables.{TableRow}
-use Rattle.tables.proofs.Inputs.{parts_sound, table_sound}
-use Rattle.tables.proofs.Ranges.{front_none, back_none}
+use Rattle.tables.specs.Inputs.{row_faults}
 use Rattle.plan_num.proofs.Lists.{unmapped}
 
 -- two numbers are one as whole numbers where they are

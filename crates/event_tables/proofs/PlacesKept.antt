@@ -1,12 +1,9 @@
 -- Rows whose ids are their places keep that rule, and the events that they name are there.
-use Rattle.std.proofs.Common.{◌≡◌, ℕ, ◌+◌, cond, not, arith, false, List, [], ◌∷◌, ◌++◌, length}
-use Rattle.std.proofs.Common.{map, ap, sym, ◌∙◌}
-use Rattle.std.specs.List.{AllByRecursion, range_with_len}
-use Rattle.std.proofs.lemmas.Bool.{eq-eqb, ne_eqb, le-ltb}
-use Rattle.std.proofs.lemmas.List.{length_push}
+use Rattle.plan_num.proofs.Common.{◌≡◌, ℕ, ◌+◌, cond, not, arith, false, List, [], ◌∷◌, ◌++◌}
+use Rattle.plan_num.proofs.Common.{length, map, ap, sym, ◌∙◌, AllByRecursion, range_with_len}
+use Rattle.plan_num.proofs.Common.{eq-eqb, ne_eqb, le-ltb, length_push}
 use Rattle.tables.specs.declared.row_why.RowWhy.TheVariants as why
-use Rattle.tables.specs.Inputs.{RowRule, broken_whys}
-use Rattle.tables.proofs.Accepted.{KeepRules}
+use Rattle.tables.proofs.Common.{RowRule, broken_whys, KeepRules}
 use Rattle.event_tables.specs.Places.{own_place, is_none_of, IsOneOf}
 use Rattle.event_tables.proofs.Numbering.{none_of_places}
 

@@ -1,11 +1,9 @@
 -- The rows of a schedule by their kinds.
-use Rattle.std.proofs.Common.{◌≡◌, ◌+◌, List, [], ◌∷◌, ◌++◌, length, filter, slice_get, refl, ap, sym, ◌∙◌}
-use Rattle.std.specs.Option.{option_or}
-use Rattle.std.proofs.lemmas.List.{append-nil, length-map}
-use Rattle.std.proofs.lemmas.List.Filters.{length-filter_both}
-use Rattle.tables.specs.Tables.{TableRow}
+use Rattle.plan_num.proofs.Common.{◌≡◌, ◌+◌, List, [], ◌∷◌, ◌++◌, length, filter, slice_get, refl}
+use Rattle.plan_num.proofs.Common.{ap, sym, ◌∙◌, option_or, append-nil, length-map}
+use Rattle.plan_num.proofs.Common.{length-filter_both}
+use Rattle.tables.proofs.Common.{TableRow, records_by}
 use Rattle.event_tables.specs.Cells.{schedule_row}
-use Rattle.tables.specs.RowsOfTables.{records_by}
 use Rattle.event_tables.specs.Schedules.{is_trip_row, is_empty_row}
 
 -- each row is a trip or an empty ride

@@ -1,15 +1,11 @@
 -- What holds of trips, of delays and of the rows of a schedule, where their texts have no fault.
-use Rattle.std.proofs.Common.{arith, ◌≡◌, ℕ, ℤ, pos, Bool, true, false, ◌&&◌, ◌||◌, List, [], ◌∷◌}
-use Rattle.std.proofs.Common.{length, refl, ap, sym, ◌∙◌, Option}
-use Rattle.std.specs.List.{range_with_len}
-use Rattle.std.proofs.lemmas.Bool.{ltb-false, or_parts, not-false}
+use Rattle.plan_num.proofs.Common.{arith, ◌≡◌, ℕ, ℤ, pos, Bool, true, false, ◌&&◌, ◌||◌, List, []}
+use Rattle.plan_num.proofs.Common.{◌∷◌, length, refl, ap, sym, ◌∙◌, Option, range_with_len}
+use Rattle.plan_num.proofs.Common.{ltb-false, or_parts, not-false}
 use Rattle.tables.specs.declared.counted.Counted.TheVariants as counted
-use Rattle.tables.specs.declared.file_id.FileId.{FileId}
-use Rattle.tables.specs.declared.row_why.RowWhy.{RowWhy}
-use Rattle.tables.specs.Columns.{schedule_columns}
-use Rattle.tables.specs.Inputs.{RowRule, row_limit, own_id, input_faults, records_of, broken_whys}
-use Rattle.tables.specs.Reading.{table_of}
-use Rattle.tables.proofs.Inputs.{few_rows, rules_sound, limits_sound, parts_sound, table_sound}
+use Rattle.tables.proofs.Common.{FileId, RowWhy, schedule_columns, RowRule, row_limit, own_id}
+use Rattle.tables.proofs.Common.{input_faults, records_of, broken_whys, table_of, few_rows}
+use Rattle.tables.proofs.Common.{rules_sound, limits_sound, parts_sound, table_sound}
 use Rattle.event_tables.specs.declared.delay_row.DelayRow.{DelayRow}
 use Rattle.event_tables.specs.declared.expanded_event.ExpandedEvent.{ExpandedEvent}
 use Rattle.event_tables.specs.declared.schedule_row.ScheduleRow.{ScheduleRow}

@@ -1,18 +1,16 @@
 -- Files in which each event has a row.
-use Rattle.std.proofs.Common.{◌≡◌, ℕ, ◌+◌, ◌<◌, ◌≤◌, arith, Bool, true, false, nat_lt, ltb, List, [], ◌∷◌, length, map}
-use Rattle.std.proofs.Common.{get_or, refl, ap, sym, subst, ◌∙◌, Result, Ok, Err, MatchResult, All}
-use Rattle.std.proofs.lemmas.Bool.{lt-ltb, le-ltb, ltb-true, ltb-false}
-use Rattle.std.proofs.lemmas.List.{get_or-map}
-use Rattle.std.proofs.lemmas.List.FromFn.{get_or-range_with_len}
-use Rattle.std.specs.List.{list_any, range_with_len}
+use Rattle.plan_num.proofs.Common.{◌≡◌, ℕ, ◌+◌, ◌<◌, ◌≤◌, arith, Bool, true, false, nat_lt, ltb}
+use Rattle.plan_num.proofs.Common.{List, [], ◌∷◌, length, map, get_or, refl, ap, sym, subst, ◌∙◌}
+use Rattle.plan_num.proofs.Common.{Result, Ok, Err, MatchResult, All, lt-ltb, le-ltb, ltb-true}
+use Rattle.plan_num.proofs.Common.{ltb-false, get_or-map, get_or-range_with_len, list_any}
+use Rattle.plan_num.proofs.Common.{range_with_len}
 use Rattle.tables.specs.declared.row_why.RowWhy.TheVariants as why
 use Rattle.tables.specs.declared.refusal.Refusal.TheVariants as refusal
-use Rattle.tables.specs.declared.refusal.StageFault.{StageFault}
+use Rattle.tables.proofs.Common.{StageFault, Input, RowRule, records_of, numbered, whole_faults}
+use Rattle.tables.proofs.Common.{input_faults, Refuses, UnlessFault, table_of, parts_sound}
+use Rattle.tables.proofs.Common.{table_sound, whole_rule_sound, without_whole, refused_as_whole}
+use Rattle.tables.proofs.Common.{sound_as_whole}
 use Rattle.tables.specs.declared.refusal.StageFault.TheVariants as stage
-use Rattle.tables.specs.Inputs.{Input, RowRule, records_of, numbered, whole_faults, input_faults, Refuses, UnlessFault}
-use Rattle.tables.specs.Reading.{table_of}
-use Rattle.tables.proofs.Inputs.{parts_sound, table_sound, whole_rule_sound}
-use Rattle.tables.proofs.WholeRules.{without_whole, refused_as_whole, sound_as_whole}
 use Rattle.event_tables.specs.Places.{own_place, all_there, is_none_of, AreNumbered, IsOneOf}
 use Rattle.event_tables.proofs.Numbering.{some_missing, numbered_rows}
 

@@ -1,10 +1,8 @@
 -- Valid potentials prove that exactly the tight plans are cheapest: a plan costs what all trips
 -- cost alone, less what it gains.
-use Rattle.std.proofs.Common.{◌≡◌, ℕ, pos, List, Option, sym, arith}
-use Rattle.std.proofs.lemmas.Int.{ints}
-use Rattle.link_plans.specs.Plans.{plan_gain, IsPlan}
-use Rattle.link_plans.specs.Potentials.{PotentialParts, total, AreValid}
-use Rattle.link_plans.proofs.Certified.{gain_most, gains_all, tight_all}
+use Rattle.plan_num.proofs.Common.{◌≡◌, ℕ, pos, List, Option, sym, arith, ints}
+use Rattle.link_plans.proofs.Common.{plan_gain, IsPlan, PotentialParts, total, AreValid, gain_most}
+use Rattle.link_plans.proofs.Common.{gains_all, tight_all}
 use Rattle.vehicle_model.specs.Plans.{IsCheapest}
 use Rattle.vehicle_model.specs.Trips.{TripsParts, links_of}
 use Rattle.vehicle_model.proofs.Costs.{cost_by_gain}

@@ -1,31 +1,23 @@
 -- Faults of potentials, pair by pair; without one they are valid.
-use Rattle.std.proofs.Common.{◌≡◌, ◌↔◌, ℕ, ℤ, zero, suc, pos, ◌+◌, ◌*◌, ◌-◌, ◌<◌, ◌≤◌, ◌==◌, ◌≤ℤ◌}
-use Rattle.std.proofs.Common.{int_le, not, is_some, T, Bool, true, false, cond, List, [], ◌∷◌, ◌++◌}
-use Rattle.std.proofs.Common.{length, map, filter, slice_get, Option, Some, None, IfSome}
-use Rattle.std.proofs.Common.{option_map, refl, ap, sym, ◌∙◌, arith, eq-eqb}
-use Rattle.std.specs.Int.Signed.{le_z_yes}
-use Rattle.std.specs.List.{flat_map, range_with_len}
-use Rattle.std.specs.Ordering.{int_eq}
-use Rattle.std.proofs.lemmas.Bool.{false≢true, eqb-true, not-false}
-use Rattle.std.proofs.lemmas.Bool.Decides.{Decides-int_eq}
-use Rattle.std.proofs.lemmas.Float.{T_from_true}
-use Rattle.std.proofs.lemmas.Int.{ints}
-use Rattle.std.proofs.lemmas.Option.{none-some, slice_get-map}
-use Rattle.tables.proofs.Inputs.{first_append}
-use Rattle.tables.proofs.Ranges.{front_none, back_none}
+use Rattle.plan_num.proofs.Common.{◌≡◌, ◌↔◌, ℕ, ℤ, zero, suc, pos, ◌+◌, ◌*◌, ◌-◌, ◌<◌, ◌≤◌, ◌==◌}
+use Rattle.plan_num.proofs.Common.{◌≤ℤ◌, int_le, not, is_some, T, Bool, true, false, cond, List, []}
+use Rattle.plan_num.proofs.Common.{◌∷◌, ◌++◌, length, map, filter, slice_get, Option, Some, None}
+use Rattle.plan_num.proofs.Common.{IfSome, option_map, refl, ap, sym, ◌∙◌, arith, eq-eqb, le_z_yes}
+use Rattle.plan_num.proofs.Common.{flat_map, range_with_len, int_eq, false≢true, eqb-true}
+use Rattle.plan_num.proofs.Common.{not-false, Decides-int_eq, T_from_true, ints, none-some}
+use Rattle.plan_num.proofs.Common.{slice_get-map}
+use Rattle.tables.proofs.Common.{first_append, front_none, back_none}
 use Rattle.vehicle_model.specs.Plans.{plan_cost, IsCheapest}
-use Rattle.link_plans.specs.Plans.{plan_gain, IsPlan}
+use Rattle.link_plans.proofs.Common.{plan_gain, IsPlan, Links, PotentialParts, at, total, AreOver}
+use Rattle.link_plans.proofs.Common.{AreValid, by_bound}
 use Rattle.vehicle_model.specs.Trips.{TripsParts, links_of}
-use Rattle.link_plans.specs.Links.{Links}
 use Rattle.vehicle_model.proofs.Costs.{cost_by_gain}
 use Rattle.vehicle_model.proofs.Following.{links_within}
 use Rattle.flow_potentials.specs.declared.potential_fault.PotentialFault.{PotentialFault}
 use Rattle.flow_potentials.specs.declared.potential_fault.PotentialFault.TheVariants as fault
 use Rattle.flow_potentials.specs.PotentialFaults.{is_short, is_short_pair, trip_faults, pair_faults}
 use Rattle.flow_potentials.specs.PotentialFaults.{sum_faults, potential_faults, TightAreCheapest}
-use Rattle.link_plans.specs.Potentials.{PotentialParts, at, total, AreOver, AreValid}
 use Rattle.flow_potentials.proofs.CheapestPlans.{certified_cheapest, tight_cheapest}
-use Rattle.link_plans.proofs.Certified.{by_bound}
 use Rattle.plan_num.proofs.Lists.{unmapped, none_first}
 use Rattle.plan_num.proofs.Tests.{is_true}
 

@@ -1,15 +1,11 @@
 -- A text without a fault as potentials is some.
-use Rattle.std.proofs.Common.{◌≡◌, ℕ, ◌+◌, ◌<◌, ◌≤◌, nat_lt, ◌&&◌, Bool, true, false, cond, List}
-use Rattle.std.proofs.Common.{[], ◌∷◌, ◌++◌, length, refl, arith}
-use Rattle.std.proofs.lemmas.Bool.{ltb-false, ltb-true}
-use Rattle.tables.specs.declared.read_fault.RowFault.{RowFault}
+use Rattle.plan_num.proofs.Common.{◌≡◌, ℕ, ◌+◌, ◌<◌, ◌≤◌, nat_lt, ◌&&◌, Bool, true, false, cond}
+use Rattle.plan_num.proofs.Common.{List, [], ◌∷◌, ◌++◌, length, refl, arith, ltb-false, ltb-true}
+use Rattle.tables.proofs.Common.{RowFault, potential_columns, faults, table_of, TableRow}
+use Rattle.tables.proofs.Common.{table_in_columns}
 use Rattle.tables.specs.declared.row_why.RowWhy.TheVariants as why
-use Rattle.tables.specs.Columns.{potential_columns}
-use Rattle.tables.specs.Reading.{faults, table_of}
-use Rattle.tables.specs.Tables.{TableRow}
-use Rattle.tables.proofs.Ranges.{table_in_columns}
 use Rattle.vehicle_model.specs.ReadSchedules.{or_others}
-use Rattle.link_plans.specs.Potentials.{AreOver, ArePotentials}
+use Rattle.link_plans.proofs.Common.{AreOver, ArePotentials}
 use Rattle.flow_potentials.specs.PotentialTables.{gaps_from, is_trip_row, potentials_of, table_faults}
 use Rattle.flow_potentials.proofs.Tables.{table_over, table_potentials}
 use Rattle.plan_num.proofs.Tests.{second_true}

@@ -1,14 +1,13 @@
 -- Rows of potentials, one after the other.
-use Rattle.std.proofs.Common.{◌≡◌, ℕ, ℤ, suc, pos, negsuc, ◌+◌, ◌<◌, ◌≤◌, ◌≤ℤ◌, nat_lt, Bool, true}
-use Rattle.std.proofs.Common.{false, cond, List, [], ◌∷◌, ◌++◌, length, map, take, drop, get_or}
-use Rattle.std.proofs.Common.{slice_get, unsigned_abs, All, Some, ap, sym, ◌∙◌, arith, append_assoc}
+use Rattle.plan_num.proofs.Common.{◌≡◌, ℕ, ℤ, suc, pos, negsuc, ◌+◌, ◌<◌, ◌≤◌, ◌≤ℤ◌, nat_lt, Bool}
+use Rattle.plan_num.proofs.Common.{true, false, cond, List, [], ◌∷◌, ◌++◌, length, map, take, drop}
+use Rattle.plan_num.proofs.Common.{get_or, slice_get, unsigned_abs, All, Some, ap, sym, ◌∙◌, arith}
+use Rattle.plan_num.proofs.Common.{append_assoc, ints, take_more, take_all, map-append, drop_all}
+use Rattle.plan_num.proofs.Common.{length-map, All-map}
 use Rattle.std.proofs.Math.Seq.{drop-cons}
-use Rattle.std.proofs.lemmas.Int.{ints}
-use Rattle.std.proofs.lemmas.List.{take_more, take_all, map-append, drop_all, length-map}
-use Rattle.std.proofs.lemmas.List.Elements.{All-map}
 use Rattle.tables.specs.declared.row_why.RowWhy.TheVariants as why
-use Rattle.tables.specs.Tables.{TableRow, no_row}
-use Rattle.link_plans.specs.Potentials.{at, IsSmall, ArePotentials, AreOver}
+use Rattle.tables.proofs.Common.{TableRow, no_row}
+use Rattle.link_plans.proofs.Common.{at, IsSmall, ArePotentials, AreOver}
 use Rattle.flow_potentials.specs.PotentialTables.{rows_from, is_trip_row, gaps_from, column_of, FitsColumns}
 
 -- ---- reading

@@ -1,22 +1,14 @@
 -- Potentials that are written are read back.
-use Rattle.std.proofs.Common.{◌≡◌, ℕ, ℤ, suc, pos, ◌+◌, ◌≤◌, nat_lt, List, [], ◌∷◌, length, map}
-use Rattle.std.proofs.Common.{drop, get_or, slice_get, unsigned_abs, All, Some, Result, Ok, Err}
-use Rattle.std.proofs.Common.{IfOk, refl, ap, sym, ◌∙◌, subst, arith, eq-eqb}
-use Rattle.std.proofs.lemmas.Bool.{lt-ltb}
-use Rattle.std.proofs.lemmas.Int.{ints}
-use Rattle.std.proofs.lemmas.List.Elements.{All-nil, All-cons}
-use Rattle.tables.specs.declared.read_fault.RowFault.{RowFault}
-use Rattle.tables.specs.declared.read_fault.ReadFault.{ReadFault}
+use Rattle.plan_num.proofs.Common.{◌≡◌, ℕ, ℤ, suc, pos, ◌+◌, ◌≤◌, nat_lt, List, [], ◌∷◌, length}
+use Rattle.plan_num.proofs.Common.{map, drop, get_or, slice_get, unsigned_abs, All, Some, Result}
+use Rattle.plan_num.proofs.Common.{Ok, Err, IfOk, refl, ap, sym, ◌∙◌, subst, arith, eq-eqb, lt-ltb}
+use Rattle.plan_num.proofs.Common.{ints, All-nil, All-cons}
+use Rattle.tables.proofs.Common.{RowFault, ReadFault, potential_columns, faults, table_of}
+use Rattle.tables.proofs.Common.{ReadGives, TableRow, table_text, CanWrite, ReadsBack, plain_header}
+use Rattle.tables.proofs.Common.{table_in_columns, written_back}
 use Rattle.tables.specs.declared.read_fault.ReadFault.TheVariants as read
-use Rattle.tables.specs.Columns.{potential_columns}
-use Rattle.tables.specs.Reading.{faults, table_of, ReadGives}
-use Rattle.tables.specs.Tables.{TableRow}
-use Rattle.tables.specs.Writing.{table_text, CanWrite, ReadsBack}
-use Rattle.tables.proofs.Headers.{plain_header}
-use Rattle.tables.proofs.Ranges.{table_in_columns}
-use Rattle.tables.proofs.WrittenBack.{written_back}
 use Rattle.vehicle_model.specs.ReadSchedules.{or_others}
-use Rattle.link_plans.specs.Potentials.{PotentialParts, IsSmall, ArePotentials}
+use Rattle.link_plans.proofs.Common.{PotentialParts, IsSmall, ArePotentials}
 use Rattle.flow_potentials.specs.PotentialTables.{rows_from, potential_rows, potential_header}
 use Rattle.flow_potentials.specs.PotentialTables.{potentials_text, gaps_from, table_faults}
 use Rattle.flow_potentials.specs.PotentialTables.{column_of, potentials_in, potentials_of}

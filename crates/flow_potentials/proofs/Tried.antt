@@ -1,8 +1,7 @@
 -- The definitions on small plans.
-use Rattle.std.proofs.Common.{◌≡◌, ℕ, ℤ, refl, pos, negsuc, ◌==◌, ◌&&◌, if◌then◌else◌, List, []}
-use Rattle.std.proofs.Common.{◌∷◌, Option, Some, None}
-use Rattle.std.specs.List.{list_any}
-use Rattle.link_plans.specs.Links.{Links}
+use Rattle.plan_num.proofs.Common.{◌≡◌, ℕ, ℤ, refl, pos, negsuc, ◌==◌, ◌&&◌, if◌then◌else◌, List}
+use Rattle.plan_num.proofs.Common.{[], ◌∷◌, Option, Some, None, list_any}
+use Rattle.link_plans.proofs.Common.{Links}
 use Rattle.flow_potentials.specs.declared.potential_fault.PotentialFault.TheVariants as fault
 use Rattle.flow_potentials.specs.PotentialFaults.{potential_faults}
 use Rattle.canonical_potentials.specs.Residual.{root, left, right, arc, walk_cost}

@@ -1,3 +1,4 @@
+pub mod Common
 -- Other crates cite lemmas of Accepted, CellFacts, CellTexts, FileFaults, Found, Headers, Inputs,
 -- InTurn, KeyPlaces, Members, Named, PlainBytes, Ranges, RowsLeft, SettingFacts, SettingsTold,
 -- StageCalls, WholeRules, WriteFacts, WrittenBack and WrittenColumns.

@@ -1,13 +1,9 @@
 -- The keys of settings that fit a stage are there, with values in their ranges.
-use Rattle.std.proofs.Common.{◌≡◌, ℕ, ℤ, pos, negsuc, ◌≤◌, ◌≤ℤ◌, ◌||◌, Bool, eqb-true, cond, true}
-use Rattle.std.proofs.Common.{false, List, [], ◌∷◌, map, Some, int_le, unsigned_abs, unwrap_or}
-use Rattle.std.proofs.Common.{option_map, refl, ap, subst, sym, ◌∙◌, arith}
-use Rattle.std.specs.List.{find, list_all, list_any}
-use Rattle.std.specs.Int.Signed.{le_z_yes}
-use Rattle.std.proofs.lemmas.Bool.{and_parts}
-use Rattle.std.proofs.lemmas.Float.{T_from_true}
-use Rattle.std.proofs.lemmas.Int.{ints}
-use Rattle.std.proofs.lemmas.Option.{same_Some}
+use Rattle.plan_num.proofs.Common.{◌≡◌, ℕ, ℤ, pos, negsuc, ◌≤◌, ◌≤ℤ◌, ◌||◌, Bool, eqb-true, cond}
+use Rattle.plan_num.proofs.Common.{true, false, List, [], ◌∷◌, map, Some, int_le, unsigned_abs}
+use Rattle.plan_num.proofs.Common.{unwrap_or, option_map, refl, ap, subst, sym, ◌∙◌, arith, find}
+use Rattle.plan_num.proofs.Common.{list_all, list_any, le_z_yes, and_parts, T_from_true, ints}
+use Rattle.plan_num.proofs.Common.{same_Some}
 use Rattle.giv_files.specs.declared.key.Key.{Key}
 use Rattle.giv_files.specs.declared.key.Key.TheVariants as key
 use Rattle.giv_files.specs.declared.setting.Setting.{Setting}

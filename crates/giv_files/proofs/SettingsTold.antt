@@ -1,19 +1,13 @@
 -- The text of settings tells them, among those that fit a stage.
-use Rattle.std.proofs.Common.{◌≡◌, ℕ, ℤ, ◌+◌, ◌<◌, ◌≤◌, ◌≤ℤ◌, ◌&&◌, ◌||◌, Bool, true, false, not}
-use Rattle.std.proofs.Common.{eqb, List, [], ◌∷◌, ◌++◌, length, map, take, drop, get_or, cond, zero}
-use Rattle.std.proofs.Common.{suc, pos, negsuc, neg_ℤ, true≢false, refl, ap, sym, subst, ◌∙◌, arith}
-use Rattle.std.proofs.Common.{codes, Option, Some, None, IfSome, int_le, append-nil, append_assoc}
-use Rattle.std.specs.List.{flat_map, list_all, list_any}
-use Rattle.std.specs.Str.{bytes_eq}
-use Rattle.std.specs.Fmt.{signed_decimal}
-use Rattle.std.proofs.lemmas.Bool.{and_parts, eq-eqb, eqb-true, not-true, or_parts}
-use Rattle.std.proofs.lemmas.Bool.Decides.{nat_tests}
-use Rattle.std.proofs.lemmas.Grind.{flat_map-append}
-use Rattle.std.proofs.lemmas.Int.{ints}
-use Rattle.std.proofs.lemmas.List.{append_cancel_left, take_all, take_more}
+use Rattle.plan_num.proofs.Common.{◌≡◌, ℕ, ℤ, ◌+◌, ◌<◌, ◌≤◌, ◌≤ℤ◌, ◌&&◌, ◌||◌, Bool, true, false}
+use Rattle.plan_num.proofs.Common.{not, eqb, List, [], ◌∷◌, ◌++◌, length, map, take, drop, get_or}
+use Rattle.plan_num.proofs.Common.{cond, zero, suc, pos, negsuc, neg_ℤ, true≢false, refl, ap, sym}
+use Rattle.plan_num.proofs.Common.{subst, ◌∙◌, arith, codes, Option, Some, None, IfSome, int_le}
+use Rattle.plan_num.proofs.Common.{append-nil, append_assoc, flat_map, list_all, list_any, bytes_eq}
+use Rattle.plan_num.proofs.Common.{signed_decimal, and_parts, eq-eqb, eqb-true, not-true, or_parts}
+use Rattle.plan_num.proofs.Common.{nat_tests, flat_map-append, ints, append_cancel_left, take_all}
+use Rattle.plan_num.proofs.Common.{take_more, same_Some, bytes_eq-Decides}
 use Rattle.std.proofs.lemmas.Map.Views.{any-filter_same}
-use Rattle.std.proofs.lemmas.Option.{same_Some}
-use Rattle.std.proofs.lemmas.Slice.Eq.{bytes_eq-Decides}
 use Rattle.plan_num.specs.Number.{is_number_byte}
 use Rattle.plan_num.specs.Print.{fixed_text}
 use Rattle.plan_num.proofs.ReadBack.{whole_back, fixed_back, whole_bytes, fixed_bytes}
@@ -28,10 +22,8 @@ use Rattle.giv_files.specs.KeyKinds.{all_word, greatest, least, none_word, spell
 use Rattle.giv_files.specs.Keys.{all_keys, allows, has_key, is_key, key_kind, key_name, stage_keys}
 use Rattle.giv_files.specs.Settings.{SettingsFit, is_allowed, value_of}
 use Rattle.giv_files.specs.SettingsText.{TellsSettings, key_line, settings_text, value_text, wait_text}
-use Rattle.tables.specs.Writing.{IsSmall}
-use Rattle.tables.proofs.CellTexts.{number_plain}
+use Rattle.tables.proofs.Common.{IsSmall, number_plain, all_weaker, is_plain, plain_is}
 use Rattle.giv_files.proofs.KeyPlaces.{same_key}
-use Rattle.tables.proofs.PlainBytes.{all_weaker, is_plain, plain_is}
 use Rattle.giv_files.proofs.SettingFacts.{among_all, key_there, value_allowed}
 
 -- one key more adds its line

@@ -1,16 +1,10 @@
 -- What the call of a stage gives, from the faults of its inputs and from what is made.
-use Rattle.std.proofs.Common.{◌≡◌, ◌⊎◌, ℕ, ◌+◌, Bool, true, List, [], ◌∷◌, refl, ap, subst, sym, ◌∙◌}
-use Rattle.std.proofs.Common.{Ok, Err, Result, inr, arith}
-use Rattle.std.specs.Prelude.{IfOk}
-use Rattle.std.proofs.lemmas.Option.{same_Some}
+use Rattle.plan_num.proofs.Common.{◌≡◌, ◌⊎◌, ℕ, ◌+◌, Bool, true, List, [], ◌∷◌, refl, ap, subst}
+use Rattle.plan_num.proofs.Common.{sym, ◌∙◌, Ok, Err, Result, inr, arith, IfOk, same_Some}
 use Rattle.giv_files.specs.declared.made.Made.{Made}
-use Rattle.tables.specs.declared.file_id.FileId.{FileId}
-use Rattle.tables.specs.declared.refusal.Refusal.{Refusal}
-use Rattle.tables.specs.declared.refusal.StageFault.{StageFault}
+use Rattle.tables.proofs.Common.{FileId, Refusal, StageFault, Refuses, NamesInput, NamesOnly}
+use Rattle.tables.proofs.Common.{AllName, names_only}
 use Rattle.tables.specs.declared.refusal.StageFault.TheVariants as stage
-use Rattle.tables.specs.Inputs.{Refuses}
-use Rattle.tables.specs.NamedFiles.{NamesInput, NamesOnly}
-use Rattle.tables.proofs.Named.{AllName, names_only}
 use Rattle.giv_files.specs.StageCalls.{StageGives, TakesSteps, after_faults, unless_fault, work_after}
 
 -- a fault that refuses the inputs is what the stage gives

@@ -1,13 +1,11 @@
 -- The keys of a stage, taken one after the other from all keys.
-use Rattle.std.proofs.Common.{◌≡◌, ℕ, ◌+◌, ◌<◌, ◌≤◌, ◌==◌, ◌↔◌, Bool, true, false, IsTrue, List, []}
-use Rattle.std.proofs.Common.{◌∷◌, ◌++◌, length, take, drop, get_or, slice_get, Some, cond, ap, sym}
-use Rattle.std.proofs.Common.{◌∙◌, arith}
-use Rattle.std.specs.List.{filter}
-use Rattle.std.proofs.lemmas.Bool.{eqb-true, eq-eqb}
-use Rattle.std.proofs.lemmas.List.{take_all, take_more, take-append-drop, append-nil, append_assoc, length-append, length-take-le}
-use Rattle.std.proofs.lemmas.List.Elements.{filter_more, filter-append}
-use Rattle.std.proofs.lemmas.Option.{slice_get_within, get_or_from_slice_get, slice_get-get_or}
-use Rattle.std.proofs.Math.Seq.{get_or-append_seam}
+use Rattle.plan_num.proofs.Common.{◌≡◌, ℕ, ◌+◌, ◌<◌, ◌≤◌, ◌==◌, ◌↔◌, Bool, true, false, IsTrue}
+use Rattle.plan_num.proofs.Common.{List, [], ◌∷◌, ◌++◌, length, take, drop, get_or, slice_get, Some}
+use Rattle.plan_num.proofs.Common.{cond, ap, sym, ◌∙◌, arith, filter, eqb-true, eq-eqb, take_all}
+use Rattle.plan_num.proofs.Common.{take_more, take-append-drop, append-nil, append_assoc}
+use Rattle.plan_num.proofs.Common.{length-append, length-take-le, filter_more, filter-append}
+use Rattle.plan_num.proofs.Common.{slice_get_within, get_or_from_slice_get, slice_get-get_or}
+use Rattle.plan_num.proofs.Common.{get_or-append_seam}
 
 module _ {X : Type 0} (test : X → Bool) (all own : List X) (i count : ℕ) (d : X)
     (h : i < length all) (is : test (get_or all i d) ≡ true)

@@ -1,20 +1,14 @@
 -- The net of the rows of a day.
-use Rattle.std.proofs.Common.{◌≡◌, ◌∙◌, ℕ, ◌+◌, ◌<◌, ◌≤◌, true, not, List, [], length, filter}
-use Rattle.std.proofs.Common.{get_or, map, zip, All, refl, ap, sym, subst, arith}
-use Rattle.std.specs.List.{range_with_len}
-use Rattle.std.proofs.lemmas.Bool.{leb-true}
-use Rattle.std.proofs.lemmas.List.{get_or-map, length-map}
-use Rattle.std.proofs.lemmas.List.Elements.{All-filter, All-map, filter_passes}
-use Rattle.std.proofs.lemmas.List.Filters.{length-filter_both}
-use Rattle.std.proofs.lemmas.List.FromFn.{get_or-range_with_len, length-range_with_len}
-use Rattle.std.proofs.lemmas.Slice.Zip.{get_or-zip, length-zip}
+use Rattle.plan_num.proofs.Common.{◌≡◌, ◌∙◌, ℕ, ◌+◌, ◌<◌, ◌≤◌, true, not, List, [], length, filter}
+use Rattle.plan_num.proofs.Common.{get_or, map, zip, All, refl, ap, sym, subst, arith}
+use Rattle.plan_num.proofs.Common.{range_with_len, leb-true, get_or-map, length-map, All-filter}
+use Rattle.plan_num.proofs.Common.{All-map, filter_passes, length-filter_both}
+use Rattle.plan_num.proofs.Common.{get_or-range_with_len, length-range_with_len, get_or-zip}
+use Rattle.plan_num.proofs.Common.{length-zip}
 use Rattle.connections.specs.declared.event_kind.EventKind.TheVariants as kind
-use Rattle.event_tables.specs.declared.expanded_activity.ExpandedActivity.{ExpandedActivity}
-use Rattle.event_tables.specs.declared.expanded_event.ExpandedEvent.{ExpandedEvent}
-use Rattle.event_tables.specs.Cells.{expanded_event}
-use Rattle.event_tables.specs.ExpandedFiles.{AreExpandedActivities, AreExpandedEvents, IsExpandedActivity}
-use Rattle.event_tables.specs.ForwardRanks.{forward_rank}
-use Rattle.event_tables.proofs.RanksRise.{at_places, rank_rises}
+use Rattle.event_tables.proofs.Common.{ExpandedActivity, ExpandedEvent, expanded_event}
+use Rattle.event_tables.proofs.Common.{AreExpandedActivities, AreExpandedEvents, IsExpandedActivity}
+use Rattle.event_tables.proofs.Common.{forward_rank, at_places, rank_rises}
 use Rattle.connections.specs.declared.connection.Connection.{Connection}
 use Rattle.connections.specs.declared.timed_event.TimedEvent.{TimedEvent}
 use Rattle.connections.specs.Nets.{IsConnection, JourneyParts, time_at}

@@ -1,12 +1,7 @@
 -- Planned times are not too great.
-use Rattle.std.proofs.Common.{◌≤◌, ◌≤ℤ◌, pos, List, map, All, arith}
-use Rattle.std.proofs.lemmas.Int.{ints}
-use Rattle.std.proofs.lemmas.List.Elements.{All-map, All-weaker}
-use Rattle.tables.specs.Columns.{events_x_columns}
-use Rattle.tables.specs.Writing.{InColumns}
-use Rattle.event_tables.specs.declared.expanded_event.ExpandedEvent.{ExpandedEvent}
-use Rattle.event_tables.specs.Cells.{expanded_event_cells}
-use Rattle.event_tables.specs.ExpandedFiles.{AreExpandedEvents}
+use Rattle.plan_num.proofs.Common.{◌≤◌, ◌≤ℤ◌, pos, List, map, All, arith, ints, All-map, All-weaker}
+use Rattle.tables.proofs.Common.{events_x_columns, InColumns}
+use Rattle.event_tables.proofs.Common.{ExpandedEvent, expanded_event_cells, AreExpandedEvents}
 use Rattle.connections.specs.declared.checked_net.TheConstants.{LATEST}
 
 high_of : (event : ExpandedEvent) → InColumns events_x_columns (expanded_event_cells event)

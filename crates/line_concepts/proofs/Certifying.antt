@@ -1,14 +1,12 @@
 -- Nodes have no fault where they certify a cost, and only there.
-use Rattle.std.proofs.Common.{◌≡◌, ℕ, ℤ, zero, suc, ◌+◌, ◌≤◌, ◌==◌, ◌∙◌, ◌↔◌, Bool, true, false}
-use Rattle.std.proofs.Common.{if◌then◌else◌, List, [], ◌∷◌, ◌++◌, length, slice_get, Option, Some}
-use Rattle.std.proofs.Common.{None, option_map, option_and_then, map, All, refl, ap, sym, arith}
-use Rattle.std.specs.List.{AllByRecursion, enumerate_from, flat_map}
-use Rattle.std.proofs.lemmas.Bool.{false≢true, ne_eqb}
-use Rattle.std.proofs.lemmas.List.{append_assoc, append-nil, length-append}
-use Rattle.std.proofs.lemmas.List.Elements.{All-set}
-use Rattle.line_cost_model.specs.declared.range.LineRange.{LineRange}
-use Rattle.line_cost_model.specs.Problems.{CostedLine, ProblemParts}
-use Rattle.line_cost_model.specs.Regions.{most_of, part_from, part_up_to, root_of}
+use Rattle.plan_num.proofs.Common.{◌≡◌, ℕ, ℤ, zero, suc, ◌+◌, ◌≤◌, ◌==◌, ◌∙◌, ◌↔◌, Bool, true}
+use Rattle.plan_num.proofs.Common.{false, if◌then◌else◌, List, [], ◌∷◌, ◌++◌, length, slice_get}
+use Rattle.plan_num.proofs.Common.{Option, Some, None, option_map, option_and_then, map, All, refl}
+use Rattle.plan_num.proofs.Common.{ap, sym, arith, AllByRecursion, enumerate_from, flat_map}
+use Rattle.plan_num.proofs.Common.{false≢true, ne_eqb, append_assoc, append-nil, length-append}
+use Rattle.plan_num.proofs.Common.{All-set}
+use Rattle.line_cost_model.proofs.Common.{LineRange, CostedLine, ProblemParts, most_of, part_from}
+use Rattle.line_cost_model.proofs.Common.{part_up_to, root_of}
 use Rattle.line_concepts.specs.declared.fault.TreeFault.{TreeFault}
 use Rattle.line_concepts.specs.declared.node.Node.{Node}
 use Rattle.line_concepts.specs.declared.node.Node.TheVariants as node

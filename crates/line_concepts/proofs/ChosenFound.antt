@@ -1,17 +1,12 @@
 -- The concept that a whole listing finds is the chosen one, and its nodes certify what it costs; what any
 -- first entries find is feasible.
-use Rattle.std.proofs.Common.{◌≡◌, ℕ, zero, suc, pos, ◌≤◌, List, [], ◌∷◌, ◌++◌, length, take}
-use Rattle.std.proofs.Common.{filter_map, Option, Some, None, IfSome, ⊎_elim, ap, sym, subst, ◌∙◌}
-use Rattle.std.proofs.Common.{arith}
-use Rattle.std.specs.List.{AllByRecursion, cons_option, last_or}
-use Rattle.std.proofs.lemmas.Int.{ints}
-use Rattle.std.proofs.lemmas.List.{length-map}
-use Rattle.line_cost_model.specs.declared.range.LineRange.{LineRange}
-use Rattle.line_cost_model.specs.Chosen.{ComesBefore, IsChosen}
-use Rattle.line_cost_model.specs.Concepts.{IsFeasible, cost_of}
-use Rattle.line_cost_model.specs.Problems.{CostedLine, IsProblem, ProblemParts}
-use Rattle.line_cost_model.specs.Regions.{most_of, range_of, root_of}
-use Rattle.line_cost_model.proofs.Roots.{root_has_each}
+use Rattle.plan_num.proofs.Common.{◌≡◌, ℕ, zero, suc, pos, ◌≤◌, List, [], ◌∷◌, ◌++◌, length, take}
+use Rattle.plan_num.proofs.Common.{filter_map, Option, Some, None, IfSome, ⊎_elim, ap, sym, subst}
+use Rattle.plan_num.proofs.Common.{◌∙◌, arith, AllByRecursion, cons_option, last_or, ints}
+use Rattle.plan_num.proofs.Common.{length-map}
+use Rattle.line_cost_model.proofs.Common.{LineRange, ComesBefore, IsChosen, IsFeasible, cost_of}
+use Rattle.line_cost_model.proofs.Common.{CostedLine, IsProblem, ProblemParts, most_of, range_of}
+use Rattle.line_cost_model.proofs.Common.{root_of, root_has_each}
 use Rattle.line_concepts.specs.Certified.{Certifies}
 use Rattle.line_concepts.specs.declared.node.Node.TheVariants as node
 use Rattle.line_concepts.specs.Budgets.{nodes_in}

@@ -1,14 +1,12 @@
 -- The concepts of a region are those that lie in it, and as many as are counted.
-use Rattle.std.proofs.Common.{◌≡◌, ℕ, zero, suc, ◌+◌, ◌-◌, ◌*◌, ◌<◌, ◌≤◌, List, [], ◌∷◌, ◌++◌, ◌≢◌}
-use Rattle.std.proofs.Common.{get_or, length, map, All, refl, ap, subst, arith}
-use Rattle.std.specs.List.{AllPairs, Contains, flat_map, range_with_len}
-use Rattle.std.proofs.lemmas.List.{length-append, length-map}
-use Rattle.std.proofs.lemmas.List.Elements.{All-append, All-cons, All-contains, All-head}
-use Rattle.std.proofs.lemmas.List.Elements.{All-map, All-nil, All-tail}
-use Rattle.std.proofs.lemmas.List.Kept.{AllPairs-cons}
-use Rattle.std.proofs.lemmas.List.Elements.{All-weaker, Contains-append_left, Contains-append_right}
-use Rattle.line_cost_model.specs.declared.range.LineRange.{LineRange}
-use Rattle.line_cost_model.specs.Regions.{LiesIn, concept_count, concepts_in}
+use Rattle.plan_num.proofs.Common.{◌≡◌, ℕ, zero, suc, ◌+◌, ◌-◌, ◌*◌, ◌<◌, ◌≤◌, List, [], ◌∷◌, ◌++◌}
+use Rattle.plan_num.proofs.Common.{◌≢◌, get_or, length, map, All, refl, ap, subst, arith, AllPairs}
+use Rattle.plan_num.proofs.Common.{Contains, flat_map, range_with_len, length-append, length-map}
+use Rattle.plan_num.proofs.Common.{All-append, All-cons, All-contains, All-head, All-map, All-nil}
+use Rattle.plan_num.proofs.Common.{All-tail, AllPairs-cons, All-weaker, Contains-append_left}
+use Rattle.plan_num.proofs.Common.{Contains-append_right}
+use Rattle.line_cost_model.proofs.Common.{LineRange, LiesIn}
+use Rattle.line_cost_model.specs.Regions.{concept_count, concepts_in}
 use Rattle.line_concepts.specs.RightSearches.{AreListed}
 
 -- a frequency in front of each of some concepts

@@ -1,21 +1,15 @@
 -- The first open line of a region is the first of the dearest open lines, since ids of lines rise.
-use Rattle.std.proofs.Common.{◌≡◌, ℕ, ℤ, zero, suc, pos, ◌+◌, ◌≤◌, ◌<◌, ◌<ℤ◌, ◌&&◌, not, Bool, true}
-use Rattle.std.proofs.Common.{false, cond, int_lt, int_le, List, [], ◌∷◌, ◌++◌, length, map}
-use Rattle.std.proofs.Common.{filter, find, fold, drop, zip, slice_get, refl, arith, ap, sym, subst}
-use Rattle.std.proofs.Common.{◌∙◌, Option, Some, None, option_map}
-use Rattle.std.proofs.lemmas.Bool.{false_from_ne_true}
-use Rattle.std.proofs.lemmas.Int.{ints}
-use Rattle.std.proofs.lemmas.List.{append_assoc, drop_all}
-use Rattle.std.specs.Bool.{⊤}
-use Rattle.std.specs.List.{AllByRecursion, enumerate_from, list_all}
+use Rattle.plan_num.proofs.Common.{◌≡◌, ℕ, ℤ, zero, suc, pos, ◌+◌, ◌≤◌, ◌<◌, ◌<ℤ◌, ◌&&◌, not, Bool}
+use Rattle.plan_num.proofs.Common.{true, false, cond, int_lt, int_le, List, [], ◌∷◌, ◌++◌, length}
+use Rattle.plan_num.proofs.Common.{map, filter, find, fold, drop, zip, slice_get, refl, arith, ap}
+use Rattle.plan_num.proofs.Common.{sym, subst, ◌∙◌, Option, Some, None, option_map}
+use Rattle.plan_num.proofs.Common.{false_from_ne_true, ints, append_assoc, drop_all, ⊤}
+use Rattle.plan_num.proofs.Common.{AllByRecursion, enumerate_from, list_all, int_cmp}
 use Rattle.std.specs.List.Sorted.{IsStrictlySortedBy}
-use Rattle.std.specs.Ordering.{int_cmp}
 use Rattle.std.specs.declared.cmp.Ordering.TheVariants.{Less}
 use Rattle.std.proofs.Math.Bool.{and-false as never}
-use Rattle.line_cost_model.specs.declared.range.LineRange.{LineRange}
-use Rattle.line_cost_model.specs.Problems.{CostedLine, ProblemParts}
-use Rattle.line_cost_model.specs.Chosen.{stands_before}
-use Rattle.line_cost_model.specs.Regions.{has_several, range_of}
+use Rattle.line_cost_model.proofs.Common.{LineRange, CostedLine, ProblemParts, stands_before}
+use Rattle.line_cost_model.proofs.Common.{has_several, range_of}
 use Rattle.line_concepts.specs.Listings.{first_among, first_open}
 use Rattle.line_concepts.specs.Searches.{dearer}
 use Rattle.line_concepts.proofs.Lengths.{open_from, all_map as all_by}

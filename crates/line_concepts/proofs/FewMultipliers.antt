@@ -1,16 +1,11 @@
 -- How many multipliers a bound can have: no more than there are edges, and these have ids.
-use Rattle.std.proofs.Common.{◌≡◌, ℕ, ℤ, suc, pos, ◌+◌, ◌<◌, ◌≤◌, ◌≤ℤ◌, ◌<ℤ◌, int_lt, arith, T}
-use Rattle.std.proofs.Common.{Bool, true, false, cond, List, [], ◌∷◌, length, get_or, map, All}
-use Rattle.std.specs.List.{AllByRecursion}
-use Rattle.std.specs.List.Sorted.{IsStrictlySortedBy, IsStrictlyIncreasing}
-use Rattle.std.specs.Ordering.{int_cmp}
+use Rattle.plan_num.proofs.Common.{◌≡◌, ℕ, ℤ, suc, pos, ◌+◌, ◌<◌, ◌≤◌, ◌≤ℤ◌, ◌<ℤ◌, int_lt, arith, T}
+use Rattle.plan_num.proofs.Common.{Bool, true, false, cond, List, [], ◌∷◌, length, get_or, map, All}
+use Rattle.plan_num.proofs.Common.{AllByRecursion, IsStrictlyIncreasing, int_cmp, ints, length-map}
+use Rattle.std.specs.List.Sorted.{IsStrictlySortedBy}
 use Rattle.std.specs.declared.cmp.Ordering.TheVariants.{Less, Equal, Greater}
-use Rattle.std.proofs.lemmas.Int.{ints}
-use Rattle.std.proofs.lemmas.List.{length-map}
-use Rattle.line_cost_model.specs.declared.edge.BoundedEdge.{BoundedEdge}
-use Rattle.line_cost_model.specs.declared.multipliers.Multiplier.{Multiplier}
-use Rattle.line_cost_model.specs.Multipliers.{AreMultipliers}
-use Rattle.line_cost_model.specs.Problems.{IsBoundedEdge, IsProblem, ProblemParts}
+use Rattle.line_cost_model.proofs.Common.{BoundedEdge, Multiplier, AreMultipliers, IsBoundedEdge}
+use Rattle.line_cost_model.proofs.Common.{IsProblem, ProblemParts}
 use Rattle.plan_num.proofs.Tests.{less_is}
 
 -- ---- edges that rise

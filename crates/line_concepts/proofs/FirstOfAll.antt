@@ -1,11 +1,9 @@
 -- The first fault of nodes: that of their shape, or else the first of the nodes over their regions.
-use Rattle.std.proofs.Common.{◌≡◌, ℤ, ◌+◌, ◌∙◌, ◌↔◌, arith, List, [], ◌∷◌, ◌++◌, length, slice_get}
-use Rattle.std.proofs.Common.{Option, Some, None, Result, Ok, Err, IfNone, IfOk, refl, ap, sym}
-use Rattle.std.proofs.lemmas.Bool.{false≢true}
-use Rattle.std.proofs.lemmas.List.{append_assoc, append-nil}
-use Rattle.line_cost_model.specs.declared.range.LineRange.{LineRange}
-use Rattle.line_cost_model.specs.Problems.{ProblemParts}
-use Rattle.line_cost_model.specs.Regions.{HasEachFeasible, part_from, part_up_to, root_of}
+use Rattle.plan_num.proofs.Common.{◌≡◌, ℤ, ◌+◌, ◌∙◌, ◌↔◌, arith, List, [], ◌∷◌, ◌++◌, length}
+use Rattle.plan_num.proofs.Common.{slice_get, Option, Some, None, Result, Ok, Err, IfNone, IfOk}
+use Rattle.plan_num.proofs.Common.{refl, ap, sym, false≢true, append_assoc, append-nil}
+use Rattle.line_cost_model.proofs.Common.{LineRange, ProblemParts, HasEachFeasible, part_from}
+use Rattle.line_cost_model.proofs.Common.{part_up_to, root_of}
 use Rattle.line_concepts.specs.declared.fault.TreeFault.{TreeFault}
 use Rattle.line_concepts.specs.declared.node.Node.{Node}
 use Rattle.line_concepts.specs.declared.node.Node.TheVariants as node

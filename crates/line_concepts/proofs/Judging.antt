@@ -2,9 +2,7 @@
 use Rattle.std.proofs.Common.{◌≡◌, ℕ, ℤ, ◌+◌, ◌≤◌, ◌∙◌, Bool, true, false, if◌then◌else◌, List, []}
 use Rattle.std.proofs.Common.{◌∷◌, length, drop, slice_get, Some, All, refl, ap, sym, arith}
 use Rattle.std.proofs.lemmas.List.{drop_all, length-map}
-use Rattle.line_cost_model.specs.declared.range.LineRange.{LineRange}
-use Rattle.line_cost_model.specs.Problems.{ProblemParts}
-use Rattle.line_cost_model.specs.Regions.{most_of, root_of}
+use Rattle.line_cost_model.proofs.Common.{LineRange, ProblemParts, most_of, root_of, holds_at}
 use Rattle.line_concepts.specs.declared.fault.TreeFault.TheVariants as fault
 use Rattle.line_concepts.specs.declared.first_faults.FirstFaults.{FirstFaults}
 use Rattle.line_concepts.specs.declared.node.Node.{Node}
@@ -12,7 +10,6 @@ use Rattle.line_concepts.specs.TreeFaults.{placed_faults, splits_outside}
 use Rattle.line_concepts.specs.Trees.{PlacedNode}
 use Rattle.line_concepts.specs.declared.node.Node.TheVariants as node
 use Rattle.line_concepts.specs.Nodes.{NamesWhatIs}
-use Rattle.line_cost_model.proofs.Proving.{holds_at}
 use Rattle.line_concepts.specs.Walks.{SplitsOne, WalkedRegions, behind_node, first_by_kind, noted}
 use Rattle.line_concepts.specs.Walks.{walked}
 use Rattle.line_concepts.proofs.FirstPlaces.{at_node, first_is, first_of_all, judged, no_place}

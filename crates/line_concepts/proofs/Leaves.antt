@@ -1,20 +1,13 @@
 -- A leaf that passes each test shows what it is to show, and the other way.
-use Rattle.std.proofs.Common.{◌≡◌, ℕ, ℤ, pos, ◌≤◌, ◌≤ℤ◌, ◌||◌, not, Bool, true, false, T, nat_le}
-use Rattle.std.proofs.Common.{int_le, List, [], ◌∷◌, All, zero, suc, refl, ap, sym, arith}
-use Rattle.std.specs.Int.Signed.{le_z_yes}
-use Rattle.std.specs.List.{list_any}
-use Rattle.std.proofs.lemmas.Bool.{false≢true, leb-true, le-leb, ltb-true, ltb-false, le-ltb}
-use Rattle.std.proofs.lemmas.Float.{T_from_true}
-use Rattle.std.proofs.lemmas.List.Sums.{AllPass-from_list_all, list_all-from_AllPass}
-use Rattle.line_cost_model.specs.declared.edge.BoundedEdge.{BoundedEdge}
-use Rattle.line_cost_model.specs.declared.multipliers.Multiplier.{Multiplier}
-use Rattle.line_cost_model.specs.declared.range.LineRange.{LineRange}
-use Rattle.line_cost_model.specs.declared.side.Side.{Side}
+use Rattle.plan_num.proofs.Common.{◌≡◌, ℕ, ℤ, pos, ◌≤◌, ◌≤ℤ◌, ◌||◌, not, Bool, true, false, T}
+use Rattle.plan_num.proofs.Common.{nat_le, int_le, List, [], ◌∷◌, All, zero, suc, refl, ap, sym}
+use Rattle.plan_num.proofs.Common.{arith, le_z_yes, list_any, false≢true, leb-true, le-leb}
+use Rattle.plan_num.proofs.Common.{ltb-true, ltb-false, le-ltb, T_from_true, AllPass-from_list_all}
+use Rattle.plan_num.proofs.Common.{list_all-from_AllPass, not-false, or_parts}
+use Rattle.line_cost_model.proofs.Common.{BoundedEdge, Multiplier, LineRange, Side, bound_by}
+use Rattle.line_cost_model.proofs.Common.{open_lines, taken_off, is_empty_on, ProblemParts}
+use Rattle.line_cost_model.proofs.Common.{IsEmptyAt, has_several}
 use Rattle.line_cost_model.specs.declared.side.Side.TheVariants as side
-use Rattle.line_cost_model.specs.DualBounds.{bound_by, open_lines, taken_off}
-use Rattle.line_cost_model.specs.EmptySides.{is_empty_on}
-use Rattle.line_cost_model.specs.Problems.{ProblemParts}
-use Rattle.line_cost_model.specs.Regions.{IsEmptyAt, has_several}
 use Rattle.line_concepts.specs.declared.node.Node.{Node}
 use Rattle.line_concepts.specs.declared.node.Node.TheVariants as node
 use Rattle.line_concepts.specs.Certified.{LeafCertifies, ShowsBound, ShowsEmpty, ShowsPoint}
@@ -22,7 +15,6 @@ use Rattle.line_concepts.specs.Certified.{SplitsInside}
 use Rattle.line_concepts.specs.TreeFaults.{splits_outside, is_not_empty, exceeds_costs, is_below}
 use Rattle.line_concepts.specs.TreeFaults.{is_no_point}
 use Rattle.line_concepts.specs.Trees.{is_split}
-use Rattle.std.proofs.lemmas.Bool.{not-false, or_parts}
 use Rattle.plan_num.proofs.Tests.{is_true}
 
 -- a node over a region passes each test

@@ -1,20 +1,14 @@
 -- A listing is no longer than twice the concepts of its region, less one.
-use Rattle.std.proofs.Common.{◌≡◌, ℕ, zero, suc, ◌+◌, ◌-◌, ◌*◌, ◌/◌, ◌≤◌, ◌<◌, Bool, true, false}
-use Rattle.std.proofs.Common.{cond, nat_le, List, [], ◌∷◌, length, map, filter, find, zip, arith}
-use Rattle.std.proofs.Common.{Option, Some, None, option_map, unwrap_or, IfSome, sym, subst}
-use Rattle.std.proofs.Common.{length-append}
-use Rattle.std.proofs.lemmas.Bool.{ltb-true, cases_Bool}
-use Rattle.std.proofs.lemmas.Option.{IfSome_then}
-use Rattle.std.specs.List.{AllByRecursion, enumerate_from}
-use Rattle.line_cost_model.specs.declared.multipliers.Multiplier.{Multiplier}
-use Rattle.line_cost_model.specs.declared.edge.BoundedEdge.{BoundedEdge}
-use Rattle.line_cost_model.specs.declared.range.LineRange.{LineRange}
-use Rattle.line_cost_model.specs.declared.side.Side.{Side}
-use Rattle.line_cost_model.specs.Problems.{CostedLine, ProblemParts}
-use Rattle.line_cost_model.specs.Concepts.{cost_of}
-use Rattle.line_cost_model.specs.DualBounds.{dual_bound, multipliers_of}
-use Rattle.line_cost_model.specs.Regions.{most_of, concept_count, empty_edge, has_several}
-use Rattle.line_cost_model.specs.Regions.{part_from, part_up_to, range_of, root_of}
+use Rattle.plan_num.proofs.Common.{◌≡◌, ℕ, zero, suc, ◌+◌, ◌-◌, ◌*◌, ◌/◌, ◌≤◌, ◌<◌, Bool, true}
+use Rattle.plan_num.proofs.Common.{false, cond, nat_le, List, [], ◌∷◌, length, map, filter, find}
+use Rattle.plan_num.proofs.Common.{zip, arith, Option, Some, None, option_map, unwrap_or, IfSome}
+use Rattle.plan_num.proofs.Common.{sym, subst, length-append, ltb-true, cases_Bool, IfSome_then}
+use Rattle.plan_num.proofs.Common.{AllByRecursion, enumerate_from}
+use Rattle.line_cost_model.proofs.Common.{Multiplier, BoundedEdge, LineRange, Side, CostedLine}
+use Rattle.line_cost_model.proofs.Common.{ProblemParts, cost_of, dual_bound, multipliers_of}
+use Rattle.line_cost_model.proofs.Common.{most_of, empty_edge, has_several, part_from, part_up_to}
+use Rattle.line_cost_model.proofs.Common.{range_of, root_of}
+use Rattle.line_cost_model.specs.Regions.{concept_count}
 use Rattle.line_concepts.specs.declared.node.Node.{Node}
 use Rattle.line_concepts.specs.declared.node.Node.TheVariants as node
 use Rattle.line_concepts.specs.Firsts.{first_of}

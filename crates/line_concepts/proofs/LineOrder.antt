@@ -1,14 +1,10 @@
 -- The order of lines, and the first line of a list in it.
-use Rattle.std.proofs.Common.{◌≡◌, ℕ, ℤ, ◌<◌, ◌<ℤ◌, Bool, true, false, not, nat_lt, int_lt, List}
-use Rattle.std.proofs.Common.{[], ◌∷◌, find, None, IfSome, ◌⊎◌, inl, inr, ⊎_elim, refl, ap, sym}
-use Rattle.std.proofs.Common.{◌∙◌, arith}
-use Rattle.std.proofs.lemmas.Int.{ints}
-use Rattle.std.specs.List.{list_all}
-use Rattle.std.proofs.lemmas.Bool.{and_parts, and_from, false_from_ne_true, true≢false, lt-ltb}
-use Rattle.std.proofs.lemmas.Bool.{eq-eqb, cases_Bool, true_from_ne_false, or_right}
-use Rattle.std.proofs.lemmas.Option.{IfSome_then}
-use Rattle.line_cost_model.specs.Chosen.{stands_before}
-use Rattle.line_cost_model.specs.Problems.{CostedLine}
+use Rattle.plan_num.proofs.Common.{◌≡◌, ℕ, ℤ, ◌<◌, ◌<ℤ◌, Bool, true, false, not, nat_lt, int_lt}
+use Rattle.plan_num.proofs.Common.{List, [], ◌∷◌, find, None, IfSome, ◌⊎◌, inl, inr, ⊎_elim, refl}
+use Rattle.plan_num.proofs.Common.{ap, sym, ◌∙◌, arith, ints, list_all, and_parts, and_from}
+use Rattle.plan_num.proofs.Common.{false_from_ne_true, true≢false, lt-ltb, eq-eqb, cases_Bool}
+use Rattle.plan_num.proofs.Common.{true_from_ne_false, or_right, IfSome_then}
+use Rattle.line_cost_model.proofs.Common.{stands_before, CostedLine}
 
 -- ---- a list has a least element
 

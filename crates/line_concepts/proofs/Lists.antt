@@ -1,14 +1,11 @@
 -- What is at a place of a list, and what stands before it.
-use Rattle.std.proofs.Common.{◌≡◌, ℕ, zero, suc, ℤ, pos, ◌<◌, ◌<ℤ◌, arith, List, [], ◌∷◌, length}
-use Rattle.std.proofs.Common.{map, take, get_or, slice_get, zip, ap, subst, sym, ◌∙◌, Some}
-use Rattle.std.specs.List.{All}
-use Rattle.std.specs.List.Sorted.{IsStrictlySortedBy}
-use Rattle.std.specs.Ordering.{int_cmp, MatchOrdering}
+use Rattle.plan_num.proofs.Common.{◌≡◌, ℕ, zero, suc, ℤ, pos, ◌<◌, ◌<ℤ◌, arith, List, [], ◌∷◌}
+use Rattle.plan_num.proofs.Common.{length, map, take, get_or, slice_get, zip, ap, subst, sym, ◌∙◌}
+use Rattle.plan_num.proofs.Common.{Some, All, IsStrictlySortedBy, int_cmp, MatchOrdering}
+use Rattle.plan_num.proofs.Common.{get_or-map, length-map, length-take-le, get_or-take}
+use Rattle.plan_num.proofs.Common.{Less-from_sorted, get_or_from_slice_get, slice_get_within}
+use Rattle.plan_num.proofs.Common.{none-some, int_ranks}
 use Rattle.std.specs.declared.cmp.Ordering.TheVariants.{Less}
-use Rattle.std.proofs.lemmas.List.{get_or-map, length-map, length-take-le, get_or-take}
-use Rattle.std.proofs.lemmas.Map.Keys.{Less-from_sorted}
-use Rattle.std.proofs.lemmas.Option.{get_or_from_slice_get, slice_get_within, none-some}
-use Rattle.std.specs.Cmp.{int_ranks}
 use Rattle.plan_num.proofs.Tests.{less_is}
 
 -- two at a place are a pair there

@@ -1,17 +1,13 @@
 -- No concept of the upper part of a split at the first open line comes before one of the lower part.
-use Rattle.std.proofs.Common.{◌≡◌, ◌≢◌, ℕ, zero, suc, pos, ◌+◌, ◌-◌, ◌<◌, ◌≤◌, ◌<ℤ◌, true, not}
-use Rattle.std.proofs.Common.{List, [], ◌∷◌, length, map, find, get_or, slice_get, Option, Some}
-use Rattle.std.proofs.Common.{None, IfSome, option_map, ◌⊎◌, inl, inr, ap, sym, subst, ◌∙◌, arith}
-use Rattle.std.specs.List.{list_all}
-use Rattle.std.specs.Ordering.{int_cmp}
-use Rattle.std.proofs.lemmas.Bool.{cases_Bool, cases_lt}
-use Rattle.std.proofs.lemmas.List.{get_or-map, length-map}
-use Rattle.std.proofs.lemmas.Map.Keys.{Less-from_sorted}
-use Rattle.std.proofs.lemmas.Option.{get_or_from_slice_get, slice_get_within, none-some}
-use Rattle.line_cost_model.specs.declared.range.LineRange.{LineRange}
-use Rattle.line_cost_model.specs.Chosen.{ComesBefore, stands_before}
-use Rattle.line_cost_model.specs.Problems.{CostedLine, IsProblem, ProblemParts}
-use Rattle.line_cost_model.specs.Regions.{LiesIn, has_several, part_from, part_up_to}
+use Rattle.plan_num.proofs.Common.{◌≡◌, ◌≢◌, ℕ, zero, suc, pos, ◌+◌, ◌-◌, ◌<◌, ◌≤◌, ◌<ℤ◌, true, not}
+use Rattle.plan_num.proofs.Common.{List, [], ◌∷◌, length, map, find, get_or, slice_get, Option}
+use Rattle.plan_num.proofs.Common.{Some, None, IfSome, option_map, ◌⊎◌, inl, inr, ap, sym, subst}
+use Rattle.plan_num.proofs.Common.{◌∙◌, arith, list_all, int_cmp, cases_Bool, cases_lt, get_or-map}
+use Rattle.plan_num.proofs.Common.{length-map, Less-from_sorted, get_or_from_slice_get}
+use Rattle.plan_num.proofs.Common.{slice_get_within, none-some}
+use Rattle.line_cost_model.proofs.Common.{LineRange, ComesBefore, stands_before, CostedLine}
+use Rattle.line_cost_model.proofs.Common.{IsProblem, ProblemParts, LiesIn, has_several, part_from}
+use Rattle.line_cost_model.proofs.Common.{part_up_to}
 use Rattle.line_concepts.specs.Listings.{first_open, open_at}
 use Rattle.line_concepts.proofs.Lengths.{IsOpenAt, open_from}
 use Rattle.line_concepts.proofs.LineOrder.{IsOneOf, all_have, found_passes, stands_behind}

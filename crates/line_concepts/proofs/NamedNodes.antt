@@ -1,18 +1,13 @@
 -- What is said of a region names lines and edges that are there.
-use Rattle.std.proofs.Common.{◌≡◌, ℕ, ◌+◌, ◌≤◌, ◌<◌, true, false, cond, List, [], ◌∷◌, length}
-use Rattle.std.proofs.Common.{filter_map, fold, slice_get, arith, Option, Some, None, option_map}
-use Rattle.std.proofs.Common.{IfSome, All, ap, sym, subst, nat_le}
-use Rattle.std.proofs.lemmas.List.Elements.{All-nil, All-append}
-use Rattle.std.specs.List.{enumerate_from}
-use Rattle.line_cost_model.specs.declared.edge.BoundedEdge.{BoundedEdge}
-use Rattle.line_cost_model.specs.declared.multipliers.Multiplier.{Multiplier}
-use Rattle.line_cost_model.specs.declared.range.LineRange.{LineRange}
-use Rattle.line_cost_model.specs.declared.side.Side.{Side}
-use Rattle.line_cost_model.specs.Problems.{CostedLine, ProblemParts}
-use Rattle.line_cost_model.specs.Concepts.{cost_of}
-use Rattle.line_cost_model.specs.DualBounds.{dual_bound, multipliers_of, next_multiplier}
-use Rattle.line_cost_model.specs.DualBounds.{unless_zero, with_next}
-use Rattle.line_cost_model.specs.Regions.{empty_edge, empty_side}
+use Rattle.plan_num.proofs.Common.{◌≡◌, ℕ, ◌+◌, ◌≤◌, ◌<◌, true, false, cond, List, [], ◌∷◌, length}
+use Rattle.plan_num.proofs.Common.{filter_map, fold, slice_get, arith, Option, Some, None}
+use Rattle.plan_num.proofs.Common.{option_map, IfSome, All, ap, sym, subst, nat_le, All-nil}
+use Rattle.plan_num.proofs.Common.{All-append, enumerate_from}
+use Rattle.line_cost_model.proofs.Common.{BoundedEdge, Multiplier, LineRange, Side, CostedLine}
+use Rattle.line_cost_model.proofs.Common.{ProblemParts, cost_of, dual_bound, next_multiplier}
+use Rattle.line_cost_model.proofs.Common.{unless_zero, with_next, empty_side}
+use Rattle.line_cost_model.specs.DualBounds.{multipliers_of}
+use Rattle.line_cost_model.specs.Regions.{empty_edge}
 use Rattle.line_concepts.specs.declared.node.Node.{Node}
 use Rattle.line_concepts.specs.declared.node.Node.TheVariants as node
 use Rattle.line_concepts.specs.Listings.{as_bound, first_open}

@@ -1,13 +1,8 @@
 -- What a search finds is right, and its listing is whole.
-use Rattle.std.proofs.Common.{◌≡◌, ℕ, pos, ◌∙◌, Bool, true, false, nat_le, List, length, take}
-use Rattle.std.proofs.Common.{Option, Some, None, IfSome, IfOk, Result, Ok, Err, if◌then◌else◌}
-use Rattle.std.proofs.Common.{refl}
-use Rattle.std.proofs.Common.{arith, ap, sym, subst}
-use Rattle.std.proofs.lemmas.Bool.{le-leb, leb-true}
-use Rattle.std.proofs.lemmas.List.{take_all}
-use Rattle.line_cost_model.specs.Chosen.{IsChosen}
-use Rattle.line_cost_model.specs.Concepts.{IsFeasible, cost_of}
-use Rattle.line_cost_model.specs.Problems.{IsProblem, ProblemParts}
+use Rattle.plan_num.proofs.Common.{◌≡◌, ℕ, pos, ◌∙◌, Bool, true, false, nat_le, List, length, take}
+use Rattle.plan_num.proofs.Common.{Option, Some, None, IfSome, IfOk, Result, Ok, Err, if◌then◌else◌}
+use Rattle.plan_num.proofs.Common.{refl, arith, ap, sym, subst, le-leb, leb-true, take_all}
+use Rattle.line_cost_model.proofs.Common.{IsChosen, IsFeasible, cost_of, IsProblem, ProblemParts}
 use Rattle.line_concepts.specs.Certified.{Certifies}
 use Rattle.line_concepts.specs.Budgets.{nodes_in}
 use Rattle.line_concepts.specs.Listings.{Entry, best_after, listing}

@@ -1,20 +1,15 @@
 -- What is known of a region by what is said of it.
-use Rattle.std.proofs.Common.{◌≡◌, ℕ, zero, suc, ◌+◌, ◌-◌, ◌<◌, ◌≤◌, Bool, true, false, cond}
-use Rattle.std.proofs.Common.{nat_le, List, [], ◌∷◌, length, filter_map, slice_get, Option, Some}
-use Rattle.std.proofs.Common.{None, IfSome, option_map, unwrap_or, refl, ap, sym, subst, ◌∙◌, arith}
-use Rattle.std.proofs.Common.{inl, inr}
-use Rattle.std.specs.List.{AllByRecursion, cons_option, enumerate_from}
-use Rattle.std.proofs.lemmas.List.{length-map}
-use Rattle.std.proofs.lemmas.Option.{none-some}
-use Rattle.std.proofs.lemmas.Bool.{ltb-false, leb-true, leb-false, cases_Bool}
-use Rattle.line_cost_model.specs.declared.edge.BoundedEdge.{BoundedEdge}
-use Rattle.line_cost_model.specs.declared.range.LineRange.{LineRange}
-use Rattle.line_cost_model.specs.declared.side.Side.{Side}
-use Rattle.line_cost_model.specs.Concepts.{IsFeasible, cost_of, frequency_on}
-use Rattle.line_cost_model.specs.DualBounds.{dual_bound, multipliers_of}
-use Rattle.line_cost_model.specs.Problems.{CostedLine, ProblemParts}
-use Rattle.line_cost_model.specs.Regions.{IsEmptyAt, empty_edge, empty_edges, empty_side}
-use Rattle.line_cost_model.specs.Regions.{greatest_in, has_several, least_in, range_of}
+use Rattle.plan_num.proofs.Common.{◌≡◌, ℕ, zero, suc, ◌+◌, ◌-◌, ◌<◌, ◌≤◌, Bool, true, false, cond}
+use Rattle.plan_num.proofs.Common.{nat_le, List, [], ◌∷◌, length, filter_map, slice_get, Option}
+use Rattle.plan_num.proofs.Common.{Some, None, IfSome, option_map, unwrap_or, refl, ap, sym, subst}
+use Rattle.plan_num.proofs.Common.{◌∙◌, arith, inl, inr, AllByRecursion, cons_option}
+use Rattle.plan_num.proofs.Common.{enumerate_from, length-map, none-some, ltb-false, leb-true}
+use Rattle.plan_num.proofs.Common.{leb-false, cases_Bool}
+use Rattle.line_cost_model.proofs.Common.{BoundedEdge, LineRange, Side, IsFeasible, cost_of}
+use Rattle.line_cost_model.proofs.Common.{frequency_on, dual_bound, multipliers_of, CostedLine}
+use Rattle.line_cost_model.proofs.Common.{ProblemParts, IsEmptyAt, empty_edges, empty_side}
+use Rattle.line_cost_model.proofs.Common.{greatest_in, has_several, least_in, range_of}
+use Rattle.line_cost_model.specs.Regions.{empty_edge}
 use Rattle.line_concepts.specs.declared.node.Node.{Node}
 use Rattle.line_concepts.specs.declared.node.Node.TheVariants as node
 use Rattle.line_concepts.specs.Certified.{ShowsEmpty}

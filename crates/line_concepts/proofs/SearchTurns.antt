@@ -1,16 +1,11 @@
 -- A search entry by entry, and what it found at its end.
-use Rattle.std.proofs.Common.{◌≡◌, ℕ, ◌+◌, ◌≤◌, ◌<◌, ◌∙◌, Bool, if◌then◌else◌, List, [], ◌∷◌, ◌++◌}
-use Rattle.std.proofs.Common.{length, take, arith, ap, sym, subst, Option, Some, None, All, Result}
-use Rattle.std.proofs.Common.{Ok, Err, OnErr, true, false}
-use Rattle.std.proofs.lemmas.Bool.{le-leb, lt-leb}
-use Rattle.std.proofs.lemmas.List.{append_assoc, append-nil, length-append, map-append, take_all}
-use Rattle.std.proofs.lemmas.List.Elements.{All-nil, All-push}
-use Rattle.std.proofs.Math.Nat.{le-min, min-eq_left, min-eq_right}
-use Rattle.std.proofs.Math.Seq.{take-append_seam}
-use Rattle.std.specs.List.{AllByRecursion}
-use Rattle.line_cost_model.specs.declared.range.LineRange.{LineRange}
-use Rattle.line_cost_model.specs.Problems.{ProblemParts}
-use Rattle.line_cost_model.specs.Regions.{root_of}
+use Rattle.plan_num.proofs.Common.{◌≡◌, ℕ, ◌+◌, ◌≤◌, ◌<◌, ◌∙◌, Bool, if◌then◌else◌, List, [], ◌∷◌}
+use Rattle.plan_num.proofs.Common.{◌++◌, length, take, arith, ap, sym, subst, Option, Some, None}
+use Rattle.plan_num.proofs.Common.{All, Result, Ok, Err, OnErr, true, false, le-leb, lt-leb}
+use Rattle.plan_num.proofs.Common.{append_assoc, append-nil, length-append, map-append, take_all}
+use Rattle.plan_num.proofs.Common.{All-nil, All-push, le-min, min-eq_left, min-eq_right}
+use Rattle.plan_num.proofs.Common.{take-append_seam, AllByRecursion}
+use Rattle.line_cost_model.proofs.Common.{LineRange, ProblemParts, root_of}
 use Rattle.line_concepts.specs.declared.node.Node.{Node}
 use Rattle.line_concepts.specs.Nodes.{IsInLimits, NamesWhatIs}
 use Rattle.line_concepts.specs.Walks.{WalkedRegions}

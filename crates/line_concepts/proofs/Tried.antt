@@ -1,9 +1,8 @@
 -- The definitions on a small problem and its trees.
 use Rattle.std.proofs.Common.{◌≡◌, ℕ, List, [], ◌∷◌, refl, pos}
-use Rattle.line_cost_model.specs.declared.edge.BoundedEdge.{BoundedEdge}
+use Rattle.line_cost_model.proofs.Common.{BoundedEdge, CostedLine, ProblemParts}
 use Rattle.line_cost_model.specs.declared.side.Side.TheVariants as side
 use Rattle.line_cost_model.specs.DualBounds.{bound_by, multipliers_of}
-use Rattle.line_cost_model.specs.Problems.{CostedLine, ProblemParts}
 use Rattle.line_cost_model.specs.Regions.{empty_edge}
 use Rattle.line_concepts.specs.declared.fault.TreeFault.TheVariants as fault
 use Rattle.line_concepts.specs.declared.node.Node.{Node}

@@ -1,15 +1,11 @@
 -- What holds of the entries of a region: their nodes are a tree that certifies each cost which the best
 -- concept behind them has at least, and no feasible concept of the region is better than that one.
-use Rattle.std.proofs.Common.{◌≡◌, ℕ, zero, suc, ℤ, pos, ◌+◌, ◌<◌, ◌≤◌, ◌≤ℤ◌, List, [], ◌∷◌, ◌++◌}
-use Rattle.std.proofs.Common.{Option, Some, None, IfSome, ◌⊎◌, inl, inr, ⊎_elim, refl, ap, sym}
-use Rattle.std.proofs.Common.{subst, ◌∙◌, arith}
-use Rattle.std.proofs.lemmas.Int.{ints}
-use Rattle.line_cost_model.specs.declared.range.LineRange.{LineRange}
-use Rattle.line_cost_model.specs.Chosen.{ComesBefore}
-use Rattle.line_cost_model.specs.Concepts.{IsFeasible, cost_of}
-use Rattle.line_cost_model.specs.Problems.{ProblemParts}
-use Rattle.line_cost_model.specs.Regions.{LiesIn, least_in, part_from, part_up_to, range_of}
-use Rattle.line_cost_model.proofs.Duality.{split_covers}
+use Rattle.plan_num.proofs.Common.{◌≡◌, ℕ, zero, suc, ℤ, pos, ◌+◌, ◌<◌, ◌≤◌, ◌≤ℤ◌, List, [], ◌∷◌}
+use Rattle.plan_num.proofs.Common.{◌++◌, Option, Some, None, IfSome, ◌⊎◌, inl, inr, ⊎_elim, refl}
+use Rattle.plan_num.proofs.Common.{ap, sym, subst, ◌∙◌, arith, ints}
+use Rattle.line_cost_model.proofs.Common.{LineRange, ComesBefore, IsFeasible, cost_of, ProblemParts}
+use Rattle.line_cost_model.proofs.Common.{LiesIn, least_in, part_from, part_up_to, range_of}
+use Rattle.line_cost_model.proofs.Common.{split_covers}
 use Rattle.line_concepts.specs.declared.node.Node.{Node}
 use Rattle.line_concepts.specs.declared.node.Node.TheVariants as node
 use Rattle.line_concepts.specs.Certified.{TreeCertifies}

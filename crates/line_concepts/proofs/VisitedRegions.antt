@@ -1,27 +1,19 @@
 -- What holds of the entries of each region holds of the listing: its nodes certify what the best concept
 -- costs, and that is the chosen one.
-use Rattle.std.proofs.Common.{◌≡◌, ℕ, zero, suc, ℤ, pos, ◌+◌, ◌<◌, ◌≤◌, ◌≤ℤ◌, Bool, true, false}
-use Rattle.std.proofs.Common.{cond, ◌==◌, nat_lt, List, [], ◌∷◌, ◌++◌, fold, length, Option, Some}
-use Rattle.std.proofs.Common.{None, IfSome, inl, inr, ⊎_elim, nat_le, slice_set, refl, ap, sym}
-use Rattle.std.proofs.Common.{subst, ◌∙◌, arith, append-nil}
-use Rattle.std.specs.List.{All, AllByRecursion, enumerate_from}
-use Rattle.std.proofs.lemmas.Int.{ints}
-use Rattle.std.proofs.lemmas.Bool.{leb-true}
-use Rattle.std.proofs.lemmas.List.{length-set, map-append}
-use Rattle.std.proofs.lemmas.List.Sums.{AllPass-from_list_all}
-use Rattle.line_cost_model.specs.declared.multipliers.Multiplier.{Multiplier}
-use Rattle.line_cost_model.specs.declared.edge.BoundedEdge.{BoundedEdge}
-use Rattle.line_cost_model.specs.declared.range.LineRange.{LineRange}
-use Rattle.line_cost_model.specs.declared.side.Side.{Side}
-use Rattle.line_cost_model.specs.Chosen.{ComesBefore}
-use Rattle.line_cost_model.specs.Concepts.{IsFeasible, cost_of}
-use Rattle.line_cost_model.specs.DualBounds.{are_within, bound_by, dual_bound, least_left}
-use Rattle.line_cost_model.specs.DualBounds.{multipliers_of, open_lines, shortfall, taken_off}
-use Rattle.line_cost_model.specs.DualBounds.{unless_zero, with_next}
-use Rattle.line_cost_model.specs.Problems.{IsProblem, ProblemParts}
-use Rattle.line_cost_model.specs.Regions.{least_in, part_from, part_up_to, range_of}
-use Rattle.line_cost_model.proofs.Duality.{bound_is_least, empty_is_none, one_concept}
-use Rattle.line_cost_model.proofs.Within.{within_more, within_none}
+use Rattle.plan_num.proofs.Common.{◌≡◌, ℕ, zero, suc, ℤ, pos, ◌+◌, ◌<◌, ◌≤◌, ◌≤ℤ◌, Bool, true}
+use Rattle.plan_num.proofs.Common.{false, cond, ◌==◌, nat_lt, List, [], ◌∷◌, ◌++◌, fold, length}
+use Rattle.plan_num.proofs.Common.{Option, Some, None, IfSome, inl, inr, ⊎_elim, nat_le, slice_set}
+use Rattle.plan_num.proofs.Common.{refl, ap, sym, subst, ◌∙◌, arith, append-nil, All}
+use Rattle.plan_num.proofs.Common.{AllByRecursion, enumerate_from, ints, leb-true, length-set}
+use Rattle.plan_num.proofs.Common.{map-append, AllPass-from_list_all}
+use Rattle.line_cost_model.proofs.Common.{Multiplier, BoundedEdge, LineRange, Side, ComesBefore}
+use Rattle.line_cost_model.proofs.Common.{IsFeasible, cost_of, are_within, dual_bound, least_left}
+use Rattle.line_cost_model.proofs.Common.{open_lines, shortfall, taken_off, unless_zero, with_next}
+use Rattle.line_cost_model.proofs.Common.{IsProblem, ProblemParts, least_in, part_from, part_up_to}
+use Rattle.line_cost_model.proofs.Common.{range_of, bound_is_least, empty_is_none, one_concept}
+use Rattle.line_cost_model.proofs.Common.{within_more, within_none}
+use Rattle.line_cost_model.specs.DualBounds.{bound_by}
+use Rattle.line_cost_model.specs.DualBounds.{multipliers_of}
 use Rattle.line_concepts.specs.declared.node.Node.TheVariants as node
 use Rattle.line_concepts.specs.Certified.{ShowsEmpty, TreeCertifies}
 use Rattle.line_concepts.specs.Trees.{leaf, preorder}

@@ -1,13 +1,9 @@
 -- The visits of the regions that wait, entry by entry.
-use Rattle.std.proofs.Common.{arith, ◌≡◌, ℕ, ◌<◌, ◌∙◌, false, not, ◌&&◌, List, [], ◌∷◌, ◌++◌}
-use Rattle.std.proofs.Common.{length, filter_map, refl, Option, Some, None}
-use Rattle.std.proofs.lemmas.Bool.{le-leb, lt-ltb}
-use Rattle.std.proofs.lemmas.List.{append_assoc, append-nil, length-map, length-set}
-use Rattle.std.proofs.lemmas.List.Elements.{filter_map-append}
-use Rattle.std.specs.List.{AllByRecursion, last_or}
-use Rattle.line_cost_model.specs.declared.range.LineRange.{LineRange}
-use Rattle.line_cost_model.specs.Problems.{ProblemParts}
-use Rattle.line_cost_model.specs.Regions.{range_of, root_of}
+use Rattle.plan_num.proofs.Common.{arith, ◌≡◌, ℕ, ◌<◌, ◌∙◌, false, not, ◌&&◌, List, [], ◌∷◌, ◌++◌}
+use Rattle.plan_num.proofs.Common.{length, filter_map, refl, Option, Some, None, le-leb, lt-ltb}
+use Rattle.plan_num.proofs.Common.{append_assoc, append-nil, length-map, length-set}
+use Rattle.plan_num.proofs.Common.{filter_map-append, AllByRecursion, last_or}
+use Rattle.line_cost_model.proofs.Common.{LineRange, ProblemParts, range_of, root_of}
 use Rattle.line_concepts.specs.declared.node.Node.{Node}
 use Rattle.line_concepts.specs.declared.node.Node.TheVariants as node
 use Rattle.line_concepts.specs.TreeFaults.{splits_outside}

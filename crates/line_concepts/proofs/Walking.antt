@@ -1,15 +1,13 @@
 -- From one node of a tree to the next: which regions wait.
-use Rattle.std.proofs.Common.{◌≡◌, ℕ, ◌+◌, ◌-◌, ◌<◌, ◌∙◌, Bool, true, false, if◌then◌else◌}
-use Rattle.std.proofs.Common.{slice_get, take, Some, None, List, [], ◌∷◌, ◌++◌, length, reverse}
-use Rattle.std.proofs.Common.{set, get_or, All, refl, ap, sym, subst, arith}
-use Rattle.std.proofs.lemmas.List.{set-set, set-get_or, length-set, reverse-append}
-use Rattle.std.proofs.lemmas.List.{length-append, get_or_push, get_or_default, take_all, take_more}
-use Rattle.std.proofs.lemmas.Option.{get_or_from_slice_get, slice_get-get_or, slice_get_within}
-use Rattle.std.proofs.lemmas.List.Elements.{All-push}
-use Rattle.std.proofs.Math.ListN.{get_or-append}
-use Rattle.line_cost_model.specs.declared.range.LineRange.{LineRange}
-use Rattle.line_cost_model.specs.Problems.{ProblemParts}
-use Rattle.line_cost_model.specs.Regions.{RegionParts, range_of, root_of, part_from, part_up_to}
+use Rattle.plan_num.proofs.Common.{◌≡◌, ℕ, ◌+◌, ◌-◌, ◌<◌, ◌∙◌, Bool, true, false, if◌then◌else◌}
+use Rattle.plan_num.proofs.Common.{slice_get, take, Some, None, List, [], ◌∷◌, ◌++◌, length}
+use Rattle.plan_num.proofs.Common.{reverse, set, get_or, All, refl, ap, sym, subst, arith, set-set}
+use Rattle.plan_num.proofs.Common.{set-get_or, length-set, reverse-append, length-append}
+use Rattle.plan_num.proofs.Common.{get_or_push, get_or_default, take_all, take_more}
+use Rattle.plan_num.proofs.Common.{get_or_from_slice_get, slice_get-get_or, slice_get_within}
+use Rattle.plan_num.proofs.Common.{All-push, get_or-append}
+use Rattle.line_cost_model.proofs.Common.{LineRange, ProblemParts, RegionParts, range_of, root_of}
+use Rattle.line_cost_model.proofs.Common.{part_from, part_up_to}
 use Rattle.line_concepts.specs.declared.region_walk.OpenSplit.{OpenSplit}
 use Rattle.line_concepts.specs.Walks.{IsOpenSplit, WalkedRegions, closed, upper_of, waiting_of}
 

@@ -1,22 +1,15 @@
 -- The nodes of a listing can be written.
-use Rattle.std.proofs.Common.{◌≡◌, ℕ, zero, suc, ◌+◌, ◌≤◌, ◌<◌, ◌==◌, inl, inr, List, [], ◌∷◌, ◌++◌}
-use Rattle.std.proofs.Common.{fold, length, Option, IfSome, All, arith, sym, subst, ◌∙◌}
-use Rattle.std.specs.List.{AllByRecursion, enumerate_from}
-use Rattle.std.proofs.lemmas.Bool.{eqb-false, cases_Bool}
-use Rattle.std.proofs.lemmas.List.{append-nil, length-map, length-set}
-use Rattle.std.proofs.lemmas.List.Elements.{All-nil, All-cons, All-append, All-set}
-use Rattle.std.proofs.lemmas.Option.{slice_get_within}
-use Rattle.line_cost_model.specs.declared.edge.BoundedEdge.{BoundedEdge}
-use Rattle.line_cost_model.specs.declared.multipliers.Multiplier.{Multiplier}
-use Rattle.line_cost_model.specs.declared.range.LineRange.{LineRange}
-use Rattle.line_cost_model.specs.DualBounds.{least_left, multipliers_of, next_multiplier}
-use Rattle.line_cost_model.specs.DualBounds.{unless_zero, with_next}
-use Rattle.line_cost_model.specs.Multipliers.{AreMultipliers, IsAfter}
-use Rattle.line_cost_model.specs.Problems.{CostedLine, IsProblem, ProblemParts}
-use Rattle.line_cost_model.specs.Regions.{IsRange, part_from, part_up_to, range_of}
-use Rattle.line_cost_model.proofs.Pushed.{multipliers_push}
-use Rattle.line_cost_model.proofs.Roots.{one_by_one, root_sound}
-use Rattle.line_cost_model.proofs.Within.{few_left}
+use Rattle.plan_num.proofs.Common.{◌≡◌, ℕ, zero, suc, ◌+◌, ◌≤◌, ◌<◌, ◌==◌, inl, inr, List, [], ◌∷◌}
+use Rattle.plan_num.proofs.Common.{◌++◌, fold, length, Option, IfSome, All, arith, sym, subst, ◌∙◌}
+use Rattle.plan_num.proofs.Common.{AllByRecursion, enumerate_from, eqb-false, cases_Bool}
+use Rattle.plan_num.proofs.Common.{append-nil, length-map, length-set, All-nil, All-cons}
+use Rattle.plan_num.proofs.Common.{All-append, All-set, slice_get_within}
+use Rattle.line_cost_model.proofs.Common.{BoundedEdge, Multiplier, LineRange, least_left}
+use Rattle.line_cost_model.proofs.Common.{next_multiplier, unless_zero, with_next, AreMultipliers}
+use Rattle.line_cost_model.proofs.Common.{IsAfter, CostedLine, IsProblem, ProblemParts, IsRange}
+use Rattle.line_cost_model.proofs.Common.{part_from, part_up_to, range_of, multipliers_push}
+use Rattle.line_cost_model.proofs.Common.{one_by_one, root_sound, few_left}
+use Rattle.line_cost_model.specs.DualBounds.{multipliers_of}
 use Rattle.line_concepts.specs.declared.node.Node.TheVariants as node
 use Rattle.line_concepts.specs.Nodes.{IsInLimits, NamesWhatIs}
 use Rattle.line_concepts.specs.Budgets.{nodes_in}

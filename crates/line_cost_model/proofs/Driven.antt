@@ -1,10 +1,8 @@
 -- Sums over the lines of an edge.
-use Rattle.std.proofs.Common.{◌≡◌, ℕ, zero, suc, ◌+◌, ◌≤◌, ◌<◌, Bool, true, false, if◌then◌else◌}
-use Rattle.std.proofs.Common.{cond, List, [], ◌∷◌, length, get_or, map, filter, take, refl, arith}
-use Rattle.std.proofs.Common.{sum_by, All, sym, ap, ◌∙◌}
-use Rattle.std.specs.List.{AllByRecursion, enumerate_from}
-use Rattle.std.proofs.lemmas.List.{take_all, length-map, get_or-map}
-use Rattle.std.proofs.lemmas.List.Sums.{sum_by-cons}
+use Rattle.plan_num.proofs.Common.{◌≡◌, ℕ, zero, suc, ◌+◌, ◌≤◌, ◌<◌, Bool, true, false}
+use Rattle.plan_num.proofs.Common.{if◌then◌else◌, cond, List, [], ◌∷◌, length, get_or, map, filter}
+use Rattle.plan_num.proofs.Common.{take, refl, arith, sum_by, All, sym, ap, ◌∙◌, AllByRecursion}
+use Rattle.plan_num.proofs.Common.{enumerate_from, take_all, length-map, get_or-map, sum_by-cons}
 use Rattle.line_cost_model.specs.Problems.{CostedLine}
 use Rattle.line_cost_model.specs.Concepts.{goes_over, frequency_on}
 use Rattle.line_cost_model.specs.Crossings.{lines_over}

@@ -1,11 +1,10 @@
 -- Multipliers within the costs of open lines bound the costs of a region.
-use Rattle.std.proofs.Common.{◌≡◌, ℕ, ◌+◌, ◌*◌, ◌-◌, ◌≤◌, Bool, true, false, if◌then◌else◌, List}
-use Rattle.std.proofs.Common.{[], ◌∷◌, map, cond, filter, refl, arith, sum_by, zip, nat_le}
-use Rattle.std.proofs.Common.{slice_get, Some, option_map, unwrap_or, inl, inr, ◌⊎◌, zero, suc}
+use Rattle.plan_num.proofs.Common.{◌≡◌, ℕ, ◌+◌, ◌*◌, ◌-◌, ◌≤◌, Bool, true, false, if◌then◌else◌}
+use Rattle.plan_num.proofs.Common.{List, [], ◌∷◌, map, cond, filter, refl, arith, sum_by, zip}
+use Rattle.plan_num.proofs.Common.{nat_le, slice_get, Some, option_map, unwrap_or, inl, inr, ◌⊎◌}
+use Rattle.plan_num.proofs.Common.{zero, suc, sum_by-cons, and_parts, leb-true, ltb-false}
+use Rattle.plan_num.proofs.Common.{cases_Bool, false≢true, AllByRecursion, list_all}
 use Rattle.std.proofs.Math.Nat.{mul-le-mul_left}
-use Rattle.std.proofs.lemmas.List.Sums.{sum_by-cons}
-use Rattle.std.proofs.lemmas.Bool.{and_parts, leb-true, ltb-false, cases_Bool, false≢true}
-use Rattle.std.specs.List.{AllByRecursion, list_all}
 use Rattle.line_cost_model.specs.declared.multipliers.Multiplier.{Multiplier}
 use Rattle.line_cost_model.specs.declared.range.LineRange.{LineRange}
 use Rattle.line_cost_model.specs.Problems.{CostedLine, ProblemParts}

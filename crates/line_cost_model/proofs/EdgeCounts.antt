@@ -1,14 +1,12 @@
 -- How many edges show that a region has no feasible concept, and on which drives are missing.
-use Rattle.std.proofs.Common.{◌≡◌, ◌≢◌, ◌∙◌, ℕ, zero, suc, ◌+◌, ◌≤◌, ◌<◌, Bool, true, false, nat_lt}
-use Rattle.std.proofs.Common.{if◌then◌else◌, List, [], ◌∷◌, ◌++◌, length, get_or, slice_get, slice_set}
-use Rattle.std.proofs.Common.{Option, Some, None, option_map, filter_map, replicate, sum_by}
-use Rattle.std.proofs.Common.{refl, ap, sym, subst, arith, inl, inr, get_or-set_other, get_or-set_same}
-use Rattle.std.specs.List.{range_with_len}
-use Rattle.std.proofs.lemmas.Bool.{cases_eq, le-ltb}
-use Rattle.std.proofs.lemmas.List.{get_or-replicate, length-replicate, length-set}
-use Rattle.std.proofs.lemmas.List.FromFn.{length-range_with_len}
-use Rattle.std.proofs.lemmas.List.Sums.{sum_by-cons, sum_by-le}
-use Rattle.std.proofs.lemmas.Option.{get_or_from_slice_get, slice_get-get_or}
+use Rattle.plan_num.proofs.Common.{◌≡◌, ◌≢◌, ◌∙◌, ℕ, zero, suc, ◌+◌, ◌≤◌, ◌<◌, Bool, true, false}
+use Rattle.plan_num.proofs.Common.{nat_lt, if◌then◌else◌, List, [], ◌∷◌, ◌++◌, length, get_or}
+use Rattle.plan_num.proofs.Common.{slice_get, slice_set, Option, Some, None, option_map, filter_map}
+use Rattle.plan_num.proofs.Common.{replicate, sum_by, refl, ap, sym, subst, arith, inl, inr}
+use Rattle.plan_num.proofs.Common.{get_or-set_other, get_or-set_same, range_with_len, cases_eq}
+use Rattle.plan_num.proofs.Common.{le-ltb, get_or-replicate, length-replicate, length-set}
+use Rattle.plan_num.proofs.Common.{length-range_with_len, sum_by-cons, sum_by-le}
+use Rattle.plan_num.proofs.Common.{get_or_from_slice_get, slice_get-get_or}
 use Rattle.line_cost_model.specs.declared.edge.BoundedEdge.{BoundedEdge}
 use Rattle.line_cost_model.specs.declared.edge_sums.EdgeSums.{EdgeSums}
 use Rattle.line_cost_model.specs.declared.range.LineRange.{LineRange}

@@ -1,14 +1,8 @@
 -- Sums move edge by edge, where a line over some edges has another frequency.
-use Rattle.std.proofs.Common.{◌≡◌, ℕ, ◌+◌, ◌≤◌, ◌<◌, ◌∙◌, true, ◌||◌}
-use Rattle.std.proofs.Common.{cond, nat_eq, List, length, get_or, set}
-use Rattle.std.proofs.Common.{take}
-use Rattle.std.proofs.Common.{ap, subst, sym, arith, inl, inr, get_or-set_other}
-use Rattle.std.proofs.Common.{get_or-set_same}
-use Rattle.std.specs.List.{IsDistinct, list_any}
-use Rattle.std.proofs.lemmas.Bool.{ne_eqb, eq-eqb, cases_eq}
-use Rattle.std.proofs.lemmas.Grind.{get_or_default_zero}
-use Rattle.std.proofs.lemmas.List.{length-set}
-use Rattle.std.proofs.lemmas.List.Folds.{list_any_more}
+use Rattle.plan_num.proofs.Common.{◌≡◌, ℕ, ◌+◌, ◌≤◌, ◌<◌, ◌∙◌, true, ◌||◌, cond, nat_eq, List}
+use Rattle.plan_num.proofs.Common.{length, get_or, set, take, ap, subst, sym, arith, inl, inr}
+use Rattle.plan_num.proofs.Common.{get_or-set_other, get_or-set_same, IsDistinct, list_any, ne_eqb}
+use Rattle.plan_num.proofs.Common.{eq-eqb, cases_eq, get_or_default_zero, length-set, list_any_more}
 use Rattle.line_cost_model.specs.RunningSums.{AreCounted}
 use Rattle.line_cost_model.proofs.Lowered.{is_new}
 use Rattle.plan_num.proofs.Tests.{or_true, or_false}

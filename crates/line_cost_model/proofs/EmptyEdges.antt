@@ -1,8 +1,6 @@
 -- The first edge that shows that a region has no feasible concept.
-use Rattle.std.proofs.Common.{arith, ◌≡◌, ℕ, ◌+◌, List, filter_map, slice_get}
-use Rattle.std.proofs.Common.{Some, None, Option, option_map, unwrap_or, refl, ap}
-use Rattle.std.specs.List.{cons_option}
-use Rattle.std.proofs.lemmas.Option.{none-some}
+use Rattle.plan_num.proofs.Common.{arith, ◌≡◌, ℕ, ◌+◌, List, filter_map, slice_get, Some, None}
+use Rattle.plan_num.proofs.Common.{Option, option_map, unwrap_or, refl, ap, cons_option, none-some}
 use Rattle.line_cost_model.specs.declared.edge.BoundedEdge.{BoundedEdge}
 use Rattle.line_cost_model.specs.declared.range.LineRange.{LineRange}
 use Rattle.line_cost_model.specs.declared.side.Side.{Side}

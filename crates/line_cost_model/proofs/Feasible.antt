@@ -1,11 +1,9 @@
 -- The test of feasible concepts, edge by edge.
-use Rattle.std.proofs.Common.{◌≡◌, ℕ, ◌+◌, ◌≤◌, ◌&&◌, ◌==◌, ◌↔◌, Bool, true, List, [], ◌∷◌, length}
-use Rattle.std.proofs.Common.{drop, slice_get, Some, option_map, unwrap_or, IsTrue, zero, suc, refl}
-use Rattle.std.proofs.Common.{arith, sym, ap, subst, ◌∙◌}
-use Rattle.std.specs.List.{list_all, enumerate_from}
-use Rattle.std.proofs.lemmas.List.{drop_more, drop_all}
-use Rattle.std.proofs.lemmas.Bool.{eq-eqb, eqb-true, and_parts, le-leb}
-use Rattle.std.proofs.lemmas.Option.{slice_get_within, get_or_from_slice_get, none-some}
+use Rattle.plan_num.proofs.Common.{◌≡◌, ℕ, ◌+◌, ◌≤◌, ◌&&◌, ◌==◌, ◌↔◌, Bool, true, List, [], ◌∷◌}
+use Rattle.plan_num.proofs.Common.{length, drop, slice_get, Some, option_map, unwrap_or, IsTrue}
+use Rattle.plan_num.proofs.Common.{zero, suc, refl, arith, sym, ap, subst, ◌∙◌, list_all}
+use Rattle.plan_num.proofs.Common.{enumerate_from, drop_more, drop_all, eq-eqb, eqb-true, and_parts}
+use Rattle.plan_num.proofs.Common.{le-leb, slice_get_within, get_or_from_slice_get, none-some}
 use Rattle.line_cost_model.specs.declared.edge.BoundedEdge.{BoundedEdge}
 use Rattle.line_cost_model.specs.Problems.{ProblemParts}
 use Rattle.line_cost_model.specs.Concepts.{IsFeasible, KeepsBounds, frequency_on, is_feasible, keeps_bounds}

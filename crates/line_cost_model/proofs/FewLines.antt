@@ -1,18 +1,12 @@
 -- A line problem has no more lines than there are ids, and what a concept of it costs fits.
-use Rattle.std.proofs.Common.{◌≡◌, ℕ, ℤ, pos, ◌+◌, ◌*◌, ◌≤◌, ◌<◌, ◌≤ℤ◌, ◌<ℤ◌, Bool, true, false}
-use Rattle.std.proofs.Common.{cond, T, int_lt, List, [], ◌∷◌, length, get_or, map, take, sum_by}
-use Rattle.std.proofs.Common.{suc, zip, slice_get, Some, option_map, unwrap_or, All, arith, sym, ap}
-use Rattle.std.proofs.Common.{◌∙◌}
-use Rattle.std.specs.List.{AllByRecursion}
+use Rattle.plan_num.proofs.Common.{◌≡◌, ℕ, ℤ, pos, ◌+◌, ◌*◌, ◌≤◌, ◌<◌, ◌≤ℤ◌, ◌<ℤ◌, Bool, true}
+use Rattle.plan_num.proofs.Common.{false, cond, T, int_lt, List, [], ◌∷◌, length, get_or, map, take}
+use Rattle.plan_num.proofs.Common.{sum_by, suc, zip, slice_get, Some, option_map, unwrap_or, All}
+use Rattle.plan_num.proofs.Common.{arith, sym, ap, ◌∙◌, AllByRecursion, int_cmp, ints, length-map}
+use Rattle.plan_num.proofs.Common.{take_more, take_all, sum_by-append, mul-le, slice_get_within}
+use Rattle.plan_num.proofs.Common.{get_or_from_slice_get, none-some, get_or-zip, length-zip}
 use Rattle.std.specs.List.Sorted.{IsStrictlySortedBy}
-use Rattle.std.specs.Ordering.{int_cmp}
 use Rattle.std.specs.declared.cmp.Ordering.TheVariants.{Less, Equal, Greater}
-use Rattle.std.proofs.lemmas.Int.{ints}
-use Rattle.std.proofs.lemmas.List.{length-map, take_more, take_all}
-use Rattle.std.proofs.lemmas.List.Sums.{sum_by-append}
-use Rattle.std.proofs.lemmas.Nat.{mul-le}
-use Rattle.std.proofs.lemmas.Option.{slice_get_within, get_or_from_slice_get, none-some}
-use Rattle.std.proofs.lemmas.Slice.Zip.{get_or-zip, length-zip}
 use Rattle.line_cost_model.specs.declared.edge.BoundedEdge.{BoundedEdge}
 use Rattle.line_cost_model.specs.Problems.{IsBoundedEdge, CostedLine, ProblemParts, IsCostedLine, IsProblem}
 use Rattle.line_cost_model.specs.Concepts.{cost_of}

@@ -1,11 +1,10 @@
 -- The least that is left of the costs of the open lines over an edge.
-use Rattle.std.proofs.Common.{◌≡◌, ℕ, suc, ◌+◌, ◌≤◌, ◌<◌, Bool, true, false, cond, if◌then◌else◌}
-use Rattle.std.proofs.Common.{min, List, [], ◌∷◌, ◌++◌, length, get_or, map, filter, filter_map}
-use Rattle.std.proofs.Common.{take, zip, unwrap_or, Option, Some, None, refl, arith, ap, sym, ◌∙◌}
-use Rattle.std.specs.List.{enumerate_from, reduce, cons_option}
-use Rattle.std.specs.Option.{option_map_or}
-use Rattle.std.proofs.lemmas.List.{take_more, take_all, append-nil}
-use Rattle.std.proofs.lemmas.List.Elements.{filter_map-append}
+use Rattle.plan_num.proofs.Common.{◌≡◌, ℕ, suc, ◌+◌, ◌≤◌, ◌<◌, Bool, true, false, cond}
+use Rattle.plan_num.proofs.Common.{if◌then◌else◌, min, List, [], ◌∷◌, ◌++◌, length, get_or, map}
+use Rattle.plan_num.proofs.Common.{filter, filter_map, take, zip, unwrap_or, Option, Some, None}
+use Rattle.plan_num.proofs.Common.{refl, arith, ap, sym, ◌∙◌, enumerate_from, reduce, cons_option}
+use Rattle.plan_num.proofs.Common.{option_map_or, take_more, take_all, append-nil}
+use Rattle.plan_num.proofs.Common.{filter_map-append}
 use Rattle.line_cost_model.specs.declared.multipliers.Multiplier.{Multiplier}
 use Rattle.line_cost_model.specs.declared.range.LineRange.{LineRange}
 use Rattle.line_cost_model.specs.Problems.{CostedLine, ProblemParts}

@@ -1,3 +1,4 @@
+pub mod Common
 pub mod Driven
 pub mod Duality
 pub mod EmptyEdges

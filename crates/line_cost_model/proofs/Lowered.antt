@@ -1,17 +1,15 @@
 -- An amount is taken off what is left of the costs of the lines over an edge, line by line.
-use Rattle.std.proofs.Common.{◌≡◌, ℕ, zero, suc, ◌+◌, ◌-◌, ◌<◌, Bool, true, false, ◌||◌, cond}
-use Rattle.std.proofs.Common.{nat_eq, List, [], ◌∷◌, ◌++◌, length, get_or, set, map, filter, take}
-use Rattle.std.proofs.Common.{refl, ap, subst, sym, ◌∙◌, arith, inl, inr, get_or-set_other}
-use Rattle.std.proofs.Common.{get_or-set_same}
-use Rattle.std.specs.List.{AllByRecursion, IsDistinct, enumerate_from, list_any}
-use Rattle.std.proofs.lemmas.Bool.{ne_eqb, eq-eqb, cases_eq}
-use Rattle.std.proofs.lemmas.Cmp.{nat_eq_equiv}
-use Rattle.std.proofs.lemmas.Grind.{get_or_default_zero, same_number_lists}
-use Rattle.std.proofs.lemmas.List.{get_or-take, length-take-le, length-map, get_or-map}
-use Rattle.std.proofs.lemmas.List.Elements.{All-from_get_or}
-use Rattle.std.proofs.lemmas.List.Folds.{list_any_none, list_any_more}
-use Rattle.std.proofs.lemmas.List.Sums.{sum_by-append}
-use Rattle.std.proofs.lemmas.Map.Keys.{apart_from_distinct, IsDistinct-cons}
+use Rattle.plan_num.proofs.Common.{◌≡◌, ℕ, zero, suc, ◌+◌, ◌-◌, ◌<◌, Bool, true, false, ◌||◌, cond}
+use Rattle.plan_num.proofs.Common.{nat_eq, List, [], ◌∷◌, ◌++◌, length, get_or, set, map, filter}
+use Rattle.plan_num.proofs.Common.{take, refl, ap, subst, sym, ◌∙◌, arith, inl, inr}
+use Rattle.plan_num.proofs.Common.{get_or-set_other, get_or-set_same, AllByRecursion}
+use Rattle.plan_num.proofs.Common.{enumerate_from, list_any, ne_eqb, eq-eqb, cases_eq, nat_eq_equiv}
+use Rattle.plan_num.proofs.Common.{get_or_default_zero, get_or-take, length-take-le, length-map}
+use Rattle.plan_num.proofs.Common.{get_or-map, All-from_get_or, list_any_none, list_any_more}
+use Rattle.plan_num.proofs.Common.{sum_by-append, apart_from_distinct}
+use Rattle.std.specs.List.{IsDistinct}
+use Rattle.std.proofs.lemmas.Grind.{same_number_lists}
+use Rattle.std.proofs.lemmas.Map.Keys.{IsDistinct-cons}
 use Rattle.line_cost_model.specs.declared.multipliers.Multiplier.{Multiplier}
 use Rattle.line_cost_model.specs.Problems.{CostedLine}
 use Rattle.line_cost_model.specs.Concepts.{goes_over}

@@ -1,12 +1,8 @@
 -- The least of some numbers, with one more at the end.
-use Rattle.std.proofs.Common.{◌≡◌, ℕ, ◌+◌, ◌<◌, min, List, [], ◌∷◌, ◌++◌, length, get_or}
-use Rattle.std.proofs.Common.{take, filter_map, slice_get, refl, ap, sym, ◌∙◌, Option, Some}
-use Rattle.std.proofs.Common.{option_map}
-use Rattle.std.specs.List.{reduce, cons_option}
-use Rattle.std.specs.Option.{option_map_or}
-use Rattle.std.proofs.lemmas.List.{take_more}
-use Rattle.std.proofs.lemmas.List.Sums.{fold_push}
-use Rattle.std.proofs.lemmas.List.Elements.{filter_map-append}
+use Rattle.plan_num.proofs.Common.{◌≡◌, ℕ, ◌+◌, ◌<◌, min, List, [], ◌∷◌, ◌++◌, length, get_or, take}
+use Rattle.plan_num.proofs.Common.{filter_map, slice_get, refl, ap, sym, ◌∙◌, Option, Some}
+use Rattle.plan_num.proofs.Common.{option_map, reduce, cons_option, option_map_or, take_more}
+use Rattle.plan_num.proofs.Common.{fold_push, filter_map-append}
 use Rattle.line_cost_model.specs.declared.edge.BoundedEdge.{BoundedEdge}
 use Rattle.line_cost_model.specs.Regions.{most_on}
 

@@ -1,14 +1,10 @@
 -- The pass over the edges: before the first one, one edge more, and after the last one.
-use Rattle.std.proofs.Common.{◌≡◌, ◌≢◌, ℕ, zero, suc, ◌+◌, ◌-◌, ◌*◌, ◌≤◌, ◌<◌, nat_lt, Bool, true, false}
-use Rattle.std.proofs.Common.{if◌then◌else◌, List, [], ◌∷◌, ◌++◌, length, map, fold, slice_get}
-use Rattle.std.proofs.Common.{unwrap_or, Some, None, option_map, get_or, All, refl, arith, ap, subst, sym, ◌∙◌}
-use Rattle.std.specs.List.{AllByRecursion}
-use Rattle.std.proofs.lemmas.Bool.{ne_eqb}
-use Rattle.std.proofs.lemmas.List.{append-nil}
-use Rattle.std.proofs.lemmas.List.Elements.{All-push, All-nil}
-use Rattle.std.proofs.lemmas.List.Sums.{sum_by-append}
-use Rattle.std.proofs.lemmas.Nat.{mul-le}
-use Rattle.std.proofs.lemmas.Option.{none-some, slice_get-get_or}
+use Rattle.plan_num.proofs.Common.{◌≡◌, ◌≢◌, ℕ, zero, suc, ◌+◌, ◌-◌, ◌*◌, ◌≤◌, ◌<◌, nat_lt, Bool}
+use Rattle.plan_num.proofs.Common.{true, false, if◌then◌else◌, List, [], ◌∷◌, ◌++◌, length, map}
+use Rattle.plan_num.proofs.Common.{fold, slice_get, unwrap_or, Some, None, option_map, get_or, All}
+use Rattle.plan_num.proofs.Common.{refl, arith, ap, subst, sym, ◌∙◌, AllByRecursion, ne_eqb}
+use Rattle.plan_num.proofs.Common.{append-nil, All-push, All-nil, sum_by-append, mul-le, none-some}
+use Rattle.plan_num.proofs.Common.{slice_get-get_or}
 use Rattle.line_cost_model.specs.declared.multipliers.Multiplier.{Multiplier}
 use Rattle.line_cost_model.specs.declared.range.LineRange.{LineRange}
 use Rattle.line_cost_model.specs.Problems.{CostedLine, ProblemParts, IsCostedLine, IsProblem}

@@ -1,14 +1,12 @@
 -- Whether the open lines over an edge can pay a multiplier, and whether the multipliers so far are
 -- within their costs.
-use Rattle.std.proofs.Common.{◌≡◌, ℕ, ◌+◌, ◌-◌, ◌≤◌, ◌<◌, Bool, true, false, ◌&&◌, cond}
-use Rattle.std.proofs.Common.{if◌then◌else◌, nat_le, List, [], ◌∷◌, ◌++◌, length, get_or, map}
-use Rattle.std.proofs.Common.{filter, filter_map, take, drop, slice_get, Some, None, inl, inr, refl}
-use Rattle.std.proofs.Common.{arith, ap, sym, ◌∙◌}
-use Rattle.std.specs.List.{list_all, cons_option}
-use Rattle.std.proofs.lemmas.Bool.{and_parts, leb-true, le-leb, cases_Bool, false≢true}
-use Rattle.std.proofs.lemmas.List.{take_more, take-append-drop, drop_more}
-use Rattle.std.proofs.lemmas.List.Sums.{sum_by-append}
-use Rattle.std.proofs.lemmas.Option.{slice_get_within, get_or_from_slice_get}
+use Rattle.plan_num.proofs.Common.{◌≡◌, ℕ, ◌+◌, ◌-◌, ◌≤◌, ◌<◌, Bool, true, false, ◌&&◌, cond}
+use Rattle.plan_num.proofs.Common.{if◌then◌else◌, nat_le, List, [], ◌∷◌, ◌++◌, length, get_or, map}
+use Rattle.plan_num.proofs.Common.{filter, filter_map, take, drop, slice_get, Some, None, inl, inr}
+use Rattle.plan_num.proofs.Common.{refl, arith, ap, sym, ◌∙◌, list_all, cons_option, and_parts}
+use Rattle.plan_num.proofs.Common.{leb-true, le-leb, cases_Bool, false≢true, take_more}
+use Rattle.plan_num.proofs.Common.{take-append-drop, drop_more, sum_by-append, slice_get_within}
+use Rattle.plan_num.proofs.Common.{get_or_from_slice_get}
 use Rattle.line_cost_model.specs.declared.multipliers.Multiplier.{Multiplier}
 use Rattle.line_cost_model.specs.declared.range.LineRange.{LineRange}
 use Rattle.line_cost_model.specs.Problems.{CostedLine, ProblemParts}

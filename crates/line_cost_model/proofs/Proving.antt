@@ -1,12 +1,9 @@
 -- What multipliers prove, one by one: each is of an edge that is there, and there are not too many.
-use Rattle.std.proofs.Common.{◌≡◌, ℕ, zero, suc, ◌+◌, ◌*◌, ◌≤◌, ◌<◌, List, [], ◌∷◌, length, get_or}
-use Rattle.std.proofs.Common.{map, take, slice_get, Some, option_map, unwrap_or, All, sum_by, arith}
-use Rattle.std.proofs.Common.{ap, subst, ◌∙◌}
-use Rattle.std.specs.List.Sorted.{IsStrictlyIncreasing}
-use Rattle.std.proofs.lemmas.List.{take_all, length-map, get_or-map}
-use Rattle.std.proofs.lemmas.List.Sums.{sum_by-append}
-use Rattle.std.proofs.lemmas.Nat.{mul-le}
-use Rattle.std.proofs.lemmas.Option.{slice_get_within, get_or_from_slice_get}
+use Rattle.plan_num.proofs.Common.{◌≡◌, ℕ, zero, suc, ◌+◌, ◌*◌, ◌≤◌, ◌<◌, List, [], ◌∷◌, length}
+use Rattle.plan_num.proofs.Common.{get_or, map, take, slice_get, Some, option_map, unwrap_or, All}
+use Rattle.plan_num.proofs.Common.{sum_by, arith, ap, subst, ◌∙◌, IsStrictlyIncreasing, take_all}
+use Rattle.plan_num.proofs.Common.{length-map, get_or-map, sum_by-append, mul-le, slice_get_within}
+use Rattle.plan_num.proofs.Common.{get_or_from_slice_get}
 use Rattle.line_cost_model.specs.declared.multipliers.Multiplier.{Multiplier}
 use Rattle.line_cost_model.specs.declared.range.LineRange.{LineRange}
 use Rattle.line_cost_model.specs.Problems.{ProblemParts}

@@ -1,15 +1,11 @@
 -- What always holds of multipliers and of a line problem, with one more at the end.
-use Rattle.std.proofs.Common.{◌≡◌, ℕ, ℤ, ◌+◌, ◌<◌, ◌<ℤ◌}
-use Rattle.std.proofs.Common.{Bool, true, false, cond, T, int_lt, List, [], ◌∷◌, ◌++◌}
-use Rattle.std.proofs.Common.{length, map, filter, slice_get, refl, ap, subst, sym, ◌∙◌}
-use Rattle.std.proofs.Common.{arith, inl, inr, ◌⊎◌, zero, suc, Some}
-use Rattle.std.specs.List.{All, enumerate_from}
-use Rattle.std.specs.List.Sorted.{IsStrictlySortedBy, IsStrictlyIncreasing}
-use Rattle.std.specs.Ordering.{int_cmp}
+use Rattle.plan_num.proofs.Common.{◌≡◌, ℕ, ℤ, ◌+◌, ◌<◌, ◌<ℤ◌, Bool, true, false, cond, T, int_lt}
+use Rattle.plan_num.proofs.Common.{List, [], ◌∷◌, ◌++◌, length, map, filter, slice_get, refl, ap}
+use Rattle.plan_num.proofs.Common.{subst, sym, ◌∙◌, arith, inl, inr, ◌⊎◌, zero, suc, Some, All}
+use Rattle.plan_num.proofs.Common.{enumerate_from, IsStrictlyIncreasing, int_cmp, map_push}
+use Rattle.plan_num.proofs.Common.{append-nil, All-push, All-map, All-nil, same_Some}
+use Rattle.std.specs.List.Sorted.{IsStrictlySortedBy}
 use Rattle.std.specs.declared.cmp.Ordering.TheVariants.{Less, Equal, Greater}
-use Rattle.std.proofs.lemmas.List.{map_push, append-nil}
-use Rattle.std.proofs.lemmas.List.Elements.{All-push, All-map, All-nil}
-use Rattle.std.proofs.lemmas.Option.{same_Some}
 use Rattle.line_cost_model.specs.declared.edge.BoundedEdge.{BoundedEdge}
 use Rattle.line_cost_model.specs.declared.multipliers.Multiplier.{Multiplier}
 use Rattle.line_cost_model.specs.Concepts.{goes_over}

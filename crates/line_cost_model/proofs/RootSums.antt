@@ -1,10 +1,7 @@
 -- The sums of the root of a line problem.
-use Rattle.std.proofs.Common.{◌≡◌, ℕ, zero, suc, ◌∙◌}
-use Rattle.std.proofs.Common.{List, [], ◌∷◌, length, get_or, map}
-use Rattle.std.proofs.Common.{replicate}
-use Rattle.std.proofs.Common.{All, Option, IfSome, refl, ap, sym}
-use Rattle.std.proofs.lemmas.List.{length-map}
-use Rattle.std.proofs.lemmas.List.{get_or-replicate, length-replicate}
+use Rattle.plan_num.proofs.Common.{◌≡◌, ℕ, zero, suc, ◌∙◌, List, [], ◌∷◌, length, get_or, map}
+use Rattle.plan_num.proofs.Common.{replicate, All, Option, IfSome, refl, ap, sym, length-map}
+use Rattle.plan_num.proofs.Common.{get_or-replicate, length-replicate}
 use Rattle.line_cost_model.specs.declared.edge_sums.EdgeSums.{EdgeSums}
 use Rattle.line_cost_model.specs.declared.range.LineRange.{LineRange}
 use Rattle.line_cost_model.specs.Problems.{CostedLine, ProblemParts, IsProblem}

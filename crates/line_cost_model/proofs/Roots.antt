@@ -1,16 +1,15 @@
 -- The root region has every feasible concept.
-use Rattle.std.proofs.Common.{◌≡◌, ℕ, zero, suc, ◌+◌, ◌≤◌, ◌<◌, Bool, true, false, ◌||◌}
-use Rattle.std.proofs.Common.{if◌then◌else◌, nat_eq, min, List, [], ◌∷◌, length, get_or, map, fold}
-use Rattle.std.proofs.Common.{filter_map, refl, arith, slice_get, Some, None, option_map, take}
-use Rattle.std.proofs.Common.{◌++◌, unwrap_or, All, sym, ap, ◌∙◌, Option}
-use Rattle.std.proofs.lemmas.Bool.{false≢true, eq-eqb, or_right}
-use Rattle.std.specs.List.{AllByRecursion, cons_option, list_any, reduce}
+use Rattle.plan_num.proofs.Common.{◌≡◌, ℕ, zero, suc, ◌+◌, ◌≤◌, ◌<◌, Bool, true, false, ◌||◌}
+use Rattle.plan_num.proofs.Common.{if◌then◌else◌, nat_eq, min, List, [], ◌∷◌, length, get_or, map}
+use Rattle.plan_num.proofs.Common.{fold, filter_map, refl, arith, slice_get, Some, None, option_map}
+use Rattle.plan_num.proofs.Common.{take, ◌++◌, unwrap_or, All, sym, ap, ◌∙◌, Option, false≢true}
+use Rattle.plan_num.proofs.Common.{eq-eqb, or_right, AllByRecursion, cons_option, list_any, reduce}
+use Rattle.plan_num.proofs.Common.{get_or_from_slice_get, slice_get_within, none-some}
 use Rattle.line_cost_model.specs.declared.edge.BoundedEdge.{BoundedEdge}
 use Rattle.line_cost_model.specs.Problems.{CostedLine, ProblemParts, IsBoundedEdge, IsCostedLine, IsProblem}
 use Rattle.line_cost_model.specs.Concepts.{goes_over, frequency_on}
 use Rattle.line_cost_model.specs.Regions.{HasEachFeasible, IsRange, LiesIn, most_on, most_of, root_of}
 use Rattle.line_cost_model.specs.declared.range.LineRange.{LineRange}
-use Rattle.std.proofs.lemmas.Option.{get_or_from_slice_get, slice_get_within, none-some}
 use Rattle.line_cost_model.proofs.Duality.{frequency_step}
 use Rattle.line_cost_model.proofs.Mapped.{map_more, map_whole}
 

@@ -1,19 +1,12 @@
 -- Running sums: what another frequency of a line changes, and how great they are.
-use Rattle.std.proofs.Common.{◌≡◌, ℕ, zero, suc, ◌+◌, ◌*◌, ◌≤◌, ◌<◌, ◌∙◌, Bool, true, false}
-use Rattle.std.proofs.Common.{cond, if◌then◌else◌, nat_eq, List, [], ◌∷◌, length, get_or, set, map}
-use Rattle.std.proofs.Common.{zip, sum_by, slice_get, Some, option_map, unwrap_or}
-use Rattle.std.proofs.Common.{All, Option, IfSome, ap, subst, sym, arith, get_or-set_other}
-use Rattle.std.proofs.Common.{get_or-set_same}
-use Rattle.std.specs.List.{IsDistinct}
-use Rattle.std.proofs.lemmas.Bool.{eq-eqb, cases_eq}
-use Rattle.std.proofs.lemmas.List.{length-map, length-set, get_or-map, get_or_default}
-use Rattle.std.proofs.lemmas.List.{map-set}
-use Rattle.std.proofs.lemmas.List.Elements.{All-set}
-use Rattle.std.proofs.lemmas.List.Folds.{list_any_at}
-use Rattle.std.proofs.lemmas.List.Sums.{sum_by-cons, sum_by-le}
-use Rattle.std.proofs.lemmas.Nat.{mul-le}
-use Rattle.std.proofs.lemmas.Option.{get_or_from_slice_get, none-some}
-use Rattle.std.proofs.lemmas.Slice.Zip.{get_or-zip, length-zip}
+use Rattle.plan_num.proofs.Common.{◌≡◌, ℕ, zero, suc, ◌+◌, ◌*◌, ◌≤◌, ◌<◌, ◌∙◌, Bool, true, false}
+use Rattle.plan_num.proofs.Common.{cond, if◌then◌else◌, nat_eq, List, [], ◌∷◌, length, get_or, set}
+use Rattle.plan_num.proofs.Common.{map, zip, sum_by, slice_get, Some, option_map, unwrap_or, All}
+use Rattle.plan_num.proofs.Common.{Option, IfSome, ap, subst, sym, arith, get_or-set_other}
+use Rattle.plan_num.proofs.Common.{get_or-set_same, IsDistinct, eq-eqb, cases_eq, length-map}
+use Rattle.plan_num.proofs.Common.{length-set, get_or-map, get_or_default, map-set, All-set}
+use Rattle.plan_num.proofs.Common.{list_any_at, sum_by-cons, sum_by-le, mul-le}
+use Rattle.plan_num.proofs.Common.{get_or_from_slice_get, none-some, get_or-zip, length-zip}
 use Rattle.line_cost_model.specs.declared.edge_sums.EdgeSums.{EdgeSums}
 use Rattle.line_cost_model.specs.declared.range.LineRange.{LineRange}
 use Rattle.line_cost_model.specs.Problems.{CostedLine, ProblemParts, IsProblem}

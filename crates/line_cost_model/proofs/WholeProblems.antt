@@ -1,13 +1,10 @@
 -- What always holds of a line problem with the lines over its edges, with one edge or line more.
-use Rattle.std.proofs.Common.{◌≡◌, get_or-set_same, get_or-set_other, set, ℕ, ◌<◌, ◌<ℤ◌}
-use Rattle.std.proofs.Common.{Bool, true, false, cond, nat_eq, List, [], ◌∷◌, ◌++◌}
-use Rattle.std.proofs.Common.{length, get_or, map, refl, ap, subst, sym, ◌∙◌}
-use Rattle.std.proofs.Common.{arith, inl, inr, ◌||◌}
-use Rattle.std.specs.List.{All, list_any}
-use Rattle.std.proofs.lemmas.List.{map_push, length-map, get_or-map, same_lists}
-use Rattle.std.proofs.lemmas.List.Elements.{All-push}
-use Rattle.std.proofs.lemmas.Option.{slice_get-get_or, slice_get_within, get_or_from_slice_get}
-use Rattle.std.proofs.lemmas.Bool.{cases_eq, eq-eqb, ne_eqb}
+use Rattle.plan_num.proofs.Common.{◌≡◌, get_or-set_same, get_or-set_other, set, ℕ, ◌<◌, ◌<ℤ◌, Bool}
+use Rattle.plan_num.proofs.Common.{true, false, cond, nat_eq, List, [], ◌∷◌, ◌++◌, length, get_or}
+use Rattle.plan_num.proofs.Common.{map, refl, ap, subst, sym, ◌∙◌, arith, inl, inr, ◌||◌, All}
+use Rattle.plan_num.proofs.Common.{list_any, map_push, length-map, get_or-map, same_lists, All-push}
+use Rattle.plan_num.proofs.Common.{slice_get-get_or, slice_get_within, get_or_from_slice_get}
+use Rattle.plan_num.proofs.Common.{cases_eq, eq-eqb, ne_eqb}
 use Rattle.line_cost_model.specs.declared.edge.BoundedEdge.{BoundedEdge}
 use Rattle.line_cost_model.specs.declared.problem.Longer.{Longer}
 use Rattle.line_cost_model.specs.Concepts.{goes_over}

@@ -1,9 +1,8 @@
 -- The multipliers of the pass are within the costs of the open lines.
-use Rattle.std.proofs.Common.{◌≡◌, ℕ, ◌+◌, ◌-◌, ◌≤◌, Bool, true, false, cond, nat_le, min, List, []}
-use Rattle.std.proofs.Common.{◌∷◌, ◌++◌, map, fold, filter, zip, unwrap_or, refl, arith, subst, sym}
-use Rattle.std.specs.List.{AllByRecursion, list_all, reduce}
-use Rattle.std.proofs.lemmas.Bool.{and_parts, leb-true, le-leb}
-use Rattle.std.proofs.lemmas.List.Sums.{sum_by-append}
+use Rattle.plan_num.proofs.Common.{◌≡◌, ℕ, ◌+◌, ◌-◌, ◌≤◌, Bool, true, false, cond, nat_le, min}
+use Rattle.plan_num.proofs.Common.{List, [], ◌∷◌, ◌++◌, map, fold, filter, zip, unwrap_or, refl}
+use Rattle.plan_num.proofs.Common.{arith, subst, sym, AllByRecursion, list_all, reduce, and_parts}
+use Rattle.plan_num.proofs.Common.{leb-true, le-leb, sum_by-append}
 use Rattle.line_cost_model.specs.declared.multipliers.Multiplier.{Multiplier}
 use Rattle.line_cost_model.specs.declared.range.LineRange.{LineRange}
 use Rattle.line_cost_model.specs.Problems.{CostedLine, ProblemParts}

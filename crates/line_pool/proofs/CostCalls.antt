@@ -1,16 +1,11 @@
 -- The stage of costs, from what each of its inputs gives.
 use Rattle.std.proofs.Common.{◌≡◌, List, [], refl, subst, Ok, Err, arith}
 use Rattle.giv_files.specs.declared.key.Key.TheVariants as key
-use Rattle.giv_files.specs.declared.made.Made.{Made}
-use Rattle.tables.specs.declared.refusal.StageFault.{StageFault}
+use Rattle.giv_files.proofs.Common.{Made, BundleParts, SettingsFit, Fits, input_text, StageGives}
+use Rattle.giv_files.proofs.Common.{amount_within, stage_refused}
+use Rattle.tables.proofs.Common.{StageFault, Refuses, refused_append}
 use Rattle.giv_files.specs.declared.stage.Stage.TheVariants as stage
-use Rattle.tables.specs.Inputs.{Refuses}
-use Rattle.giv_files.specs.Settings.{BundleParts, SettingsFit, Fits}
-use Rattle.giv_files.specs.StageCalls.{input_text, StageGives}
-use Rattle.tables.proofs.Inputs.{refused_append}
-use Rattle.giv_files.proofs.SettingFacts.{amount_within}
-use Rattle.giv_files.proofs.StageCalls.{stage_refused}
-use Rattle.walks.specs.Networks.{NetworkParts}
+use Rattle.walks.proofs.Common.{NetworkParts}
 use Rattle.ptn_network.specs.Networks.{network_of, network_faults}
 use Rattle.line_pool.specs.CostStage.{costs_made, cost_faults, cost_stage}
 use Rattle.line_pool.specs.LineCosts.{AreModest}

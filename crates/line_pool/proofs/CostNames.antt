@@ -1,14 +1,9 @@
 -- Which files the stage of costs names where it refuses a row.
 use Rattle.std.proofs.Common.{◌≡◌, ℕ, Bool, true, List, Err}
-use Rattle.tables.specs.declared.file_id.FileId.{FileId}
+use Rattle.tables.proofs.Common.{FileId, Refusal, NamesInput, AllName, names_both, input_names}
 use Rattle.tables.specs.declared.file_id.FileId.TheVariants as file
-use Rattle.tables.specs.declared.refusal.Refusal.{Refusal}
-use Rattle.giv_files.specs.Settings.{BundleParts}
-use Rattle.giv_files.specs.StageCalls.{input_text}
-use Rattle.tables.specs.NamedFiles.{NamesInput}
-use Rattle.tables.proofs.Named.{AllName, names_both, input_names}
-use Rattle.giv_files.proofs.StageCalls.{refused_names}
-use Rattle.walks.specs.Networks.{NetworkParts}
+use Rattle.giv_files.proofs.Common.{BundleParts, input_text, refused_names}
+use Rattle.walks.proofs.Common.{NetworkParts}
 use Rattle.ptn_network.specs.Networks.{network_faults}
 use Rattle.ptn_network.proofs.NamedFaults.{network_names}
 use Rattle.line_walks.specs.Pools.{line_input, line_faults, pool_faults}

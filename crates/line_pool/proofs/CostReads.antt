@@ -1,14 +1,9 @@
 -- The costs that are made, read again, are right.
 use Rattle.std.proofs.Common.{◌≡◌, refl, ap, sym, arith, Ok}
-use Rattle.giv_files.specs.declared.made.Made.{Made}
+use Rattle.giv_files.proofs.Common.{Made, BundleParts, Fits, input_text, made_unless, none_unless}
 use Rattle.giv_files.specs.declared.stage.Stage.TheVariants as stage
-use Rattle.tables.specs.Columns.{pool_cost_columns}
-use Rattle.giv_files.specs.Settings.{BundleParts, Fits}
-use Rattle.giv_files.specs.StageCalls.{input_text}
-use Rattle.tables.specs.Writing.{table_text, ReadsBack}
-use Rattle.tables.proofs.Ranges.{front_none, back_none}
-use Rattle.giv_files.proofs.StageCalls.{made_unless, none_unless}
-use Rattle.tables.proofs.WrittenBack.{written_back}
+use Rattle.tables.proofs.Common.{pool_cost_columns, table_text, ReadsBack, front_none, back_none}
+use Rattle.tables.proofs.Common.{written_back, plain_header, columns_written}
 use Rattle.ptn_network.specs.Networks.{network_faults}
 use Rattle.ptn_network.proofs.Sound.{network_sound}
 use Rattle.line_pool.specs.CostStage.{cost_header, cost_stage, network_in}
@@ -16,9 +11,7 @@ use Rattle.line_walks.specs.declared.line_file.LineFile.TheVariants as kind
 use Rattle.line_walks.specs.Pools.{pool_faults}
 use Rattle.line_pool.specs.RightCosts.{lines_in, cost_rows, CostsAreRight}
 use Rattle.line_pool.proofs.CostCalls.{settings_modest}
-use Rattle.tables.proofs.Headers.{plain_header}
 use Rattle.line_pool.proofs.CostRows.{rows_in_columns}
-use Rattle.tables.proofs.WrittenColumns.{columns_written}
 use Rattle.line_pool.proofs.CostsAccepted.{costs_accepted}
 use Rattle.line_walks.proofs.SoundLines.{pool_sound}
 use Rattle.line_walks.proofs.WholeLines.{whole_lines}

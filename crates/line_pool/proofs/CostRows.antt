@@ -1,18 +1,13 @@
 -- The rows of costs, and that their cells are in their columns.
-use Rattle.std.proofs.Common.{◌≡◌, ℕ, ℤ, pos, ◌+◌, ◌*◌, ◌/◌, ◌≤◌, ◌<◌, ◌≤ℤ◌, List, [], ◌∷◌, ◌++◌}
-use Rattle.std.proofs.Common.{length, map, take, get_or, slice_get, ap, sym, ◌∙◌, arith, All, Some}
-use Rattle.std.proofs.Common.{option_map, sum, w64, to_z}
-use Rattle.std.proofs.lemmas.Int.{ints, to_z_pos}
-use Rattle.std.proofs.lemmas.Option.{slice_get-get_or, same_Some}
-use Rattle.std.proofs.lemmas.List.{map_more}
-use Rattle.std.proofs.lemmas.List.Elements.{All-map, All-weaker, All-get_or}
+use Rattle.plan_num.proofs.Common.{◌≡◌, ℕ, ℤ, pos, ◌+◌, ◌*◌, ◌/◌, ◌≤◌, ◌<◌, ◌≤ℤ◌, List, [], ◌∷◌}
+use Rattle.plan_num.proofs.Common.{◌++◌, length, map, take, get_or, slice_get, ap, sym, ◌∙◌, arith}
+use Rattle.plan_num.proofs.Common.{All, Some, option_map, sum, w64, to_z, ints, to_z_pos}
+use Rattle.plan_num.proofs.Common.{slice_get-get_or, same_Some, map_more, All-map, All-weaker}
+use Rattle.plan_num.proofs.Common.{All-get_or}
 use Rattle.giv_files.specs.declared.key.Key.TheVariants as key
-use Rattle.giv_files.specs.declared.setting.Setting.{Setting}
-use Rattle.tables.specs.Columns.{pool_cost_columns}
-use Rattle.giv_files.specs.Settings.{amount}
-use Rattle.tables.specs.Tables.{TableRow}
-use Rattle.tables.specs.Writing.{InColumns}
-use Rattle.walks.specs.declared.edge.Edge.{Edge}
+use Rattle.giv_files.proofs.Common.{Setting, amount}
+use Rattle.tables.proofs.Common.{pool_cost_columns, TableRow, InColumns}
+use Rattle.walks.proofs.Common.{Edge}
 use Rattle.line_walks.specs.Pools.{LineParts}
 use Rattle.line_pool.specs.CostStage.{line_cost, cost_row}
 use Rattle.line_walks.specs.LineLengths.{line_length, IsModest}

@@ -1,17 +1,14 @@
 -- The costs that are made are accepted by the rules of their kind.
-use Rattle.std.proofs.Common.{◌≡◌, ℕ, not, Bool, true, false, List, [], ◌∷◌, map, refl, ap, subst, sym, ◌∙◌}
-use Rattle.std.specs.List.{AllByRecursion, list_any}
-use Rattle.std.specs.List.Sorted.{IsStrictlySortedBy}
-use Rattle.std.specs.Ordering.{int_eq, int_cmp}
+use Rattle.plan_num.proofs.Common.{◌≡◌, ℕ, not, Bool, true, false, List, [], ◌∷◌, map, refl, ap}
+use Rattle.plan_num.proofs.Common.{subst, sym, ◌∙◌, AllByRecursion, list_any, IsStrictlySortedBy}
+use Rattle.plan_num.proofs.Common.{int_eq, int_cmp}
 use Rattle.tables.specs.declared.file_id.FileId.TheVariants as file
 use Rattle.tables.specs.declared.row_why.RowWhy.TheVariants as why
-use Rattle.giv_files.specs.declared.setting.Setting.{Setting}
-use Rattle.tables.specs.Columns.{pool_cost_columns}
-use Rattle.tables.specs.Inputs.{broken_whys, records, input_faults}
-use Rattle.tables.specs.Writing.{ReadsBack}
-use Rattle.tables.proofs.Accepted.{accepted, whole_accepted, all_keep, each_known, none_missing}
+use Rattle.giv_files.proofs.Common.{Setting}
+use Rattle.tables.proofs.Common.{pool_cost_columns, broken_whys, records, input_faults, ReadsBack}
+use Rattle.tables.proofs.Common.{accepted, whole_accepted, all_keep, each_known, none_missing}
 use Rattle.plan_num.proofs.Found.{any_mapped}
-use Rattle.walks.specs.declared.edge.Edge.{Edge}
+use Rattle.walks.proofs.Common.{Edge}
 use Rattle.line_pool.specs.CostStage.{cost_row}
 use Rattle.line_walks.specs.declared.cost_row.CostRow.{CostRow}
 use Rattle.line_walks.specs.PoolCosts.{cost_input, pool_cost_input}

@@ -1,24 +1,17 @@
 -- A line concept that is made has no fault by the rules of its kind.
-use Rattle.std.proofs.Common.{◌≡◌, ℕ, zero, suc, ℤ, pos, ◌+◌, ◌≤◌, true, is_some, List, [], ◌∷◌}
-use Rattle.std.proofs.Common.{◌++◌, length, map, slice_get, option_map, unwrap_or, zip, All, refl}
-use Rattle.std.proofs.Common.{ap, ◌∙◌, arith}
-use Rattle.std.specs.List.{AllByRecursion, enumerate_from, flat_map}
+use Rattle.plan_num.proofs.Common.{◌≡◌, ℕ, zero, suc, ℤ, pos, ◌+◌, ◌≤◌, true, is_some, List, []}
+use Rattle.plan_num.proofs.Common.{◌∷◌, ◌++◌, length, map, slice_get, option_map, unwrap_or, zip}
+use Rattle.plan_num.proofs.Common.{All, refl, ap, ◌∙◌, arith, AllByRecursion, enumerate_from}
+use Rattle.plan_num.proofs.Common.{flat_map, int_cmp, length-map, map-append}
 use Rattle.std.specs.List.Sorted.{IsStrictlySortedBy}
-use Rattle.std.specs.Ordering.{int_cmp}
 use Rattle.std.specs.declared.cmp.Ordering.TheVariants.{Less}
-use Rattle.std.proofs.lemmas.List.{length-map, map-append}
 use Rattle.tables.specs.declared.file_id.FileId.TheVariants as file
-use Rattle.tables.specs.Columns.{concept_columns}
-use Rattle.tables.specs.Inputs.{input_faults}
-use Rattle.giv_files.specs.Settings.{BundleParts}
-use Rattle.giv_files.specs.StageCalls.{input_text}
-use Rattle.tables.specs.Writing.{ReadsBack}
-use Rattle.tables.proofs.Ranges.{front_none, back_none}
-use Rattle.walks.specs.declared.edge.Edge.{Edge}
+use Rattle.tables.proofs.Common.{concept_columns, input_faults, ReadsBack, front_none, back_none}
+use Rattle.giv_files.proofs.Common.{BundleParts, input_text}
+use Rattle.walks.proofs.Common.{Edge, edges_at}
 use Rattle.ptn_network.specs.declared.edge_load.EdgeLoad.{EdgeLoad}
 use Rattle.ptn_network.specs.Loads.{load_input, loads_of}
 use Rattle.ptn_network.specs.Networks.{network_faults, network_in}
-use Rattle.walks.specs.Paths.{edges_at}
 use Rattle.ptn_network.proofs.Sound.{network_sound}
 use Rattle.line_walks.specs.GivenCosts.{costs_of}
 use Rattle.line_walks.specs.PoolCosts.{pool_cost_input}
@@ -29,7 +22,7 @@ use Rattle.line_walks.proofs.WalkLines.{IsWalked, RowsLine, ids_for, rows_at, ro
 use Rattle.line_walks.proofs.WalkLines.{concept_accepted as accepted_as_concept}
 use Rattle.line_walks.proofs.WalkRows.{id_at, row_to, rows_from}
 use Rattle.line_walks.proofs.WholeLines.{whole_lines}
-use Rattle.line_cost_model.specs.Problems.{CostedLine, IsCostedLine, ProblemParts}
+use Rattle.line_cost_model.proofs.Common.{CostedLine, IsCostedLine, ProblemParts}
 use Rattle.branch_certificate.specs.TreeTexts.{edge_id}
 use Rattle.line_search.specs.ConceptTables.{concept_rows, line_rows, row_at}
 use Rattle.line_search.specs.GivenProblems.{costed_by, problem_faults, problem_of}

@@ -1,13 +1,10 @@
 -- Which files the stage of line concepts makes.
 use Rattle.std.proofs.Common.{arith, ◌≡◌, ℕ, List, [], Option, Some, None, Result, Ok, Err, ap}
 use Rattle.std.proofs.Common.{lit<}
-use Rattle.tables.specs.declared.file_id.FileId.{FileId}
-use Rattle.giv_files.specs.declared.made.Made.{Made}
-use Rattle.tables.specs.declared.refusal.Refusal.{Refusal}
+use Rattle.tables.proofs.Common.{FileId, Refusal}
+use Rattle.giv_files.proofs.Common.{Made, MakesAs, ids_of, BundleParts}
 use Rattle.giv_files.specs.declared.stage.Stage.TheVariants as stage
-use Rattle.giv_files.specs.MadeLists.{MakesAs, ids_of}
-use Rattle.giv_files.specs.Settings.{BundleParts}
-use Rattle.line_cost_model.specs.Problems.{ProblemParts}
+use Rattle.line_cost_model.proofs.Common.{ProblemParts}
 use Rattle.line_concepts.specs.declared.node.Node.{Node}
 use Rattle.line_search.specs.ConceptResults.{FoundConcept}
 use Rattle.line_search.specs.ConceptStage.{concept_stage, search_made}

@@ -1,27 +1,21 @@
 -- Which files the stage of line concepts names where it refuses a row.
-use Rattle.std.proofs.Common.{arith, ◌≡◌, ℕ, Bool, true, List, [], ◌∷◌, ◌++◌, slice_get, Option}
-use Rattle.std.proofs.Common.{Some, None, Err, refl, subst}
-use Rattle.std.specs.Prelude.{ok_or}
-use Rattle.tables.specs.declared.file_id.FileId.{FileId}
+use Rattle.plan_num.proofs.Common.{arith, ◌≡◌, ℕ, Bool, true, List, [], ◌∷◌, ◌++◌, slice_get}
+use Rattle.plan_num.proofs.Common.{Option, Some, None, Err, refl, subst, ok_or}
+use Rattle.tables.proofs.Common.{FileId, Refusal, input_faults, NamesInput, NamesOnly, AllName}
+use Rattle.tables.proofs.Common.{input_names, names_both}
 use Rattle.tables.specs.declared.file_id.FileId.TheVariants as file
-use Rattle.tables.specs.declared.refusal.Refusal.{Refusal}
-use Rattle.tables.specs.Inputs.{input_faults}
-use Rattle.tables.specs.NamedFiles.{NamesInput, NamesOnly}
-use Rattle.giv_files.specs.Settings.{BundleParts}
-use Rattle.giv_files.specs.StageCalls.{input_text}
-use Rattle.tables.proofs.Named.{AllName, input_names, names_both}
+use Rattle.giv_files.proofs.Common.{BundleParts, input_text, names_after, fine_after}
 use Rattle.ptn_network.specs.Loads.{load_input}
-use Rattle.walks.specs.Networks.{NetworkParts}
+use Rattle.walks.proofs.Common.{NetworkParts}
 use Rattle.ptn_network.specs.Networks.{network_faults, network_in}
 use Rattle.ptn_network.proofs.NamedFaults.{network_names}
 use Rattle.line_walks.specs.PoolCosts.{pool_cost_input}
 use Rattle.line_walks.specs.Pools.{line_faults, pool_faults}
-use Rattle.line_cost_model.specs.Problems.{ProblemParts}
+use Rattle.line_cost_model.proofs.Common.{ProblemParts}
 use Rattle.line_search.specs.ConceptResults.{FoundConcept, result_within}
 use Rattle.line_search.specs.ConceptStage.{concept_stage, search_made}
 use Rattle.line_search.specs.GivenProblems.{lines_in, problem_faults}
 use Rattle.line_concepts.specs.Listings.{Entry}
-use Rattle.giv_files.proofs.StageCalls.{names_after, fine_after}
 
 ended : (test : FileId → Bool) (problem : ProblemParts) (found : Option FoundConcept)
     (why reason : Refusal) → NamesOnly test why

@@ -1,32 +1,17 @@
 -- The files of a line concept are right over what the stage was given.
-use Rattle.std.proofs.Common.{◌≡◌, ℕ, zero, suc, ℤ, pos, ◌≤◌, true, false, cond, List, [], ◌∷◌}
-use Rattle.std.proofs.Common.{length, map, All, Option, Some, None, IfSome, Ok, refl}
-use Rattle.std.proofs.Common.{sym, subst, arith, find, get_or, option_map, take, unsigned_abs}
-use Rattle.std.proofs.Common.{unwrap_or, nat_le}
-use Rattle.std.specs.Prelude.{ok_or, ⊤}
-use Rattle.std.specs.List.{AllZip, flat_map}
-use Rattle.std.specs.Ordering.{int_eq}
-use Rattle.std.specs.Cmp.Rules.{signed_items}
-use Rattle.std.proofs.lemmas.Bool.{cases_Bool}
-use lib.Pointwise.{pointwise, pointwise_decides}
-use Rattle.giv_files.specs.declared.made.Made.{Made}
-use Rattle.tables.specs.declared.refusal.Refusal.{Refusal}
+use Rattle.plan_num.proofs.Common.{◌≡◌, ℕ, zero, suc, ℤ, pos, ◌≤◌, true, false, cond, List, [], ◌∷◌}
+use Rattle.plan_num.proofs.Common.{length, map, All, Option, Some, None, IfSome, Ok, refl, sym}
+use Rattle.plan_num.proofs.Common.{subst, arith, find, get_or, option_map, take, unsigned_abs}
+use Rattle.plan_num.proofs.Common.{unwrap_or, nat_le, ok_or, ⊤, AllZip, flat_map, int_eq}
+use Rattle.plan_num.proofs.Common.{signed_items, cases_Bool, pointwise, pointwise_decides}
+use Rattle.giv_files.proofs.Common.{Made, BundleParts, Fits, made_after}
+use Rattle.tables.proofs.Common.{Refusal, concept_columns, tree_columns, table_of, TableRow}
+use Rattle.tables.proofs.Common.{ReadsBack, plain_header, written_back, columns_written}
 use Rattle.tables.specs.declared.refusal.Refusal.TheVariants as refusal
 use Rattle.giv_files.specs.declared.stage.Stage.TheVariants as stage
-use Rattle.tables.specs.Columns.{concept_columns, tree_columns}
-use Rattle.tables.specs.Reading.{table_of}
-use Rattle.giv_files.specs.Settings.{BundleParts, Fits}
-use Rattle.tables.specs.Tables.{TableRow}
-use Rattle.tables.specs.Writing.{ReadsBack}
-use Rattle.tables.proofs.Headers.{plain_header}
-use Rattle.tables.proofs.WrittenBack.{written_back}
-use Rattle.line_cost_model.specs.declared.range.LineRange.{LineRange}
-use Rattle.line_cost_model.specs.Chosen.{IsChosen}
-use Rattle.line_cost_model.specs.Concepts.{IsFeasible, cost_of, is_feasible}
-use Rattle.line_cost_model.specs.Problems.{IsProblem, ProblemParts}
-use Rattle.line_cost_model.specs.Regions.{IsRange, IsWithin, root_of}
-use Rattle.line_cost_model.proofs.Feasible.{test_means}
-use Rattle.line_cost_model.proofs.Roots.{root_has_each, root_sound}
+use Rattle.line_cost_model.proofs.Common.{LineRange, IsChosen, IsFeasible, cost_of, is_feasible}
+use Rattle.line_cost_model.proofs.Common.{IsProblem, ProblemParts, IsRange, IsWithin, root_of}
+use Rattle.line_cost_model.proofs.Common.{test_means, root_has_each, root_sound}
 use Rattle.line_concepts.specs.declared.node.Node.{Node}
 use Rattle.line_concepts.specs.Certified.{Certifies}
 use Rattle.branch_certificate.specs.TreeTexts.{ReadsBackAs, node_rows, tree_header, tree_text}
@@ -48,12 +33,10 @@ use Rattle.line_concepts.proofs.ChosenFound.{best_feasible, found_is_chosen, lis
 use Rattle.line_concepts.proofs.ChosenFound.{nodes_certify, some_find}
 use Rattle.line_search.proofs.ConceptAccepted.{concept_accepted}
 use Rattle.line_search.proofs.ConceptWritten.{concept_inside}
-use Rattle.tables.proofs.WrittenColumns.{columns_written}
 use Rattle.line_search.proofs.FrequenciesBack.{frequencies_back}
 use Rattle.line_search.proofs.Judging.{by_tree}
 use Rattle.line_search.proofs.SoundProblems.{problem_sound}
 use Rattle.line_concepts.proofs.WrittenNodes.{listing_written}
-use Rattle.giv_files.proofs.StageCalls.{made_after}
 
 few_in : (region : List LineRange) (frequencies : List ℕ) → All IsRange region
     → AllZip IsWithin frequencies region → All (λ frequency. frequency ≤ 1000) frequencies

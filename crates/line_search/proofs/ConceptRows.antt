@@ -1,16 +1,13 @@
 -- The rows of a concept, line by line and edge by edge.
-use Rattle.std.proofs.Common.{◌≡◌, ℕ, suc, ℤ, pos, ◌+◌, ◌<◌, ◌≤◌, arith, List, [], ◌∷◌, ◌++◌}
-use Rattle.std.proofs.Common.{length, map, take, get_or, slice_get, zip, refl, ap, subst, sym, ◌∙◌}
-use Rattle.std.proofs.Common.{Option, Some, None, option_map}
-use Rattle.std.specs.List.{All, flat_map, enumerate_from}
-use Rattle.std.proofs.lemmas.Grind.{flat_map-append}
-use Rattle.std.proofs.lemmas.List.{take_more, take_all, map_push, append-nil}
-use Rattle.std.proofs.lemmas.List.Elements.{All-get_or}
-use Rattle.std.proofs.lemmas.List.FromFn.{length-enumerate_from, get_or-enumerate_from}
-use Rattle.std.proofs.lemmas.Option.{same_Some, slice_get_within, get_or_from_slice_get, slice_get-get_or}
-use Rattle.std.proofs.lemmas.Slice.Zip.{get_or-zip}
-use Rattle.tables.specs.Tables.{TableRow}
-use Rattle.line_cost_model.specs.Problems.{CostedLine, ProblemParts, IsProblem, IsCostedLine, IsId}
+use Rattle.plan_num.proofs.Common.{◌≡◌, ℕ, suc, ℤ, pos, ◌+◌, ◌<◌, ◌≤◌, arith, List, [], ◌∷◌, ◌++◌}
+use Rattle.plan_num.proofs.Common.{length, map, take, get_or, slice_get, zip, refl, ap, subst, sym}
+use Rattle.plan_num.proofs.Common.{◌∙◌, Option, Some, None, option_map, All, flat_map}
+use Rattle.plan_num.proofs.Common.{enumerate_from, flat_map-append, take_more, take_all, map_push}
+use Rattle.plan_num.proofs.Common.{append-nil, All-get_or, length-enumerate_from}
+use Rattle.plan_num.proofs.Common.{get_or-enumerate_from, same_Some, slice_get_within}
+use Rattle.plan_num.proofs.Common.{get_or_from_slice_get, slice_get-get_or, get_or-zip}
+use Rattle.tables.proofs.Common.{TableRow}
+use Rattle.line_cost_model.proofs.Common.{CostedLine, ProblemParts, IsProblem, IsCostedLine, IsId}
 use Rattle.line_search.specs.ConceptTables.{row_at, line_rows, concept_rows}
 
 no_line : CostedLine

@@ -1,22 +1,13 @@
 -- The rows of a concept can be written, and what it costs can be printed.
-use Rattle.std.proofs.Common.{◌≡◌, ℕ, ℤ, suc, pos, ◌+◌, ◌*◌, ◌≤◌, ◌<◌, ◌≤ℤ◌, ◌∙◌, nat_eq, true}
-use Rattle.std.proofs.Common.{List, [], ◌∷◌, length, map, zip, sum_by, arith, ap, All, Result, Ok}
-use Rattle.std.proofs.Common.{Err, IfOk, to_z, of_z}
-use Rattle.std.specs.Int.{w128}
-use Rattle.std.specs.List.{enumerate_from, flat_map, list_any}
-use Rattle.std.proofs.lemmas.Bool.{eqb-true}
-use Rattle.std.proofs.lemmas.Int.{ints}
-use Rattle.std.proofs.lemmas.List.Elements.{All-nil, All-cons, All-append}
-use Rattle.std.proofs.lemmas.List.Sums.{sum_by-cons}
-use Rattle.std.proofs.lemmas.Map.Steps.{length-le_from_distinct_below}
-use Rattle.std.proofs.lemmas.Nat.{mul-le}
-use Rattle.std.proofs.lemmas.List.Folds.{Any-from_list_any}
-use Rattle.tables.specs.Columns.{concept_columns}
-use Rattle.tables.specs.Tables.{TableRow}
-use Rattle.tables.specs.Writing.{InColumns, table_text}
-use Rattle.line_cost_model.specs.Concepts.{cost_of}
-use Rattle.line_cost_model.specs.Problems.{CostedLine, IsCostedLine, IsId, IsProblem, ProblemParts}
-use Rattle.line_cost_model.proofs.FewLines.{few_edges, few_lines}
+use Rattle.plan_num.proofs.Common.{◌≡◌, ℕ, ℤ, suc, pos, ◌+◌, ◌*◌, ◌≤◌, ◌<◌, ◌≤ℤ◌, ◌∙◌, nat_eq, true}
+use Rattle.plan_num.proofs.Common.{List, [], ◌∷◌, length, map, zip, sum_by, arith, ap, All, Result}
+use Rattle.plan_num.proofs.Common.{Ok, Err, IfOk, to_z, of_z, w128, enumerate_from, flat_map}
+use Rattle.plan_num.proofs.Common.{list_any, eqb-true, ints, All-nil, All-cons, All-append}
+use Rattle.plan_num.proofs.Common.{sum_by-cons, length-le_from_distinct_below, mul-le}
+use Rattle.plan_num.proofs.Common.{Any-from_list_any}
+use Rattle.tables.proofs.Common.{concept_columns, TableRow, InColumns, table_text}
+use Rattle.line_cost_model.proofs.Common.{cost_of, CostedLine, IsCostedLine, IsId, IsProblem}
+use Rattle.line_cost_model.proofs.Common.{ProblemParts, few_edges, few_lines}
 use Rattle.branch_certificate.proofs.WriteInside.{edge_there}
 use Rattle.line_search.specs.ConceptTables.{concept_header, concept_text, concept_rows, line_rows}
 use Rattle.line_search.specs.ConceptTables.{row_at}

@@ -1,12 +1,10 @@
 -- The ids of the edges of a network that texts give.
-use Rattle.std.proofs.Common.{◌≡◌, ℕ, List, []}
-use Rattle.std.specs.List.{All}
-use Rattle.std.proofs.lemmas.List.Elements.{All-weaker}
-use Rattle.walks.specs.declared.edge.Edge.{Edge}
+use Rattle.plan_num.proofs.Common.{◌≡◌, ℕ, List, [], All, All-weaker}
+use Rattle.walks.proofs.Common.{Edge}
 use Rattle.ptn_network.specs.Networks.{network_faults, network_of}
 use Rattle.line_walks.proofs.EdgesOfTexts.{HasId}
 use Rattle.line_walks.proofs.EdgesOfTexts as texts
-use Rattle.line_cost_model.specs.Problems.{IsId}
+use Rattle.line_cost_model.proofs.Common.{IsId}
 
 -- each is one
 pub edge_ids : (stops_text edges_text : List ℕ) → network_faults stops_text edges_text ≡ []

@@ -1,11 +1,8 @@
 -- The frequency of the first row of a line, among some rows and one more.
-use Rattle.std.proofs.Common.{◌≡◌, ℕ, ℤ, ◌+◌, ◌<◌, cond, List, [], ◌∷◌, ◌++◌, arith, length, take}
-use Rattle.std.proofs.Common.{get_or, Option, Some, None, ap, sym, ◌∙◌}
-use Rattle.std.specs.Option.{option_or}
-use Rattle.std.specs.Ordering.{int_eq}
-use Rattle.std.proofs.lemmas.Bool.{cases_Bool}
-use Rattle.tables.specs.Tables.{TableRow, no_row}
-use Rattle.tables.proofs.Inputs.{records_more}
+use Rattle.plan_num.proofs.Common.{◌≡◌, ℕ, ℤ, ◌+◌, ◌<◌, cond, List, [], ◌∷◌, ◌++◌, arith, length}
+use Rattle.plan_num.proofs.Common.{take, get_or, Option, Some, None, ap, sym, ◌∙◌, option_or}
+use Rattle.plan_num.proofs.Common.{int_eq, cases_Bool}
+use Rattle.tables.proofs.Common.{TableRow, no_row, records_more}
 use Rattle.line_walks.specs.Pools.{differs}
 use Rattle.line_search.specs.PinnedConcepts.{first_of_line, frequency_at, line_in, pinned_input}
 use Rattle.line_search.specs.PinnedConcepts.{rows_with, same_frequency}

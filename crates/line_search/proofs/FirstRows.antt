@@ -1,13 +1,10 @@
 -- The frequency of a line, which is that of its first row.
-use Rattle.std.proofs.Common.{arith, ◌≡◌, ℕ, ℤ, pos, ◌+◌, ◌<◌, ◌≤◌, Bool, true, false, cond, List}
-use Rattle.std.proofs.Common.{length, drop, get_or, slice_get, ap, sym, ◌∙◌, Option, Some, None}
-use Rattle.std.proofs.Common.{option_map, unwrap_or}
-use Rattle.std.specs.List.{find}
-use Rattle.std.specs.Ordering.{int_eq}
-use Rattle.std.proofs.lemmas.List.{drop_more, drop_all}
-use Rattle.std.proofs.lemmas.Option.{same_Some}
-use Rattle.tables.specs.Tables.{TableRow, cell_at, no_row}
-use Rattle.line_cost_model.specs.Problems.{CostedLine}
+use Rattle.plan_num.proofs.Common.{arith, ◌≡◌, ℕ, ℤ, pos, ◌+◌, ◌<◌, ◌≤◌, Bool, true, false, cond}
+use Rattle.plan_num.proofs.Common.{List, length, drop, get_or, slice_get, ap, sym, ◌∙◌, Option}
+use Rattle.plan_num.proofs.Common.{Some, None, option_map, unwrap_or, find, int_eq, drop_more}
+use Rattle.plan_num.proofs.Common.{drop_all, same_Some}
+use Rattle.tables.proofs.Common.{TableRow, cell_at, no_row}
+use Rattle.line_cost_model.proofs.Common.{CostedLine}
 use Rattle.line_search.specs.ConceptTables.{frequency_in, frequency_of_row}
 
 module _ (id : ℤ) (rows : List TableRow) (i : ℕ) where

@@ -1,14 +1,13 @@
 -- The rows of a concept give back its frequencies.
-use Rattle.std.proofs.Common.{◌≡◌, ℕ, suc, ℤ, pos, ◌+◌, ◌<◌, Bool, false, ◌∙◌, List, [], ◌∷◌, ◌++◌}
-use Rattle.std.proofs.Common.{length, map, find, zip, Some, None, All, refl, ap, sym, arith}
-use Rattle.std.proofs.Common.{append_assoc, get_or, option_map, unwrap_or}
-use Rattle.std.specs.List.{AllByRecursion, enumerate_from, flat_map}
+use Rattle.plan_num.proofs.Common.{◌≡◌, ℕ, suc, ℤ, pos, ◌+◌, ◌<◌, Bool, false, ◌∙◌, List, [], ◌∷◌}
+use Rattle.plan_num.proofs.Common.{◌++◌, length, map, find, zip, Some, None, All, refl, ap, sym}
+use Rattle.plan_num.proofs.Common.{arith, append_assoc, get_or, option_map, unwrap_or}
+use Rattle.plan_num.proofs.Common.{AllByRecursion, enumerate_from, flat_map, int_cmp, int_eq}
 use Rattle.std.specs.List.Sorted.{IsStrictlySortedBy}
-use Rattle.std.specs.Ordering.{int_cmp, int_eq}
 use Rattle.std.specs.declared.cmp.Ordering.TheVariants.{Less}
 use Rattle.std.proofs.lemmas.List.Folds.{find-append as find_both}
-use Rattle.tables.specs.Tables.{TableRow}
-use Rattle.line_cost_model.specs.Problems.{CostedLine, IsCostedLine, IsProblem, ProblemParts}
+use Rattle.tables.proofs.Common.{TableRow}
+use Rattle.line_cost_model.proofs.Common.{CostedLine, IsCostedLine, IsProblem, ProblemParts}
 use Rattle.line_search.specs.ConceptTables.{concept_rows, frequencies_in, frequency_in, line_rows}
 use Rattle.line_search.specs.ConceptTables.{frequency_of_row, row_at}
 use Rattle.plan_num.proofs.Tests.{above_differs}

@@ -1,27 +1,19 @@
 -- A stable sort by keys puts items one group after the other.
-use Rattle.std.proofs.Common.{◌≡◌, suc, ℤ, pos, ◌+◌, Bool, true, false, ◌||◌, cond, List, [], inl}
-use Rattle.std.proofs.Common.{inr, ◌∷◌, ◌++◌, length, map, filter, get_or, All, refl, ap, subst}
-use Rattle.std.proofs.Common.{sym, ◌∙◌, arith}
-use Rattle.std.specs.List.{AllByRecursion, flat_map, list_any}
+use Rattle.plan_num.proofs.Common.{◌≡◌, suc, ℤ, pos, ◌+◌, Bool, true, false, ◌||◌, cond, List, []}
+use Rattle.plan_num.proofs.Common.{inl, inr, ◌∷◌, ◌++◌, length, map, filter, get_or, All, refl, ap}
+use Rattle.plan_num.proofs.Common.{subst, sym, ◌∙◌, arith, AllByRecursion, flat_map, list_any}
+use Rattle.plan_num.proofs.Common.{keys_of, int_cmp, int_eq, is_lt, ordering_reverse, put, by_order}
+use Rattle.plan_num.proofs.Common.{ne_eqb, cases_Bool, int_cmp_total, int_eq_equiv, length-append}
+use Rattle.plan_num.proofs.Common.{All-map, exact_signed}
 use Rattle.std.specs.List.Sorted.{IsSortedByKey, IsStableByKey, IsStrictlySortedBy, ties}
-use Rattle.std.specs.Map.{keys_of}
-use Rattle.std.specs.Ordering.{int_cmp, int_eq, is_lt, ordering_reverse}
 use Rattle.std.specs.declared.cmp.Ordering.{Ordering}
 use Rattle.std.specs.declared.cmp.Ordering.TheVariants.{Less, Equal, Greater}
-use Rattle.std.specs.FinMap.{put}
-use Rattle.std.specs.FinMap.Entries.{by_order}
-use Rattle.std.proofs.lemmas.Bool.{ne_eqb, cases_Bool}
-use Rattle.std.proofs.lemmas.Cmp.{int_cmp_total, int_eq_equiv}
-use Rattle.std.proofs.lemmas.List.{length-append}
-use Rattle.std.proofs.lemmas.List.Elements.{All-map}
 use Rattle.std.proofs.lemmas.List.Sorted.{ranks_by, sorted_far}
-use Rattle.std.proofs.lemmas.Map.Lookups.{exact_signed}
-use Rattle.walks.specs.RisingIds.{by_id, rising}
-use Rattle.walks.proofs.RisingIds.{rising_rises}
-use Rattle.walks.proofs.RisingIds.{all_rising}
+use Rattle.walks.proofs.Common.{rising, rising_rises, all_rising, apart, rising_has, same_rising}
+use Rattle.walks.proofs.Common.{tied, units}
+use Rattle.walks.specs.RisingIds.{by_id}
 use Rattle.line_search.specs.Judged.{has_some}
 use Rattle.line_search.specs.PoolPlaces.{grouped}
-use Rattle.walks.proofs.SameIds.{apart, rising_has, same_rising, tied, units}
 
 module _ {X : Type 0} (key : X → ℤ) where
   abbrev with_key : List X → ℤ → List X

@@ -1,14 +1,10 @@
 -- The rows of a planner's concept, line by line.
-use Rattle.std.proofs.Common.{◌≡◌, ℤ, pos, Bool, List, [], ◌∷◌, ◌++◌, length, inl, inr, map, filter}
-use Rattle.std.proofs.Common.{get_or, take, All, refl, ap, sym, ◌∙◌, arith}
-use Rattle.std.specs.List.{flat_map}
-use Rattle.std.specs.Ordering.{int_eq}
-use Rattle.std.proofs.lemmas.List.{length-map, map-append}
-use Rattle.std.proofs.lemmas.List.Elements.{All-head, All-tail}
-use Rattle.std.proofs.lemmas.Simd.{map-map}
-use Rattle.std.proofs.lemmas.Bool.{cases_Bool}
-use Rattle.tables.specs.Tables.{TableRow, Wide}
-use Rattle.walks.specs.RisingIds.{rising}
+use Rattle.plan_num.proofs.Common.{◌≡◌, ℤ, pos, Bool, List, [], ◌∷◌, ◌++◌, length, inl, inr, map}
+use Rattle.plan_num.proofs.Common.{filter, get_or, take, All, refl, ap, sym, ◌∙◌, arith, flat_map}
+use Rattle.plan_num.proofs.Common.{int_eq, length-map, map-append, All-head, All-tail, map-map}
+use Rattle.plan_num.proofs.Common.{cases_Bool}
+use Rattle.tables.proofs.Common.{TableRow, Wide}
+use Rattle.walks.proofs.Common.{rising}
 use Rattle.line_search.specs.declared.pool_rows.PlacedEdge.{PlacedEdge}
 use Rattle.line_search.specs.PinnedConcepts.{by_lines, line_in, places_of}
 use Rattle.line_search.specs.PoolPlaces.{cells_of, grouped, placed, plain_rows}

@@ -1,13 +1,9 @@
 -- The rules of a concept, from what is found of its text.
-use Rattle.std.proofs.Common.{◌≡◌, ℕ, not, Bool, true, false, cond, List, [], ◌∷◌, refl, sym, ◌∙◌}
-use Rattle.std.proofs.Common.{arith, Option, Some, None, IfNone, IfSome}
-use Rattle.std.specs.Option.{option_or}
-use Rattle.std.proofs.lemmas.Option.{same_Some}
-use Rattle.tables.specs.Columns.{concept_columns}
-use Rattle.tables.specs.Reading.{faults, table_of}
-use Rattle.tables.specs.Tables.{TableRow}
-use Rattle.line_cost_model.specs.Problems.{ProblemParts}
-use Rattle.line_cost_model.specs.Concepts.{IsFeasible, is_feasible, cost_of}
+use Rattle.plan_num.proofs.Common.{◌≡◌, ℕ, not, Bool, true, false, cond, List, [], ◌∷◌, refl, sym}
+use Rattle.plan_num.proofs.Common.{◌∙◌, arith, Option, Some, None, IfNone, IfSome, option_or}
+use Rattle.plan_num.proofs.Common.{same_Some}
+use Rattle.tables.proofs.Common.{concept_columns, faults, table_of, TableRow}
+use Rattle.line_cost_model.proofs.Common.{ProblemParts, IsFeasible, is_feasible, cost_of}
 use Rattle.line_search.specs.declared.fault.ConceptFault.{ConceptFault}
 use Rattle.line_search.specs.declared.fault.ConceptFault.TheVariants as fault
 use Rattle.line_search.specs.ConceptTables.{concept_rows, frequencies_in}

@@ -1,18 +1,11 @@
 -- No solution is the answer exactly where no concept is feasible and the listing is within the budget.
-use Rattle.std.proofs.Common.{arith, ◌≡◌, ℕ, ◌≤◌, ◌∙◌, Bool, true, false, cond, nat_le, List}
-use Rattle.std.proofs.Common.{[], length, take, ap, sym, refl, Option, Some, None}
-use Rattle.std.proofs.Common.{IfSome}
-use Rattle.std.proofs.Common.{Result, Err, option_map}
-use Rattle.std.specs.Prelude.{ok_or}
-use Rattle.std.proofs.lemmas.Bool.{le-leb}
-use Rattle.giv_files.specs.declared.made.Made.{Made}
-use Rattle.tables.specs.declared.refusal.Refusal.{Refusal}
+use Rattle.plan_num.proofs.Common.{arith, ◌≡◌, ℕ, ◌≤◌, ◌∙◌, Bool, true, false, cond, nat_le, List}
+use Rattle.plan_num.proofs.Common.{[], length, take, ap, sym, refl, Option, Some, None, IfSome}
+use Rattle.plan_num.proofs.Common.{Result, Err, option_map, ok_or, le-leb}
+use Rattle.giv_files.proofs.Common.{Made, BundleParts, StageGives, gives_always, gives_only}
+use Rattle.tables.proofs.Common.{Refusal, StageFault}
 use Rattle.tables.specs.declared.refusal.Refusal.TheVariants as refusal
-use Rattle.tables.specs.declared.refusal.StageFault.{StageFault}
-use Rattle.giv_files.specs.Settings.{BundleParts}
-use Rattle.giv_files.specs.StageCalls.{StageGives}
-use Rattle.line_cost_model.specs.Chosen.{IsChosen}
-use Rattle.line_cost_model.specs.Problems.{ProblemParts}
+use Rattle.line_cost_model.proofs.Common.{IsChosen, ProblemParts}
 use Rattle.line_concepts.specs.declared.node.Node.{Node}
 use Rattle.line_concepts.specs.Budgets.{nodes_in}
 use Rattle.line_search.specs.ConceptResults.{last_found, result_within}
@@ -24,7 +17,6 @@ use Rattle.line_concepts.specs.RightSearches.{NoneIsFeasible, found_by}
 use Rattle.line_search.proofs.ConceptNames.{inputs_fine}
 use Rattle.line_search.proofs.SearchRight.{search_right}
 use Rattle.line_search.proofs.StageResults.{by_parts}
-use Rattle.giv_files.proofs.StageCalls.{gives_always, gives_only}
 
 abbrev no_solution : Result Made Refusal
 no_solution = Err refusal.NoSolution

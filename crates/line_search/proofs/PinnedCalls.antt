@@ -1,26 +1,16 @@
 -- What the call of the stage of a planner's concept gives, step by step.
-use Rattle.std.proofs.Common.{arith, ◌≡◌, ℕ, true, false, not, List, [], ◌∷◌, slice_get, Some, Ok}
-use Rattle.std.proofs.Common.{Err, refl, ap, subst, sym, ◌∙◌, nat_eq, length}
-use Rattle.std.proofs.lemmas.List.{length-map}
-use Rattle.std.proofs.lemmas.Simd.{map-map}
-use Rattle.std.specs.Ordering.{int_eq}
-use lib.Pointwise.{pointwise}
+use Rattle.plan_num.proofs.Common.{arith, ◌≡◌, ℕ, true, false, not, List, [], ◌∷◌, slice_get, Some}
+use Rattle.plan_num.proofs.Common.{Ok, Err, refl, ap, subst, sym, ◌∙◌, nat_eq, length, length-map}
+use Rattle.plan_num.proofs.Common.{map-map, int_eq, pointwise}
 use Rattle.tables.specs.declared.file_id.FileId.TheVariants as file
-use Rattle.giv_files.specs.declared.made.Made.{Made}
+use Rattle.giv_files.proofs.Common.{Made, BundleParts, StageGives, input_text, stage_refused}
 use Rattle.tables.specs.declared.refusal.Refusal.TheVariants as refusal
-use Rattle.tables.specs.declared.refusal.StageFault.{StageFault}
+use Rattle.tables.proofs.Common.{StageFault, Input, Refuses, input_faults, table_faults}
+use Rattle.tables.proofs.Common.{table_row_faults, whole_rule, TableRow, no_faults, refused_append}
+use Rattle.tables.proofs.Common.{refused_whole, whole_rule_broken, whole_rule_kept}
 use Rattle.tables.specs.declared.refusal.StageFault.TheVariants as stage
 use Rattle.tables.specs.declared.row_why.RowWhy.TheVariants as why
-use Rattle.tables.specs.Inputs.{Input, Refuses, input_faults, table_faults, table_row_faults}
-use Rattle.tables.specs.Inputs.{whole_rule}
-use Rattle.giv_files.specs.Settings.{BundleParts}
-use Rattle.giv_files.specs.StageCalls.{StageGives, input_text}
-use Rattle.tables.specs.Tables.{TableRow}
-use Rattle.tables.proofs.Inputs.{no_faults, refused_append, refused_whole, whole_rule_broken}
-use Rattle.tables.proofs.Inputs.{whole_rule_kept}
-use Rattle.giv_files.proofs.StageCalls.{stage_refused}
-use Rattle.line_cost_model.specs.Concepts.{cost_of, is_feasible}
-use Rattle.line_cost_model.specs.Problems.{ProblemParts}
+use Rattle.line_cost_model.proofs.Common.{cost_of, is_feasible, ProblemParts}
 use Rattle.line_search.specs.ConceptTables.{concept_rows, frequencies_in, row_count}
 use Rattle.line_search.specs.GivenProblems.{problem_faults, problem_of}
 use Rattle.line_search.specs.Judged.{frequencies_of}

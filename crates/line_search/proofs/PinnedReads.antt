@@ -1,22 +1,13 @@
 -- What is made of a planner's concept is right.
-use Rattle.std.proofs.Common.{◌≡◌, ℕ, pos, Bool, true, false, cond, not, List, [], ◌∷◌, arith}
-use Rattle.std.proofs.Common.{slice_get, option_map, is_some, Option, Some, None, Ok, refl, ap, sym}
-use Rattle.std.proofs.Common.{◌∙◌, subst}
-use Rattle.std.proofs.lemmas.Simd.{map-map}
-use Rattle.giv_files.specs.declared.made.Made.{Made}
+use Rattle.plan_num.proofs.Common.{◌≡◌, ℕ, pos, Bool, true, false, cond, not, List, [], ◌∷◌, arith}
+use Rattle.plan_num.proofs.Common.{slice_get, option_map, is_some, Option, Some, None, Ok, refl, ap}
+use Rattle.plan_num.proofs.Common.{sym, ◌∙◌, subst, map-map}
+use Rattle.giv_files.proofs.Common.{Made, BundleParts, input_text, made_unless, none_unless}
 use Rattle.tables.specs.declared.row_why.RowWhy.TheVariants as why
-use Rattle.tables.specs.Columns.{concept_columns}
-use Rattle.tables.specs.Inputs.{Input, records, whole_rule}
-use Rattle.tables.specs.Reading.{table_of}
-use Rattle.giv_files.specs.Settings.{BundleParts}
-use Rattle.giv_files.specs.StageCalls.{input_text}
-use Rattle.tables.specs.Tables.{TableRow}
-use Rattle.tables.proofs.Inputs.{parts_sound, table_sound, whole_rule_sound}
-use Rattle.tables.proofs.Ranges.{back_none, front_none}
-use Rattle.giv_files.proofs.StageCalls.{made_unless, none_unless}
-use Rattle.line_cost_model.specs.Concepts.{IsFeasible, cost_of, is_feasible}
-use Rattle.line_cost_model.specs.Problems.{IsProblem, ProblemParts}
-use Rattle.line_cost_model.proofs.Feasible.{test_means}
+use Rattle.tables.proofs.Common.{concept_columns, Input, records, whole_rule, table_of, TableRow}
+use Rattle.tables.proofs.Common.{parts_sound, table_sound, whole_rule_sound, back_none, front_none}
+use Rattle.line_cost_model.proofs.Common.{IsFeasible, cost_of, is_feasible, IsProblem, ProblemParts}
+use Rattle.line_cost_model.proofs.Common.{test_means}
 use Rattle.line_concepts.specs.declared.fault.TreeFault.{TreeFault}
 use Rattle.line_concepts.specs.declared.node.Node.{Node}
 use Rattle.line_concepts.specs.TreeFaults.{tree_faults}

@@ -1,19 +1,14 @@
 -- Edges with their bounds, one after the other.
-use Rattle.std.proofs.Common.{◌≡◌, ℕ, ℤ, pos, negsuc, ◌+◌, ◌≤◌, ◌≤ℤ◌, ◌<ℤ◌, arith, List, [], ◌∷◌}
-use Rattle.std.proofs.Common.{◌++◌, length, map, take, slice_get, zip, unsigned_abs, FitsSigned}
-use Rattle.std.proofs.Common.{to_z, of_z, w64, refl, ap, subst, sym, ◌∙◌, Some, option_map}
-use Rattle.std.specs.List.{All}
-use Rattle.std.specs.List.Sorted.{IsStrictlySortedBy}
-use Rattle.std.specs.Ordering.{int_cmp}
-use Rattle.std.proofs.lemmas.Int.{ints, to_z-of_z}
-use Rattle.std.proofs.lemmas.List.{length-map}
-use Rattle.std.proofs.lemmas.Option.{slice_get-map}
-use Rattle.walks.specs.declared.edge.Edge.{Edge}
+use Rattle.plan_num.proofs.Common.{◌≡◌, ℕ, ℤ, pos, negsuc, ◌+◌, ◌≤◌, ◌≤ℤ◌, ◌<ℤ◌, arith, List, []}
+use Rattle.plan_num.proofs.Common.{◌∷◌, ◌++◌, length, map, take, slice_get, zip, unsigned_abs, to_z}
+use Rattle.plan_num.proofs.Common.{of_z, w64, refl, ap, subst, sym, ◌∙◌, Some, option_map, All}
+use Rattle.plan_num.proofs.Common.{IsStrictlySortedBy, int_cmp, ints, length-map, slice_get-map}
+use Rattle.std.proofs.Common.{FitsSigned}
+use Rattle.std.proofs.lemmas.Int.{to_z-of_z}
+use Rattle.walks.proofs.Common.{Edge}
 use Rattle.ptn_network.specs.declared.edge_load.EdgeLoad.{EdgeLoad}
 use Rattle.ptn_network.specs.Loads.{IsLoad}
-use Rattle.line_cost_model.specs.declared.edge.BoundedEdge.{BoundedEdge}
-use Rattle.line_cost_model.specs.Problems.{IsBoundedEdge, IsId}
-use Rattle.line_cost_model.proofs.Mapped.{map_more, map_whole}
+use Rattle.line_cost_model.proofs.Common.{BoundedEdge, IsBoundedEdge, IsId, map_more, map_whole}
 use Rattle.line_search.specs.GivenProblems.{bounded_by}
 use Rattle.line_search.proofs.ConceptRows.{zip_length}
 use Rattle.line_concepts.proofs.Lists.{below, zip_at}

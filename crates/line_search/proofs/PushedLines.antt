@@ -1,16 +1,12 @@
 -- Lines with their costs, one after the other.
-use Rattle.std.proofs.Common.{◌≡◌, ℕ, ℤ, ◌+◌, ◌≤◌, ◌<ℤ◌, arith, List, [], ◌∷◌, ◌++◌, length}
-use Rattle.std.proofs.Common.{map, take, slice_get, zip, unsigned_abs, to_z, of_z, w64, refl, ap}
-use Rattle.std.proofs.Common.{subst, sym, ◌∙◌, Option, Some, None, option_map}
-use Rattle.std.specs.List.{All}
-use Rattle.std.specs.List.Sorted.{IsStrictlySortedBy}
-use Rattle.std.specs.Ordering.{int_cmp}
-use Rattle.std.proofs.lemmas.Option.{same_Some, slice_get-map}
-use Rattle.walks.specs.declared.edge.Edge.{Edge}
+use Rattle.plan_num.proofs.Common.{◌≡◌, ℕ, ℤ, ◌+◌, ◌≤◌, ◌<ℤ◌, arith, List, [], ◌∷◌, ◌++◌, length}
+use Rattle.plan_num.proofs.Common.{map, take, slice_get, zip, unsigned_abs, to_z, of_z, w64, refl}
+use Rattle.plan_num.proofs.Common.{ap, subst, sym, ◌∙◌, Option, Some, None, option_map, All}
+use Rattle.plan_num.proofs.Common.{IsStrictlySortedBy, int_cmp, same_Some, slice_get-map}
+use Rattle.walks.proofs.Common.{Edge}
 use Rattle.line_walks.specs.GivenCosts.{IsCost}
 use Rattle.line_walks.specs.Pools.{LineParts, IsLine}
-use Rattle.line_cost_model.specs.Problems.{CostedLine, IsCostedLine, IsId}
-use Rattle.line_cost_model.proofs.Mapped.{map_more, map_whole}
+use Rattle.line_cost_model.proofs.Common.{CostedLine, IsCostedLine, IsId, map_more, map_whole}
 use Rattle.line_search.specs.GivenProblems.{costed_by}
 use Rattle.line_search.proofs.ConceptRows.{zip_length}
 use Rattle.line_concepts.proofs.Lists.{below, zip_at}

@@ -1,20 +1,16 @@
 -- What each input of the search gives: the first fault, or a part of the line problem.
 use Rattle.std.proofs.Common.{◌≡◌, ℕ, ℤ, List, [], ◌++◌, ap, subst, sym, ◌∙◌, arith}
 use Rattle.tables.specs.declared.file_id.FileId.TheVariants as file
-use Rattle.tables.specs.declared.refusal.Refusal.{Refusal}
-use Rattle.tables.specs.declared.refusal.StageFault.{StageFault}
-use Rattle.tables.specs.Inputs.{Refuses, input_faults}
-use Rattle.giv_files.specs.Settings.{BundleParts}
-use Rattle.giv_files.specs.StageCalls.{input_text}
-use Rattle.tables.proofs.Inputs.{refused_append}
+use Rattle.tables.proofs.Common.{Refusal, StageFault, Refuses, input_faults, refused_append}
+use Rattle.giv_files.proofs.Common.{BundleParts, input_text}
 use Rattle.ptn_network.specs.declared.edge_load.EdgeLoad.{EdgeLoad}
 use Rattle.ptn_network.specs.Loads.{load_input, loads_of}
-use Rattle.walks.specs.Networks.{NetworkParts}
+use Rattle.walks.proofs.Common.{NetworkParts}
 use Rattle.ptn_network.specs.Networks.{network_faults, network_of}
 use Rattle.line_walks.specs.GivenCosts.{costs_of}
 use Rattle.line_walks.specs.PoolCosts.{pool_cost_input}
 use Rattle.line_walks.specs.Pools.{LineParts, pool_of, pool_faults}
-use Rattle.line_cost_model.specs.Problems.{ProblemParts}
+use Rattle.line_cost_model.proofs.Common.{ProblemParts}
 use Rattle.line_search.specs.GivenProblems.{problem_faults, problem_of, problem_over}
 
 -- the faults of the four parts, one after the other

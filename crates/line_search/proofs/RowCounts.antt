@@ -1,17 +1,12 @@
 -- How many rows a concept has.
-use Rattle.std.proofs.Common.{◌≡◌, ℕ, ◌+◌, ◌-◌, ◌<◌, ◌≤◌, Bool, true, false, nat_eq, ℤ, List, []}
-use Rattle.std.proofs.Common.{◌∷◌, length, drop, get_or, slice_get, zip, refl, ap, sym, ◌∙◌, arith}
-use Rattle.std.proofs.Common.{Some, option_map, pos}
-use Rattle.std.specs.List.{flat_map}
-use Rattle.std.specs.Ordering.{int_eq}
-use Rattle.std.proofs.lemmas.Bool.{eq-eqb, eqb-true, false≢true, ne_eqb, false_from_ne_true}
-use Rattle.std.proofs.lemmas.List.{at_drop_more, length-append, length-map}
-use Rattle.std.proofs.lemmas.List.FromFn.{length-enumerate_from}
-use Rattle.std.proofs.lemmas.Option.{same_Some, slice_get-get_or}
-use Rattle.std.specs.Cmp.Rules.{signed_items}
-use lib.Pointwise.{pointwise, pointwise_decides}
-use Rattle.tables.specs.Tables.{TableRow}
-use Rattle.line_cost_model.specs.Problems.{CostedLine, ProblemParts}
+use Rattle.plan_num.proofs.Common.{◌≡◌, ℕ, ◌+◌, ◌-◌, ◌<◌, ◌≤◌, Bool, true, false, nat_eq, ℤ, List}
+use Rattle.plan_num.proofs.Common.{[], ◌∷◌, length, drop, get_or, slice_get, zip, refl, ap, sym}
+use Rattle.plan_num.proofs.Common.{◌∙◌, arith, Some, option_map, pos, flat_map, int_eq, eq-eqb}
+use Rattle.plan_num.proofs.Common.{eqb-true, false≢true, ne_eqb, false_from_ne_true, at_drop_more}
+use Rattle.plan_num.proofs.Common.{length-append, length-map, length-enumerate_from, same_Some}
+use Rattle.plan_num.proofs.Common.{slice_get-get_or, signed_items, pointwise, pointwise_decides}
+use Rattle.tables.proofs.Common.{TableRow}
+use Rattle.line_cost_model.proofs.Common.{CostedLine, ProblemParts}
 use Rattle.line_search.specs.ConceptTables.{concept_rows, line_rows, row_count}
 use Rattle.line_search.specs.Judged.{same_cells}
 

@@ -1,9 +1,7 @@
 -- Tables of the same cells.
-use Rattle.std.proofs.Common.{◌≡◌, true, List, map}
-use Rattle.std.specs.Ordering.{int_eq}
-use Rattle.std.specs.Cmp.Rules.{signed_items}
-use lib.Pointwise.{pointwise, pointwise_decides}
-use Rattle.tables.specs.Tables.{TableRow}
+use Rattle.plan_num.proofs.Common.{◌≡◌, true, List, map, int_eq, signed_items, pointwise}
+use Rattle.plan_num.proofs.Common.{pointwise_decides}
+use Rattle.tables.proofs.Common.{TableRow}
 use Rattle.line_search.specs.Judged.{same_cells}
 
 -- the test of cells is exact

@@ -1,10 +1,7 @@
 -- Two lists of rows, row by row.
-use Rattle.std.proofs.Common.{◌≡◌, ℕ, ◌+◌, ◌<◌, ◌&&◌, Bool, List, ◌∷◌, length, map, take, drop}
-use Rattle.std.proofs.Common.{get_or, ◌∙◌}
-use Rattle.std.specs.Ordering.{int_eq}
-use Rattle.std.proofs.lemmas.List.{at_drop_more}
-use lib.Pointwise.{pointwise}
-use Rattle.tables.specs.Tables.{TableRow, no_row}
+use Rattle.plan_num.proofs.Common.{◌≡◌, ℕ, ◌+◌, ◌<◌, ◌&&◌, Bool, List, ◌∷◌, length, map, take, drop}
+use Rattle.plan_num.proofs.Common.{get_or, ◌∙◌, int_eq, at_drop_more, pointwise}
+use Rattle.tables.proofs.Common.{TableRow, no_row}
 use Rattle.line_search.specs.declared.pool_rows.PlacedEdge.{PlacedEdge}
 use Rattle.line_search.specs.PinnedConcepts.{places_of}
 use Rattle.line_search.specs.PoolPlaces.{cells_of}

@@ -1,16 +1,11 @@
 -- The line problem of inputs without a fault is one.
-use Rattle.std.proofs.Common.{◌≡◌, ℕ, ℤ, List, [], ◌∷◌, ◌++◌, length, map, zip, sym, subst, arith}
-use Rattle.std.specs.List.{All}
-use Rattle.std.specs.List.Sorted.{IsStrictlySortedBy}
-use Rattle.std.specs.Ordering.{int_cmp}
-use Rattle.std.proofs.lemmas.List.{length-map}
-use Rattle.std.proofs.lemmas.List.Elements.{All-cons, All-head, All-nil, All-tail}
+use Rattle.plan_num.proofs.Common.{◌≡◌, ℕ, ℤ, List, [], ◌∷◌, ◌++◌, length, map, zip, sym, subst}
+use Rattle.plan_num.proofs.Common.{arith, All, IsStrictlySortedBy, int_cmp, length-map, All-cons}
+use Rattle.plan_num.proofs.Common.{All-head, All-nil, All-tail}
 use Rattle.tables.specs.declared.file_id.FileId.TheVariants as file
-use Rattle.tables.proofs.Ranges.{front_none, back_none}
-use Rattle.tables.specs.Inputs.{input_faults}
-use Rattle.giv_files.specs.Settings.{BundleParts}
-use Rattle.giv_files.specs.StageCalls.{input_text}
-use Rattle.walks.specs.declared.edge.Edge.{Edge}
+use Rattle.tables.proofs.Common.{front_none, back_none, input_faults}
+use Rattle.giv_files.proofs.Common.{BundleParts, input_text}
+use Rattle.walks.proofs.Common.{Edge}
 use Rattle.ptn_network.specs.declared.edge_load.EdgeLoad.{EdgeLoad}
 use Rattle.ptn_network.specs.Loads.{IsLoad, load_input, loads_of}
 use Rattle.ptn_network.specs.Networks.{network_faults, network_in}
@@ -21,7 +16,7 @@ use Rattle.line_walks.specs.PoolCosts.{pool_cost_input}
 use Rattle.line_walks.specs.Pools.{IsLine, LineParts, pool_faults, pool_of}
 use Rattle.line_walks.proofs.SoundCosts.{costs_count, costs_sound}
 use Rattle.line_walks.proofs.WholeLines.{whole_lines}
-use Rattle.line_cost_model.specs.Problems.{IsBoundedEdge, IsCostedLine, IsId, IsProblem}
+use Rattle.line_cost_model.proofs.Common.{IsBoundedEdge, IsCostedLine, IsId, IsProblem}
 use Rattle.line_search.specs.GivenProblems.{bounded_by, costed_by, problem_faults, problem_of}
 use Rattle.line_search.proofs.EdgesOfTexts.{edge_ids}
 use Rattle.line_search.proofs.PushedEdges.{bounded_ids, bounded_length, is_bounded}

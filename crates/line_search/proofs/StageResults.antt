@@ -1,20 +1,14 @@
 -- What the stage gives, by what the search found.
-use Rattle.std.proofs.Common.{◌≡◌, ℕ, ◌+◌, ◌≤◌, ◌∙◌, Bool, true, false, cond, nat_le, List, [], ◌∷◌}
-use Rattle.std.proofs.Common.{length, take, slice_get, refl, arith, ap, sym, Option, Some, None}
-use Rattle.std.proofs.Common.{option_map, Result, Ok, Err}
-use Rattle.std.specs.Prelude.{ok_or}
-use Rattle.std.proofs.lemmas.Bool.{le-leb, leb-true, leb-false}
-use Rattle.std.proofs.lemmas.List.{take_all, length-take-le}
-use Rattle.std.proofs.Math.Nat.{min-eq_left, min-eq_right}
-use Rattle.giv_files.specs.declared.made.Made.{Made}
-use Rattle.tables.specs.declared.refusal.Refusal.{Refusal}
+use Rattle.plan_num.proofs.Common.{◌≡◌, ℕ, ◌+◌, ◌≤◌, ◌∙◌, Bool, true, false, cond, nat_le, List, []}
+use Rattle.plan_num.proofs.Common.{◌∷◌, length, take, slice_get, refl, arith, ap, sym, Option, Some}
+use Rattle.plan_num.proofs.Common.{None, option_map, Result, Ok, Err, ok_or, le-leb, leb-true}
+use Rattle.plan_num.proofs.Common.{leb-false, take_all, length-take-le, min-eq_left, min-eq_right}
+use Rattle.giv_files.proofs.Common.{Made, BundleParts, StageGives, TakesSteps, refused_after}
+use Rattle.giv_files.proofs.Common.{refused_steps}
+use Rattle.tables.proofs.Common.{Refusal, StageFault, Refuses}
 use Rattle.tables.specs.declared.refusal.Refusal.TheVariants as refusal
-use Rattle.tables.specs.declared.refusal.StageFault.{StageFault}
 use Rattle.tables.specs.declared.refusal.StageFault.TheVariants as stage
-use Rattle.tables.specs.Inputs.{Refuses}
-use Rattle.giv_files.specs.Settings.{BundleParts}
-use Rattle.giv_files.specs.StageCalls.{StageGives, TakesSteps}
-use Rattle.line_cost_model.specs.Problems.{ProblemParts}
+use Rattle.line_cost_model.proofs.Common.{ProblemParts}
 use Rattle.line_concepts.specs.declared.node.Node.{Node}
 use Rattle.line_concepts.specs.declared.best.BestConcept.{BestConcept}
 use Rattle.line_concepts.specs.declared.search.Searched.{Searched}
@@ -30,7 +24,6 @@ use Rattle.line_concepts.specs.RightSearches.{IsEnough}
 use Rattle.line_concepts.specs.Searches.{IsResult, concept_in}
 use Rattle.line_search.proofs.ConceptNames.{input_refused}
 use Rattle.line_concepts.proofs.Lengths.{listing_bound}
-use Rattle.giv_files.proofs.StageCalls.{refused_after, refused_steps}
 
 -- ---- the concept within a budget
 

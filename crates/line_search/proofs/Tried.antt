@@ -8,7 +8,7 @@ use Rattle.giv_files.specs.declared.stage.Stage.TheVariants as stage
 use Rattle.tables.specs.Inputs.{input_faults, row_faults}
 use Rattle.tables.specs.Reading.{faults, table_of, cells_from, cell_of, errors, values, row_whys}
 use Rattle.text_fields.specs.Rows.{rows, cleaned}
-use Rattle.giv_files.specs.Settings.{BundleParts}
+use Rattle.giv_files.proofs.Common.{BundleParts}
 use Rattle.tables.specs.Writing.{cell_text, cell_texts, joined, table_text}
 use Rattle.plan_num.specs.Number.{spelling_of, value_of, value_at, fixed_of, whole_of}
 use Rattle.plan_num.specs.Print.{digits_at}

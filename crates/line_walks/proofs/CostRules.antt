@@ -1,18 +1,15 @@
 -- The costs of the lines by rows, and the rule that each line has one.
-use Rattle.std.proofs.Common.{arith, ◌≡◌, ℕ, ℤ, pos, ◌+◌, ◌<◌, not, Bool, true, false, cond, List}
-use Rattle.std.proofs.Common.{[], ◌∷◌, ◌++◌, length, take, get_or, slice_get, refl, ap, sym, ◌∙◌}
-use Rattle.std.proofs.Common.{Option, Some, None, option_map, is_some, unwrap_or}
-use Rattle.std.specs.List.{list_any}
-use Rattle.std.specs.Ordering.{int_eq}
-use Rattle.std.proofs.lemmas.List.{map_more}
-use Rattle.std.proofs.lemmas.List.Folds.{list_any_at, list_any_more}
-use Rattle.std.proofs.lemmas.Option.{slice_get-get_or, same_Some}
+use Rattle.plan_num.proofs.Common.{arith, ◌≡◌, ℕ, ℤ, pos, ◌+◌, ◌<◌, not, Bool, true, false, cond}
+use Rattle.plan_num.proofs.Common.{List, [], ◌∷◌, ◌++◌, length, take, get_or, slice_get, refl, ap}
+use Rattle.plan_num.proofs.Common.{sym, ◌∙◌, Option, Some, None, option_map, is_some, unwrap_or}
+use Rattle.plan_num.proofs.Common.{list_any, int_eq, map_more, list_any_at, list_any_more}
+use Rattle.plan_num.proofs.Common.{slice_get-get_or, same_Some}
 use Rattle.tables.specs.declared.file_id.FileId.TheVariants as file
 use Rattle.tables.specs.declared.row_why.RowWhy.TheVariants as why
 use Rattle.tables.specs.declared.refusal.Refusal.TheVariants as refusal
-use Rattle.tables.specs.Inputs.{input_faults, records_of}
+use Rattle.tables.proofs.Common.{input_faults, records_of, without_whole, refused_as_whole}
+use Rattle.tables.proofs.Common.{sound_as_whole}
 use Rattle.plan_num.proofs.Found.{any_found}
-use Rattle.tables.proofs.WholeRules.{without_whole, refused_as_whole, sound_as_whole}
 use Rattle.line_walks.specs.GivenCosts.{cost_for, costs_over, costs_of}
 use Rattle.line_walks.specs.PoolCosts.{CostRow, pool_cost_input}
 use Rattle.line_walks.specs.Pools.{LineParts}

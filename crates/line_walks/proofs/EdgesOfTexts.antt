@@ -1,21 +1,12 @@
 -- The ids of the edges of a network that texts give.
-use Rattle.std.proofs.Common.{◌≡◌, ℕ, ℤ, pos, ◌≤ℤ◌, arith, lit<, List, [], ◌∷◌, map}
-use Rattle.std.specs.List.{All}
-use Rattle.std.specs.Map.{values_of}
-use Rattle.std.proofs.lemmas.List.Elements.{All-cons, All-head, All-tail}
+use Rattle.plan_num.proofs.Common.{◌≡◌, ℕ, ℤ, pos, ◌≤ℤ◌, arith, lit<, List, [], ◌∷◌, map, All}
+use Rattle.plan_num.proofs.Common.{values_of, All-cons, All-head, All-tail}
 use Rattle.tables.specs.declared.column.ColumnKind.TheVariants as kind
-use Rattle.tables.specs.Columns.{edge_columns}
-use Rattle.tables.specs.Inputs.{records, records_of, input_faults}
-use Rattle.tables.specs.Reading.{table_of}
-use Rattle.tables.specs.Tables.{TableRow}
-use Rattle.tables.specs.Writing.{InColumns}
-use Rattle.tables.proofs.Inputs.{sound_rows}
-use Rattle.tables.proofs.Ranges.{back_none}
-use Rattle.tables.proofs.WriteFacts.{in_column}
-use Rattle.walks.specs.declared.edge.Edge.{Edge}
+use Rattle.tables.proofs.Common.{edge_columns, records, records_of, input_faults, table_of}
+use Rattle.tables.proofs.Common.{TableRow, InColumns, sound_rows, back_none, in_column}
+use Rattle.walks.proofs.Common.{Edge, all_by_id}
 use Rattle.ptn_network.specs.Inputs.{stop_input, edge_input, edge_row}
 use Rattle.ptn_network.specs.Networks.{edge_entry, edge_of, network_faults, network_of, stops_of}
-use Rattle.walks.proofs.RisingIds.{all_by_id}
 
 -- an edge has an id that a row can have
 abbrev pub HasId : Edge → Type 0

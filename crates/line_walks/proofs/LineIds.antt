@@ -1,9 +1,8 @@
 -- The lines of a pool by their ids.
-use Rattle.std.proofs.Common.{◌≡◌, ℕ, ℤ, pos, ◌+◌, ◌<◌, Bool, true, false, List, [], length, take, get_or, slice_get, refl, ap, sym, ◌∙◌, Some, option_map}
-use Rattle.std.specs.List.{list_any}
-use Rattle.std.specs.Ordering.{int_eq}
-use Rattle.std.proofs.lemmas.List.Folds.{list_any_at, list_any_more}
-use Rattle.std.proofs.lemmas.Option.{slice_get-get_or, same_Some}
+use Rattle.plan_num.proofs.Common.{◌≡◌, ℕ, ℤ, pos, ◌+◌, ◌<◌, Bool, true, false, List, [], length}
+use Rattle.plan_num.proofs.Common.{take, get_or, slice_get, refl, ap, sym, ◌∙◌, Some, option_map}
+use Rattle.plan_num.proofs.Common.{list_any, int_eq, list_any_at, list_any_more, slice_get-get_or}
+use Rattle.plan_num.proofs.Common.{same_Some}
 use Rattle.line_walks.specs.Pools.{LineParts}
 
 abbrev pub no_parts : LineParts

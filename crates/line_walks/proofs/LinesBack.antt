@@ -1,25 +1,14 @@
 -- The rows of lines give back these lines.
-use Rattle.std.proofs.Common.{◌≡◌, ℕ, ℤ, zero, suc, ◌+◌, ◌<◌, Bool, true, false, ◌||◌, cond, List}
-use Rattle.std.proofs.Common.{[], ◌∷◌, ◌++◌, length, map, All, refl, ap, sym, ◌∙◌, arith, Some}
-use Rattle.std.proofs.Common.{None, append-nil, append_assoc, get_or, map-id, nat_lt, unwrap_or}
-use Rattle.std.specs.List.{AllByRecursion, list_any, position_or_len}
-use Rattle.std.specs.List.Sorted.{IsSorted, IsStrictlySortedBy}
-use Rattle.std.specs.Ordering.{int_cmp, int_eq, is_lt, ordering_reverse}
+use Rattle.plan_num.proofs.Common.{◌≡◌, ℕ, ℤ, zero, suc, ◌+◌, ◌<◌, Bool, true, false, ◌||◌, cond}
+use Rattle.plan_num.proofs.Common.{List, [], ◌∷◌, ◌++◌, length, map, All, refl, ap, sym, ◌∙◌, arith}
+use Rattle.plan_num.proofs.Common.{Some, None, append-nil, append_assoc, get_or, map-id, nat_lt}
+use Rattle.plan_num.proofs.Common.{unwrap_or, AllByRecursion, list_any, position_or_len, IsSorted}
+use Rattle.plan_num.proofs.Common.{int_cmp, int_eq, is_lt, ordering_reverse, lt-ltb, int_cmp_total}
+use Rattle.plan_num.proofs.Common.{map-append, filter-append, list_any-append, map-map}
+use Rattle.std.specs.List.Sorted.{IsStrictlySortedBy}
 use Rattle.std.specs.declared.cmp.Ordering.TheVariants.{Less}
-use Rattle.std.proofs.lemmas.Bool.{lt-ltb}
-use Rattle.std.proofs.lemmas.Cmp.{int_cmp_total}
-use Rattle.std.proofs.lemmas.List.{map-append}
-use Rattle.std.proofs.lemmas.List.Elements.{filter-append}
-use Rattle.std.proofs.lemmas.List.Folds.{list_any-append}
-use Rattle.std.proofs.lemmas.Simd.{map-map}
-use Rattle.tables.specs.Columns.{pool_columns}
-use Rattle.tables.specs.Reading.{table_of}
-use Rattle.tables.specs.Tables.{TableRow}
-use Rattle.tables.specs.Writing.{ReadsBack}
-use Rattle.walks.specs.declared.edge.Edge.{Edge}
-use Rattle.walks.specs.Networks.{NetworkParts}
-use Rattle.walks.specs.RisingIds.{rising}
-use Rattle.walks.proofs.ById.{sorted_ids}
+use Rattle.tables.proofs.Common.{pool_columns, table_of, TableRow, ReadsBack}
+use Rattle.walks.proofs.Common.{Edge, NetworkParts, rising, sorted_ids}
 use Rattle.line_walks.specs.declared.line_row.LineRow.{LineRow}
 use Rattle.line_walks.specs.Pools.{LineParts, index_of, line_of, line_row, lines_of, lines_over}
 use Rattle.line_walks.specs.Pools.{pool_of}

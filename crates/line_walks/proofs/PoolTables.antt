@@ -1,18 +1,11 @@
 -- The pool of a table, from the lines of its rows.
-use Rattle.std.proofs.Common.{arith, ℕ, sym, ◌≡◌, refl, ℤ, ◌≤◌, List, [], length, map, ap, subst}
-use Rattle.std.proofs.Common.{◌∙◌}
-use Rattle.std.specs.List.{All}
-use Rattle.std.proofs.lemmas.List.Elements.{All-weaker}
-use Rattle.walks.specs.Networks.{NetworkParts}
-use Rattle.std.proofs.lemmas.Simd.{map-map}
-use Rattle.tables.specs.Tables.{TableRow}
-use Rattle.tables.specs.declared.refusal.StageFault.{StageFault}
-use Rattle.tables.specs.Inputs.{Input, Refuses, cell_faults, records, limit_faults, table_row_faults, table_faults}
-use Rattle.tables.proofs.Inputs.{refused_cells, faults_of_table, limit_kept, no_faults}
-use Rattle.walks.specs.declared.edge.Edge.{Edge}
-use Rattle.walks.specs.RisingIds.{rising}
+use Rattle.plan_num.proofs.Common.{arith, ℕ, sym, ◌≡◌, refl, ℤ, ◌≤◌, List, [], length, map, ap}
+use Rattle.plan_num.proofs.Common.{subst, ◌∙◌, All, All-weaker, map-map}
+use Rattle.walks.proofs.Common.{NetworkParts, Edge, rising}
+use Rattle.tables.proofs.Common.{TableRow, StageFault, Input, Refuses, cell_faults, records}
+use Rattle.tables.proofs.Common.{limit_faults, table_row_faults, table_faults, refused_cells}
+use Rattle.tables.proofs.Common.{faults_of_table, limit_kept, no_faults, table_of}
 use Rattle.line_walks.specs.declared.line_file.LineFile.{LineFile}
-use Rattle.tables.specs.Reading.{table_of}
 use Rattle.line_walks.specs.declared.line_row.LineRow.{LineRow}
 use Rattle.line_walks.specs.Pools.{line_limit, LineParts, line_input, lines_over, lines_of, line_faults, file_of, columns_of, IsLine, AreLines}
 use Rattle.line_walks.specs.LinesSoFar.{LineEdges, line_so_far, whole_line, lines_in}

@@ -1,24 +1,17 @@
 -- Lines and their rows, one row of a pool after the other.
-use Rattle.std.proofs.Common.{◌≡◌, ℕ, ℤ, pos, ◌+◌, ◌<◌, Bool, true, false, not, ◌||◌, ◌&&◌, cond}
-use Rattle.std.proofs.Common.{List, [], ◌∷◌, ◌++◌, length, map, get_or, set, take, slice_get}
-use Rattle.std.proofs.Common.{position, refl, ap, subst, sym, ◌∙◌, arith, Option, Some, None}
-use Rattle.std.proofs.Common.{is_some, unwrap_or, inl, inr, ◌≢◌}
-use Rattle.std.specs.List.{list_any, filter_map, cons_option, IsDistinct}
-use Rattle.std.specs.Option.{option_or}
-use Rattle.std.specs.Ordering.{int_eq}
-use Rattle.std.proofs.lemmas.Bool.Decides.{Decides-int_eq}
-use Rattle.std.proofs.lemmas.Bool.{cases_order}
-use Rattle.std.proofs.lemmas.List.Quantifiers.{position-Some}
-use Rattle.std.proofs.lemmas.Map.Keys.{apart_from_distinct}
-use Rattle.std.proofs.lemmas.Cmp.{int_eq_equiv}
-use Rattle.std.proofs.lemmas.List.{append-nil, map_push, length-map, length-set, take_more, same_lists, get_or-map, get_or-set_same, get_or-set_other}
-use Rattle.std.proofs.lemmas.List.Elements.{filter-append, filter_map-append}
-use Rattle.std.proofs.lemmas.List.Folds.{list_any-append, list_any_at}
-use Rattle.tables.specs.declared.row_why.RowWhy.{RowWhy}
+use Rattle.plan_num.proofs.Common.{◌≡◌, ℕ, ℤ, pos, ◌+◌, ◌<◌, Bool, true, false, not, ◌||◌, ◌&&◌}
+use Rattle.plan_num.proofs.Common.{cond, List, [], ◌∷◌, ◌++◌, length, map, get_or, set, take}
+use Rattle.plan_num.proofs.Common.{slice_get, position, refl, ap, subst, sym, ◌∙◌, arith, Option}
+use Rattle.plan_num.proofs.Common.{Some, None, is_some, unwrap_or, inl, inr, ◌≢◌, list_any}
+use Rattle.plan_num.proofs.Common.{filter_map, cons_option, IsDistinct, option_or, int_eq}
+use Rattle.plan_num.proofs.Common.{Decides-int_eq, cases_order, position-Some, apart_from_distinct}
+use Rattle.plan_num.proofs.Common.{int_eq_equiv, append-nil, map_push, length-map, length-set}
+use Rattle.plan_num.proofs.Common.{take_more, same_lists, get_or-map, get_or-set_same}
+use Rattle.plan_num.proofs.Common.{get_or-set_other, filter-append, filter_map-append}
+use Rattle.plan_num.proofs.Common.{list_any-append, list_any_at}
+use Rattle.tables.proofs.Common.{RowWhy, broken_whys, TableRow, no_row, cell_at}
 use Rattle.tables.specs.declared.row_why.RowWhy.TheVariants as why
-use Rattle.tables.specs.Inputs.{broken_whys}
-use Rattle.tables.specs.Tables.{TableRow, no_row, cell_at}
-use Rattle.walks.specs.declared.edge.Edge.{Edge}
+use Rattle.walks.proofs.Common.{Edge}
 use Rattle.line_walks.specs.declared.ends.Ends.{Ends}
 use Rattle.line_walks.specs.declared.line_row.LineRow.{LineRow}
 use Rattle.line_walks.specs.Pools.{line_row, edge_with, index_of, rows_of, edges_of, walk_of, line_rules, first_frequency, differs}

@@ -1,18 +1,10 @@
 -- What holds of the costs of a text without a fault.
-use Rattle.std.proofs.Common.{◌≡◌, ℕ, ℤ, pos, arith, cond, Bool, true, false, List, [], ◌∷◌, length}
-use Rattle.std.proofs.Common.{get_or, Some, option_map, unwrap_or}
-use Rattle.std.specs.List.{All, find}
-use Rattle.std.specs.Ordering.{int_eq}
-use Rattle.std.proofs.lemmas.Int.{ints}
-use Rattle.std.proofs.lemmas.List.{length-map}
-use Rattle.std.proofs.lemmas.List.Elements.{All-head, All-tail, All-map}
+use Rattle.plan_num.proofs.Common.{◌≡◌, ℕ, ℤ, pos, arith, cond, Bool, true, false, List, [], ◌∷◌}
+use Rattle.plan_num.proofs.Common.{length, get_or, Some, option_map, unwrap_or, All, find, int_eq}
+use Rattle.plan_num.proofs.Common.{ints, length-map, All-head, All-tail, All-map}
 use Rattle.tables.specs.declared.column.ColumnKind.TheVariants as kind
-use Rattle.tables.specs.Columns.{pool_cost_columns}
-use Rattle.tables.specs.Inputs.{records_of, input_faults}
-use Rattle.tables.specs.Reading.{table_of}
-use Rattle.tables.specs.Tables.{TableRow}
-use Rattle.tables.specs.Writing.{InColumns}
-use Rattle.tables.proofs.Inputs.{sound_rows}
+use Rattle.tables.proofs.Common.{pool_cost_columns, records_of, input_faults, table_of, TableRow}
+use Rattle.tables.proofs.Common.{InColumns, sound_rows}
 use Rattle.line_walks.specs.GivenCosts.{cost_for, costs_of, IsCost}
 use Rattle.line_walks.specs.PoolCosts.{CostRow, cost_row_of, pool_cost_input}
 use Rattle.line_walks.specs.Pools.{LineParts}

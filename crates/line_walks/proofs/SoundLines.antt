@@ -1,37 +1,24 @@
 -- What holds of the lines of each text without a fault.
-use Rattle.std.proofs.Common.{◌≡◌, ℕ, ℤ, pos, negsuc, ◌<◌, ◌≤◌, ◌≤ℤ◌, nat_lt, Bool, true, false}
-use Rattle.std.proofs.Common.{cond, List, [], ◌∷◌, ◌++◌, length, map, get_or, position, refl, ap}
-use Rattle.std.proofs.Common.{subst, sym, ◌∙◌, arith, append_assoc, Some, None, is_some, unwrap_or}
-use Rattle.std.proofs.Common.{option_map, unsigned_abs, lit<}
-use Rattle.std.specs.List.{All, list_any, find, position_or_len, IsDistinct}
-use Rattle.std.specs.Ordering.{int_eq}
-use Rattle.std.specs.Set.{is_member}
-use Rattle.std.proofs.lemmas.Bool.{ltb-false}
-use Rattle.std.proofs.lemmas.Bool.Decides.{Decides-int_eq}
-use Rattle.std.proofs.lemmas.Cmp.{int_eq_equiv}
-use Rattle.std.proofs.lemmas.Int.{ints}
-use Rattle.std.proofs.lemmas.List.{append-nil, map_push, length-map}
-use Rattle.std.proofs.lemmas.List.Elements.{All-map, All-weaker, All-filter, All-contains, All-get_or}
-use Rattle.std.proofs.lemmas.List.Folds.{find_at, list_any_at}
-use Rattle.std.proofs.lemmas.List.Quantifiers.{position-Some}
-use Rattle.std.proofs.lemmas.List.Sums.{sum-map, sum_by-le}
-use Rattle.std.proofs.lemmas.Map.Keys.{IsDistinct-push}
-use Rattle.std.proofs.lemmas.Map.Made.{is_member-Decides, length-le_from_is_member}
-use Rattle.std.proofs.lemmas.Option.{slice_get_past, slice_get-get_or}
+use Rattle.plan_num.proofs.Common.{◌≡◌, ℕ, ℤ, pos, negsuc, ◌<◌, ◌≤◌, ◌≤ℤ◌, nat_lt, Bool, true}
+use Rattle.plan_num.proofs.Common.{false, cond, List, [], ◌∷◌, ◌++◌, length, map, get_or, position}
+use Rattle.plan_num.proofs.Common.{refl, ap, subst, sym, ◌∙◌, arith, append_assoc, Some, None}
+use Rattle.plan_num.proofs.Common.{is_some, unwrap_or, option_map, unsigned_abs, lit<, All}
+use Rattle.plan_num.proofs.Common.{list_any, find, position_or_len, int_eq, is_member, ltb-false}
+use Rattle.plan_num.proofs.Common.{Decides-int_eq, int_eq_equiv, ints, append-nil, map_push}
+use Rattle.plan_num.proofs.Common.{length-map, All-map, All-weaker, All-filter, All-contains}
+use Rattle.plan_num.proofs.Common.{All-get_or, find_at, list_any_at, position-Some, sum_by-le}
+use Rattle.plan_num.proofs.Common.{IsDistinct-push, is_member-Decides, length-le_from_is_member}
+use Rattle.plan_num.proofs.Common.{slice_get_past, slice_get-get_or}
+use Rattle.std.specs.List.{IsDistinct}
+use Rattle.std.proofs.lemmas.List.Sums.{sum-map}
 use Rattle.tables.specs.declared.column.ColumnKind.TheVariants as column
-use Rattle.tables.specs.Columns.{pool_columns, concept_columns}
-use Rattle.tables.specs.Inputs.{records, records_of, numbered, broken_whys, row_faults, input_faults}
-use Rattle.tables.specs.Reading.{table_of}
-use Rattle.tables.specs.Tables.{TableRow}
-use Rattle.tables.proofs.Inputs.{parts_sound, table_sound, sound_rows}
-use Rattle.tables.proofs.Ranges.{front_none, back_none}
-use Rattle.tables.specs.Writing.{InColumns}
-use Rattle.tables.proofs.WriteFacts.{in_column}
+use Rattle.tables.proofs.Common.{pool_columns, concept_columns, records, records_of, numbered}
+use Rattle.tables.proofs.Common.{broken_whys, input_faults, table_of, TableRow, parts_sound}
+use Rattle.tables.proofs.Common.{table_sound, sound_rows, front_none, back_none, InColumns}
+use Rattle.tables.proofs.Common.{in_column}
+use Rattle.tables.specs.Inputs.{row_faults}
 use Rattle.plan_num.proofs.Found.{any_mapped}
-use Rattle.walks.specs.declared.edge.Edge.{Edge}
-use Rattle.walks.specs.Networks.{NetworkParts, IsEdge, IsNetwork}
-use Rattle.walks.proofs.RisingIds.{all_rising}
-use Rattle.walks.specs.RisingIds.{rising}
+use Rattle.walks.proofs.Common.{Edge, NetworkParts, IsEdge, IsNetwork, all_rising, rising}
 use Rattle.line_walks.specs.declared.line_file.LineFile.{LineFile}
 use Rattle.line_walks.specs.declared.line_file.LineFile.TheVariants as kinds
 use Rattle.line_walks.specs.declared.line_row.LineRow.{LineRow}

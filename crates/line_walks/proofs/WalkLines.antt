@@ -1,29 +1,18 @@
 -- A text whose rows are those of lines that are walks has no fault by the rules of its kind.
-use Rattle.std.proofs.Common.{◌≡◌, ℕ, ℤ, ◌+◌, ◌≤◌, ◌<◌, true, false, is_some, List, [], ◌∷◌, ◌++◌}
-use Rattle.std.proofs.Common.{length, map, append-nil, All, nat_eq, refl, sym, subst, arith}
-use Rattle.std.specs.List.{AllByRecursion, IsDistinct, flat_map, list_any}
+use Rattle.plan_num.proofs.Common.{◌≡◌, ℕ, ℤ, ◌+◌, ◌≤◌, ◌<◌, true, false, is_some, List, [], ◌∷◌}
+use Rattle.plan_num.proofs.Common.{◌++◌, length, map, append-nil, All, nat_eq, refl, sym, subst}
+use Rattle.plan_num.proofs.Common.{arith, AllByRecursion, flat_map, list_any, int_cmp, int_eq}
+use Rattle.plan_num.proofs.Common.{is_member, le-ltb, Decides-int_eq, int_eq_equiv, length-map}
+use Rattle.plan_num.proofs.Common.{map-append, All-append, All-contains, All-cons, All-nil}
+use Rattle.plan_num.proofs.Common.{filter-append, is_member-Decides, length-le_from_is_member}
+use Rattle.std.specs.List.{IsDistinct}
 use Rattle.std.specs.List.Sorted.{IsStrictlySortedBy}
-use Rattle.std.specs.Ordering.{int_cmp, int_eq}
-use Rattle.std.specs.Set.{is_member}
 use Rattle.std.specs.declared.cmp.Ordering.TheVariants.{Less}
-use Rattle.std.proofs.lemmas.Bool.{le-ltb}
-use Rattle.std.proofs.lemmas.Bool.Decides.{Decides-int_eq}
-use Rattle.std.proofs.lemmas.Cmp.{int_eq_equiv}
-use Rattle.std.proofs.lemmas.List.{length-map, map-append}
-use Rattle.std.proofs.lemmas.List.Elements.{All-append, All-contains, All-cons}
-use Rattle.std.proofs.lemmas.List.Elements.{All-nil, filter-append}
-use Rattle.std.proofs.lemmas.Map.Made.{is_member-Decides, length-le_from_is_member}
 use Rattle.tables.specs.declared.counted.Counted.TheVariants as counted
 use Rattle.tables.specs.declared.refusal.Refusal.TheVariants as refusal
-use Rattle.tables.specs.Columns.{concept_columns, pool_columns}
-use Rattle.tables.specs.Tables.{TableRow}
-use Rattle.tables.specs.Writing.{ReadsBack}
-use Rattle.tables.proofs.Accepted.{KeepRules, accepted, each_known}
-use Rattle.walks.specs.declared.edge.Edge.{Edge}
-use Rattle.walks.specs.Networks.{NetworkParts}
-use Rattle.walks.specs.Paths.{edges_at}
-use Rattle.walks.specs.RisingIds.{rising}
-use Rattle.walks.proofs.RisingIds.{all_rising, rising_rises}
+use Rattle.tables.proofs.Common.{concept_columns, pool_columns, TableRow, ReadsBack, KeepRules}
+use Rattle.tables.proofs.Common.{accepted, each_known}
+use Rattle.walks.proofs.Common.{Edge, NetworkParts, edges_at, rising, all_rising, rising_rises}
 use Rattle.line_walks.specs.declared.line_file.LineFile.{LineFile}
 use Rattle.line_walks.specs.declared.line_file.LineFile.TheVariants as kinds
 use Rattle.line_walks.specs.declared.line_row.LineRow.{LineRow}

@@ -1,25 +1,17 @@
 -- The rows of one line that is a walk keep the rules of a file of lines.
-use Rattle.std.proofs.Common.{◌≡◌, ◌≢◌, ℕ, zero, suc, ℤ, pos, ◌+◌, ◌<◌, Bool, true, false, cond}
-use Rattle.std.proofs.Common.{not, ◌||◌, List, [], ◌∷◌, ◌++◌, filter_map, length, map, slice_get}
-use Rattle.std.proofs.Common.{Option, Some, None, option_map, is_some, All, nat_eq, refl, ap, sym}
-use Rattle.std.proofs.Common.{subst, ◌∙◌, arith, append_assoc, append-nil, unwrap_or}
-use Rattle.std.specs.List.{AllByRecursion, IsDistinct, cons_option, enumerate_from, list_any}
+use Rattle.plan_num.proofs.Common.{◌≡◌, ◌≢◌, ℕ, zero, suc, ℤ, pos, ◌+◌, ◌<◌, Bool, true, false}
+use Rattle.plan_num.proofs.Common.{cond, not, ◌||◌, List, [], ◌∷◌, ◌++◌, filter_map, length, map}
+use Rattle.plan_num.proofs.Common.{slice_get, Option, Some, None, option_map, is_some, All, nat_eq}
+use Rattle.plan_num.proofs.Common.{refl, ap, sym, subst, ◌∙◌, arith, append_assoc, append-nil}
+use Rattle.plan_num.proofs.Common.{unwrap_or, AllByRecursion, IsDistinct, cons_option}
+use Rattle.plan_num.proofs.Common.{enumerate_from, list_any, int_cmp, int_eq, option_and_then}
+use Rattle.plan_num.proofs.Common.{eqb-false, ne_eqb, or_parts, Decides-int_eq, int_eq_equiv}
+use Rattle.plan_num.proofs.Common.{length_push, All-push, filter-append, filter_map-append}
+use Rattle.plan_num.proofs.Common.{list_any-append, IsDistinct-head, IsDistinct-tail}
 use Rattle.std.specs.List.Sorted.{IsStrictlySortedBy}
-use Rattle.std.specs.Ordering.{int_cmp, int_eq}
-use Rattle.std.specs.Prelude.{option_and_then}
 use Rattle.std.specs.declared.cmp.Ordering.TheVariants.{Less}
-use Rattle.std.proofs.lemmas.Bool.{eqb-false, ne_eqb, or_parts}
-use Rattle.std.proofs.lemmas.Bool.Decides.{Decides-int_eq}
-use Rattle.std.proofs.lemmas.Cmp.{int_eq_equiv}
-use Rattle.std.proofs.lemmas.List.{length_push}
-use Rattle.std.proofs.lemmas.List.Elements.{All-push, filter-append, filter_map-append}
-use Rattle.std.proofs.lemmas.List.Folds.{list_any-append}
-use Rattle.std.proofs.lemmas.Map.Keys.{IsDistinct-head, IsDistinct-tail}
-use Rattle.tables.specs.Inputs.{broken_whys}
-use Rattle.tables.proofs.Accepted.{KeepRules}
-use Rattle.walks.specs.declared.edge.Edge.{Edge}
-use Rattle.walks.specs.Paths.{edges_at}
-use Rattle.walks.specs.Walks.{across}
+use Rattle.tables.proofs.Common.{broken_whys, KeepRules}
+use Rattle.walks.proofs.Common.{Edge, edges_at, across}
 use Rattle.line_walks.specs.declared.line_row.LineRow.{LineRow}
 use Rattle.line_walks.specs.Pools.{differs, edge_with, edges_of, first_frequency, line_rules}
 use Rattle.line_walks.specs.Pools.{or_walk, rows_of, walk_from, walk_of}

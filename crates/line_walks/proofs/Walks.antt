@@ -1,12 +1,10 @@
 -- Walks over edges, edge by edge.
-use Rattle.std.proofs.Common.{arith, ◌≡◌, ℕ, ◌+◌, ◌<◌, ◌≤◌, ◌||◌, List, [], ◌∷◌, ◌++◌, length}
-use Rattle.std.proofs.Common.{get_or, drop, fold, refl, ap, sym, ◌∙◌, Option, Some, None}
-use Rattle.std.proofs.Common.{option_map, is_some, option_and_then}
-use Rattle.std.proofs.lemmas.List.{append_assoc, at_drop_more, at_drop_all}
+use Rattle.plan_num.proofs.Common.{arith, ◌≡◌, ℕ, ◌+◌, ◌<◌, ◌≤◌, ◌||◌, List, [], ◌∷◌, ◌++◌, length}
+use Rattle.plan_num.proofs.Common.{get_or, drop, fold, refl, ap, sym, ◌∙◌, Option, Some, None}
+use Rattle.plan_num.proofs.Common.{option_map, is_some, option_and_then, append_assoc, at_drop_more}
+use Rattle.plan_num.proofs.Common.{at_drop_all, fold_push}
 use Rattle.std.proofs.lemmas.List.Folds.{fold_stays}
-use Rattle.std.proofs.lemmas.List.Sums.{fold_push}
-use Rattle.walks.specs.declared.edge.Edge.{Edge}
-use Rattle.walks.specs.Walks.{across, end_from}
+use Rattle.walks.proofs.Common.{Edge, across, end_from}
 use Rattle.line_walks.specs.Pools.{walk_from, or_walk, walk_of}
 use Rattle.line_walks.specs.LinesSoFar.{ends_of, next_ends}
 

@@ -1,35 +1,22 @@
 -- Each line of a text without a fault is a walk over different edges, and has a frequency.
-use Rattle.std.proofs.Common.{◌≡◌, ℕ, ℤ, pos, ◌+◌, ◌<◌, ◌≤◌, ◌≤ℤ◌, Bool, true, false, ◌||◌, inl}
-use Rattle.std.proofs.Common.{inr, cond, nat_eq, List, [], ◌∷◌, ◌++◌, length, map, filter}
-use Rattle.std.proofs.Common.{filter_map, get_or, slice_get, position, unsigned_abs, refl, ap}
-use Rattle.std.proofs.Common.{subst, sym, ◌∙◌, arith, append_assoc, Option, Some, None, option_map}
-use Rattle.std.proofs.Common.{option_and_then, is_some, unwrap_or}
-use Rattle.std.specs.List.{All, list_any, IsDistinct}
-use Rattle.std.specs.List.Sorted.{IsStrictlySortedBy}
-use Rattle.std.specs.Ordering.{int_eq, int_cmp}
-use Rattle.std.proofs.lemmas.Bool.Decides.{Decides-int_eq}
-use Rattle.std.proofs.lemmas.Bool.{cases_Bool, eqb-true, false≢true}
-use Rattle.std.proofs.lemmas.Cmp.{int_eq_equiv}
-use Rattle.std.proofs.lemmas.List.Folds.{list_any_at}
-use Rattle.std.proofs.lemmas.Simd.{map-map}
-use Rattle.std.proofs.lemmas.List.{append-nil, length-map, get_or-map, map-id}
-use Rattle.std.proofs.lemmas.List.Elements.{All-head, All-tail, All-map, All-weaker, All-filter, All-get_or}
-use Rattle.std.proofs.lemmas.List.Quantifiers.{position-Some}
-use Rattle.std.proofs.lemmas.Map.Keys.{apart_from_distinct, IsDistinct-from_apart}
-use Rattle.std.proofs.lemmas.Option.{same_Some}
+use Rattle.plan_num.proofs.Common.{◌≡◌, ℕ, ℤ, pos, ◌+◌, ◌<◌, ◌≤◌, ◌≤ℤ◌, Bool, true, false, ◌||◌}
+use Rattle.plan_num.proofs.Common.{inl, inr, cond, nat_eq, List, [], ◌∷◌, ◌++◌, length, map, filter}
+use Rattle.plan_num.proofs.Common.{filter_map, get_or, slice_get, position, unsigned_abs, refl, ap}
+use Rattle.plan_num.proofs.Common.{subst, sym, ◌∙◌, arith, append_assoc, Option, Some, None}
+use Rattle.plan_num.proofs.Common.{option_map, option_and_then, is_some, unwrap_or, All, list_any}
+use Rattle.plan_num.proofs.Common.{IsDistinct, IsStrictlySortedBy, int_eq, int_cmp, Decides-int_eq}
+use Rattle.plan_num.proofs.Common.{cases_Bool, eqb-true, false≢true, int_eq_equiv, list_any_at}
+use Rattle.plan_num.proofs.Common.{map-map, append-nil, length-map, get_or-map, map-id, All-head}
+use Rattle.plan_num.proofs.Common.{All-tail, All-map, All-weaker, All-filter, All-get_or}
+use Rattle.plan_num.proofs.Common.{position-Some, apart_from_distinct, IsDistinct-from_apart}
+use Rattle.plan_num.proofs.Common.{same_Some}
 use Rattle.tables.specs.declared.column.ColumnKind.TheVariants as column
-use Rattle.tables.specs.Inputs.{records, numbered, row_faults, input_faults}
-use Rattle.tables.specs.Reading.{table_of}
-use Rattle.tables.specs.Tables.{TableRow}
-use Rattle.tables.specs.Writing.{InColumns}
-use Rattle.tables.proofs.Inputs.{parts_sound, table_sound, sound_rows, few_rows}
-use Rattle.tables.proofs.Ranges.{front_none, back_none}
-use Rattle.walks.specs.declared.edge.Edge.{Edge}
-use Rattle.walks.specs.Networks.{NetworkParts, IsNetwork}
-use Rattle.walks.specs.RisingIds.{rising}
-use Rattle.walks.specs.Paths.{edges_at}
-use Rattle.walks.specs.Walks.{across}
-use Rattle.walks.proofs.RisingIds.{rising_rises}
+use Rattle.tables.proofs.Common.{records, numbered, input_faults, table_of, TableRow, InColumns}
+use Rattle.tables.proofs.Common.{parts_sound, table_sound, sound_rows, few_rows, front_none}
+use Rattle.tables.proofs.Common.{back_none}
+use Rattle.tables.specs.Inputs.{row_faults}
+use Rattle.walks.proofs.Common.{Edge, NetworkParts, IsNetwork, rising, edges_at, across}
+use Rattle.walks.proofs.Common.{rising_rises, all_rising}
 use Rattle.line_walks.specs.declared.line_file.LineFile.{LineFile}
 use Rattle.line_walks.specs.declared.line_file.LineFile.TheVariants as kinds
 use Rattle.line_walks.specs.declared.line_row.LineRow.{LineRow}
@@ -38,7 +25,6 @@ use Rattle.line_walks.proofs.RowsOfLines.{rows_other}
 use Rattle.ptn_network.proofs.EdgeIds.{found_at, found_nowhere}
 use Rattle.walks.proofs.PathSteps.{no_edge as some_edge}
 use Rattle.line_walks.proofs.SoundLines.{row_sound, id_in, input_rows, own, known, there, apart}
-use Rattle.walks.proofs.RisingIds.{all_rising}
 use Rattle.plan_num.proofs.Lists.{unmapped}
 
 -- ---- the edges of a line, by their indexes

@@ -1,10 +1,7 @@
 -- Valid potentials prove that exactly the tight plans gain the most.
-use Rattle.std.proofs.Common.{◌≡◌, ℕ, pos, ◌+◌, ◌<◌, ◌≤◌, ◌≤ℤ◌, nat_lt, Bool, true, false, List}
-use Rattle.std.proofs.Common.{length, Option, Some, None, unwrap_or, refl, ap, sym}
-use Rattle.std.proofs.Common.{◌∙◌, arith}
-use Rattle.std.proofs.lemmas.Bool.{ltb-true, ltb-false}
-use Rattle.std.proofs.lemmas.Int.{ints}
-use Rattle.std.proofs.Math.ListN.{get_or-eq_default}
+use Rattle.plan_num.proofs.Common.{◌≡◌, ℕ, pos, ◌+◌, ◌<◌, ◌≤◌, ◌≤ℤ◌, nat_lt, Bool, true, false}
+use Rattle.plan_num.proofs.Common.{List, length, Option, Some, None, unwrap_or, refl, ap, sym, ◌∙◌}
+use Rattle.plan_num.proofs.Common.{arith, ltb-true, ltb-false, ints, get_or-eq_default}
 use Rattle.link_plans.specs.Plans.{next, plan_gain, IsPlan, IsBest}
 use Rattle.link_plans.specs.Links.{Links}
 use Rattle.link_plans.proofs.Linking.{some_of}

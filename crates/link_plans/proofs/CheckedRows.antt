@@ -1,13 +1,11 @@
 -- Lists that pass the test are those of the links of all trips.
-use Rattle.std.proofs.Common.{◌≡◌, ℕ, zero, suc, pos, ◌<◌, ◌≤◌, ◌+◌, ◌≤ℤ◌, ◌&&◌, nat_le, nat_lt, Bool, true}
-use Rattle.std.proofs.Common.{is_some, List, [], ◌∷◌, length, map, drop, slice_get, get_or, Option, Some, None}
-use Rattle.std.proofs.Common.{option_map, IfSome, refl, ap, sym, ◌∙◌, subst, arith}
-use Rattle.std.specs.List.{list_all}
-use Rattle.std.proofs.Math.ListN.{get_or-eq_default}
+use Rattle.plan_num.proofs.Common.{◌≡◌, ℕ, zero, suc, pos, ◌<◌, ◌≤◌, ◌+◌, ◌≤ℤ◌, ◌&&◌, nat_le}
+use Rattle.plan_num.proofs.Common.{nat_lt, Bool, true, is_some, List, [], ◌∷◌, length, map, drop}
+use Rattle.plan_num.proofs.Common.{slice_get, get_or, Option, Some, None, option_map, IfSome, refl}
+use Rattle.plan_num.proofs.Common.{ap, sym, ◌∙◌, subst, arith, list_all, get_or-eq_default}
+use Rattle.plan_num.proofs.Common.{false≢true, and_parts, leb-true, ltb-true, ints, none-some}
+use Rattle.plan_num.proofs.Common.{same_Some}
 use Rattle.std.proofs.Math.Seq.{drop-cons}
-use Rattle.std.proofs.lemmas.Bool.{false≢true, and_parts, leb-true, ltb-true}
-use Rattle.std.proofs.lemmas.Int.{ints}
-use Rattle.std.proofs.lemmas.Option.{none-some, same_Some}
 use Rattle.link_plans.specs.declared.link_table.Link.{Link}
 use Rattle.link_plans.specs.CheckedLists.{are_lists, is_list, is_next_link}
 use Rattle.link_plans.specs.Links.{gain_in}

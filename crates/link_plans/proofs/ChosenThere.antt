@@ -1,12 +1,9 @@
 -- Over any links there is a plan with potentials that are valid for it.
-use Rattle.std.proofs.Common.{◌≡◌, ℕ, ℤ, pos, ◌+◌, ◌<◌, ◌≤◌, ◌≤ℤ◌, is_some, List, length, map}
-use Rattle.std.proofs.Common.{get_or, Option, Some, None, IfSome, unwrap_or, refl, ap, sym, ◌∙◌}
-use Rattle.std.proofs.Common.{subst, arith}
-use Rattle.std.specs.List.{range_with_len}
-use Rattle.std.proofs.Math.ListN.{get_or-eq_default}
-use Rattle.std.proofs.lemmas.Int.{ints}
-use Rattle.std.proofs.lemmas.List.{get_or-map, length-map}
-use Rattle.std.proofs.lemmas.List.FromFn.{get_or-range_with_len, length-range_with_len}
+use Rattle.plan_num.proofs.Common.{◌≡◌, ℕ, ℤ, pos, ◌+◌, ◌<◌, ◌≤◌, ◌≤ℤ◌, is_some, List, length, map}
+use Rattle.plan_num.proofs.Common.{get_or, Option, Some, None, IfSome, unwrap_or, refl, ap, sym}
+use Rattle.plan_num.proofs.Common.{◌∙◌, subst, arith, range_with_len, get_or-eq_default, ints}
+use Rattle.plan_num.proofs.Common.{get_or-map, length-map, get_or-range_with_len}
+use Rattle.plan_num.proofs.Common.{length-range_with_len}
 use Rattle.link_plans.specs.Plans.{next, IsPlan}
 use Rattle.link_plans.specs.Links.{Links, AreLinks}
 use Rattle.link_plans.proofs.Linking.{not_next}

@@ -1,10 +1,7 @@
 -- A plan that is made link by link from another one.
-use Rattle.std.proofs.Common.{◌≡◌, ◌≢◌, ℕ, zero, suc, ◌<◌, ◌≤◌, ◌+◌, false, List, [], ◌∷◌, length}
-use Rattle.std.proofs.Common.{slice_set, replicate, Option, Some, None, IfSome, refl, ap, sym, ◌∙◌}
-use Rattle.std.proofs.Common.{arith}
-use Rattle.std.proofs.lemmas.List.{length-set}
-use Rattle.std.proofs.lemmas.List.{length-replicate}
-use Rattle.std.proofs.lemmas.Option.{none-some}
+use Rattle.plan_num.proofs.Common.{◌≡◌, ◌≢◌, ℕ, zero, suc, ◌<◌, ◌≤◌, ◌+◌, false, List, [], ◌∷◌}
+use Rattle.plan_num.proofs.Common.{length, slice_set, replicate, Option, Some, None, IfSome, refl}
+use Rattle.plan_num.proofs.Common.{ap, sym, ◌∙◌, arith, length-set, length-replicate, none-some}
 use Rattle.link_plans.specs.Plans.{next, is_next, AreSuccessors}
 use Rattle.link_plans.proofs.Linking.{by_number, none_next, never_next}
 use Rattle.link_plans.proofs.Certified.{by_bound}

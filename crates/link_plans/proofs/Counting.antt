@@ -1,8 +1,7 @@
 -- How many numbers pass a test.
-use Rattle.std.proofs.Common.{◌≡◌, ◌≢◌, ℕ, zero, suc, ◌+◌, ◌<◌, ◌≤◌, ◌==◌, ◌||◌, Bool, true, false}
-use Rattle.std.proofs.Common.{not, cond, ◌∷◌, length, filter, refl, ap, ◌∙◌, arith}
-use Rattle.std.specs.List.{range_with_len}
-use Rattle.std.proofs.lemmas.Bool.{eq-eqb, ne_eqb}
+use Rattle.plan_num.proofs.Common.{◌≡◌, ◌≢◌, ℕ, zero, suc, ◌+◌, ◌<◌, ◌≤◌, ◌==◌, ◌||◌, Bool, true}
+use Rattle.plan_num.proofs.Common.{false, not, cond, ◌∷◌, length, filter, refl, ap, ◌∙◌, arith}
+use Rattle.plan_num.proofs.Common.{range_with_len, eq-eqb, ne_eqb}
 use Rattle.link_plans.proofs.Linking.{by_number}
 
 -- one or none

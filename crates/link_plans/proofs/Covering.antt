@@ -1,8 +1,7 @@
 -- A potential that covers what the links of a trip gain.
-use Rattle.std.proofs.Common.{◌≡◌, ℕ, ℤ, ◌<◌, ◌≤◌, ◌+◌, ◌-◌, max, List, length, slice_get}
-use Rattle.std.proofs.Common.{slice_set, is_some, Option, Some, None, IfSome, refl, ap, sym, ◌∙◌}
-use Rattle.std.proofs.Common.{subst, arith, get_or-set_same}
-use Rattle.std.proofs.lemmas.Option.{same_Some, slice_get_within}
+use Rattle.plan_num.proofs.Common.{◌≡◌, ℕ, ℤ, ◌<◌, ◌≤◌, ◌+◌, ◌-◌, max, List, length, slice_get}
+use Rattle.plan_num.proofs.Common.{slice_set, is_some, Option, Some, None, IfSome, refl, ap, sym}
+use Rattle.plan_num.proofs.Common.{◌∙◌, subst, arith, get_or-set_same, same_Some, slice_get_within}
 use Rattle.link_plans.specs.Links.{Links, AreLinks}
 use Rattle.link_plans.proofs.Linking.{by_number}
 use Rattle.link_plans.proofs.Certified.{by_bound}

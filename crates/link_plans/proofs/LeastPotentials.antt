@@ -1,11 +1,9 @@
 -- For each links there are a plan and potentials that are valid for it: trip by trip, where potentials go
 -- down until the trip in hand has its place.
-use Rattle.std.proofs.Common.{◌≡◌, ◌≢◌, ℕ, ℤ, zero, suc, pos, negsuc, ◌+◌, ◌-◌, ◌<◌, ◌≤◌, ◌≤ℤ◌}
-use Rattle.std.proofs.Common.{◌==◌, ◌&&◌, not, is_some, Bool, true, false, cond, Option, Some, None}
-use Rattle.std.proofs.Common.{IfSome, refl, ap, sym, ◌∙◌, subst, arith, eqb-true, eq-eqb}
-use Rattle.std.proofs.lemmas.Bool.{false≢true, not-true}
-use Rattle.std.proofs.lemmas.Int.{ints}
-use Rattle.std.proofs.lemmas.Option.{none-some}
+use Rattle.plan_num.proofs.Common.{◌≡◌, ◌≢◌, ℕ, ℤ, zero, suc, pos, negsuc, ◌+◌, ◌-◌, ◌<◌, ◌≤◌, ◌≤ℤ◌}
+use Rattle.plan_num.proofs.Common.{◌==◌, ◌&&◌, not, is_some, Bool, true, false, cond, Option, Some}
+use Rattle.plan_num.proofs.Common.{None, IfSome, refl, ap, sym, ◌∙◌, subst, arith, eqb-true, eq-eqb}
+use Rattle.plan_num.proofs.Common.{false≢true, not-true, ints, none-some}
 use Rattle.link_plans.specs.Plans.{is_trip}
 use Rattle.link_plans.proofs.Counting.{count_most}
 use Rattle.link_plans.proofs.Linking.{by_number, is_trip_same, same_is_trip}

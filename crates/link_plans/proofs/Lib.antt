@@ -1,3 +1,4 @@
+pub mod Common
 pub mod Certified
 pub mod CheckedRows
 pub mod ChosenThere

@@ -1,10 +1,9 @@
 -- The links of a trip in a list: how it grows, and that no link is left out between two of them.
-use Rattle.std.proofs.Common.{◌≡◌, ℕ, ℤ, pos, negsuc, zero, suc, ◌<◌, ◌≤◌, ◌+◌, List, [], ◌∷◌, ◌++◌}
-use Rattle.std.proofs.Common.{length, slice_get, get_or, Option, Some, None, IfSome, refl, ap, sym}
-use Rattle.std.proofs.Common.{◌∙◌, subst, arith, map, length-append}
-use Rattle.std.proofs.lemmas.List.{get_or_append_left}
-use Rattle.std.proofs.Math.Seq.{get_or-append_seam}
-use Rattle.std.proofs.lemmas.Option.{none-some, same_Some, slice_get-get_or, slice_get_within}
+use Rattle.plan_num.proofs.Common.{◌≡◌, ℕ, ℤ, pos, negsuc, zero, suc, ◌<◌, ◌≤◌, ◌+◌, List, [], ◌∷◌}
+use Rattle.plan_num.proofs.Common.{◌++◌, length, slice_get, get_or, Option, Some, None, IfSome}
+use Rattle.plan_num.proofs.Common.{refl, ap, sym, ◌∙◌, subst, arith, map, length-append}
+use Rattle.plan_num.proofs.Common.{get_or_append_left, get_or-append_seam, none-some, same_Some}
+use Rattle.plan_num.proofs.Common.{slice_get-get_or, slice_get_within}
 use Rattle.link_plans.specs.Links.{Links}
 use Rattle.link_plans.proofs.Linking.{by_number}
 use Rattle.link_plans.proofs.Certified.{by_bound}

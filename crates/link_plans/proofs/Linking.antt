@@ -1,10 +1,9 @@
 -- What a link leaves of a plan: the successor of each trip, and which trips are successors.
-use Rattle.std.proofs.Common.{◌≡◌, ◌≢◌, ◌⊎◌, inl, inr, ℕ, zero, suc, ◌<◌, ◌||◌, Bool, true, false}
-use Rattle.std.proofs.Common.{is_some, List, [], ◌∷◌, length, slice_set, replicate, Option, Some, None, refl}
-use Rattle.std.proofs.Common.{ap, sym, ◌∙◌, subst, arith, get_or-set_same, get_or-set_other, eq-eqb}
-use Rattle.std.proofs.lemmas.Bool.{false≢true, eqb-true}
-use Rattle.std.proofs.lemmas.List.{length-set}
-use Rattle.std.proofs.lemmas.Option.{none-some, same_Some}
+use Rattle.plan_num.proofs.Common.{◌≡◌, ◌≢◌, ◌⊎◌, inl, inr, ℕ, zero, suc, ◌<◌, ◌||◌, Bool, true}
+use Rattle.plan_num.proofs.Common.{false, is_some, List, [], ◌∷◌, length, slice_set, replicate}
+use Rattle.plan_num.proofs.Common.{Option, Some, None, refl, ap, sym, ◌∙◌, subst, arith}
+use Rattle.plan_num.proofs.Common.{get_or-set_same, get_or-set_other, eq-eqb, false≢true, eqb-true}
+use Rattle.plan_num.proofs.Common.{length-set, none-some, same_Some}
 use Rattle.link_plans.specs.Plans.{next, is_next, is_trip, AreSuccessors}
 use Rattle.plan_num.proofs.Tests.{later_true}
 

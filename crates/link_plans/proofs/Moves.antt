@@ -1,11 +1,9 @@
 -- What a plan is after one trip was given another place, and the trips before them.
-use Rattle.std.proofs.Common.{◌≡◌, ◌≢◌, ◌⊎◌, inl, inr, ℕ, zero, suc, ◌<◌, ◌≤◌, nat_lt, Bool, true}
-use Rattle.std.proofs.Common.{false, cond, List, [], ◌∷◌, length, slice_set, replicate, Option}
-use Rattle.std.proofs.Common.{Some, None, MatchOption, IfSome, refl, ap, sym, ◌∙◌, subst, arith}
-use Rattle.std.proofs.Common.{get_or-set_same, get_or-set_other}
-use Rattle.std.proofs.lemmas.Bool.{ltb-true, ltb-false}
-use Rattle.std.proofs.lemmas.List.{length-set}
-use Rattle.std.proofs.lemmas.Option.{none-some, same_Some}
+use Rattle.plan_num.proofs.Common.{◌≡◌, ◌≢◌, ◌⊎◌, inl, inr, ℕ, zero, suc, ◌<◌, ◌≤◌, nat_lt, Bool}
+use Rattle.plan_num.proofs.Common.{true, false, cond, List, [], ◌∷◌, length, slice_set, replicate}
+use Rattle.plan_num.proofs.Common.{Option, Some, None, MatchOption, IfSome, refl, ap, sym, ◌∙◌}
+use Rattle.plan_num.proofs.Common.{subst, arith, get_or-set_same, get_or-set_other, ltb-true}
+use Rattle.plan_num.proofs.Common.{ltb-false, length-set, none-some, same_Some}
 use Rattle.link_plans.specs.Plans.{next, is_next, AreSuccessors}
 use Rattle.link_plans.proofs.Linking.{by_number, none_next, not_next, never_next}
 use Rattle.link_plans.specs.Places.{successor_at, forgotten, AreLinked}

@@ -1,10 +1,7 @@
 -- Tests on the numbers below one, functions with another value at a place, and gains that are a number.
-use Rattle.std.proofs.Common.{◌≡◌, ◌≢◌, ℕ, ℤ, zero, suc, pos, ◌<◌, ◌==◌, ◌&&◌, ◌||◌, Bool, true}
-use Rattle.std.proofs.Common.{false, cond, Option, Some, None, refl, ap, sym, ◌∙◌, subst, arith}
-use Rattle.std.proofs.Common.{eq-eqb}
-use Rattle.std.specs.Ordering.{int_eq}
-use Rattle.std.proofs.lemmas.Bool.{false≢true, ne_eqb}
-use Rattle.std.proofs.lemmas.Bool.Decides.{Decides-int_eq}
+use Rattle.plan_num.proofs.Common.{◌≡◌, ◌≢◌, ℕ, ℤ, zero, suc, pos, ◌<◌, ◌==◌, ◌&&◌, ◌||◌, Bool}
+use Rattle.plan_num.proofs.Common.{true, false, cond, Option, Some, None, refl, ap, sym, ◌∙◌, subst}
+use Rattle.plan_num.proofs.Common.{arith, eq-eqb, int_eq, false≢true, ne_eqb, Decides-int_eq}
 use Rattle.link_plans.proofs.Linking.{by_number}
 use Rattle.plan_num.proofs.Tests.{both_true, second_true, first_true, not_both}
 

@@ -1,13 +1,10 @@
 -- What a plan gains against numbers that cover its links: never more than all of them, and as much
 -- exactly where it is tight.
-use Rattle.std.proofs.Common.{◌≡◌, ◌≢◌, ℕ, ℤ, zero, suc, pos, ◌+◌, ◌<◌, ◌+ℤ◌, ◌≤ℤ◌, ◌==◌, ◌||◌}
-use Rattle.std.proofs.Common.{eq-eqb, false, List, [], ◌∷◌, length, sum, set, Option, Some, None}
-use Rattle.std.proofs.Common.{unwrap_or, refl, ap, sym, ◌∙◌, subst, arith}
-use Rattle.std.proofs.lemmas.Bool.{or_parts, ne_eqb, false≢true}
-use Rattle.std.proofs.lemmas.Int.{ints}
-use Rattle.std.proofs.lemmas.List.{get_or-set_other}
-use Rattle.std.proofs.lemmas.List.Sums.{sum_by-cons}
-use Rattle.std.proofs.lemmas.Option.{none-some, same_Some}
+use Rattle.plan_num.proofs.Common.{◌≡◌, ◌≢◌, ℕ, ℤ, zero, suc, pos, ◌+◌, ◌<◌, ◌+ℤ◌, ◌≤ℤ◌, ◌==◌, ◌||◌}
+use Rattle.plan_num.proofs.Common.{eq-eqb, false, List, [], ◌∷◌, length, sum, set, Option, Some}
+use Rattle.plan_num.proofs.Common.{None, unwrap_or, refl, ap, sym, ◌∙◌, subst, arith, or_parts}
+use Rattle.plan_num.proofs.Common.{ne_eqb, false≢true, ints, get_or-set_other, sum_by-cons}
+use Rattle.plan_num.proofs.Common.{none-some, same_Some}
 use Rattle.link_plans.specs.Plans.{next, is_next}
 use Rattle.link_plans.proofs.Linking.{by_number}
 use Rattle.link_plans.proofs.Totals.{gains_from, gains_more}

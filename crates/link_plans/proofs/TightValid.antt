@@ -1,7 +1,6 @@
 -- Potentials that cover all links are valid for a plan that is tight for them.
-use Rattle.std.proofs.Common.{◌≡◌, ℕ, ℤ, pos, ◌+◌, ◌≤ℤ◌, true, List, is_some, Option, Some, None}
-use Rattle.std.proofs.Common.{IfSome, unwrap_or, ap, sym, ◌∙◌, subst, arith}
-use Rattle.std.proofs.lemmas.Bool.{false≢true}
+use Rattle.plan_num.proofs.Common.{◌≡◌, ℕ, ℤ, pos, ◌+◌, ◌≤ℤ◌, true, List, is_some, Option, Some}
+use Rattle.plan_num.proofs.Common.{None, IfSome, unwrap_or, ap, sym, ◌∙◌, subst, arith, false≢true}
 use Rattle.link_plans.specs.Plans.{IsPlan}
 use Rattle.link_plans.specs.Links.{Links}
 use Rattle.link_plans.specs.Potentials.{PotentialParts, at, AreOver, AreValid, IsTight}

@@ -1,11 +1,8 @@
 -- Sums of numbers, and the links of a plan from a trip on.
-use Rattle.std.proofs.Common.{◌≡◌, ℕ, ℤ, suc, pos, ◌+◌, ◌<◌, ◌+ℤ◌, List, [], ◌∷◌, length, map, sum}
-use Rattle.std.proofs.Common.{fold, drop, filter_map, Option, Some, None, option_map, unwrap_or, ap}
-use Rattle.std.proofs.Common.{arith}
-use Rattle.std.specs.List.{enumerate_from}
+use Rattle.plan_num.proofs.Common.{◌≡◌, ℕ, ℤ, suc, pos, ◌+◌, ◌<◌, ◌+ℤ◌, List, [], ◌∷◌, length, map}
+use Rattle.plan_num.proofs.Common.{sum, fold, drop, filter_map, Option, Some, None, option_map}
+use Rattle.plan_num.proofs.Common.{unwrap_or, ap, arith, enumerate_from, ints, sum_by-cons}
 use Rattle.std.proofs.Math.Seq.{drop-cons}
-use Rattle.std.proofs.lemmas.Int.{ints}
-use Rattle.std.proofs.lemmas.List.Sums.{sum_by-cons}
 use Rattle.link_plans.specs.Plans.{next, total}
 
 -- a sum from some number on

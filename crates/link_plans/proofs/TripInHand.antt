@@ -1,10 +1,9 @@
 -- A plan and its potentials, where one trip is in hand: it has no successor, and its potential may be
 -- more than nothing. Some plan takes each trip on its side, or all potentials on a side go down.
-use Rattle.std.proofs.Common.{◌≡◌, ◌≢◌, ℕ, ℤ, zero, suc, pos, ◌+◌, ◌<◌, ◌≤◌, ◌≤ℤ◌, ◌==◌, ◌&&◌, ◌||◌}
-use Rattle.std.proofs.Common.{not, Bool, true, false, Option, Some, None, IfSome, refl, ap, sym}
-use Rattle.std.proofs.Common.{◌∙◌, subst, arith}
-use Rattle.std.proofs.lemmas.Bool.{false≢true, ne_eqb, not-true}
-use Rattle.std.proofs.lemmas.Option.{none-some, same_Some}
+use Rattle.plan_num.proofs.Common.{◌≡◌, ◌≢◌, ℕ, ℤ, zero, suc, pos, ◌+◌, ◌<◌, ◌≤◌, ◌≤ℤ◌, ◌==◌, ◌&&◌}
+use Rattle.plan_num.proofs.Common.{◌||◌, not, Bool, true, false, Option, Some, None, IfSome, refl}
+use Rattle.plan_num.proofs.Common.{ap, sym, ◌∙◌, subst, arith, false≢true, ne_eqb, not-true}
+use Rattle.plan_num.proofs.Common.{none-some, same_Some}
 use Rattle.link_plans.proofs.Counting.{count, one_less}
 use Rattle.link_plans.proofs.Linking.{by_number}
 use Rattle.link_plans.proofs.TestsBelow.{IsFound, by_bool, exact_where}

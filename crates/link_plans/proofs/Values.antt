@@ -1,8 +1,7 @@
 -- Numbers of so many trips, by a function.
-use Rattle.std.proofs.Common.{◌≡◌, ℕ, ◌<◌, ◌≤◌, List, length, map, arith}
-use Rattle.std.proofs.lemmas.List.FromFn.{get_or-map-range_with_len, length-map-range_with_len}
-use Rattle.std.proofs.lemmas.List.{get_or_past}
-use Rattle.std.specs.List.{range_with_len}
+use Rattle.plan_num.proofs.Common.{◌≡◌, ℕ, ◌<◌, ◌≤◌, List, length, map, arith}
+use Rattle.plan_num.proofs.Common.{get_or-map-range_with_len, length-map-range_with_len}
+use Rattle.plan_num.proofs.Common.{get_or_past, range_with_len}
 use Rattle.link_plans.specs.Potentials.{at}
 
 pub values : ℕ → (ℕ → ℕ) → List ℕ

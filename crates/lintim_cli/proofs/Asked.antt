@@ -1,6 +1,6 @@
 -- What a question tells, once its report is written.
 use Rattle.std.proofs.Common.{arith, ◌≡◌, ◌∙◌, ℕ, ◌+◌, List, Option, Some, None, IfSome, subst}
-use Rattle.plan_files.specs.Folder.{Folder}
+use Rattle.plan_files.proofs.Common.{Folder}
 use Rattle.plan_queries.specs.declared.answer.Answer.{Answer}
 use Rattle.command_line.specs.declared.ends.QueryEnd.{QueryEnd}
 use Rattle.command_line.specs.declared.ends.QueryEnd.TheVariants as query

@@ -1,13 +1,9 @@
 -- A demo makes what is made of its dataset from scratch.
-use Rattle.std.proofs.Common.{◌≡◌, ℕ, ◌+◌, ◌≤◌, false, List, ◌++◌, take, Option, Some, None, refl, ap}
-use Rattle.std.proofs.Common.{◌∙◌, arith, inl, inr}
-use Rattle.std.specs.Cmp.Lexicographic.{slice_cmp}
-use Rattle.std.specs.Option.{option_map}
-use Rattle.std.specs.Ordering.{nat_cmp}
+use Rattle.plan_num.proofs.Common.{◌≡◌, ℕ, ◌+◌, ◌≤◌, false, List, ◌++◌, take, Option, Some, None}
+use Rattle.plan_num.proofs.Common.{refl, ap, ◌∙◌, arith, inl, inr, slice_cmp, option_map, nat_cmp}
 use Rattle.std.specs.FinMap as files
-use Rattle.plan_files.specs.Counts.{Rose}
-use Rattle.plan_files.specs.Folder.{Folder}
-use Rattle.giv_files.specs.declared.stage.Stage.{Stage}
+use Rattle.plan_files.proofs.Common.{Rose, Folder}
+use Rattle.giv_files.proofs.Common.{Stage}
 use Rattle.giv_files.specs.declared.stage.Stage.TheVariants as stage
 use Rattle.stage_keep.specs.Entries.{keep_name}
 use Rattle.demo_dataset.specs.Demo.{demo_folder, demo_writes}

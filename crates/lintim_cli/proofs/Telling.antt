@@ -1,10 +1,7 @@
 -- What a run tells is what is made from scratch.
-use Rattle.std.proofs.Common.{◌≡◌, ℕ, List, ◌++◌, take, Option, IfSome, ap}
-use Rattle.std.proofs.Common.{subst, refl, ◌∙◌, inl, inr}
-use Rattle.std.specs.Option.{option_map}
-use Rattle.std.proofs.lemmas.Option.{IfSome_then}
-use Rattle.plan_files.specs.Counts.{Rose}
-use Rattle.plan_files.specs.Folder.{Folder}
+use Rattle.plan_num.proofs.Common.{◌≡◌, ℕ, List, ◌++◌, take, Option, IfSome, ap, subst, refl, ◌∙◌}
+use Rattle.plan_num.proofs.Common.{inl, inr, option_map, IfSome_then}
+use Rattle.plan_files.proofs.Common.{Rose, Folder}
 use Rattle.command_line.specs.declared.mode.Mode.{Mode}
 use Rattle.stage_chain.specs.declared.outcome.Outcome.{Outcome}
 use Rattle.command_line.specs.declared.ends.RunEnd.{RunEnd}

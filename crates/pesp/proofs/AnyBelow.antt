@@ -1,8 +1,7 @@
 -- Tests of the numbers below a number.
-use Rattle.std.proofs.Common.{◌≡◌, ◌∙◌, inl, inr, ℕ, zero, suc, ◌+◌, ◌-◌, ◌<◌, ◌≤◌, Bool, true}
-use Rattle.std.proofs.Common.{false, ◌||◌}
-use Rattle.std.proofs.Common.{refl, ap, sym, arith}
-use Rattle.std.proofs.lemmas.Bool.{cases_Bool, cases_eq, cases_lt, false≢true, or_left, or_parts, or_right}
+use Rattle.plan_num.proofs.Common.{◌≡◌, ◌∙◌, inl, inr, ℕ, zero, suc, ◌+◌, ◌-◌, ◌<◌, ◌≤◌, Bool, true}
+use Rattle.plan_num.proofs.Common.{false, ◌||◌, refl, ap, sym, arith, cases_Bool, cases_eq}
+use Rattle.plan_num.proofs.Common.{cases_lt, false≢true, or_left, or_parts, or_right}
 use Rattle.bit_rows.proofs.WordBits.{or_none}
 use Rattle.pesp.specs.Marks.{any_below}
 

@@ -1,8 +1,7 @@
 -- Changes of sets of times, and what they say of the sets before them.
-use Rattle.std.proofs.Common.{◌≡◌, ◌∙◌, ℕ, ◌<◌, List, [], ◌∷◌, ◌++◌, get_or}
-use Rattle.std.proofs.Common.{length, reverse, refl, ap, sym, subst, arith, All}
-use Rattle.std.proofs.Math.Seq.{get_or-append_seam}
-use Rattle.std.proofs.lemmas.List.{get_or_append_left, length_push, reverse-append}
+use Rattle.plan_num.proofs.Common.{◌≡◌, ◌∙◌, ℕ, ◌<◌, List, [], ◌∷◌, ◌++◌, get_or, length, reverse}
+use Rattle.plan_num.proofs.Common.{refl, ap, sym, subst, arith, All, get_or-append_seam}
+use Rattle.plan_num.proofs.Common.{get_or_append_left, length_push, reverse-append}
 use Rattle.bit_rows.specs.Bits.{with_word}
 use Rattle.pesp.specs.declared.time_sets.Branch.{Branch}
 use Rattle.pesp.specs.declared.time_sets.Change.{Change}

@@ -1,13 +1,10 @@
 -- Events in classes, one tie after the other.
-use Rattle.std.proofs.Common.{◌≡◌, ◌∙◌, inl, inr, ℕ, ◌+◌, ◌%◌, ◌<◌, List, [], ◌∷◌, ◌++◌, All}
-use Rattle.std.proofs.Common.{Vec, Global, length, get_or, slice_set, ap, sym, subst, arith}
+use Rattle.plan_num.proofs.Common.{◌≡◌, ◌∙◌, inl, inr, ℕ, ◌+◌, ◌%◌, ◌<◌, List, [], ◌∷◌, ◌++◌, All}
+use Rattle.plan_num.proofs.Common.{Vec, Global, length, get_or, slice_set, ap, sym, subst, arith}
+use Rattle.plan_num.proofs.Common.{get_or-append_seam, cases_eq, cases_lt, get_or-set_other}
+use Rattle.plan_num.proofs.Common.{get_or-set_same, get_or_append_left, length-append, length-set}
+use Rattle.plan_num.proofs.Common.{All-push, get_or_default_zero}
 use Rattle.std.proofs.Math.Nat.{mod-lt}
-use Rattle.std.proofs.Math.Seq.{get_or-append_seam}
-use Rattle.std.proofs.lemmas.Bool.{cases_eq, cases_lt}
-use Rattle.std.proofs.lemmas.List.{get_or-set_other, get_or-set_same, get_or_append_left}
-use Rattle.std.proofs.lemmas.List.{length-append, length-set}
-use Rattle.std.proofs.lemmas.List.Elements.{All-push}
-use Rattle.std.proofs.lemmas.Grind.{get_or_default_zero}
 use Rattle.pesp.specs.Timetables.{IsProblem, Problem}
 use Rattle.pesp.specs.declared.cycles.Classes.{Classes}
 use Rattle.pesp.specs.declared.cycles.Place.{Place}

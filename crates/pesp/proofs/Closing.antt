@@ -1,11 +1,9 @@
 -- Sets of times that cycles bring back to themselves.
-use Rattle.std.proofs.Common.{◌≡◌, ◌∙◌, ◌⊎◌, inl, inr, ℕ, ◌+◌, ◌%◌, ◌<◌, ◌==◌, nat_lt, Bool, true}
-use Rattle.std.proofs.Common.{false, not, ◌&&◌, ◌||◌, ◌-◌, filter, ap, sym, subst, arith}
-use Rattle.std.proofs.Common.{IfOk, Result, Ok, Err}
-use Rattle.std.specs.Bool.{MatchBool}
-use Rattle.std.specs.List.{range_with_len}
-use Rattle.std.proofs.lemmas.Bool.{and_from, and_parts, cases_Bool, cases_eq, false≢true, ltb-true}
-use Rattle.std.proofs.lemmas.Bool.{ne_eqb, or_left, or_right}
+use Rattle.plan_num.proofs.Common.{◌≡◌, ◌∙◌, ◌⊎◌, inl, inr, ℕ, ◌+◌, ◌%◌, ◌<◌, ◌==◌, nat_lt, Bool}
+use Rattle.plan_num.proofs.Common.{true, false, not, ◌&&◌, ◌||◌, ◌-◌, filter, ap, sym, subst, arith}
+use Rattle.plan_num.proofs.Common.{IfOk, Result, Ok, Err, MatchBool, range_with_len, and_from}
+use Rattle.plan_num.proofs.Common.{and_parts, cases_Bool, cases_eq, false≢true, ltb-true, ne_eqb}
+use Rattle.plan_num.proofs.Common.{or_left, or_right}
 use Rattle.pesp.specs.Timetables.{Problem}
 use Rattle.pesp.specs.Cycles.{AreLater, Closes, Repeats}
 use Rattle.pesp.specs.Flags.{Flags, has_changed}

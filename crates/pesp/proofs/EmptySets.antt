@@ -1,12 +1,10 @@
 -- Sets of times of which one is empty.
-use Rattle.std.proofs.Common.{◌≡◌, ◌∙◌, inl, inr, ℕ, zero, suc, ◌+◌, ◌<◌, ◌≤◌, ◌||◌, Bool, true}
-use Rattle.std.proofs.Common.{false, ◌&&◌, List, [], ◌∷◌, length, map, filter, ap, sym, arith, ◌⊎◌}
-use Rattle.std.proofs.Common.{◌-◌, if◌then◌else◌, refl, slice_set, subst}
-use Rattle.std.specs.List.{list_any, range_with_len}
-use Rattle.std.proofs.lemmas.Bool.{and_from, and_parts}
-use Rattle.std.proofs.lemmas.Bool.{cases_Bool, cases_eq, eq-eqb, false≢true, ne_eqb}
-use Rattle.std.proofs.lemmas.Bool.{le-ltb, ltb-false, or_left}
-use Rattle.std.proofs.lemmas.Bool.{or_parts, or_right}
+use Rattle.plan_num.proofs.Common.{◌≡◌, ◌∙◌, inl, inr, ℕ, zero, suc, ◌+◌, ◌<◌, ◌≤◌, ◌||◌, Bool}
+use Rattle.plan_num.proofs.Common.{true, false, ◌&&◌, List, [], ◌∷◌, length, map, filter, ap, sym}
+use Rattle.plan_num.proofs.Common.{arith, ◌⊎◌, ◌-◌, if◌then◌else◌, refl, slice_set, subst, list_any}
+use Rattle.plan_num.proofs.Common.{range_with_len, and_from, and_parts, cases_Bool, cases_eq}
+use Rattle.plan_num.proofs.Common.{eq-eqb, false≢true, ne_eqb, le-ltb, ltb-false, or_left, or_parts}
+use Rattle.plan_num.proofs.Common.{or_right}
 use Rattle.pesp.specs.Listings.{is_empty, times_at_first, with_time}
 use Rattle.pesp.specs.Marks.{IsSettled, Marks, Prunes, Tracked, family, is_left, sets_of}
 use Rattle.pesp.specs.Marks.{times_from}

@@ -1,12 +1,10 @@
 -- A search entry by entry, and what it comes to.
 use Rattle.pesp.specs.Marks.{IsChildOf, IsSettled, Saved, is_left}
-use Rattle.std.proofs.Common.{◌==◌, inl, inr, ◌≡◌, ◌∙◌, ℕ, ◌+◌, ◌<◌, ◌≤◌, true, false}
-use Rattle.std.proofs.Common.{List, [], ◌∷◌, ◌++◌, length, map, position, Option}
-use Rattle.std.proofs.Common.{Some, None, Vec, Global, refl, ap, sym, subst, arith}
-use Rattle.std.specs.List.{list_any}
-use Rattle.std.proofs.Math.Nat.{le-min, min-eq_left, min-eq_right}
-use Rattle.std.proofs.lemmas.Bool.{cases_eq, eq-eqb, false≢true}
-use Rattle.std.proofs.lemmas.List.Quantifiers.{position-Some}
+use Rattle.plan_num.proofs.Common.{◌==◌, inl, inr, ◌≡◌, ◌∙◌, ℕ, ◌+◌, ◌<◌, ◌≤◌, true, false, List}
+use Rattle.plan_num.proofs.Common.{[], ◌∷◌, ◌++◌, length, map, position, Option, Some, None, Vec}
+use Rattle.plan_num.proofs.Common.{Global, refl, ap, sym, subst, arith, list_any, le-min}
+use Rattle.plan_num.proofs.Common.{min-eq_left, min-eq_right, cases_eq, eq-eqb, false≢true}
+use Rattle.plan_num.proofs.Common.{position-Some}
 use Rattle.pesp.specs.Timetables.{Problem}
 use Rattle.pesp.specs.Listings.{Listing, branches, entries_listed, entry, first_sets}
 use Rattle.pesp.specs.Listings.{has_several, in_turn, is_empty}

@@ -1,9 +1,7 @@
 -- Sets of times by a test of events and times, and rounds on them.
-use Rattle.std.proofs.Common.{◌≡◌, ◌∙◌, ℕ, zero, suc, ◌+◌, ◌<◌, Bool, inl, inr, cond, ◌&&◌}
-use Rattle.std.proofs.Common.{List, [], ◌∷◌, map, filter, refl, ap, arith}
-use Rattle.std.specs.List.{enumerate_from, range_with_len}
-use Rattle.std.proofs.lemmas.List.FromFn.{get_or-map-range_with_len}
-use Rattle.std.proofs.lemmas.Bool.{cases_Bool}
+use Rattle.plan_num.proofs.Common.{◌≡◌, ◌∙◌, ℕ, zero, suc, ◌+◌, ◌<◌, Bool, inl, inr, cond, ◌&&◌}
+use Rattle.plan_num.proofs.Common.{List, [], ◌∷◌, map, filter, refl, ap, arith, enumerate_from}
+use Rattle.plan_num.proofs.Common.{range_with_len, get_or-map-range_with_len, cases_Bool}
 use Rattle.bit_rows.proofs.Columns.{same_filter}
 use Rattle.pesp.specs.Timetables.{Problem}
 use Rattle.pesp.specs.Marks.{Marks, family, is_left, sets_of}

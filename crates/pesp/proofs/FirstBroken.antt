@@ -1,14 +1,10 @@
 -- The first broken activity of a problem: how it is found, and what it means.
-use Rattle.std.proofs.Common.{◌≡◌, ℕ, ◌+◌, ◌<◌, pos, Bool, true, false, not, cond, List, [], ◌∷◌}
-use Rattle.std.proofs.Common.{length, get_or, slice_get, position, refl, sym, subst, ◌∙◌, Option}
-use Rattle.std.proofs.Common.{Some, None, All, Decides, arith}
-use Rattle.std.specs.List.{position_from}
-use Rattle.std.specs.Option.{is_none}
-use Rattle.std.proofs.lemmas.Bool.{false≢true, not-false, not-true}
-use Rattle.std.proofs.lemmas.Iterator.Adapters.{position_from-zero}
-use Rattle.std.proofs.lemmas.List.Elements.{All-nil, All-cons, All-from_get_or}
-use Rattle.std.proofs.lemmas.List.Quantifiers.{position-Some}
-use Rattle.std.proofs.lemmas.Option.{get_or_from_slice_get, slice_get-get_or}
+use Rattle.plan_num.proofs.Common.{◌≡◌, ℕ, ◌+◌, ◌<◌, pos, Bool, true, false, not, cond, List, []}
+use Rattle.plan_num.proofs.Common.{◌∷◌, length, get_or, slice_get, position, refl, sym, subst, ◌∙◌}
+use Rattle.plan_num.proofs.Common.{Option, Some, None, All, Decides, arith, position_from, is_none}
+use Rattle.plan_num.proofs.Common.{false≢true, not-false, not-true, position_from-zero, All-nil}
+use Rattle.plan_num.proofs.Common.{All-cons, All-from_get_or, position-Some, get_or_from_slice_get}
+use Rattle.plan_num.proofs.Common.{slice_get-get_or}
 use Rattle.pesp.specs.declared.activity.PespActivity.{PespActivity}
 use Rattle.pesp.specs.Timetables.{Problem, IsProblem, IsActivity, IsKept, IsTimetable, IsFirstBroken, keeps_in, first_broken}
 use Rattle.pesp.proofs.Keeping.{test_tells}

@@ -1,9 +1,8 @@
 -- The marks at first, and marks of which one time of an event is left.
-use Rattle.std.proofs.Common.{◌≡◌, ◌∙◌, inl, inr, ℕ, zero, suc, ◌+◌, ◌<◌, ◌≤◌, ◌==◌, Bool, true}
-use Rattle.std.proofs.Common.{false, not, ◌&&◌, ◌||◌, if◌then◌else◌, List, [], ◌∷◌, map, filter}
-use Rattle.std.proofs.Common.{refl, ap, sym, arith, Ok}
-use Rattle.std.specs.List.{range_with_len}
-use Rattle.std.proofs.lemmas.Bool.{and_from, and_parts, and_right, cases_eq, eq-eqb, ne_eqb}
+use Rattle.plan_num.proofs.Common.{◌≡◌, ◌∙◌, inl, inr, ℕ, zero, suc, ◌+◌, ◌<◌, ◌≤◌, ◌==◌, Bool}
+use Rattle.plan_num.proofs.Common.{true, false, not, ◌&&◌, ◌||◌, if◌then◌else◌, List, [], ◌∷◌, map}
+use Rattle.plan_num.proofs.Common.{filter, refl, ap, sym, arith, Ok, range_with_len, and_from}
+use Rattle.plan_num.proofs.Common.{and_parts, and_right, cases_eq, eq-eqb, ne_eqb}
 use Rattle.bit_rows.specs.Bits.{marked}
 use Rattle.pesp.specs.Listings.{times_at_first, with_time}
 use Rattle.pesp.specs.Marks.{KeepsTime, Marks, Prunes, Tracked, family, is_left, sets_of}

@@ -1,12 +1,10 @@
 -- Flags of events as the bits of words.
-use Rattle.std.proofs.Common.{◌≡◌, ◌∙◌, ◌⊎◌, inl, inr, is_some, Option, ℕ, ◌+◌, ◌-◌, ◌*◌, ◌/◌, ◌%◌}
-use Rattle.std.proofs.Common.{◌<◌, ◌≤◌, ◌==◌, Bool, true, false, ◌&&◌, if◌then◌else◌, min, map}
-use Rattle.std.proofs.Common.{length, slice_set, Some, None, refl, ap, sym, arith}
-use Rattle.std.specs.List.{range_with_len}
-use Rattle.std.proofs.lemmas.Bool.{cases_eq, cases_lt, eq-eqb, le-ltb, lt-ltb, ne_eqb}
-use Rattle.std.proofs.lemmas.Grind.{get_or-set_at}
-use Rattle.std.proofs.lemmas.List.{get_or-set_other, get_or_past}
-use Rattle.std.proofs.lemmas.List.FromFn.{get_or-map-range_with_len, length-map-range_with_len}
+use Rattle.plan_num.proofs.Common.{◌≡◌, ◌∙◌, ◌⊎◌, inl, inr, is_some, Option, ℕ, ◌+◌, ◌-◌, ◌*◌, ◌/◌}
+use Rattle.plan_num.proofs.Common.{◌%◌, ◌<◌, ◌≤◌, ◌==◌, Bool, true, false, ◌&&◌, if◌then◌else◌, min}
+use Rattle.plan_num.proofs.Common.{map, length, slice_set, Some, None, refl, ap, sym, arith}
+use Rattle.plan_num.proofs.Common.{range_with_len, cases_eq, cases_lt, eq-eqb, le-ltb, lt-ltb}
+use Rattle.plan_num.proofs.Common.{ne_eqb, get_or-set_at, get_or-set_other, get_or_past}
+use Rattle.plan_num.proofs.Common.{get_or-map-range_with_len, length-map-range_with_len}
 use Rattle.bit_rows.specs.Bits.{Bits, IsLastBit, has, has_bit, word_of}
 use Rattle.bit_rows.proofs.RowBits.{bit_there}
 use Rattle.pesp.specs.Flags.{Flags, IsClearOutside, IsLastFlag, flags_of, has_changed}

@@ -1,12 +1,11 @@
 -- What a listing finds is a timetable.
-use Rattle.std.proofs.Common.{◌≡◌, ◌∙◌, ℕ, zero, suc, ◌+◌, ◌<◌, ◌==◌, nat_eq, nat_lt, Bool, true, false, cond}
-use Rattle.std.proofs.Common.{not, ◌&&◌, ◌||◌, List, [], ◌∷◌, get_or, length, position, All}
-use Rattle.std.proofs.Common.{filter, slice_index_or, Option, Some, None, is_some, refl, ap, sym, subst, arith}
-use Rattle.std.specs.List.{AllByRecursion, list_all, list_any}
-use Rattle.std.proofs.lemmas.Bool.{and_parts, eq-eqb, eqb-true, ltb-true, ltb-false, or_parts, or_right}
-use Rattle.std.proofs.lemmas.List.{get_or_default, length-map, length-set}
-use Rattle.std.proofs.lemmas.List.Sums.{AllPass-from_list_all}
-use Rattle.std.proofs.lemmas.List.Folds.{Any-from_list_any}
+use Rattle.plan_num.proofs.Common.{◌≡◌, ◌∙◌, ℕ, zero, suc, ◌+◌, ◌<◌, ◌==◌, nat_eq, nat_lt, Bool}
+use Rattle.plan_num.proofs.Common.{true, false, cond, not, ◌&&◌, ◌||◌, List, [], ◌∷◌, get_or}
+use Rattle.plan_num.proofs.Common.{length, position, All, filter, slice_index_or, Option, Some}
+use Rattle.plan_num.proofs.Common.{None, is_some, refl, ap, sym, subst, arith, AllByRecursion}
+use Rattle.plan_num.proofs.Common.{list_all, list_any, and_parts, eq-eqb, eqb-true, ltb-true}
+use Rattle.plan_num.proofs.Common.{ltb-false, or_parts, or_right, get_or_default, length-map}
+use Rattle.plan_num.proofs.Common.{length-set, AllPass-from_list_all, Any-from_list_any}
 use Rattle.pesp.specs.declared.activity.PespActivity.{PespActivity}
 use Rattle.pesp.specs.Timetables.{IsActivity, IsKept, IsProblem, IsTimetable, Problem, keeps}
 use Rattle.pesp.specs.Timetables.{time_of}

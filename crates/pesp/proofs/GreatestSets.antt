@@ -1,15 +1,12 @@
 -- The reduced sets are the greatest ones in which no time is without a partner, and lose no
 -- timetable.
-use Rattle.std.proofs.Common.{◌≡◌, ◌∙◌, inl, inr, ℕ, zero, suc, ◌+◌, ◌<◌, ◌==◌, nat_eq, Bool, true, false}
-use Rattle.std.proofs.Common.{not, ◌||◌, List, [], ◌∷◌, All, Contains, cond, filter, get_or, length}
-use Rattle.std.proofs.Common.{refl, ap, sym, subst, arith}
-use Rattle.std.specs.List.{list_all, list_any}
-use Rattle.std.proofs.lemmas.Bool.{and_from, and_parts, cases_lt, eq-eqb, eqb-true, false≢true, or_cases}
-use Rattle.std.proofs.lemmas.Bool.{or_left, or_right}
-use Rattle.std.proofs.lemmas.List.{get_or_past}
-use Rattle.std.proofs.lemmas.List.Elements.{All-contains, All-contains_itself, All-filter, Contains-get_or}
-use Rattle.std.proofs.lemmas.List.Folds.{Any-from_list_any, list_any_at}
-use Rattle.std.proofs.lemmas.List.Sums.{AllPass-from_list_all}
+use Rattle.plan_num.proofs.Common.{◌≡◌, ◌∙◌, inl, inr, ℕ, zero, suc, ◌+◌, ◌<◌, ◌==◌, nat_eq, Bool}
+use Rattle.plan_num.proofs.Common.{true, false, not, ◌||◌, List, [], ◌∷◌, All, Contains, cond}
+use Rattle.plan_num.proofs.Common.{filter, get_or, length, refl, ap, sym, subst, arith, list_all}
+use Rattle.plan_num.proofs.Common.{list_any, and_from, and_parts, cases_lt, eq-eqb, eqb-true}
+use Rattle.plan_num.proofs.Common.{false≢true, or_cases, or_left, or_right, get_or_past}
+use Rattle.plan_num.proofs.Common.{All-contains, All-contains_itself, All-filter, Contains-get_or}
+use Rattle.plan_num.proofs.Common.{Any-from_list_any, list_any_at, AllPass-from_list_all}
 use Rattle.pesp.specs.declared.activity.PespActivity.{PespActivity}
 use Rattle.pesp.specs.Timetables.{IsProblem, Problem, keeps}
 use Rattle.pesp.specs.Listings.{AreDead, is_empty}

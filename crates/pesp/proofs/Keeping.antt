@@ -1,9 +1,7 @@
 -- The test of an activity tells whether it is kept.
-use Rattle.std.proofs.Common.{ℕ, ℤ, ◌+◌, ◌<◌, ◌≤◌, ◌≤ℤ◌, pos, negsuc, int_le, List, length, Decides, All, sym, subst, arith}
-use Rattle.std.proofs.lemmas.Float.{T_from_true}
-use Rattle.std.proofs.lemmas.Int.{ints}
-use Rattle.std.proofs.lemmas.List.Elements.{All-get_or}
-use Rattle.std.specs.Int.Signed.{le_z_yes}
+use Rattle.plan_num.proofs.Common.{ℕ, ℤ, ◌+◌, ◌<◌, ◌≤◌, ◌≤ℤ◌, pos, negsuc, int_le, List, length}
+use Rattle.plan_num.proofs.Common.{Decides, All, sym, subst, arith, T_from_true, ints, All-get_or}
+use Rattle.plan_num.proofs.Common.{le_z_yes}
 use Rattle.pesp.specs.declared.activity.PespActivity.{PespActivity}
 use Rattle.pesp.specs.Timetables.{IsActivity, IsKept, Leads, keeps_in, tension, time_of}
 use Rattle.pesp.proofs.LeastTensions.{rest, rest_least, tension_is}

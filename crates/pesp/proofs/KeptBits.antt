@@ -1,9 +1,7 @@
 -- Words of which some bits stay.
-use Rattle.std.proofs.Common.{◌≡◌, ◌∙◌, ℕ, ◌+◌, ◌*◌, ◌%◌, ◌<◌, bit_and, true, false, ◌&&◌, get_or}
-use Rattle.std.proofs.Common.{slice_set, refl, ap, subst, sym, arith}
-use Rattle.std.proofs.lemmas.Bool.{false≢true}
-use Rattle.std.proofs.lemmas.List.{set-get_or}
-use Rattle.std.proofs.lemmas.Nat.{and_le_l}
+use Rattle.plan_num.proofs.Common.{◌≡◌, ◌∙◌, ℕ, ◌+◌, ◌*◌, ◌%◌, ◌<◌, bit_and, true, false, ◌&&◌}
+use Rattle.plan_num.proofs.Common.{get_or, slice_set, refl, ap, subst, sym, arith, false≢true}
+use Rattle.plan_num.proofs.Common.{set-get_or, and_le_l}
 use Rattle.bit_rows.specs.Bits.{FitsAt, has_bit, with_word, words_of}
 use Rattle.bit_rows.proofs.WordBits.{and_bit}
 use Rattle.pesp.specs.Marks.{AreMarks, KeepsBits, Marks, Tracked, word_at}

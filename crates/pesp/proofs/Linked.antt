@@ -1,11 +1,10 @@
 -- The activities at each event, noted one after the other.
-use Rattle.std.proofs.Common.{◌≡◌, ◌≢◌, ◌∙◌, ◌⊎◌, inl, inr, ℕ, ◌+◌, ◌<◌, true, List, [], ◌∷◌, ◌++◌}
-use Rattle.std.proofs.Common.{length, get_or, slice_get, Some, Contains, ap, sym, subst, arith}
-use Rattle.std.proofs.lemmas.Bool.{cases_eq, cases_lt, false≢true}
-use Rattle.std.proofs.lemmas.List.{length-set, get_or-set_same, get_or-set_other}
-use Rattle.std.proofs.lemmas.List.Elements.{Contains-append_left, Contains-get_or, Contains-push}
-use Rattle.std.proofs.lemmas.List.Elements.{Contains-push_cases}
-use Rattle.std.proofs.lemmas.Option.{get_or_from_slice_get, slice_get_within, same_Some}
+use Rattle.plan_num.proofs.Common.{◌≡◌, ◌≢◌, ◌∙◌, ◌⊎◌, inl, inr, ℕ, ◌+◌, ◌<◌, true, List, [], ◌∷◌}
+use Rattle.plan_num.proofs.Common.{◌++◌, length, get_or, slice_get, Some, Contains, ap, sym, subst}
+use Rattle.plan_num.proofs.Common.{arith, cases_eq, cases_lt, false≢true, length-set}
+use Rattle.plan_num.proofs.Common.{get_or-set_same, get_or-set_other, Contains-append_left}
+use Rattle.plan_num.proofs.Common.{Contains-get_or, Contains-push, Contains-push_cases}
+use Rattle.plan_num.proofs.Common.{get_or_from_slice_get, slice_get_within, same_Some}
 use Rattle.pesp.specs.declared.activity.PespActivity.{PespActivity}
 use Rattle.pesp.specs.Timetables.{IsActivity, Problem}
 use Rattle.pesp.specs.Revising.{AreLinks, AreLinksAt, NotesActivity, NotesAt, is_free}

@@ -1,10 +1,8 @@
 -- What a listing finds is a timetable, and it finds nothing only where there is none.
-use Rattle.std.proofs.Common.{◌≡◌, ◌∙◌, ℕ, zero, suc, ◌+◌, ◌<◌, nat_eq, Bool, true, false, inl, inr}
-use Rattle.std.proofs.Common.{cond, ◌||◌, List, [], ◌∷◌, filter, length, position}
-use Rattle.std.proofs.Common.{Option, Some, None, is_some, refl, ap, sym, arith}
-use Rattle.std.specs.List.{list_any}
-use Rattle.std.proofs.lemmas.Bool.{eq-eqb, eqb-true, ne_eqb, cases_Bool}
-use Rattle.std.proofs.lemmas.List.Quantifiers.{position-Some}
+use Rattle.plan_num.proofs.Common.{◌≡◌, ◌∙◌, ℕ, zero, suc, ◌+◌, ◌<◌, nat_eq, Bool, true, false, inl}
+use Rattle.plan_num.proofs.Common.{inr, cond, ◌||◌, List, [], ◌∷◌, filter, length, position, Option}
+use Rattle.plan_num.proofs.Common.{Some, None, is_some, refl, ap, sym, arith, list_any, eq-eqb}
+use Rattle.plan_num.proofs.Common.{eqb-true, ne_eqb, cases_Bool, position-Some}
 use Rattle.pesp.specs.Timetables.{IsProblem, IsTimetable, Problem}
 use Rattle.pesp.specs.Timetables.{time_of}
 use Rattle.pesp.specs.Listings.{Listing, branches, has_several, in_turn, is_empty}

@@ -1,10 +1,8 @@
 -- The listing of a problem is right, and whole.
-use Rattle.std.proofs.Common.{◌≡◌, ◌∙◌, ℕ, zero, suc, ◌+◌, ◌-◌, ◌≤◌, ◌==◌, true, false, cond, ◌&&◌}
-use Rattle.std.proofs.Common.{List, [], ◌∷◌, length, map, filter, Option, Some, None, is_some, refl, ap, sym}
-use Rattle.std.proofs.Common.{arith}
-use Rattle.std.specs.List.{AllByRecursion, range_with_len}
-use Rattle.std.proofs.lemmas.Bool.{lt-ltb}
-use Rattle.std.proofs.lemmas.List.{length-map}
+use Rattle.plan_num.proofs.Common.{◌≡◌, ◌∙◌, ℕ, zero, suc, ◌+◌, ◌-◌, ◌≤◌, ◌==◌, true, false, cond}
+use Rattle.plan_num.proofs.Common.{◌&&◌, List, [], ◌∷◌, length, map, filter, Option, Some, None}
+use Rattle.plan_num.proofs.Common.{is_some, refl, ap, sym, arith, AllByRecursion, range_with_len}
+use Rattle.plan_num.proofs.Common.{lt-ltb, length-map}
 use Rattle.std.proofs.lemmas.List.FromFn.{length-range_with_len as range_length}
 use Rattle.pesp.specs.Timetables.{IsProblem, IsTimetable, Problem}
 use Rattle.pesp.specs.Listings.{ListingIsRight, ListingIsWhole, Tells, first_sets, has_several, listing, most_entries}

@@ -1,13 +1,8 @@
 -- Marks of times as bits, and one word that is replaced.
-use Rattle.std.proofs.Common.{◌≡◌, ◌∙◌, inl, inr, ℕ, ◌+◌, ◌-◌, ◌*◌, ◌/◌, ◌<◌, ◌≤◌, true, false}
-use Rattle.std.proofs.Common.{List, length, get_or, slice_set, sum, max, Some, None, ap, sym, arith}
-use Rattle.std.proofs.Common.{◌++◌, filter}
-use Rattle.std.proofs.lemmas.Bool.{cases_lt}
-use Rattle.std.proofs.lemmas.List.{get_or_past}
-use Rattle.std.proofs.lemmas.List.{set-get_or, set-set}
-use Rattle.std.proofs.lemmas.List.Sums.{sum_by-set}
-use Rattle.std.specs.List.{range_with_len}
-use Rattle.std.proofs.lemmas.List.Elements.{filter-append}
+use Rattle.plan_num.proofs.Common.{◌≡◌, ◌∙◌, inl, inr, ℕ, ◌+◌, ◌-◌, ◌*◌, ◌/◌, ◌<◌, ◌≤◌, true, false}
+use Rattle.plan_num.proofs.Common.{List, length, get_or, slice_set, sum, max, Some, None, ap, sym}
+use Rattle.plan_num.proofs.Common.{arith, ◌++◌, filter, cases_lt, get_or_past, set-get_or, set-set}
+use Rattle.plan_num.proofs.Common.{sum_by-set, range_with_len, filter-append}
 use Rattle.bit_rows.specs.Bits.{IsFirstBit, has_bit, with_word, word_of, words_of}
 use Rattle.bit_rows.proofs.RowBits.{bit_there}
 use Rattle.pesp.specs.Marks.{AreMarks, IsNext, Marks, is_left, times_from}

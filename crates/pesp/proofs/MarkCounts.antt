@@ -1,14 +1,12 @@
 -- How many bits are set, and how many times are left.
-use Rattle.std.proofs.Common.{get_or, slice_set, ◌⊎◌, ◌≡◌, ◌∙◌, inl, inr, ℕ, zero, suc, ◌+◌, ◌-◌}
-use Rattle.std.proofs.Common.{◌*◌, ◌/◌, ◌%◌, ◌^◌, ◌<◌, ◌≤◌, cond, nat_lt, count_ones, Bool, false}
-use Rattle.std.proofs.Common.{◌&&◌, List, length, filter, refl, ap, sym, arith}
-use Rattle.std.specs.Int.{bit_at}
+use Rattle.plan_num.proofs.Common.{get_or, slice_set, ◌⊎◌, ◌≡◌, ◌∙◌, inl, inr, ℕ, zero, suc, ◌+◌}
+use Rattle.plan_num.proofs.Common.{◌-◌, ◌*◌, ◌/◌, ◌%◌, ◌^◌, ◌<◌, ◌≤◌, cond, nat_lt, count_ones}
+use Rattle.plan_num.proofs.Common.{Bool, false, ◌&&◌, List, length, filter, refl, ap, sym, arith}
+use Rattle.plan_num.proofs.Common.{bit_at, range_with_len, cases_Bool, cases_eq, cases_lt, lt-ltb}
+use Rattle.plan_num.proofs.Common.{le-ltb, get_or-set_other, get_or-set_same, pow_pos}
 use Rattle.std.specs.Int.Count.{ones}
-use Rattle.std.specs.List.{range_with_len}
 use Rattle.std.proofs.Math.Nat.{mod-eq_of_lt, mod-lt}
-use Rattle.std.proofs.lemmas.Bool.{cases_Bool, cases_eq, cases_lt, lt-ltb, le-ltb}
-use Rattle.std.proofs.lemmas.List.{get_or-set_other, get_or-set_same}
-use Rattle.std.proofs.lemmas.Nat.{mod-pow-add, ones-le, ones_cat, pow_pos}
+use Rattle.std.proofs.lemmas.Nat.{mod-pow-add, ones-le, ones_cat}
 use Rattle.bit_rows.specs.Bits.{has_bit, marked, word_of, words_of}
 use Rattle.bit_rows.proofs.RowBits.{bit_there}
 use Rattle.bit_rows.proofs.WordBits.{set_is, unset_is}

@@ -1,12 +1,9 @@
 -- The sets of events, one after the other.
-use Rattle.std.proofs.Common.{◌≡◌, ◌∙◌, ℕ, position, zero, suc, ◌+◌, ◌<◌, ◌≤◌, nat_lt, true, false}
-use Rattle.std.proofs.Common.{cond, List, [], ◌∷◌, ◌++◌, map, get_or, length, slice_index_or, Some}
-use Rattle.std.proofs.Common.{None, refl, ap, sym, arith}
-use Rattle.std.specs.List.{range_with_len}
-use Rattle.std.proofs.lemmas.Bool.{le-ltb, lt-ltb}
-use Rattle.std.proofs.lemmas.List.Sums.{position_or_len_is}
-use Rattle.std.proofs.lemmas.List.FromFn.{get_or-map-range_with_len, length-map-range_with_len}
-use Rattle.std.proofs.lemmas.List.FromFn.{map-range_with_len_more}
+use Rattle.plan_num.proofs.Common.{◌≡◌, ◌∙◌, ℕ, position, zero, suc, ◌+◌, ◌<◌, ◌≤◌, nat_lt, true}
+use Rattle.plan_num.proofs.Common.{false, cond, List, [], ◌∷◌, ◌++◌, map, get_or, length}
+use Rattle.plan_num.proofs.Common.{slice_index_or, Some, None, refl, ap, sym, arith, range_with_len}
+use Rattle.plan_num.proofs.Common.{le-ltb, lt-ltb, position_or_len_is, get_or-map-range_with_len}
+use Rattle.plan_num.proofs.Common.{length-map-range_with_len, map-range_with_len_more}
 use Rattle.pesp.specs.Listings.{first_times, has_several}
 use Rattle.pesp.specs.Marks.{IsSettled, Marks, sets_of, times_from}
 

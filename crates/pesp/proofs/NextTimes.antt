@@ -1,8 +1,7 @@
 -- The times that are left to an event, one after the other.
-use Rattle.std.proofs.Common.{◌≡◌, ℕ, ◌+◌, ◌-◌, ◌<◌, ◌≤◌, Bool, true, false, List, [], ◌∷◌, cond}
-use Rattle.std.proofs.Common.{filter, is_some, not, Option, Some, None, ap, arith, sym}
-use Rattle.std.specs.List.{range_with_len}
-use Rattle.std.proofs.lemmas.Bool.{false≢true}
+use Rattle.plan_num.proofs.Common.{◌≡◌, ℕ, ◌+◌, ◌-◌, ◌<◌, ◌≤◌, Bool, true, false, List, [], ◌∷◌}
+use Rattle.plan_num.proofs.Common.{cond, filter, is_some, not, Option, Some, None, ap, arith, sym}
+use Rattle.plan_num.proofs.Common.{range_with_len, false≢true}
 use Rattle.pesp.specs.Listings.{is_empty}
 use Rattle.pesp.specs.Marks.{IsNext, Marks, is_left, times_from}
 

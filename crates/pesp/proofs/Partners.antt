@@ -1,15 +1,12 @@
 -- A time has a partner where a time is left in a window.
-use Rattle.std.proofs.Common.{◌≡◌, ◌∙◌, inl, inr, ℕ, zero, suc, ℤ, pos, negsuc, ◌+◌, ◌-◌, ◌*◌, ◌/◌}
-use Rattle.std.proofs.Common.{◌%◌, ◌<◌, ◌≤◌, ◌≤ℤ◌, ◌-ℤ◌, min, Bool, true, false, cond, List, []}
-use Rattle.std.proofs.Common.{◌∷◌, map, filter, Decides, refl, ap, sym, arith, slice_set}
-use Rattle.std.proofs.Common.{unsigned_abs}
-use Rattle.std.specs.List.{list_all, list_any, range_with_len}
-use Rattle.std.proofs.Math.Nat.{add-mod-mod, mod-add-mod, mod-add-div', add-mul-mod_self_right}
-use Rattle.std.proofs.Math.Nat.{add-mod_right, mod-eq_of_lt, mod-lt}
-use Rattle.std.proofs.lemmas.Bool.{and_parts, cases_Bool, cases_eq, false≢true, or_cases, or_left}
-use Rattle.std.proofs.lemmas.Bool.{or_right}
-use Rattle.std.proofs.lemmas.Int.{ints}
-use Rattle.std.proofs.lemmas.List.Elements.{All-cons, All-nil}
+use Rattle.plan_num.proofs.Common.{◌≡◌, ◌∙◌, inl, inr, ℕ, zero, suc, ℤ, pos, negsuc, ◌+◌, ◌-◌, ◌*◌}
+use Rattle.plan_num.proofs.Common.{◌/◌, ◌%◌, ◌<◌, ◌≤◌, ◌≤ℤ◌, ◌-ℤ◌, min, Bool, true, false, cond}
+use Rattle.plan_num.proofs.Common.{List, [], ◌∷◌, map, filter, Decides, refl, ap, sym, arith}
+use Rattle.plan_num.proofs.Common.{slice_set, unsigned_abs, list_all, list_any, range_with_len}
+use Rattle.plan_num.proofs.Common.{add-mod-mod, mod-add-mod, mod-add-div', add-mul-mod_self_right}
+use Rattle.plan_num.proofs.Common.{add-mod_right, and_parts, cases_Bool, cases_eq, false≢true}
+use Rattle.plan_num.proofs.Common.{or_cases, or_left, or_right, ints, All-cons, All-nil}
+use Rattle.std.proofs.Math.Nat.{mod-eq_of_lt, mod-lt}
 use Rattle.pesp.specs.declared.activity.PespActivity.{PespActivity}
 use Rattle.pesp.specs.Timetables.{IsActivity, IsKept, keeps}
 use Rattle.pesp.proofs.Keeping.{test_tells}

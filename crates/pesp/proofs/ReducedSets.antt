@@ -1,13 +1,10 @@
 -- Rounds and any other way to take out times without a partner leave the same sets.
-use Rattle.std.proofs.Common.{◌≡◌, ◌∙◌, inl, inr, ℕ, zero, suc, ◌<◌, ◌==◌, nat_lt, Bool, true}
-use Rattle.std.proofs.Common.{false, not, ◌&&◌, ◌||◌, List, [], ◌∷◌, filter, get_or, pos, slice_get}
-use Rattle.std.proofs.Common.{Some, All, refl, ap, sym, subst, arith}
-use Rattle.std.specs.List.{list_all, list_any, range_with_len}
-use Rattle.std.proofs.lemmas.List.FromFn.{length-map-range_with_len}
-use Rattle.std.proofs.lemmas.Bool.{and_from, and_parts, cases_Bool, eq-eqb}
-use Rattle.std.proofs.lemmas.Bool.{lt-ltb}
-use Rattle.std.proofs.lemmas.List.Elements.{All-from_get_or}
-use Rattle.std.proofs.lemmas.Option.{none-some, slice_get-get_or}
+use Rattle.plan_num.proofs.Common.{◌≡◌, ◌∙◌, inl, inr, ℕ, zero, suc, ◌<◌, ◌==◌, nat_lt, Bool, true}
+use Rattle.plan_num.proofs.Common.{false, not, ◌&&◌, ◌||◌, List, [], ◌∷◌, filter, get_or, pos}
+use Rattle.plan_num.proofs.Common.{slice_get, Some, All, refl, ap, sym, subst, arith, list_all}
+use Rattle.plan_num.proofs.Common.{list_any, range_with_len, length-map-range_with_len, and_from}
+use Rattle.plan_num.proofs.Common.{and_parts, cases_Bool, eq-eqb, lt-ltb, All-from_get_or}
+use Rattle.plan_num.proofs.Common.{none-some, slice_get-get_or}
 use Rattle.pesp.specs.declared.activity.PespActivity.{PespActivity}
 use Rattle.pesp.specs.Timetables.{IsActivity, IsProblem, Problem, keeps}
 use Rattle.pesp.specs.Listings.{is_empty}

@@ -1,9 +1,9 @@
 -- What the sets of both events of an activity are after it has revised them.
-use Rattle.std.proofs.Common.{◌≡◌, ◌∙◌, ◌⊎◌, inl, inr, ℕ, ◌<◌, ◌==◌, Bool, true, false, not, ◌&&◌}
-use Rattle.std.proofs.Common.{◌-◌, ◌||◌, filter, length, refl, ap, sym, subst, arith}
-use Rattle.std.specs.List.{list_any, range_with_len}
-use Rattle.std.proofs.lemmas.Bool.{and_from, and_parts, cases_eq, eq-eqb, false≢true, ne_eqb}
-use Rattle.std.proofs.lemmas.Bool.{or_from, or_parts}
+use Rattle.plan_num.proofs.Common.{◌≡◌, ◌∙◌, ◌⊎◌, inl, inr, ℕ, ◌<◌, ◌==◌, Bool, true, false, not}
+use Rattle.plan_num.proofs.Common.{◌&&◌, ◌-◌, ◌||◌, filter, length, refl, ap, sym, subst, arith}
+use Rattle.plan_num.proofs.Common.{list_any, range_with_len, and_from, and_parts, cases_eq, eq-eqb}
+use Rattle.plan_num.proofs.Common.{false≢true, ne_eqb, or_from, or_parts, get_or-set_at}
+use Rattle.plan_num.proofs.Common.{get_or-set_other, length-set}
 use Rattle.pesp.specs.declared.activity.PespActivity.{PespActivity}
 use Rattle.pesp.specs.Timetables.{IsActivity}
 use Rattle.pesp.specs.Listings.{is_empty}
@@ -15,8 +15,6 @@ use Rattle.pesp.specs.Revising.{IsRevised, IsWithin, Left, PartneredUnless, Revi
 use Rattle.pesp.specs.Revising.{RevisesEnd, StaysFull, Touches, are_partners, either, event_at}
 use Rattle.pesp.specs.Revising.{is_partnered, keeps_partnered, noted, other_end}
 use Rattle.pesp.specs.Flags.{Flags, has_changed}
-use Rattle.std.proofs.lemmas.Grind.{get_or-set_at}
-use Rattle.std.proofs.lemmas.List.{get_or-set_other, length-set}
 use Rattle.pesp.proofs.Partners.{holds_in_range, range_holds}
 
 -- ---- the ends of an activity

@@ -1,11 +1,9 @@
 -- Rounds lose no timetable.
-use Rattle.std.proofs.Common.{◌≡◌, ◌∙◌, ℕ, zero, suc, ◌+◌, ◌<◌, ◌==◌, nat_eq, Bool, true, false, inl, inr}
-use Rattle.std.proofs.Common.{not, ◌&&◌, ◌||◌, List, [], ◌∷◌, filter, get_or, length, map, refl, ap, sym}
-use Rattle.std.proofs.Common.{subst, arith}
-use Rattle.std.specs.List.{AllZip, enumerate_from, list_any}
-use Rattle.std.proofs.lemmas.Bool.{eqb-true, or_right, cases_Bool}
-use Rattle.std.proofs.lemmas.List.Sums.{list_all-from_AllPass}
-use Rattle.std.proofs.lemmas.List.Folds.{Any-from_list_any, list_any_at}
+use Rattle.plan_num.proofs.Common.{◌≡◌, ◌∙◌, ℕ, zero, suc, ◌+◌, ◌<◌, ◌==◌, nat_eq, Bool, true}
+use Rattle.plan_num.proofs.Common.{false, inl, inr, not, ◌&&◌, ◌||◌, List, [], ◌∷◌, filter, get_or}
+use Rattle.plan_num.proofs.Common.{length, map, refl, ap, sym, subst, arith, AllZip, enumerate_from}
+use Rattle.plan_num.proofs.Common.{list_any, eqb-true, or_right, cases_Bool, list_all-from_AllPass}
+use Rattle.plan_num.proofs.Common.{Any-from_list_any, list_any_at}
 use Rattle.pesp.specs.declared.activity.PespActivity.{PespActivity}
 use Rattle.pesp.specs.Timetables.{IsActivity, IsProblem, IsTimetable, Problem, keeps}
 use Rattle.pesp.specs.Timetables.{keeps_in, time_of}

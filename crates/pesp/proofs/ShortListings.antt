@@ -1,11 +1,9 @@
 -- A listing is no longer than the sum of the powers of the period.
-use Rattle.std.proofs.Common.{◌≡◌, ◌∙◌, ℕ, zero, suc, ◌+◌, ◌*◌, ◌^◌, ◌≤◌, Bool, true, false, List}
-use Rattle.std.proofs.Common.{[], ◌∷◌, length, map, position, Option, Some, None, is_some, refl, ap}
-use Rattle.std.proofs.Common.{sym, arith, filter, sum}
-use Rattle.std.specs.List.{AllByRecursion, list_any, range_with_len}
-use Rattle.std.proofs.lemmas.List.Sums.{sum_by-cons}
-use Rattle.std.proofs.lemmas.Nat.{mul-le}
-use Rattle.std.proofs.Math.Nat.{pow-succ', pow-zero}
+use Rattle.plan_num.proofs.Common.{◌≡◌, ◌∙◌, ℕ, zero, suc, ◌+◌, ◌*◌, ◌^◌, ◌≤◌, Bool, true, false}
+use Rattle.plan_num.proofs.Common.{List, [], ◌∷◌, length, map, position, Option, Some, None}
+use Rattle.plan_num.proofs.Common.{is_some, refl, ap, sym, arith, filter, sum, AllByRecursion}
+use Rattle.plan_num.proofs.Common.{list_any, range_with_len, sum_by-cons, mul-le, pow-succ'}
+use Rattle.std.proofs.Math.Nat.{pow-zero}
 use Rattle.pesp.specs.Timetables.{Problem}
 use Rattle.pesp.specs.Listings.{Listing, branches, has_several, in_turn, is_empty, listing_from}
 use Rattle.pesp.specs.Listings.{several_in, with_time}

@@ -1,10 +1,9 @@
 -- Sets of times that rounds make smaller, until one removes nothing.
-use Rattle.std.proofs.Common.{◌≡◌, ◌∙◌, ℕ, zero, suc, ◌+◌, ◌<◌, ◌≤◌, nat_eq, Bool, true, false, inl, inr}
-use Rattle.std.proofs.Common.{List, [], ◌∷◌, filter, get_or, length, map, refl, ap}
-use Rattle.std.proofs.Common.{subst, arith}
-use Rattle.std.specs.List.{AllByRecursion, enumerate_from, list_all}
-use Rattle.std.proofs.lemmas.Bool.{eqb-true, eqb-false, ltb-true, ltb-false, cases_Bool}
-use Rattle.std.proofs.lemmas.List.Sums.{sum_by-cons, length-filter, count_by-le-length}
+use Rattle.plan_num.proofs.Common.{◌≡◌, ◌∙◌, ℕ, zero, suc, ◌+◌, ◌<◌, ◌≤◌, nat_eq, Bool, true, false}
+use Rattle.plan_num.proofs.Common.{inl, inr, List, [], ◌∷◌, filter, get_or, length, map, refl, ap}
+use Rattle.plan_num.proofs.Common.{subst, arith, AllByRecursion, enumerate_from, list_all, eqb-true}
+use Rattle.plan_num.proofs.Common.{eqb-false, ltb-true, ltb-false, cases_Bool, sum_by-cons}
+use Rattle.plan_num.proofs.Common.{length-filter, count_by-le-length}
 use Rattle.pesp.specs.Timetables.{Problem}
 use Rattle.pesp.specs.Listings.{has_several, several_in}
 use Rattle.pesp.specs.TimeSets.{has_partners, left_to, reduced, round, rounds, times_left}

@@ -1,9 +1,8 @@
 -- The slack of an activity on plain numbers: what it turns to, and that no smaller one does.
-use Rattle.std.proofs.Common.{◌≡◌, ℕ, ◌+◌, ◌-◌, ◌*◌, ◌/◌, ◌%◌, ◌<◌, ◌≤◌, ◌+ℤ◌, ◌-ℤ◌, pos, refl, ap}
-use Rattle.std.proofs.Common.{◌∙◌, arith}
-use Rattle.std.proofs.Math.Nat.{mod-add-div', add-mul}
-use Rattle.std.proofs.lemmas.Int.{ints, int_rem_euclid_is}
-use Rattle.std.proofs.lemmas.Nat.{mod-mul-add}
+use Rattle.plan_num.proofs.Common.{◌≡◌, ℕ, ◌+◌, ◌-◌, ◌*◌, ◌/◌, ◌%◌, ◌<◌, ◌≤◌, ◌+ℤ◌, ◌-ℤ◌, pos, refl}
+use Rattle.plan_num.proofs.Common.{ap, ◌∙◌, arith, mod-add-div', ints, mod-mul-add}
+use Rattle.std.proofs.Math.Nat.{add-mul}
+use Rattle.std.proofs.lemmas.Int.{int_rem_euclid_is}
 use Rattle.pesp.specs.Timetables.{slack}
 
 turned : (to from l k : ℕ) → from + l ≤ k

@@ -1,6 +1,5 @@
 -- Activities that go from event to event by bounds in order, one after the other.
-use Rattle.std.proofs.Common.{inl, inr, ℕ, ◌+◌, ◌<◌, List, get_or, subst, sym, arith}
-use Rattle.std.proofs.lemmas.Bool.{cases_eq}
+use Rattle.plan_num.proofs.Common.{inl, inr, ℕ, ◌+◌, ◌<◌, List, get_or, subst, sym, arith, cases_eq}
 use Rattle.pesp.specs.declared.activity.PespActivity.{PespActivity}
 use Rattle.pesp.specs.Timetables.{IsActivity}
 use Rattle.pesp.proofs.FirstBroken.{no_activity}

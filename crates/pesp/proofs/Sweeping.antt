@@ -1,9 +1,8 @@
 -- Sweeps over the events whose sets have changed, and what they leave.
-use Rattle.std.proofs.Common.{◌≡◌, ◌∙◌, ◌⊎◌, inl, inr, ℕ, ◌+◌, ◌<◌, ◌≤◌, Bool, true, false, List}
-use Rattle.std.proofs.Common.{[], length, cond, slice_get, Some, None, All, sym, subst, arith}
-use Rattle.std.proofs.lemmas.Bool.{cases_lt, false≢true}
-use Rattle.std.proofs.lemmas.List.{get_or_past}
-use Rattle.std.proofs.lemmas.Option.{get_or_from_slice_get, slice_get_within}
+use Rattle.plan_num.proofs.Common.{◌≡◌, ◌∙◌, ◌⊎◌, inl, inr, ℕ, ◌+◌, ◌<◌, ◌≤◌, Bool, true, false}
+use Rattle.plan_num.proofs.Common.{List, [], length, cond, slice_get, Some, None, All, sym, subst}
+use Rattle.plan_num.proofs.Common.{arith, cases_lt, false≢true, get_or_past, get_or_from_slice_get}
+use Rattle.plan_num.proofs.Common.{slice_get_within}
 use Rattle.pesp.specs.declared.activity.PespActivity.{PespActivity}
 use Rattle.pesp.specs.Timetables.{IsActivity, IsProblem, Problem}
 use Rattle.pesp.specs.Flags.{Flags, IsLastFlag, has_changed, some_changed}

@@ -1,10 +1,6 @@
 -- A listing does not depend on how many branches it is given, as long as there are enough.
-use Rattle.std.proofs.Common.{◌≡◌, ◌∙◌, ℕ, zero, suc, ◌+◌, ◌<◌, true}
-use Rattle.std.proofs.Common.{false}
-use Rattle.std.proofs.Common.{List, position}
-use Rattle.std.proofs.Common.{Option, Some, None}
-use Rattle.std.proofs.Common.{refl, ap, sym, arith}
-use Rattle.std.specs.List.{list_any}
+use Rattle.plan_num.proofs.Common.{◌≡◌, ◌∙◌, ℕ, zero, suc, ◌+◌, ◌<◌, true, false, List, position}
+use Rattle.plan_num.proofs.Common.{Option, Some, None, refl, ap, sym, arith, list_any}
 use Rattle.pesp.specs.Timetables.{Problem}
 use Rattle.pesp.specs.Listings.{Listing, branches, entry, has_several, in_turn, is_empty}
 use Rattle.pesp.specs.Listings.{listing_from}

@@ -1,10 +1,9 @@
 -- The activities at an event, one after the other, and what they leave.
-use Rattle.std.proofs.Common.{◌≡◌, ◌∙◌, ◌⊎◌, inl, inr, ℕ, ◌+◌, ◌<◌, ◌≤◌, ◌==◌, true, false, List}
-use Rattle.std.proofs.Common.{length, get_or, slice_set, slice_get, Some, Contains, ap, sym, subst}
-use Rattle.std.proofs.Common.{arith}
-use Rattle.std.proofs.lemmas.Bool.{cases_eq, eq-eqb, false≢true, or_from, or_parts}
-use Rattle.std.proofs.lemmas.Grind.{get_or_default_zero}
-use Rattle.std.proofs.lemmas.Option.{same_Some}
+use Rattle.plan_num.proofs.Common.{◌≡◌, ◌∙◌, ◌⊎◌, inl, inr, ℕ, ◌+◌, ◌<◌, ◌≤◌, ◌==◌, true, false}
+use Rattle.plan_num.proofs.Common.{List, length, get_or, slice_set, slice_get, Some, Contains, ap}
+use Rattle.plan_num.proofs.Common.{sym, subst, arith, cases_eq, eq-eqb, false≢true, or_from}
+use Rattle.plan_num.proofs.Common.{or_parts, get_or_default_zero, same_Some, get_or-set_other}
+use Rattle.plan_num.proofs.Common.{get_or-set_same, length-set}
 use Rattle.pesp.specs.declared.activity.PespActivity.{PespActivity}
 use Rattle.pesp.specs.Timetables.{Problem}
 use Rattle.pesp.specs.Flags.{Flags, has_changed}
@@ -13,7 +12,6 @@ use Rattle.pesp.specs.Revising.{AllFrom, AreLinksAt, BoundUnless, Dies, HasEmpty
 use Rattle.pesp.specs.Revising.{IsRevised, Propagates, other_end}
 use Rattle.pesp.specs.Revising.{RevisedUnless, Revises, Visits, either, is_free}
 use Rattle.pesp.specs.Revising.{StaysFull}
-use Rattle.std.proofs.lemmas.List.{get_or-set_other, get_or-set_same, length-set}
 use Rattle.pesp.proofs.Sweeping.{carried, held, none_yet}
 use Rattle.pesp.specs.declared.activity_end.ActivityEnd.TheVariants as ends
 use Rattle.pesp.specs.declared.activity_end.ActivityEnd.{ActivityEnd}

@@ -1,7 +1,6 @@
 -- The children that wait, one after the other.
-use Rattle.std.proofs.Common.{◌<◌, arith, refl, subst, ◌≡◌, ◌∙◌, ℕ, ◌+◌, List, [], ◌∷◌, ◌++◌, map}
-use Rattle.std.proofs.Common.{Some, None, ap, sym}
-use Rattle.std.proofs.lemmas.List.{append_assoc}
+use Rattle.plan_num.proofs.Common.{◌<◌, arith, refl, subst, ◌≡◌, ◌∙◌, ℕ, ◌+◌, List, [], ◌∷◌, ◌++◌}
+use Rattle.plan_num.proofs.Common.{map, Some, None, ap, sym, append_assoc}
 use Rattle.pesp.specs.declared.time_sets.Branch.{Branch}
 use Rattle.pesp.specs.Listings.{with_time}
 use Rattle.pesp.specs.Marks.{IsNext, IsNextChild, KeepsTime, Marks, Restores, Saved, Tracked}

@@ -1,17 +1,11 @@
 -- The problem of two texts, from what each of them gives.
-use Rattle.std.proofs.Common.{◌≡◌, ℕ, ◌<◌, ◌≤◌, ◌≤ℤ◌, pos, List, [], length, map, get_or, sym}
-use Rattle.std.proofs.Common.{subst, arith}
-use Rattle.std.proofs.lemmas.List.{length-map}
-use Rattle.std.proofs.lemmas.List.Elements.{All-map}
-use Rattle.tables.specs.declared.refusal.StageFault.{StageFault}
-use Rattle.tables.specs.Columns.{activities_p_columns}
-use Rattle.tables.specs.Inputs.{Input, Refuses, records_of, input_faults}
-use Rattle.tables.specs.Writing.{InColumns}
-use Rattle.tables.proofs.Inputs.{refused_append}
-use Rattle.event_tables.specs.declared.periodic_activity.PeriodicActivity.{PeriodicActivity}
-use Rattle.event_tables.specs.declared.periodic_event.PeriodicEvent.{PeriodicEvent}
-use Rattle.event_tables.specs.Cells.{periodic_activity_cells}
-use Rattle.event_tables.specs.PeriodicFiles.{periodic_event_input, periodic_activity_input, periodic_event_ids, ArePeriodicActivities}
+use Rattle.plan_num.proofs.Common.{◌≡◌, ℕ, ◌<◌, ◌≤◌, ◌≤ℤ◌, pos, List, [], length, map, get_or, sym}
+use Rattle.plan_num.proofs.Common.{subst, arith, length-map, All-map}
+use Rattle.tables.proofs.Common.{StageFault, activities_p_columns, Input, Refuses, records_of}
+use Rattle.tables.proofs.Common.{input_faults, InColumns, refused_append}
+use Rattle.event_tables.proofs.Common.{PeriodicActivity, PeriodicEvent, periodic_activity_cells}
+use Rattle.event_tables.proofs.Common.{periodic_event_input, periodic_activity_input}
+use Rattle.event_tables.proofs.Common.{periodic_event_ids, ArePeriodicActivities}
 use Rattle.pesp.specs.declared.activity.PespActivity.{PespActivity}
 use Rattle.pesp_model.specs.PespTexts.{activity_of, events_of, activities_of, problem_of, problem_faults}
 use Rattle.pesp.specs.Timetables.{IsActivity, IsProblem}

@@ -1,19 +1,12 @@
 -- A text that breaks no rule of a timetable is one.
-use Rattle.std.proofs.Common.{◌≡◌, ◌∙◌, ℕ, suc, ◌+◌, ◌<◌, ◌&&◌, ◌==◌, not, Bool, true, false, cond}
-use Rattle.std.proofs.Common.{nat_eq, nat_lt, List, [], ◌∷◌, ◌++◌, length, map, slice_get, All}
-use Rattle.std.proofs.Common.{Option, Some, None, is_some, is_none, IfNone, IfOk, Result, Ok, Err}
-use Rattle.std.proofs.Common.{refl, ap, sym, arith}
-use Rattle.std.specs.List.{enumerate_from, list_all}
-use Rattle.std.proofs.lemmas.Bool.{and_from, and_parts, eq-eqb, eqb-true, lt-ltb, ltb-true, not-false}
-use Rattle.std.proofs.lemmas.List.{length-map}
-use Rattle.std.proofs.lemmas.Option.{same_Some}
-use Rattle.std.proofs.lemmas.List.Elements.{All-cons, All-nil}
-use Rattle.tables.specs.Columns.{times_p_columns}
-use Rattle.tables.specs.Reading.{faults, table_of}
-use Rattle.tables.specs.Tables.{TableRow}
-use Rattle.event_tables.specs.declared.periodic_time.PeriodicTime.{PeriodicTime}
-use Rattle.event_tables.specs.Cells.{periodic_time}
-use Rattle.tables.specs.RowsOfTables.{ReadsAs, records_by}
+use Rattle.plan_num.proofs.Common.{◌≡◌, ◌∙◌, ℕ, suc, ◌+◌, ◌<◌, ◌&&◌, ◌==◌, not, Bool, true, false}
+use Rattle.plan_num.proofs.Common.{cond, nat_eq, nat_lt, List, [], ◌∷◌, ◌++◌, length, map}
+use Rattle.plan_num.proofs.Common.{slice_get, All, Option, Some, None, is_some, is_none, IfNone}
+use Rattle.plan_num.proofs.Common.{IfOk, Result, Ok, Err, refl, ap, sym, arith, enumerate_from}
+use Rattle.plan_num.proofs.Common.{list_all, and_from, and_parts, eq-eqb, eqb-true, lt-ltb}
+use Rattle.plan_num.proofs.Common.{ltb-true, not-false, length-map, same_Some, All-cons, All-nil}
+use Rattle.tables.proofs.Common.{times_p_columns, faults, table_of, TableRow, ReadsAs, records_by}
+use Rattle.event_tables.proofs.Common.{PeriodicTime, periodic_time}
 use Rattle.pesp.specs.Timetables.{IsProblem, IsTimetable, Problem, first_broken}
 use Rattle.pesp.proofs.FirstBroken.{first_is, none_is}
 use Rattle.pesp_search.specs.declared.fault.TimetableFault.{TimetableFault}

@@ -2,23 +2,15 @@
 -- right, which file a refusal names, and what they are over the inputs of a search.
 use Rattle.std.proofs.Common.{arith, ◌≡◌, ℕ, ◌≤◌, Bool, true, cond, List, [], ◌∷◌, is_some, Option}
 use Rattle.std.proofs.Common.{None, Some, Ok, Err, refl, subst}
-use Rattle.tables.specs.declared.file_id.FileId.{FileId}
+use Rattle.tables.proofs.Common.{FileId, Refusal, input_faults, or_else, NamesInput, AllName}
+use Rattle.tables.proofs.Common.{input_names, names_both, names_or_else}
 use Rattle.tables.specs.declared.file_id.FileId.TheVariants as file
 use Rattle.giv_files.specs.declared.key.Key.TheVariants as key
-use Rattle.giv_files.specs.declared.made.Made.{Made}
-use Rattle.giv_files.specs.declared.made.MadeFile.{MadeFile}
-use Rattle.tables.specs.declared.refusal.Refusal.{Refusal}
+use Rattle.giv_files.proofs.Common.{Made, MadeFile, MakesAs, ids_of, BundleParts, Fits, SettingsFit}
+use Rattle.giv_files.proofs.Common.{input_text, refused_names, amount_within}
 use Rattle.tables.specs.declared.refusal.Refusal.TheVariants as refusal
 use Rattle.tables.specs.declared.row_why.RowWhy.TheVariants as why
 use Rattle.giv_files.specs.declared.stage.Stage.TheVariants as stage
-use Rattle.tables.specs.Inputs.{input_faults, or_else}
-use Rattle.giv_files.specs.MadeLists.{MakesAs, ids_of}
-use Rattle.tables.specs.NamedFiles.{NamesInput}
-use Rattle.giv_files.specs.Settings.{BundleParts, Fits, SettingsFit}
-use Rattle.giv_files.specs.StageCalls.{input_text}
-use Rattle.tables.proofs.Named.{AllName, input_names, names_both, names_or_else}
-use Rattle.giv_files.proofs.StageCalls.{refused_names}
-use Rattle.giv_files.proofs.SettingFacts.{amount_within}
 use Rattle.pesp.specs.Timetables.{first_broken}
 use Rattle.pesp_search.specs.Judged.{times_in}
 use Rattle.pesp_search.specs.PinnedTimetables.{pinned_input, pinned_timetable_faults, pinned_timetable_stage}

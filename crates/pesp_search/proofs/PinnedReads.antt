@@ -3,20 +3,13 @@ use Rattle.std.proofs.Common.{All, arith, ◌≡◌, ℕ, ◌≤◌, ◌<◌, co
 use Rattle.std.proofs.lemmas.List.{length-map}
 use Rattle.std.proofs.lemmas.List.Elements.{All-map}
 use Rattle.tables.specs.declared.file_id.FileId.TheVariants as file
-use Rattle.giv_files.specs.declared.made.Made.{Made}
+use Rattle.giv_files.proofs.Common.{Made, BundleParts, input_text, made_unless, none_unless}
 use Rattle.tables.specs.declared.refusal.Refusal.TheVariants as refusal
 use Rattle.tables.specs.declared.row_why.RowWhy.TheVariants as why
-use Rattle.tables.specs.Columns.{times_p_columns}
-use Rattle.tables.specs.Writing.{InColumns}
-use Rattle.tables.specs.Inputs.{input_faults}
-use Rattle.giv_files.specs.Settings.{BundleParts}
-use Rattle.giv_files.specs.StageCalls.{input_text}
-use Rattle.tables.proofs.Ranges.{back_none, front_none}
-use Rattle.giv_files.proofs.StageCalls.{made_unless, none_unless}
-use Rattle.event_tables.specs.declared.periodic_time.PeriodicTime.{PeriodicTime}
-use Rattle.event_tables.specs.Cells.{periodic_time_cells}
-use Rattle.event_tables.specs.PeriodicFiles.{periodic_time_input, ArePeriodicTimes}
-use Rattle.event_tables.proofs.SoundTimes.{periodic_times_sound}
+use Rattle.tables.proofs.Common.{times_p_columns, InColumns, input_faults, back_none, front_none}
+use Rattle.tables.proofs.Common.{none_after, none_first}
+use Rattle.event_tables.proofs.Common.{PeriodicTime, periodic_time_cells, periodic_time_input}
+use Rattle.event_tables.proofs.Common.{ArePeriodicTimes, periodic_times_sound}
 use Rattle.pesp_model.specs.PespTexts.{events_of, problem_of}
 use Rattle.pesp.specs.Timetables.{first_broken, IsTimetable}
 use Rattle.pesp.proofs.FirstBroken.{first_is}
@@ -26,7 +19,6 @@ use Rattle.pesp_search.specs.RightTimetables.{TimetableFilesAreRight}
 use Rattle.pesp_search.specs.TimetableStage.{period_in, problem_in, time_rows, timetable_faults}
 use Rattle.pesp_search.proofs.TimesAccepted.{times_fit}
 use Rattle.pesp_search.proofs.TimetableReads.{files_right, ids_are, problem_is}
-use Rattle.tables.proofs.InTurn.{none_after, none_first}
 
 no_tension : (broken : Option ℕ) → cond (is_some broken) (refusal.BadRow file.PinnedTimes 0 why.NotFeasible ∷ []) [] ≡ [] → broken ≡ None
 no_tension None e = refl

@@ -2,27 +2,20 @@
 use Rattle.std.proofs.Common.{arith, ◌≡◌, ◌++◌, List, [], ℕ, Option, Some, None, Ok}
 use Rattle.std.proofs.Common.{Err, refl, ap, sym, subst, ◌∙◌}
 use Rattle.tables.specs.declared.file_id.FileId.TheVariants as file
-use Rattle.giv_files.specs.declared.made.Made.{Made}
-use Rattle.tables.specs.declared.refusal.Refusal.{Refusal}
+use Rattle.giv_files.proofs.Common.{Made, BundleParts, StageGives, input_text, stage_refused}
+use Rattle.tables.proofs.Common.{Refusal, StageFault, Refuses, input_faults, or_else, records_of}
+use Rattle.tables.proofs.Common.{refused_append, front_none, refused_before}
 use Rattle.tables.specs.declared.refusal.Refusal.TheVariants as refusal
-use Rattle.tables.specs.declared.refusal.StageFault.{StageFault}
 use Rattle.tables.specs.declared.refusal.StageFault.TheVariants as fault
 use Rattle.tables.specs.declared.row_why.RowWhy.TheVariants as why
-use Rattle.tables.specs.Inputs.{Refuses, input_faults, or_else, records_of}
-use Rattle.giv_files.specs.Settings.{BundleParts}
-use Rattle.giv_files.specs.StageCalls.{StageGives, input_text}
-use Rattle.tables.proofs.Inputs.{refused_append}
-use Rattle.giv_files.proofs.StageCalls.{stage_refused}
-use Rattle.tables.proofs.Ranges.{front_none}
-use Rattle.event_tables.specs.declared.periodic_event.PeriodicEvent.{PeriodicEvent}
-use Rattle.event_tables.specs.PeriodicFiles.{periodic_event_ids, periodic_event_input, periodic_time_input}
+use Rattle.event_tables.proofs.Common.{PeriodicEvent, periodic_event_ids, periodic_event_input}
+use Rattle.event_tables.proofs.Common.{periodic_time_input}
 use Rattle.pesp_model.specs.PespTexts.{events_of, problem_faults}
 use Rattle.pesp.specs.Timetables.{Problem, first_broken}
 use Rattle.pesp_search.specs.Judged.{times_in}
 use Rattle.pesp_search.specs.PinnedTimetables.{pinned_input, pinned_timetable_faults, pinned_timetable_stage}
 use Rattle.pesp_search.specs.PinnedTimetables.{tension_faults, times_kept}
 use Rattle.pesp_search.specs.TimetableStage.{period_in, problem_in, timetable_faults}
-use Rattle.tables.proofs.InTurn.{refused_before}
 
 module _ (bundle : BundleParts) where
   abbrev text : List ℕ

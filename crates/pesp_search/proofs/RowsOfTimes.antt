@@ -1,13 +1,10 @@
 -- The rows of times, one after the other.
-use Rattle.std.proofs.Common.{◌≡◌, ◌∙◌, ℕ, ◌+◌, ◌<◌, ◌≤◌, List, [], ◌∷◌, ◌++◌, get_or, length}
-use Rattle.std.proofs.Common.{map, take, ap, arith}
-use Rattle.std.specs.List.{enumerate_from}
-use Rattle.std.proofs.lemmas.List.{get_or-map, length-map, take_all, take_more}
-use Rattle.std.proofs.lemmas.List.FromFn.{get_or-enumerate_from, length-enumerate_from}
-use Rattle.tables.specs.Tables.{TableRow, no_row}
-use Rattle.event_tables.specs.declared.periodic_time.PeriodicTime.{PeriodicTime}
-use Rattle.event_tables.specs.Cells.{number_in, periodic_time}
-use Rattle.tables.specs.RowsOfTables.{records_by}
+use Rattle.plan_num.proofs.Common.{◌≡◌, ◌∙◌, ℕ, ◌+◌, ◌<◌, ◌≤◌, List, [], ◌∷◌, ◌++◌, get_or, length}
+use Rattle.plan_num.proofs.Common.{map, take, ap, arith, enumerate_from, get_or-map, length-map}
+use Rattle.plan_num.proofs.Common.{take_all, take_more, get_or-enumerate_from}
+use Rattle.plan_num.proofs.Common.{length-enumerate_from}
+use Rattle.tables.proofs.Common.{TableRow, no_row, records_by}
+use Rattle.event_tables.proofs.Common.{PeriodicTime, number_in, periodic_time}
 use Rattle.pesp_search.specs.TimetableStage.{time_rows}
 
 no_time : PeriodicTime

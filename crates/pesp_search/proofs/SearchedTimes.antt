@@ -1,7 +1,5 @@
 -- What a search gives the stage, by how it ends.
-use Rattle.std.proofs.Common.{◌≡◌, ◌∙◌, ℕ, ◌≤◌, Ok, Err, ap}
-use Rattle.std.proofs.Common.{cond}
-use Rattle.std.proofs.lemmas.Bool.{le-ltb, lt-ltb}
+use Rattle.plan_num.proofs.Common.{◌≡◌, ◌∙◌, ℕ, ◌≤◌, Ok, Err, ap, cond, le-ltb, lt-ltb}
 use Rattle.tables.specs.declared.refusal.Refusal.TheVariants as refusal
 use Rattle.pesp.specs.declared.search.FoundTimes.{FoundTimes}
 use Rattle.pesp.specs.declared.search.SearchEnd.TheVariants as ends

@@ -2,17 +2,12 @@
 use Rattle.std.proofs.Common.{◌≡◌, ◌∙◌, ℕ, ◌+◌, ◌≤◌, Bool, true, false, cond, nat_lt, List, []}
 use Rattle.std.proofs.Common.{length, All, Option, Some, None, Result, Ok, Err, ap, sym, subst}
 use Rattle.std.proofs.Common.{arith}
-use Rattle.giv_files.specs.declared.made.Made.{Made}
-use Rattle.tables.specs.declared.refusal.Refusal.{Refusal}
+use Rattle.giv_files.proofs.Common.{Made, BundleParts, StageGives, TakesSteps, refused_after}
+use Rattle.giv_files.proofs.Common.{refused_steps}
+use Rattle.tables.proofs.Common.{Refusal, StageFault, times_p_columns, Refuses, InColumns}
 use Rattle.tables.specs.declared.refusal.Refusal.TheVariants as refusal
-use Rattle.tables.specs.declared.refusal.StageFault.{StageFault}
 use Rattle.tables.specs.declared.refusal.StageFault.TheVariants as fault
-use Rattle.tables.specs.Columns.{times_p_columns}
-use Rattle.tables.specs.Inputs.{Refuses}
-use Rattle.giv_files.specs.Settings.{BundleParts}
-use Rattle.giv_files.specs.StageCalls.{StageGives, TakesSteps}
-use Rattle.tables.specs.Writing.{InColumns}
-use Rattle.event_tables.specs.Cells.{periodic_time_cells}
+use Rattle.event_tables.proofs.Common.{periodic_time_cells}
 use Rattle.pesp.specs.Timetables.{IsProblem, IsTimetable, Problem}
 use Rattle.pesp.specs.declared.search.FoundTimes.{FoundTimes}
 use Rattle.pesp.specs.Listings.{Tells, entries_listed, listing}
@@ -21,7 +16,6 @@ use Rattle.pesp_search.specs.TimetableStage.{budget_in, problem_in, search_made,
 use Rattle.pesp_search.specs.TimetableStage.{timetable_faults, timetable_stage, timetable_work, times_made}
 use Rattle.pesp.proofs.ListingRight.{listing_right}
 use Rattle.pesp_search.proofs.TimesAccepted.{times_fit}
-use Rattle.giv_files.proofs.StageCalls.{refused_after, refused_steps}
 
 -- the steps of an entry each, behind one
 ended_steps : (entries before tick now : ℕ) (why : StageFault) → tick ≡ before + 1

@@ -1,30 +1,17 @@
 -- The times that are made, read again, are the times, and break no rule of their kind.
-use Rattle.std.proofs.Common.{◌≡◌, ◌∙◌, ℕ, suc, ◌+◌, ◌<◌, ◌≤◌, false}
-use Rattle.std.proofs.Common.{List, [], ◌∷◌, ◌++◌, length, map, All, refl, ap, sym, subst, arith}
-use Rattle.std.specs.List.{enumerate_from, list_any, range_with_len}
-use Rattle.std.proofs.lemmas.Bool.{eq-eqb, lt-leb, ne_eqb, le-ltb}
-use Rattle.std.proofs.lemmas.Int.{ints}
-use Rattle.std.proofs.lemmas.List.{length_push}
-use Rattle.std.proofs.lemmas.List.Elements.{All-cons, All-map, All-nil}
-use Rattle.std.proofs.lemmas.Simd.{map-map}
-use Rattle.tables.specs.declared.file_id.FileId.{FileId}
+use Rattle.plan_num.proofs.Common.{◌≡◌, ◌∙◌, ℕ, suc, ◌+◌, ◌<◌, ◌≤◌, false, List, [], ◌∷◌, ◌++◌}
+use Rattle.plan_num.proofs.Common.{length, map, All, refl, ap, sym, subst, arith, enumerate_from}
+use Rattle.plan_num.proofs.Common.{list_any, range_with_len, eq-eqb, lt-leb, ne_eqb, le-ltb, ints}
+use Rattle.plan_num.proofs.Common.{length_push, All-cons, All-map, All-nil, map-map}
+use Rattle.tables.proofs.Common.{FileId, times_p_columns, broken_whys, input_faults, records}
+use Rattle.tables.proofs.Common.{table_of, TableRow, InColumns, ReadsBack, KeepRules, accepted}
+use Rattle.tables.proofs.Common.{whole_accepted, plain_header, written_back, ReadsAs, records_by}
+use Rattle.tables.proofs.Common.{rows_by, columns_written}
 use Rattle.tables.specs.declared.row_why.RowWhy.TheVariants as why
-use Rattle.tables.specs.Columns.{times_p_columns}
-use Rattle.tables.specs.Inputs.{broken_whys, input_faults, records}
-use Rattle.tables.specs.Reading.{table_of}
-use Rattle.tables.specs.Tables.{TableRow}
-use Rattle.tables.specs.Writing.{InColumns, ReadsBack}
-use Rattle.tables.proofs.Accepted.{KeepRules, accepted, whole_accepted}
-use Rattle.tables.proofs.Headers.{plain_header}
-use Rattle.tables.proofs.WrittenBack.{written_back}
-use Rattle.event_tables.specs.declared.periodic_time.PeriodicTime.{PeriodicTime}
-use Rattle.event_tables.specs.Cells.{periodic_time, periodic_time_cells}
-use Rattle.event_tables.specs.Headers.{periodic_time_header}
-use Rattle.event_tables.specs.PeriodicFiles.{periodic_time_input, periodic_time_rules}
-use Rattle.event_tables.specs.Places.{is_none_of}
-use Rattle.tables.specs.RowsOfTables.{ReadsAs, records_by, rows_by}
-use Rattle.tables.proofs.WrittenColumns.{columns_written}
-use Rattle.event_tables.proofs.Numbering.{none_of_places, some_missing}
+use Rattle.event_tables.proofs.Common.{PeriodicTime, periodic_time, periodic_time_cells}
+use Rattle.event_tables.proofs.Common.{periodic_time_header, periodic_time_input}
+use Rattle.event_tables.proofs.Common.{periodic_time_rules, is_none_of, none_of_places}
+use Rattle.event_tables.proofs.Common.{some_missing}
 use Rattle.pesp_search.specs.TimetableStage.{time_rows, times_text}
 
 -- the rows of times from the event of a number on

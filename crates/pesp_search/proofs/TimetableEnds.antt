@@ -1,15 +1,11 @@
 -- When a search says that there is no timetable, and when its budget is never spent.
-use Rattle.std.proofs.Common.{◌≡◌, ◌≢◌, ◌∙◌, ℕ, ◌≤◌, Bool, true, false, cond, nat_lt}
-use Rattle.std.proofs.Common.{List, [], Option, Some, None, Result, Err, refl, ap, sym}
-use Rattle.std.proofs.Common.{arith}
-use Rattle.std.proofs.lemmas.Bool.{le-ltb, ltb-false}
-use Rattle.giv_files.specs.declared.made.Made.{Made}
-use Rattle.tables.specs.declared.refusal.Refusal.{Refusal}
+use Rattle.plan_num.proofs.Common.{◌≡◌, ◌≢◌, ◌∙◌, ℕ, ◌≤◌, Bool, true, false, cond, nat_lt, List, []}
+use Rattle.plan_num.proofs.Common.{Option, Some, None, Result, Err, refl, ap, sym, arith, le-ltb}
+use Rattle.plan_num.proofs.Common.{ltb-false}
+use Rattle.giv_files.proofs.Common.{Made, BundleParts, Fits, StageGives, gives_only, gives_always}
+use Rattle.tables.proofs.Common.{Refusal, StageFault}
 use Rattle.tables.specs.declared.refusal.Refusal.TheVariants as refusal
-use Rattle.tables.specs.declared.refusal.StageFault.{StageFault}
 use Rattle.giv_files.specs.declared.stage.Stage.TheVariants as stage
-use Rattle.giv_files.specs.Settings.{BundleParts, Fits}
-use Rattle.giv_files.specs.StageCalls.{StageGives}
 use Rattle.pesp.specs.Timetables.{IsTimetable, Problem}
 use Rattle.pesp.specs.Listings.{Listing, ListingIsRight, Tells, listing}
 use Rattle.pesp_search.specs.SearchResults.{result_within, whole_result}
@@ -19,7 +15,6 @@ use Rattle.pesp_search.specs.TimetableStage.{timetable_stage}
 use Rattle.pesp.proofs.ListingRight.{listing_right}
 use Rattle.pesp_search.proofs.TimetableMakes.{inputs_fine}
 use Rattle.pesp_search.proofs.TimetableReads.{is_problem}
-use Rattle.giv_files.proofs.StageCalls.{gives_only, gives_always}
 
 -- what a listing comes to within a budget
 abbrev outcome : ℕ → Listing → Result Made Refusal

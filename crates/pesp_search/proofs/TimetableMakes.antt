@@ -1,24 +1,19 @@
 -- Which files the stage of timetables makes, and which it names where it refuses a row.
 use Rattle.std.proofs.Common.{arith, ◌≡◌, ℕ, Bool, true, List, [], Result, Ok, Err, ap, lit<}
 use Rattle.std.proofs.Common.{refl}
-use Rattle.tables.specs.declared.file_id.FileId.{FileId}
+use Rattle.tables.proofs.Common.{FileId, Refusal, input_faults, NamesInput, NamesOnly, AllName}
+use Rattle.tables.proofs.Common.{input_names, names_both}
 use Rattle.tables.specs.declared.file_id.FileId.TheVariants as file
-use Rattle.giv_files.specs.declared.made.Made.{Made}
-use Rattle.tables.specs.declared.refusal.Refusal.{Refusal}
+use Rattle.giv_files.proofs.Common.{Made, MakesAs, ids_of, BundleParts, input_text, names_after}
+use Rattle.giv_files.proofs.Common.{fine_after, made_after}
 use Rattle.giv_files.specs.declared.stage.Stage.TheVariants as stage
-use Rattle.tables.specs.Inputs.{input_faults}
-use Rattle.giv_files.specs.MadeLists.{MakesAs, ids_of}
-use Rattle.tables.specs.NamedFiles.{NamesInput, NamesOnly}
-use Rattle.giv_files.specs.Settings.{BundleParts}
-use Rattle.giv_files.specs.StageCalls.{input_text}
-use Rattle.tables.proofs.Named.{AllName, input_names, names_both}
-use Rattle.event_tables.specs.PeriodicFiles.{periodic_activity_input, periodic_event_ids, periodic_event_input}
+use Rattle.event_tables.proofs.Common.{periodic_activity_input, periodic_event_ids}
+use Rattle.event_tables.proofs.Common.{periodic_event_input}
 use Rattle.pesp_model.specs.PespTexts.{events_of, problem_faults}
 use Rattle.pesp.specs.Listings.{Listing, listing}
 use Rattle.pesp_search.specs.SearchResults.{TimesFound, result_within}
 use Rattle.pesp_search.specs.TimetableStage.{budget_in, problem_in, search_made, timetable_faults}
 use Rattle.pesp_search.specs.TimetableStage.{timetable_stage}
-use Rattle.giv_files.proofs.StageCalls.{names_after, fine_after, made_after}
 
 -- the files that are made, where some are
 abbrev ids_in : Result Made Refusal → List FileId

@@ -4,18 +4,14 @@ use Rattle.std.proofs.Common.{map, All, Option, Some, None, Ok, Err, refl, sym, 
 use Rattle.std.specs.List.{range_with_len}
 use Rattle.tables.specs.declared.file_id.FileId.TheVariants as file
 use Rattle.giv_files.specs.declared.key.Key.TheVariants as key
-use Rattle.giv_files.specs.declared.made.Made.{Made}
+use Rattle.giv_files.proofs.Common.{Made, BundleParts, Fits, SettingsFit, input_text, amount_within}
+use Rattle.giv_files.proofs.Common.{made_after}
 use Rattle.tables.specs.declared.refusal.Refusal.TheVariants as refusal
 use Rattle.giv_files.specs.declared.stage.Stage.TheVariants as stage
-use Rattle.tables.specs.Inputs.{input_faults}
-use Rattle.giv_files.specs.Settings.{BundleParts, Fits, SettingsFit}
-use Rattle.giv_files.specs.StageCalls.{input_text}
-use Rattle.tables.proofs.Ranges.{front_none, back_none}
-use Rattle.giv_files.proofs.SettingFacts.{amount_within}
-use Rattle.event_tables.specs.declared.periodic_event.PeriodicEvent.{PeriodicEvent}
-use Rattle.event_tables.specs.PeriodicFiles.{periodic_activity_input, periodic_event_ids, periodic_event_input}
-use Rattle.event_tables.specs.PeriodicFiles.{periodic_time_input}
-use Rattle.event_tables.proofs.SoundFiles.{periodic_activities_sound, periodic_events_sound}
+use Rattle.tables.proofs.Common.{input_faults, front_none, back_none}
+use Rattle.event_tables.proofs.Common.{PeriodicEvent, periodic_activity_input, periodic_event_ids}
+use Rattle.event_tables.proofs.Common.{periodic_event_input, periodic_time_input}
+use Rattle.event_tables.proofs.Common.{periodic_activities_sound, periodic_events_sound}
 use Rattle.pesp_model.specs.PespTexts.{activities_of, activity_of, events_of, problem_faults, problem_of}
 use Rattle.pesp.specs.Timetables.{IsProblem, IsTimetable}
 use Rattle.pesp_model.proofs.Texts.{problem_sound}
@@ -27,7 +23,6 @@ use Rattle.pesp_search.specs.TimetableStage.{timetable_faults, timetable_stage, 
 use Rattle.pesp_search.proofs.JudgedTimes.{none_broken_by}
 use Rattle.pesp.proofs.ListingRight.{listing_right}
 use Rattle.pesp_search.proofs.TimesAccepted.{times_accepted, times_fit, times_read}
-use Rattle.giv_files.proofs.StageCalls.{made_after}
 
 -- where the period is in its range, whatever the stage
 module _ (bundle : BundleParts) (short : (1 ≤ period_in bundle) × (period_in bundle ≤ 720)) (none : timetable_faults bundle ≡ []) where

@@ -3,14 +3,13 @@ use Rattle.std.proofs.Common.{◌≡◌, ℕ, List, [], ◌∷◌, map, refl, po
 use Rattle.std.specs.Fmt.{digits}
 use Rattle.tables.specs.declared.file_id.FileId.TheVariants as file
 use Rattle.giv_files.specs.declared.key.Key.TheVariants as key
-use Rattle.giv_files.specs.declared.made.Made.{Made}
-use Rattle.tables.specs.declared.refusal.Refusal.{Refusal}
+use Rattle.giv_files.proofs.Common.{Made, BundleParts}
+use Rattle.tables.proofs.Common.{Refusal}
 use Rattle.tables.specs.declared.refusal.Refusal.TheVariants as refusal
 use Rattle.giv_files.specs.declared.stage.Stage.TheVariants as stage
 use Rattle.tables.specs.Inputs.{input_faults, row_faults}
 use Rattle.tables.specs.Reading.{faults, table_of, cells_from, cell_of, errors, values, row_whys}
 use Rattle.text_fields.specs.Rows.{rows, cleaned}
-use Rattle.giv_files.specs.Settings.{BundleParts}
 use Rattle.tables.specs.Writing.{cell_text, cell_texts, joined, table_text}
 use Rattle.plan_num.specs.Number.{spelling_of, value_of, value_at, fixed_of, whole_of}
 use Rattle.pesp.specs.declared.activity.PespActivity.{PespActivity}

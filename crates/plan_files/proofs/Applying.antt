@@ -1,9 +1,7 @@
 -- Writes that are made one after the other, up to a fault.
-use Rattle.std.proofs.Common.{arith, ◌≡◌, ℕ, suc, ◌+◌, ◌<◌, ◌≤◌, List, [], ◌∷◌, ◌++◌, length, take}
-use Rattle.std.proofs.Common.{drop, get_or, Option, Some, None, refl, ap, sym, subst, ◌∙◌}
-use Rattle.std.proofs.Common.{append-nil, append_assoc}
-use Rattle.std.specs.Option.{option_map}
-use Rattle.std.proofs.lemmas.List.{take_more, take_all}
+use Rattle.plan_num.proofs.Common.{arith, ◌≡◌, ℕ, suc, ◌+◌, ◌<◌, ◌≤◌, List, [], ◌∷◌, ◌++◌, length}
+use Rattle.plan_num.proofs.Common.{take, drop, get_or, Option, Some, None, refl, ap, sym, subst}
+use Rattle.plan_num.proofs.Common.{◌∙◌, append-nil, append_assoc, option_map, take_more, take_all}
 use Rattle.std.proofs.Math.Seq.{split_at}
 use Rattle.plan_files.specs.declared.file_fault.FileFault.{FileFault}
 use Rattle.plan_files.specs.declared.write.Write.{Write}

@@ -1,9 +1,8 @@
 -- Pieces at the front of bytes, one after the other.
-use Rattle.std.proofs.Common.{◌≡◌, ℕ, ◌<◌, ◌+◌, List, ◌∷◌, ◌++◌, length, drop, get_or, flat_map, ap}
-use Rattle.std.proofs.Common.{◌∙◌, arith, suc, append_assoc, Option, Some, None, IfSome, IfNone}
-use Rattle.std.proofs.Common.{MatchOption}
+use Rattle.plan_num.proofs.Common.{◌≡◌, ℕ, ◌<◌, ◌+◌, List, ◌∷◌, ◌++◌, length, drop, get_or}
+use Rattle.plan_num.proofs.Common.{flat_map, ap, ◌∙◌, arith, suc, append_assoc, Option, Some, None}
+use Rattle.plan_num.proofs.Common.{IfSome, IfNone, MatchOption, append_cancel_left}
 use Rattle.std.proofs.Math.Seq.{drop-cons}
-use Rattle.std.proofs.lemmas.List.{append_cancel_left}
 
 module _ {X : Type 0} (f : X → List ℕ) (xs : List X) (i : ℕ) (d : X) (inside : i < length xs) where
   -- the pieces from one on

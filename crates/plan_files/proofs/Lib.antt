@@ -1,3 +1,4 @@
+pub mod Common
 pub mod Applying
 pub mod Failing
 mod Fronts

@@ -1,15 +1,10 @@
 -- A call on a file leaves every other one as it was.
-use Rattle.std.proofs.Common.{arith, ◌≡◌, ◌≢◌, ℕ, Bool, true, false, List, [], ◌∷◌, ◌++◌, Option}
-use Rattle.std.proofs.Common.{Some, None, refl, ap, sym, subst, ◌∙◌, cond, take, nat_cmp, ⊎_elim}
-use Rattle.std.proofs.Common.{Result, Ok, Err, unwrap_or}
-use Rattle.std.specs.Str.{bytes_eq}
-use Rattle.std.specs.Ordering.{eq_by_cmp}
-use Rattle.std.specs.Option.{option_map}
-use Rattle.std.specs.Cmp.Lexicographic.{slice_cmp, nat_list_cmp_total}
+use Rattle.plan_num.proofs.Common.{arith, ◌≡◌, ◌≢◌, ℕ, Bool, true, false, List, [], ◌∷◌, ◌++◌}
+use Rattle.plan_num.proofs.Common.{Option, Some, None, refl, ap, sym, subst, ◌∙◌, cond, take}
+use Rattle.plan_num.proofs.Common.{nat_cmp, ⊎_elim, Result, Ok, Err, unwrap_or, bytes_eq, eq_by_cmp}
+use Rattle.plan_num.proofs.Common.{option_map, slice_cmp, nat_list_cmp_total, is_eq-slice_cmp}
+use Rattle.plan_num.proofs.Common.{bytes_eq-Decides, false≢true}
 use Rattle.std.specs.FinMap as map
-use Rattle.std.proofs.lemmas.Map.Text.{is_eq-slice_cmp}
-use Rattle.std.proofs.lemmas.Slice.Eq.{bytes_eq-Decides}
-use Rattle.std.proofs.lemmas.Bool.{false≢true}
 use Rattle.std.specs.declared.cmp.Ordering.TheVariants.{Equal}
 use Rattle.plan_files.specs.declared.file_fault.FileFault.{FileFault}
 use Rattle.plan_files.specs.declared.file_fault.FileFault.TheVariants.{Failed, NoMemory}

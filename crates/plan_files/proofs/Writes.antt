@@ -1,13 +1,11 @@
 -- Writes, one after the other, and what they leave under a name.
-use Rattle.std.proofs.Common.{◌≡◌, ℕ, List, [], ◌∷◌, ◌++◌, ◌+◌, ◌<◌, length, take, get_or, ◌∙◌}
-use Rattle.std.proofs.Common.{refl, sym, ap, cond, nat_eq}
-use Rattle.std.proofs.lemmas.List.{take_more}
-use Rattle.std.specs.Cmp.Lexicographic.{pointwise, slice_cmp, texts_ties}
-use Rattle.std.specs.Ordering.{nat_cmp, eq_by_cmp}
-use Rattle.std.proofs.lemmas.Cmp.{nat_list_cmp_total, eq_by_cmp_equiv}
+use Rattle.plan_num.proofs.Common.{◌≡◌, ℕ, List, [], ◌∷◌, ◌++◌, ◌+◌, ◌<◌, length, take, get_or, ◌∙◌}
+use Rattle.plan_num.proofs.Common.{refl, sym, ap, cond, nat_eq, take_more, pointwise, slice_cmp}
+use Rattle.plan_num.proofs.Common.{nat_cmp, eq_by_cmp, nat_list_cmp_total, bytes_eq}
+use Rattle.plan_num.proofs.Common.{is_eq-slice_cmp}
+use Rattle.std.specs.Cmp.Lexicographic.{texts_ties}
+use Rattle.std.proofs.lemmas.Cmp.{eq_by_cmp_equiv}
 use Rattle.std.specs.FinMap as map
-use Rattle.std.specs.Str.{bytes_eq}
-use Rattle.std.proofs.lemmas.Map.Text.{is_eq-slice_cmp}
 use Rattle.plan_files.specs.declared.write.Write.{Write}
 use Rattle.plan_files.specs.declared.write.Write.TheVariants.{Put, Removal}
 use Rattle.plan_files.specs.Folder.{Folder}

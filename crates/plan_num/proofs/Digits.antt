@@ -1,14 +1,10 @@
 -- Digits and what they are worth.
-use Rattle.std.proofs.Common.{◌≡◌, ℕ, ◌+◌, ◌-◌, ◌*◌, ◌<◌, ◌≤◌, zero, suc, Bool, true, List}
-use Rattle.std.proofs.Common.{[], ◌∷◌, ◌++◌, length, get_or, drop, min, refl, arith, add-one}
-use Rattle.std.proofs.Common.{drop-cons, length-append, eqb, leb, unwrap_or, position, cond}
-use Rattle.std.proofs.Common.{ltb, Some, None, not}
-use Rattle.std.specs.List.{position_or_len}
-use Rattle.std.specs.Char.{is_ascii_digit}
+use Rattle.plan_num.proofs.Common.{◌≡◌, ℕ, ◌+◌, ◌-◌, ◌*◌, ◌<◌, ◌≤◌, zero, suc, Bool, true, List, []}
+use Rattle.plan_num.proofs.Common.{◌∷◌, ◌++◌, length, get_or, drop, min, refl, arith, add-one}
+use Rattle.plan_num.proofs.Common.{drop-cons, length-append, eqb, leb, unwrap_or, position, cond}
+use Rattle.plan_num.proofs.Common.{ltb, Some, None, not, position_or_len, is_ascii_digit, eqb-true}
+use Rattle.plan_num.proofs.Common.{and_parts, prefix_len-le-length, nat_tests}
 use Rattle.std.proofs.Math.Nat.{pow-suc, mul-le-mul_right}
-use Rattle.std.proofs.lemmas.Bool.{eqb-true, and_parts}
-use Rattle.std.proofs.lemmas.List.Sums.{prefix_len-le-length}
-use Rattle.std.proofs.lemmas.Bool.Decides.{nat_tests}
 use Rattle.plan_num.specs.Print.{places}
 use Rattle.plan_num.specs.Number.{all_digits, all_zero, value_of, value_at}
 

@@ -1,10 +1,8 @@
 -- What is found in a list.
-use Rattle.std.proofs.Common.{◌≡◌, ℕ, ◌+◌, ◌||◌, Bool, true, false, cond, List, [], ◌∷◌, map, All}
-use Rattle.std.proofs.Common.{refl, ap, sym, ◌∙◌, arith, Some, IfSome, option_map, is_some, position}
-use Rattle.std.specs.List.{find, list_any, position_from}
-use Rattle.std.proofs.lemmas.Bool.{cases_Bool}
-use Rattle.std.proofs.lemmas.Iterator.Adapters.{position_from-zero}
-use Rattle.std.proofs.lemmas.List.Elements.{All-head, All-tail}
+use Rattle.plan_num.proofs.Common.{◌≡◌, ℕ, ◌+◌, ◌||◌, Bool, true, false, cond, List, [], ◌∷◌, map}
+use Rattle.plan_num.proofs.Common.{All, refl, ap, sym, ◌∙◌, arith, Some, IfSome, option_map}
+use Rattle.plan_num.proofs.Common.{is_some, position, find, list_any, position_from, cases_Bool}
+use Rattle.plan_num.proofs.Common.{position_from-zero, All-head, All-tail}
 
 -- a test passes on an element of a mapped list where it passes behind the map
 pub any_mapped : {X Y : Type 0} (p : Y → Bool) (f : X → Y) (xs : List X) → list_any p (map f xs) ≡ list_any (λ x. p (f x)) xs

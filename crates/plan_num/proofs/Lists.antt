@@ -1,10 +1,9 @@
 -- Lists with one item more, and lists without any.
-use Rattle.std.proofs.Common.{◌≡◌, ℕ, zero, suc, ◌≤◌, ◌==◌, Bool, true, false, ◌||◌, List, []}
-use Rattle.std.proofs.Common.{◌∷◌, ◌++◌, length, map, filter, slice_get, Option, Some, None, option_map}
-use Rattle.std.proofs.Common.{cond, unsigned_abs, pos, refl, ap, ◌∙◌, sym, arith}
-use Rattle.std.specs.List.{AllByRecursion, find, list_any}
-use Rattle.std.proofs.lemmas.Bool.{cases_Bool, eqb-true, false≢true}
-use Rattle.std.proofs.lemmas.Option.{none-some}
+use Rattle.plan_num.proofs.Common.{◌≡◌, ℕ, zero, suc, ◌≤◌, ◌==◌, Bool, true, false, ◌||◌, List, []}
+use Rattle.plan_num.proofs.Common.{◌∷◌, ◌++◌, length, map, filter, slice_get, Option, Some, None}
+use Rattle.plan_num.proofs.Common.{option_map, cond, unsigned_abs, pos, refl, ap, ◌∙◌, sym, arith}
+use Rattle.plan_num.proofs.Common.{AllByRecursion, find, list_any, cases_Bool, eqb-true, false≢true}
+use Rattle.plan_num.proofs.Common.{none-some}
 use Rattle.plan_num.proofs.Tests.{or_false}
 
 -- ---- one item more

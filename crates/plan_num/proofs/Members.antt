@@ -1,15 +1,12 @@
 -- What is one of a list is one of the lists that are made of it.
-use Rattle.std.proofs.Common.{◌≡◌, ℕ, zero, suc, ◌+◌, ◌-◌, ◌<◌, ◌≤◌, ◌∙◌, Bool, true, false, List, []}
-use Rattle.std.proofs.Common.{◌∷◌, map, filter}
-use Rattle.std.proofs.Common.{All, Contains, refl, ap, inl, inr, arith}
-use Rattle.std.specs.List.{enumerate_from, flat_map, list_any, range_with_len}
-use Rattle.std.proofs.lemmas.Bool.{cases_Bool}
-use Rattle.std.proofs.lemmas.List.Elements.{All-nil, All-cons, All-head, All-tail, All-append, All-contains}
-use Rattle.std.proofs.lemmas.List.Elements.{All-contains_itself, All-weaker, Contains-append_left}
-use Rattle.std.proofs.lemmas.List.Elements.{Contains-append_right}
-use Rattle.std.proofs.lemmas.List.Folds.{list_any_at}
-use Rattle.std.proofs.lemmas.List.FromFn.{length-range_with_len, get_or-range_with_len}
-use Rattle.std.proofs.lemmas.List.FromFn.{length-enumerate_from, get_or-enumerate_from}
+use Rattle.plan_num.proofs.Common.{◌≡◌, ℕ, zero, suc, ◌+◌, ◌-◌, ◌<◌, ◌≤◌, ◌∙◌, Bool, true, false}
+use Rattle.plan_num.proofs.Common.{List, [], ◌∷◌, map, filter, All, Contains, refl, ap, inl, inr}
+use Rattle.plan_num.proofs.Common.{arith, enumerate_from, flat_map, list_any, range_with_len}
+use Rattle.plan_num.proofs.Common.{cases_Bool, All-nil, All-cons, All-head, All-tail, All-append}
+use Rattle.plan_num.proofs.Common.{All-contains, All-contains_itself, All-weaker}
+use Rattle.plan_num.proofs.Common.{Contains-append_left, Contains-append_right, list_any_at}
+use Rattle.plan_num.proofs.Common.{length-range_with_len, get_or-range_with_len}
+use Rattle.plan_num.proofs.Common.{length-enumerate_from, get_or-enumerate_from}
 
 pub Contains-head : {X : Type 0} (x : X) (xs : List X) → Contains (x ∷ xs) x
 Contains-head x xs = (0, omega arith, refl)

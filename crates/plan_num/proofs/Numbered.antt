@@ -1,9 +1,8 @@
 -- What holds of all parts, of numbered things, and of their numbers.
-use Rattle.std.proofs.Common.{◌≡◌, ℕ, ◌+◌, ◌<◌, ◌≤◌, arith, All, List, [], ◌∷◌, length, map, get_or}
-use Rattle.std.proofs.Common.{refl, subst, sym}
-use Rattle.std.specs.List.{range_with_len, enumerate_from}
-use Rattle.std.proofs.lemmas.List.Elements.{All-map}
-use Rattle.std.proofs.lemmas.List.FromFn.{length-range_with_len, get_or-range_with_len, length-enumerate_from, get_or-enumerate_from}
+use Rattle.plan_num.proofs.Common.{◌≡◌, ℕ, ◌+◌, ◌<◌, ◌≤◌, arith, All, List, [], ◌∷◌, length, map}
+use Rattle.plan_num.proofs.Common.{get_or, refl, subst, sym, range_with_len, enumerate_from}
+use Rattle.plan_num.proofs.Common.{All-map, length-range_with_len, get_or-range_with_len}
+use Rattle.plan_num.proofs.Common.{length-enumerate_from, get_or-enumerate_from}
 
 -- what holds of each number from one on
 pub all_numbers : (P : ℕ → Type 0) (a n : ℕ) → ((j : ℕ) → a ≤ j → j < a + n → P j)

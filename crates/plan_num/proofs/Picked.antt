@@ -1,10 +1,8 @@
 -- Parts of lists of events that are numbered in their order: what one event or two of them give.
-use Rattle.std.proofs.Common.{◌≡◌, ℕ, zero, suc, ◌+◌, ◌<◌, ◌≤◌, arith, Bool, ◌&&◌, false, cond}
-use Rattle.std.proofs.Common.{List, [], ◌∷◌, ◌++◌, length, map, filter, get_or, refl, ap, sym, ◌∙◌}
-use Rattle.std.specs.List.{flat_map, range_with_len, enumerate_from, count_by}
-use Rattle.std.proofs.lemmas.List.{append-nil}
-use Rattle.std.proofs.lemmas.List.Sums.{sum_by-cons}
-use Rattle.std.proofs.lemmas.Bool.{cases_Bool}
+use Rattle.plan_num.proofs.Common.{◌≡◌, ℕ, zero, suc, ◌+◌, ◌<◌, ◌≤◌, arith, Bool, ◌&&◌, false, cond}
+use Rattle.plan_num.proofs.Common.{List, [], ◌∷◌, ◌++◌, length, map, filter, get_or, refl, ap, sym}
+use Rattle.plan_num.proofs.Common.{◌∙◌, flat_map, range_with_len, enumerate_from, count_by}
+use Rattle.plan_num.proofs.Common.{append-nil, sum_by-cons, cases_Bool}
 
 -- numbers change nothing of how many things pass a test that does not look at them
 pub numbered_count : {X : Type 0} (f : ℕ × X → X) (p : X → Bool)

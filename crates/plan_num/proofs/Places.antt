@@ -1,8 +1,7 @@
 -- The places of a fraction, one after the other.
-use Rattle.std.proofs.Common.{◌≡◌, ℕ, ◌+◌, ◌/◌, ◌%◌, ◌<◌, zero, suc, List, [], ◌∷◌, ◌++◌}
-use Rattle.std.proofs.Common.{append_assoc, append-nil, ◌∙◌, sym, length, get_or, drop, refl, ap}
-use Rattle.std.proofs.Common.{arith, ne_eqb, add-one, drop-cons}
-use Rattle.std.proofs.lemmas.Bool.Decides.{nat_tests}
+use Rattle.plan_num.proofs.Common.{◌≡◌, ℕ, ◌+◌, ◌/◌, ◌%◌, ◌<◌, zero, suc, List, [], ◌∷◌, ◌++◌}
+use Rattle.plan_num.proofs.Common.{append_assoc, append-nil, ◌∙◌, sym, length, get_or, drop, refl}
+use Rattle.plan_num.proofs.Common.{ap, arith, ne_eqb, add-one, drop-cons, nat_tests}
 use Rattle.plan_num.specs.Print.{places, digits_at, fraction_text}
 
 -- what a rest is below, at each place, and 1 after the last one

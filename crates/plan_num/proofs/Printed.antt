@@ -1,18 +1,15 @@
 -- The digits of printed numbers, and the parts of their texts.
-use Rattle.std.proofs.Common.{◌≡◌, ℕ, ◌+◌, ◌-◌, ◌*◌, ◌/◌, ◌%◌, ◌^◌, ◌<◌, ◌≤◌, ◌∙◌, ◌++◌, ◌||◌, true}
-use Rattle.std.proofs.Common.{false, List, [], ◌∷◌, length, not, Some, refl, append-nil, arith}
-use Rattle.std.proofs.Common.{rules, decimal, ne_eqb, ⊎_elim}
-use Rattle.std.specs.List.{before_first, after_first, position_or_len}
-use Rattle.std.specs.Char.{is_ascii_digit}
+use Rattle.plan_num.proofs.Common.{◌≡◌, ℕ, ◌+◌, ◌-◌, ◌*◌, ◌/◌, ◌%◌, ◌^◌, ◌<◌, ◌≤◌, ◌∙◌, ◌++◌, ◌||◌}
+use Rattle.plan_num.proofs.Common.{true, false, List, [], ◌∷◌, length, not, Some, refl, append-nil}
+use Rattle.plan_num.proofs.Common.{arith, rules, decimal, ne_eqb, ⊎_elim, before_first, after_first}
+use Rattle.plan_num.proofs.Common.{position_or_len, is_ascii_digit, take-length, take-append_seam}
+use Rattle.plan_num.proofs.Common.{cases_lt, lt-ltb, le-ltb, and_parts, nat_tests, both_true}
 use Rattle.std.proofs.lemmas.Str.Parse.{IsDigitsTest, IsNumeralModel, numerals_by_weight}
 use Rattle.std.proofs.lemmas.Fmt.{decimal_is_IsNumeral_wide}
 use Rattle.std.proofs.Math.Nat.{div-lt_iff_lt-mul}
 use Rattle.std.proofs.Math.Bool.{or-true}
-use Rattle.std.proofs.Math.Seq.{take-length, take-append_seam, drop-append-add}
+use Rattle.std.proofs.Math.Seq.{drop-append-add}
 use Rattle.std.proofs.Math.ListN.{drop_of_length-le}
-use Rattle.std.proofs.lemmas.Bool.{cases_lt, lt-ltb, le-ltb, and_parts}
-use Rattle.std.proofs.lemmas.Bool.Decides.{nat_tests}
-use Rattle.std.specs.Cmp.Derive.{both_true}
 use Rattle.plan_num.specs.Print.{places, digits_at, fraction_text}
 use Rattle.plan_num.specs.Number.{is_point, has_point, has_minus, all_digits}
 use Rattle.plan_num.specs.Number.{is_numeral, parts_of, value_of, value_at}

@@ -1,15 +1,10 @@
 -- A printed number is read back.
-use Rattle.std.proofs.Common.{◌≡◌, ℕ, ℤ, pos, neg_ℤ, negsuc, ◌+◌, ◌*◌, ◌/◌, ◌%◌, ◌^◌, ◌<◌, ◌≤◌}
-use Rattle.std.proofs.Common.{◌≤ℤ◌, ◌∙◌, ◌++◌, suc, Bool, true, false, List, [], ◌∷◌, Option, Some}
-use Rattle.std.proofs.Common.{option_map, option_and_then, refl, ap, append-nil, add-one, arith}
-use Rattle.std.proofs.Common.{decimal, ne_eqb, ⊎_elim}
-use Rattle.std.specs.List.{list_all}
-use Rattle.std.specs.Char.{is_ascii_digit}
-use Rattle.std.specs.Fmt.{signed_decimal}
-use Rattle.std.proofs.lemmas.Int.{ints}
-use Rattle.std.proofs.Math.Bool.{and-false}
-use Rattle.std.proofs.lemmas.Bool.{cases_lt, le-ltb, and_parts}
-use Rattle.std.specs.Cmp.Derive.{both_true}
+use Rattle.plan_num.proofs.Common.{◌≡◌, ℕ, ℤ, pos, neg_ℤ, negsuc, ◌+◌, ◌*◌, ◌/◌, ◌%◌, ◌^◌, ◌<◌, ◌≤◌}
+use Rattle.plan_num.proofs.Common.{◌≤ℤ◌, ◌∙◌, ◌++◌, suc, Bool, true, false, List, [], ◌∷◌, Option}
+use Rattle.plan_num.proofs.Common.{Some, option_map, option_and_then, refl, ap, append-nil, add-one}
+use Rattle.plan_num.proofs.Common.{arith, decimal, ne_eqb, ⊎_elim, list_all, is_ascii_digit}
+use Rattle.plan_num.proofs.Common.{signed_decimal, ints, and-false, cases_lt, le-ltb, and_parts}
+use Rattle.plan_num.proofs.Common.{both_true}
 use Rattle.plan_num.specs.Print.{places, digits_at, fraction_text, magnitude_text, fixed_text}
 use Rattle.plan_num.specs.Number.{has_minus, is_number_byte, all_digits}
 use Rattle.plan_num.specs.Number.{parts_of, spelling_of, signed}

@@ -1,20 +1,14 @@
 -- No field that spells a number is shorter than the number as it is printed.
-use Rattle.std.proofs.Common.{◌≡◌, ℕ, ℤ, pos, neg_ℤ, ◌≤ℤ◌, ◌+◌, ◌-◌, ◌*◌, ◌^◌, ◌<◌, ◌≤◌, zero, suc}
-use Rattle.std.proofs.Common.{Bool, true, false, List, [], ◌∷◌, length, length-append, cond, Option}
-use Rattle.std.proofs.Common.{Some, None, option_map, refl, arith, add-one, ⊎_elim, decimal, eqb}
-use Rattle.std.proofs.Common.{subst, if◌then◌else◌, ◌==◌}
-use Rattle.std.specs.List.{before_first, after_first}
-use Rattle.std.specs.Char.{is_ascii_digit}
-use Rattle.std.proofs.lemmas.List.{length-take, length-drop}
-use Rattle.std.proofs.lemmas.List.Sums.{prefix_len-le-length}
-use Rattle.std.proofs.lemmas.Option.{cond_some}
-use Rattle.std.proofs.lemmas.Int.{ints}
-use Rattle.std.proofs.lemmas.Bool.{cases_lt, lt-ltb, and_parts}
+use Rattle.plan_num.proofs.Common.{◌≡◌, ℕ, ℤ, pos, neg_ℤ, ◌≤ℤ◌, ◌+◌, ◌-◌, ◌*◌, ◌^◌, ◌<◌, ◌≤◌, zero}
+use Rattle.plan_num.proofs.Common.{suc, Bool, true, false, List, [], ◌∷◌, length, length-append}
+use Rattle.plan_num.proofs.Common.{cond, Option, Some, None, option_map, refl, arith, add-one}
+use Rattle.plan_num.proofs.Common.{⊎_elim, decimal, eqb, subst, if◌then◌else◌, ◌==◌, before_first}
+use Rattle.plan_num.proofs.Common.{after_first, is_ascii_digit, length-take, length-drop}
+use Rattle.plan_num.proofs.Common.{prefix_len-le-length, cond_some, ints, cases_lt, lt-ltb}
+use Rattle.plan_num.proofs.Common.{and_parts, div-mul-add, mod-mul-add, digits_value_short}
 use Rattle.std.proofs.Math.Nat.{mul-le-mul_right}
-use Rattle.std.proofs.lemmas.Nat.{div-mul-add, mod-mul-add}
 use Rattle.std.proofs.Math.ListN.{drop_of_length-le}
 use Rattle.std.proofs.lemmas.Fmt.{length-decimal-le_wide}
-use Rattle.std.proofs.lemmas.Str.Parse.{digits_value_short}
 use Rattle.plan_num.specs.Print.{places, digits_at, fraction_text, magnitude_text, fixed_text}
 use Rattle.plan_num.specs.Number.{Spelling, is_point, has_minus, magnitude_of, all_digits}
 use Rattle.plan_num.specs.Number.{is_numeral, is_magnitude, parts_of, spelling_of, value_of}

@@ -1,19 +1,15 @@
 -- Ids that rise, and the index of one of them.
-use Rattle.std.proofs.Common.{◌≡◌, ℕ, ℤ, zero, suc, ◌+◌, ◌<◌, ◌≤◌, arith, Bool, true, false, cond}
-use Rattle.std.proofs.Common.{List, [], ◌∷◌, ◌++◌, length, map, take, get_or, slice_get, option_map}
-use Rattle.std.proofs.Common.{append_assoc, position, refl, ap, subst, sym, ◌∙◌, Some, None, nat_lt}
-use Rattle.std.proofs.Common.{int_lt, inl, inr, pos}
-use Rattle.std.specs.List.{AllByRecursion, HoldsAt}
-use Rattle.std.specs.List.Sorted.{IsStrictlySortedBy, IsNonDecreasingBy, IsPartitionPoint}
-use Rattle.std.specs.Ordering.{int_cmp, int_eq, ordering_index}
+use Rattle.plan_num.proofs.Common.{◌≡◌, ℕ, ℤ, zero, suc, ◌+◌, ◌<◌, ◌≤◌, arith, Bool, true, false}
+use Rattle.plan_num.proofs.Common.{cond, List, [], ◌∷◌, ◌++◌, length, map, take, get_or, slice_get}
+use Rattle.plan_num.proofs.Common.{option_map, append_assoc, position, refl, ap, subst, sym, ◌∙◌}
+use Rattle.plan_num.proofs.Common.{Some, None, nat_lt, int_lt, inl, inr, pos, AllByRecursion}
+use Rattle.plan_num.proofs.Common.{HoldsAt, IsNonDecreasingBy, IsPartitionPoint, int_cmp, int_eq}
+use Rattle.plan_num.proofs.Common.{lt-ltb, le-ltb, cases_lt, Decides-int_eq, position-Some}
+use Rattle.plan_num.proofs.Common.{position_or_len_is, exact_signed, int_cmp_total, tied_itself}
+use Rattle.std.specs.List.Sorted.{IsStrictlySortedBy}
+use Rattle.std.specs.Ordering.{ordering_index}
 use Rattle.std.specs.declared.cmp.Ordering.{Ordering}
 use Rattle.std.specs.declared.cmp.Ordering.TheVariants.{Less, Equal, Greater}
-use Rattle.std.proofs.lemmas.Bool.{lt-ltb, le-ltb, cases_lt}
-use Rattle.std.proofs.lemmas.Bool.Decides.{Decides-int_eq}
-use Rattle.std.proofs.lemmas.List.Quantifiers.{position-Some}
-use Rattle.std.proofs.lemmas.List.Sums.{position_or_len_is}
-use Rattle.std.proofs.lemmas.Map.Lookups.{exact_signed}
-use Rattle.std.proofs.lemmas.Cmp.{int_cmp_total, tied_itself}
 
 each_at : {X : Type 0} (P : X → Type 0) (xs : List X) → AllByRecursion P xs → (k : ℕ) (d : X)
     → k < length xs → P (get_or xs k d)

@@ -1,12 +1,9 @@
 -- Tests that pass or fail, and numbers by their order.
-use Rattle.std.proofs.Common.{◌≡◌, ℤ, pos, negsuc, ◌≤ℤ◌, ◌<ℤ◌, Bool, true, false}
-use Rattle.std.proofs.Common.{◌&&◌, ◌||◌, T, refl, ap, sym, subst, ◌∙◌, arith, unsigned_abs, int_cmp}
-use Rattle.std.proofs.Common.{int_eq, Less}
-use Rattle.std.proofs.lemmas.Bool.{false≢true}
-use Rattle.std.specs.Cmp.{int_ranks}
-use Rattle.std.specs.Ordering.{MatchOrdering}
-use Rattle.std.proofs.lemmas.Bool.Decides.{Decides-int_eq}
-use Rattle.std.proofs.lemmas.Int.{ints}
+use Rattle.plan_num.proofs.Common.{◌≡◌, ℤ, pos, negsuc, ◌≤ℤ◌, ◌<ℤ◌, Bool, true, false, ◌&&◌, ◌||◌}
+use Rattle.plan_num.proofs.Common.{T, refl, ap, sym, subst, ◌∙◌, arith, unsigned_abs, int_cmp}
+use Rattle.plan_num.proofs.Common.{int_eq, false≢true, int_ranks, MatchOrdering, Decides-int_eq}
+use Rattle.plan_num.proofs.Common.{ints}
+use Rattle.std.proofs.Common.{Less}
 
 pub or_false : (b : Bool) → (b || false) ≡ b
 or_false true = refl

@@ -1,14 +1,10 @@
 -- What is told of waiting decisions.
 use Rattle.std.proofs.Common.{◌≡◌, ℕ, List, [], ◌∷◌, Option, Some, None, IfSome, Result, Ok, Err, subst, sym}
-use Rattle.plan_files.specs.declared.store.Got.{Got}
-use Rattle.plan_files.specs.Folder.{Folder}
-use Rattle.tables.specs.declared.refusal.Refusal.{Refusal}
-use Rattle.tables.specs.declared.refusal.StageFault.{StageFault}
+use Rattle.plan_files.proofs.Common.{Got, Folder}
+use Rattle.tables.proofs.Common.{Refusal, StageFault, Refuses, or_else}
 use Rattle.tables.specs.declared.refusal.StageFault.TheVariants as fault
-use Rattle.giv_files.specs.declared.stage.Stage.{Stage}
-use Rattle.tables.specs.Inputs.{Refuses, or_else}
-use Rattle.giv_files.specs.Settings.{BundleParts}
-use Rattle.config_keys.specs.Items.{look_in}
+use Rattle.giv_files.proofs.Common.{Stage, BundleParts}
+use Rattle.config_keys.proofs.Common.{look_in}
 use Rattle.delay_management.specs.DispositionStage.{disposition_faults}
 use Rattle.stage_chain.specs.declared.cause.Cause.{Cause}
 use Rattle.stage_chain.specs.declared.chain_end.ChainEnd.{ChainEnd}

@@ -1,25 +1,15 @@
 -- What bids leave: the trips that have places are taken in.
-use Rattle.std.proofs.Common.{◌≡◌, ◌≢◌, ◌⊎◌, inl, inr, ℕ, pos, ◌<◌, ◌≤◌, ◌+◌, ◌-◌, Bool, true}
-use Rattle.std.proofs.Common.{false, cond, List, length, slice_get, slice_set, Option, Some, None}
-use Rattle.std.proofs.Common.{IfSome, refl, ap, sym, ◌∙◌, subst, arith, get_or-set_same}
-use Rattle.std.proofs.Common.{get_or-set_other}
-use Rattle.std.proofs.lemmas.Bool.{lt-ltb}
-use Rattle.std.proofs.lemmas.List.{length-set}
-use Rattle.std.proofs.lemmas.Option.{none-some, same_Some, slice_get_within}
-use Rattle.link_plans.specs.Plans.{next, is_next}
-use Rattle.link_plans.specs.Links.{Links}
-use Rattle.link_plans.proofs.Linking.{by_number, never_next, not_next}
-use Rattle.link_plans.proofs.Certified.{by_bound}
-use Rattle.link_plans.specs.Potentials.{PotentialParts, at}
+use Rattle.plan_num.proofs.Common.{◌≡◌, ◌≢◌, ◌⊎◌, inl, inr, ℕ, pos, ◌<◌, ◌≤◌, ◌+◌, ◌-◌, Bool, true}
+use Rattle.plan_num.proofs.Common.{false, cond, List, length, slice_get, slice_set, Option, Some}
+use Rattle.plan_num.proofs.Common.{None, IfSome, refl, ap, sym, ◌∙◌, subst, arith, get_or-set_same}
+use Rattle.plan_num.proofs.Common.{get_or-set_other, lt-ltb, length-set, none-some, same_Some}
+use Rattle.plan_num.proofs.Common.{slice_get_within}
+use Rattle.link_plans.proofs.Common.{next, is_next, Links, by_number, never_next, not_next}
+use Rattle.link_plans.proofs.Common.{by_bound, PotentialParts, at, Link, link_to, IsLinkOf, IsRow}
+use Rattle.link_plans.proofs.Common.{successor_at, worth, Covers, has_next}
 use Rattle.plan_search.specs.declared.bid.Offer.{Offer}
-use Rattle.link_plans.specs.declared.link_table.Link.{Link}
 use Rattle.plan_search.specs.Bids.{next_offer, AreOthersBelow, IsBid, IsTakenBut}
 use Rattle.plan_search.specs.Growing.{IsTaken}
-use Rattle.link_plans.specs.LinkRows.{link_to, IsLinkOf, IsRow}
-use Rattle.link_plans.specs.Places.{successor_at}
-use Rattle.link_plans.specs.LinkRows.{worth}
-use Rattle.link_plans.specs.Slacks.{Covers}
-use Rattle.link_plans.proofs.Moves.{has_next}
 use Rattle.plan_search.proofs.ShiftedTrees.{pos_worth}
 
 -- ---- the best link

@@ -1,13 +1,11 @@
 -- Claims and the order in which they were made.
-use Rattle.std.proofs.Common.{◌≡◌, ◌⊎◌, inl, inr, ℕ, zero, suc, ◌<◌, ◌+◌, List, [], ◌∷◌, ◌++◌}
-use Rattle.std.proofs.Common.{length, sum_by, get_or, slice_get, slice_set, replicate, Option, Some}
-use Rattle.std.proofs.Common.{None, refl, ap, sym, ◌∙◌, subst, arith, get_or-set_same}
-use Rattle.std.proofs.Common.{get_or-set_other}
-use Rattle.std.proofs.lemmas.List.{length-set, length-replicate, length_push}
+use Rattle.plan_num.proofs.Common.{◌≡◌, ◌⊎◌, inl, inr, ℕ, zero, suc, ◌<◌, ◌+◌, List, [], ◌∷◌, ◌++◌}
+use Rattle.plan_num.proofs.Common.{length, sum_by, get_or, slice_get, slice_set, replicate, Option}
+use Rattle.plan_num.proofs.Common.{Some, None, refl, ap, sym, ◌∙◌, subst, arith, get_or-set_same}
+use Rattle.plan_num.proofs.Common.{get_or-set_other, length-set, length-replicate, length_push}
+use Rattle.plan_num.proofs.Common.{sum_by-set, none-some, same_Some}
 use Rattle.std.proofs.lemmas.List.Folds.{sum_by-replicate}
-use Rattle.std.proofs.lemmas.List.Sums.{sum_by-set}
-use Rattle.std.proofs.lemmas.Option.{none-some, same_Some}
-use Rattle.link_plans.proofs.Linking.{by_number}
+use Rattle.link_plans.proofs.Common.{by_number}
 use Rattle.plan_search.specs.declared.claim.Claim.{Claim}
 use Rattle.plan_search.specs.Claims.{ClaimsParts, claim_at, one_if_open, AreClaims}
 

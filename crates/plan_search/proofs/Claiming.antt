@@ -1,17 +1,12 @@
 -- The nearest place of a tree is claimed: it is found, or the tree grows by the trip that has it.
-use Rattle.std.proofs.Common.{◌≡◌, ◌≢◌, ◌⊎◌, inl, inr, ℕ, pos, ◌<◌, ◌≤◌, ◌+◌, ◌-◌, nat_lt, is_some}
-use Rattle.std.proofs.Common.{Bool, true, false, cond, List, [], ◌∷◌, ◌++◌, length, get_or}
-use Rattle.std.proofs.Common.{slice_set, Option, Some, None, MatchOption, IfSome, refl, ap, sym}
-use Rattle.std.proofs.Common.{◌∙◌, subst, arith, get_or-set_same, get_or-set_other}
-use Rattle.std.proofs.Math.ListN.{get_or-eq_default}
-use Rattle.std.proofs.lemmas.Bool.{ltb-true, ltb-false}
-use Rattle.std.proofs.lemmas.List.{length-set, length_push}
-use Rattle.std.proofs.lemmas.Option.{none-some, same_Some, slice_get_within}
-use Rattle.link_plans.specs.Plans.{next, is_next}
-use Rattle.link_plans.specs.Links.{Links}
-use Rattle.link_plans.proofs.Linking.{by_number}
-use Rattle.link_plans.specs.Potentials.{PotentialParts, at}
-use Rattle.link_plans.proofs.Certified.{by_bound}
+use Rattle.plan_num.proofs.Common.{◌≡◌, ◌≢◌, ◌⊎◌, inl, inr, ℕ, pos, ◌<◌, ◌≤◌, ◌+◌, ◌-◌, nat_lt}
+use Rattle.plan_num.proofs.Common.{is_some, Bool, true, false, cond, List, [], ◌∷◌, ◌++◌, length}
+use Rattle.plan_num.proofs.Common.{get_or, slice_set, Option, Some, None, MatchOption, IfSome, refl}
+use Rattle.plan_num.proofs.Common.{ap, sym, ◌∙◌, subst, arith, get_or-set_same, get_or-set_other}
+use Rattle.plan_num.proofs.Common.{get_or-eq_default, ltb-true, ltb-false, length-set, length_push}
+use Rattle.plan_num.proofs.Common.{none-some, same_Some, slice_get_within}
+use Rattle.link_plans.proofs.Common.{next, is_next, Links, by_number, PotentialParts, at, by_bound}
+use Rattle.link_plans.proofs.Common.{worth, slack_of, slack_to, successor_within}
 use Rattle.plan_search.specs.declared.claim.Claim.{Claim}
 use Rattle.plan_search.specs.declared.near.Near.{Near}
 use Rattle.plan_search.specs.Claims.{ClaimsParts, claim_at, AreClaims}
@@ -19,9 +14,6 @@ use Rattle.plan_search.specs.Growing.{links_from, looking, is_placed, is_claimed
 use Rattle.plan_search.specs.Growing.{looked, IsFrom, IsNearest, IsNear, AreLooked, AreNear}
 use Rattle.plan_search.specs.Growing.{IsTreeClaim, IsGrowing}
 use Rattle.plan_search.specs.Searches.{IsTightAt, ComesFrom, IsClaim, IsFound, AreClaimsBefore}
-use Rattle.link_plans.specs.LinkRows.{worth}
-use Rattle.link_plans.specs.Slacks.{slack_of, slack_to}
-use Rattle.link_plans.proofs.Moves.{successor_within}
 use Rattle.plan_search.proofs.ShiftedTrees.{some_gain, pos_worth, slack_inside, slack_past}
 use Rattle.plan_search.proofs.ShiftedTrees.{tree_trip, tree_linked, tree_is, claim_there}
 use Rattle.plan_search.proofs.ShiftedTrees.{tree_placed, tree_inside, claimed_inside}

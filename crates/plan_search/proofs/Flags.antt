@@ -1,11 +1,10 @@
 -- Flags that tell which places are claimed.
-use Rattle.std.proofs.Common.{◌≡◌, ℕ, zero, suc, ◌<◌, ◌≤◌, ◌+◌, true, false, is_some, Bool, List}
-use Rattle.std.proofs.Common.{[], ◌∷◌, ◌++◌, length, get_or, slice_get, slice_set, replicate}
-use Rattle.std.proofs.Common.{Option, Some, None, refl, ap, sym, ◌∙◌, arith, get_or-set_same}
-use Rattle.std.proofs.Common.{get_or-set_other}
-use Rattle.std.proofs.lemmas.List.{length-set, length-replicate}
-use Rattle.std.proofs.lemmas.Option.{none-some, same_Some, slice_get_within}
-use Rattle.link_plans.proofs.Linking.{by_number}
+use Rattle.plan_num.proofs.Common.{◌≡◌, ℕ, zero, suc, ◌<◌, ◌≤◌, ◌+◌, true, false, is_some, Bool}
+use Rattle.plan_num.proofs.Common.{List, [], ◌∷◌, ◌++◌, length, get_or, slice_get, slice_set}
+use Rattle.plan_num.proofs.Common.{replicate, Option, Some, None, refl, ap, sym, ◌∙◌, arith}
+use Rattle.plan_num.proofs.Common.{get_or-set_same, get_or-set_other, length-set, length-replicate}
+use Rattle.plan_num.proofs.Common.{none-some, same_Some, slice_get_within}
+use Rattle.link_plans.proofs.Common.{by_number}
 use Rattle.plan_search.specs.declared.claim.Claim.{Claim}
 use Rattle.plan_search.specs.Claims.{ClaimsParts, claim_at, AreFlagged}
 use Rattle.plan_search.proofs.ClaimLists.{all_none, claimed_more, no_claims, none_at}

@@ -1,22 +1,17 @@
 -- Places that are handed on along claims: each step leaves a tight plan, but for one place.
-use Rattle.std.proofs.Common.{◌≡◌, ◌≢◌, inl, inr, ℕ, pos, ◌<◌, ◌≤◌, ◌+◌, false, List, length}
-use Rattle.std.proofs.Common.{slice_set, Option, Some, None, MatchOption, IfSome, refl, ap, sym}
-use Rattle.std.proofs.Common.{◌∙◌, subst, arith}
-use Rattle.std.proofs.Math.ListN.{get_or-eq_default}
-use Rattle.std.proofs.lemmas.List.{length-set}
-use Rattle.std.proofs.lemmas.Option.{none-some, same_Some}
-use Rattle.link_plans.specs.Plans.{next, is_next}
-use Rattle.link_plans.proofs.Linking.{by_number, not_next, never_next}
-use Rattle.link_plans.specs.Potentials.{at}
-use Rattle.link_plans.proofs.Certified.{by_bound}
+use Rattle.plan_num.proofs.Common.{◌≡◌, ◌≢◌, inl, inr, ℕ, pos, ◌<◌, ◌≤◌, ◌+◌, false, List, length}
+use Rattle.plan_num.proofs.Common.{slice_set, Option, Some, None, MatchOption, IfSome, refl, ap}
+use Rattle.plan_num.proofs.Common.{sym, ◌∙◌, subst, arith, get_or-eq_default, length-set, none-some}
+use Rattle.plan_num.proofs.Common.{same_Some}
+use Rattle.link_plans.proofs.Common.{next, is_next, by_number, not_next, never_next, at, by_bound}
+use Rattle.link_plans.proofs.Common.{successor_at, some_successor, no_successor, successor_within}
+use Rattle.link_plans.proofs.Common.{same_place, moved_is, moved_other, moved_next, moved_free}
+use Rattle.link_plans.proofs.Common.{moved_from}
 use Rattle.plan_search.specs.declared.claim.Claim.{Claim}
 use Rattle.plan_search.specs.Claims.{ClaimsParts, claim_at}
-use Rattle.link_plans.specs.Places.{successor_at}
 use Rattle.plan_search.specs.Searches.{Search, IsTightAt, IsTightBy, IsTightBut, IsLeft, ComesFrom}
 use Rattle.plan_search.specs.Searches.{IsClaim, AreClaimsBefore, IsFound, IsPassedOn, IsHandedOn}
 use Rattle.plan_search.specs.Searches.{given_to, step_of}
-use Rattle.link_plans.proofs.Moves.{some_successor, no_successor, successor_within, same_place}
-use Rattle.link_plans.proofs.Moves.{moved_is, moved_other, moved_next, moved_free, moved_from}
 
 -- a claimed place is one of the places
 claimed_within : (claims : ClaimsParts) (place : ℕ) (found : Claim) → claim_at claims place ≡ Some found

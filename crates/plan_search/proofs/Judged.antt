@@ -1,16 +1,11 @@
 -- Potentials that meet a plan from any hand are valid for it.
-use Rattle.std.proofs.Common.{◌≡◌, ℕ, ℤ, pos, negsuc, ◌<◌, ◌≤◌, ◌+◌, ◌≤ℤ◌, is_some, List, length}
-use Rattle.std.proofs.Common.{Option, Some, None, IfSome, MatchOption, refl, ap, sym, ◌∙◌, subst, arith}
-use Rattle.std.proofs.Math.ListN.{get_or-eq_default}
-use Rattle.std.proofs.lemmas.Int.{ints}
-use Rattle.std.proofs.lemmas.Option.{none-some}
-use Rattle.link_plans.specs.Links.{Links, AreLinks}
-use Rattle.link_plans.specs.LinkRows.{worth}
+use Rattle.plan_num.proofs.Common.{◌≡◌, ℕ, ℤ, pos, negsuc, ◌<◌, ◌≤◌, ◌+◌, ◌≤ℤ◌, is_some, List}
+use Rattle.plan_num.proofs.Common.{length, Option, Some, None, IfSome, MatchOption, refl, ap, sym}
+use Rattle.plan_num.proofs.Common.{◌∙◌, subst, arith, get_or-eq_default, ints, none-some}
+use Rattle.link_plans.proofs.Common.{Links, AreLinks, worth, next, AreSuccessors, IsBest, IsPlan}
+use Rattle.link_plans.proofs.Common.{PotentialParts, at, AreValid, IsTight, by_bound}
+use Rattle.link_plans.proofs.Common.{certified_best, tight_valid}
 use Rattle.plan_search.specs.Parting.{AreMet}
-use Rattle.link_plans.specs.Plans.{next, AreSuccessors, IsBest, IsPlan}
-use Rattle.link_plans.specs.Potentials.{PotentialParts, at, AreValid, IsTight}
-use Rattle.link_plans.proofs.Certified.{by_bound, certified_best}
-use Rattle.link_plans.proofs.TightValid.{tight_valid}
 
 abbrev no_next : Option ℕ
 no_next = None

@@ -1,20 +1,16 @@
 -- A look from a trip along its links, up to the place that the next link leads to.
-use Rattle.std.proofs.Common.{◌≡◌, ℕ, zero, suc, ◌<◌, ◌≤◌, ◌+◌, ◌-◌, if◌then◌else◌, false, List}
-use Rattle.std.proofs.Common.{length, slice_get, get_or, Option, Some, None, refl, ap, sym, ◌∙◌}
-use Rattle.std.proofs.Common.{subst, arith}
-use Rattle.link_plans.specs.Links.{Links}
-use Rattle.link_plans.specs.Potentials.{PotentialParts, at}
-use Rattle.link_plans.specs.declared.link_table.Link.{Link}
+use Rattle.plan_num.proofs.Common.{◌≡◌, ℕ, zero, suc, ◌<◌, ◌≤◌, ◌+◌, ◌-◌, if◌then◌else◌, false}
+use Rattle.plan_num.proofs.Common.{List, length, slice_get, get_or, Option, Some, None, refl, ap}
+use Rattle.plan_num.proofs.Common.{sym, ◌∙◌, subst, arith, false≢true}
+use Rattle.link_plans.proofs.Common.{Links, PotentialParts, at, Link, end_of, link_to, reached}
+use Rattle.link_plans.proofs.Common.{IsRow, slack_to, Covers, gap_first, gap_next, item}
+use Rattle.link_plans.proofs.Common.{reached_last, reached_next, reached_within, gap_slack}
+use Rattle.link_plans.proofs.Common.{link_covered, link_slack}
 use Rattle.plan_search.specs.declared.near.Near.{Near}
 use Rattle.plan_search.specs.Claims.{ClaimsParts, claim_at}
 use Rattle.plan_search.specs.Growing.{looked, is_nearer, AreAsBefore, AreLooked}
 use Rattle.plan_search.specs.Nears.{AreNearLinks, ArePassed}
 use Rattle.plan_search.specs.declared.claim.Claim.{Claim}
-use Rattle.std.proofs.lemmas.Bool.{false≢true}
-use Rattle.link_plans.specs.LinkRows.{end_of, link_to, reached, IsRow}
-use Rattle.link_plans.specs.Slacks.{slack_to, Covers}
-use Rattle.link_plans.proofs.LinkRows.{gap_first, gap_next, item, reached_last, reached_next, reached_within}
-use Rattle.link_plans.proofs.LinkSlacks.{gap_slack, link_covered, link_slack}
 use Rattle.plan_search.proofs.ShiftedTrees.{slack_past}
 use Rattle.plan_search.proofs.WrittenLists.{IsTold, told_at, told_start, told_up}
 

@@ -1,8 +1,7 @@
 -- One trip more is moved, and its place.
 use Rattle.std.proofs.Common.{◌≡◌, ℕ, ◌+◌, ◌<◌, List, length, get_or, slice_set, Option, ap, sym, ◌∙◌, arith}
 use Rattle.std.proofs.Common.{get_or-set_same, get_or-set_other, subst}
-use Rattle.link_plans.proofs.Linking.{by_number}
-use Rattle.link_plans.specs.Potentials.{PotentialParts, at}
+use Rattle.link_plans.proofs.Common.{by_number, PotentialParts, at}
 use Rattle.plan_search.specs.Moved.{between, IsNodeAt, AreMoved}
 
 pub between_is : {number a b c x y z : ℕ} → number ≡ between a b c → a ≡ x → b ≡ y → c ≡ z

@@ -1,10 +1,8 @@
 -- The nearest place among those that were looked at.
-use Rattle.std.proofs.Common.{◌≡◌, inl, inr, ℕ, ◌<◌, ◌≤◌, ◌+◌, List, length, get_or, replicate}
-use Rattle.std.proofs.Common.{Option, Some, None, MatchOption, IfSome, refl, ap, sym, ◌∙◌, subst}
-use Rattle.std.proofs.Common.{arith}
-use Rattle.std.proofs.lemmas.Bool.{false≢true}
-use Rattle.std.proofs.lemmas.Option.{none-some}
-use Rattle.link_plans.proofs.Linking.{by_number}
+use Rattle.plan_num.proofs.Common.{◌≡◌, inl, inr, ℕ, ◌<◌, ◌≤◌, ◌+◌, List, length, get_or, replicate}
+use Rattle.plan_num.proofs.Common.{Option, Some, None, MatchOption, IfSome, refl, ap, sym, ◌∙◌}
+use Rattle.plan_num.proofs.Common.{subst, arith, false≢true, none-some}
+use Rattle.link_plans.proofs.Common.{by_number}
 use Rattle.plan_search.specs.declared.claim.Claim.{Claim}
 use Rattle.plan_search.specs.declared.near.Near.{Near}
 use Rattle.plan_search.specs.Claims.{ClaimsParts, claim_at}

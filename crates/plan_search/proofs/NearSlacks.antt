@@ -1,10 +1,9 @@
 -- The slacks at all places, as they are kept.
-use Rattle.std.proofs.Common.{◌≡◌, ℕ, zero, suc, ◌<◌, ◌≤◌, nat_lt, List, length, get_or, slice_set}
-use Rattle.std.proofs.Common.{replicate, Option, Some, None, refl, ap, ◌∙◌, arith, get_or-set_same}
-use Rattle.std.proofs.Common.{get_or-set_other}
-use Rattle.std.proofs.lemmas.Bool.{lt-ltb}
-use Rattle.std.proofs.lemmas.List.{length-set, length-replicate}
-use Rattle.link_plans.proofs.Linking.{by_number}
+use Rattle.plan_num.proofs.Common.{◌≡◌, ℕ, zero, suc, ◌<◌, ◌≤◌, nat_lt, List, length, get_or}
+use Rattle.plan_num.proofs.Common.{slice_set, replicate, Option, Some, None, refl, ap, ◌∙◌, arith}
+use Rattle.plan_num.proofs.Common.{get_or-set_same, get_or-set_other, lt-ltb, length-set}
+use Rattle.plan_num.proofs.Common.{length-replicate}
+use Rattle.link_plans.proofs.Common.{by_number}
 use Rattle.plan_search.specs.declared.near.Near.{Near}
 use Rattle.plan_search.specs.Growing.{is_nearer}
 use Rattle.plan_search.specs.Nears.{slack_or_most, AreSlacks}

@@ -1,17 +1,11 @@
 -- Other potentials that meet the plan of a search.
-use Rattle.std.proofs.Common.{◌≡◌, ℕ, pos, ◌<◌, ◌≤◌, ◌+◌, List, length, slice_get, Option, Some}
-use Rattle.std.proofs.Common.{None, IfSome, MatchOption, refl, sym, ◌∙◌, subst, arith}
-use Rattle.std.proofs.Math.ListN.{get_or-eq_default}
-use Rattle.std.proofs.lemmas.Option.{none-some, slice_get_within}
-use Rattle.link_plans.specs.Plans.{next}
-use Rattle.link_plans.specs.Links.{Links}
-use Rattle.link_plans.specs.Potentials.{PotentialParts, at}
-use Rattle.link_plans.specs.declared.link_table.Link.{Link}
-use Rattle.link_plans.specs.LinkRows.{link_to, worth, IsRow}
-use Rattle.link_plans.proofs.Certified.{by_bound}
+use Rattle.plan_num.proofs.Common.{◌≡◌, ℕ, pos, ◌<◌, ◌≤◌, ◌+◌, List, length, slice_get, Option}
+use Rattle.plan_num.proofs.Common.{Some, None, IfSome, MatchOption, refl, sym, ◌∙◌, subst, arith}
+use Rattle.plan_num.proofs.Common.{get_or-eq_default, none-some, slice_get_within}
+use Rattle.link_plans.proofs.Common.{next, Links, PotentialParts, at, Link, link_to, worth, IsRow}
+use Rattle.link_plans.proofs.Common.{by_bound, Covers}
 use Rattle.plan_search.specs.Growing.{IsTaken}
 use Rattle.plan_search.specs.Parting.{AreMet}
-use Rattle.link_plans.specs.Slacks.{Covers}
 
 abbrev no_next : Option ℕ
 no_next = None

@@ -1,7 +1,7 @@
 -- Potentials that are lowered and raised one by one.
 use Rattle.std.proofs.Common.{◌≡◌, ℕ, ◌<◌, ◌+◌, ◌-◌, cond, List, length, slice_set, Option, sym}
 use Rattle.std.proofs.Common.{subst, arith}
-use Rattle.link_plans.specs.Potentials.{PotentialParts, at, AreOver}
+use Rattle.link_plans.proofs.Common.{PotentialParts, at, AreOver}
 use Rattle.plan_search.specs.Claims.{ClaimsParts}
 use Rattle.plan_search.specs.Growing.{in_tree, is_claimed, AreShifted}
 use Rattle.plan_search.proofs.WrittenLists.{IsTold, told_on}

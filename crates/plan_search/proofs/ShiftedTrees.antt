@@ -1,16 +1,12 @@
 -- Potentials of a tree that are shifted: it stays one, and each place without a claim is nearer.
-use Rattle.std.proofs.Common.{◌≡◌, ◌≢◌, ◌⊎◌, inl, inr, ℕ, ℤ, pos, negsuc, ◌<◌, ◌≤◌, ◌+◌, ◌-◌, ◌||◌}
-use Rattle.std.proofs.Common.{nat_lt, nat_eq, is_some, Bool, true, false, cond, List, length}
-use Rattle.std.proofs.Common.{get_or, Option, Some, None, option_map, MatchOption, IfSome, refl, ap}
-use Rattle.std.proofs.Common.{sym, ◌∙◌, subst, arith, eq-eqb}
-use Rattle.std.proofs.Math.ListN.{get_or-eq_default}
-use Rattle.std.proofs.lemmas.Bool.{false≢true, ne_eqb, ltb-true, ltb-false}
-use Rattle.std.proofs.lemmas.Option.{none-some, same_Some}
-use Rattle.link_plans.specs.Plans.{next, is_next}
-use Rattle.link_plans.specs.Links.{Links}
-use Rattle.link_plans.proofs.Linking.{by_number, not_next}
-use Rattle.link_plans.specs.Potentials.{PotentialParts, at}
-use Rattle.link_plans.proofs.Certified.{by_bound}
+use Rattle.plan_num.proofs.Common.{◌≡◌, ◌≢◌, ◌⊎◌, inl, inr, ℕ, ℤ, pos, negsuc, ◌<◌, ◌≤◌, ◌+◌, ◌-◌}
+use Rattle.plan_num.proofs.Common.{◌||◌, nat_lt, nat_eq, is_some, Bool, true, false, cond, List}
+use Rattle.plan_num.proofs.Common.{length, get_or, Option, Some, None, option_map, MatchOption}
+use Rattle.plan_num.proofs.Common.{IfSome, refl, ap, sym, ◌∙◌, subst, arith, eq-eqb}
+use Rattle.plan_num.proofs.Common.{get_or-eq_default, false≢true, ne_eqb, ltb-true, ltb-false}
+use Rattle.plan_num.proofs.Common.{none-some, same_Some}
+use Rattle.link_plans.proofs.Common.{next, is_next, Links, by_number, not_next, PotentialParts, at}
+use Rattle.link_plans.proofs.Common.{by_bound, worth, slack_of, slack_to, has_next}
 use Rattle.plan_search.specs.declared.claim.Claim.{Claim}
 use Rattle.plan_search.specs.declared.near.Near.{Near}
 use Rattle.plan_search.specs.Claims.{ClaimsParts, claim_at}
@@ -18,9 +14,6 @@ use Rattle.plan_search.specs.Growing.{links_from, looking, is_placed, StillCover
 use Rattle.plan_search.specs.Growing.{is_claimed_at, in_tree, moved_near, shifted, IsFrom, IsNear}
 use Rattle.plan_search.specs.Growing.{AreNear, IsTreeClaim, IsGrowing, AreShifted}
 use Rattle.plan_search.specs.Searches.{IsTightAt, IsTightBy, IsTightBut, IsLeft, ComesFrom, AreClaimsBefore}
-use Rattle.link_plans.specs.LinkRows.{worth}
-use Rattle.link_plans.specs.Slacks.{slack_of, slack_to}
-use Rattle.link_plans.proofs.Moves.{has_next}
 use Rattle.plan_num.proofs.Tests.{or_true}
 
 -- ---- the links from some trips

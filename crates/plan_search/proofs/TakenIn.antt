@@ -1,30 +1,21 @@
 -- One trip more is taken into a plan: how a tree begins, and what is left where a place was found.
-use Rattle.std.proofs.Common.{◌≡◌, ◌≢◌, inr, ℕ, ℤ, zero, suc, pos, negsuc, ◌<◌, ◌≤◌, ◌≤ℤ◌, ◌+◌, ◌-◌}
-use Rattle.std.proofs.Common.{is_some, true, false, List, [], length, get_or, slice_set, replicate}
-use Rattle.std.proofs.Common.{Option, Some, None, IfSome, refl, ap, sym, ◌∙◌, subst, arith}
-use Rattle.std.proofs.Common.{get_or-set_other}
-use Rattle.std.proofs.Math.ListN.{get_or-eq_default}
-use Rattle.std.proofs.lemmas.Bool.{false≢true}
-use Rattle.std.proofs.lemmas.Int.{ints}
-use Rattle.std.proofs.lemmas.List.{length-set, length-replicate}
-use Rattle.std.proofs.lemmas.Option.{none-some, same_Some}
-use Rattle.link_plans.specs.Plans.{next, IsPlan}
-use Rattle.link_plans.specs.Links.{Links, AreLinks, links_in}
-use Rattle.link_plans.proofs.Linking.{by_number, none_next}
-use Rattle.link_plans.specs.Potentials.{PotentialParts, at, AreOver, AreValid}
-use Rattle.link_plans.proofs.Certified.{by_bound}
+use Rattle.plan_num.proofs.Common.{◌≡◌, ◌≢◌, inr, ℕ, ℤ, zero, suc, pos, negsuc, ◌<◌, ◌≤◌, ◌≤ℤ◌, ◌+◌}
+use Rattle.plan_num.proofs.Common.{◌-◌, is_some, true, false, List, [], length, get_or, slice_set}
+use Rattle.plan_num.proofs.Common.{replicate, Option, Some, None, IfSome, refl, ap, sym, ◌∙◌, subst}
+use Rattle.plan_num.proofs.Common.{arith, get_or-set_other, get_or-eq_default, false≢true, ints}
+use Rattle.plan_num.proofs.Common.{length-set, length-replicate, none-some, same_Some}
+use Rattle.link_plans.proofs.Common.{next, IsPlan, Links, AreLinks, links_in, by_number, none_next}
+use Rattle.link_plans.proofs.Common.{PotentialParts, at, AreOver, AreValid, by_bound, worth}
+use Rattle.link_plans.proofs.Common.{slack_to, Covers, tight_valid}
 use Rattle.plan_search.specs.declared.near.Near.{Near}
 use Rattle.plan_search.specs.Claims.{ClaimsParts, claim_at}
 use Rattle.plan_search.specs.Growing.{looking, is_placed, in_tree, StillCovers, looked, IsTaken, IsNear}
 use Rattle.plan_search.specs.Growing.{AreLooked, AreNear, IsGrowing}
 use Rattle.plan_search.specs.Trees.{PlanParts, TakesIn}
 use Rattle.plan_search.specs.Searches.{IsTightBut, IsHandedOn}
-use Rattle.link_plans.specs.LinkRows.{worth}
-use Rattle.link_plans.specs.Slacks.{slack_to, Covers}
 use Rattle.plan_search.proofs.Claiming.{nearest_more, from_more}
 use Rattle.plan_search.proofs.ClaimLists.{none_at}
 use Rattle.plan_search.proofs.ShiftedTrees.{gain_of_some, some_gain, placed_next, placed_is, tree_is}
-use Rattle.link_plans.proofs.TightValid.{tight_valid}
 
 abbrev pub no_near : Option Near
 no_near = None

@@ -2,10 +2,7 @@
 use Rattle.std.proofs.Common.{◌≡◌, ℕ, ◌<◌, ◌+◌, List, [], length, slice_set, replicate, Option, None}
 use Rattle.std.proofs.Common.{Result, Ok, Err, IfOk, refl, ap, sym, ◌∙◌, subst}
 use Rattle.std.proofs.lemmas.List.{length-replicate, length-set}
-use Rattle.link_plans.specs.Links.{links_in}
-use Rattle.link_plans.specs.Plans.{next}
-use Rattle.link_plans.specs.Potentials.{PotentialParts}
-use Rattle.link_plans.specs.Slacks.{Covers}
+use Rattle.link_plans.proofs.Common.{links_in, next, PotentialParts, Covers}
 use Rattle.plan_search.specs.declared.near.Member.{Member}
 use Rattle.plan_search.specs.declared.near.Near.{Near}
 use Rattle.plan_search.specs.Claims.{ClaimsParts, AreClaims}

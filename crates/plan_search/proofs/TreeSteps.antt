@@ -1,15 +1,9 @@
 -- What one step of a tree leaves: a look, a shift, a claim, and the end.
-use Rattle.std.proofs.Common.{◌≡◌, inl, inr, ℕ, pos, ◌<◌, ◌≤◌, ◌≤ℤ◌, ◌+◌, ◌-◌, true, false, List, length}
-use Rattle.std.proofs.Common.{get_or, Option, Some, None, option_map}
-use Rattle.std.proofs.Common.{MatchOption}
-use Rattle.std.proofs.Common.{IfSome, refl, ap, sym, ◌∙◌, subst, arith, is_some, get_or-set_same}
-use Rattle.std.proofs.lemmas.Int.{ints}
-use Rattle.std.proofs.lemmas.List.{length_push}
-use Rattle.std.proofs.lemmas.Option.{none-some}
-use Rattle.link_plans.specs.Plans.{next, is_next}
-use Rattle.link_plans.specs.Links.{Links, links_in}
-use Rattle.link_plans.specs.Potentials.{PotentialParts, at}
-use Rattle.link_plans.specs.Slacks.{Covers}
+use Rattle.plan_num.proofs.Common.{◌≡◌, inl, inr, ℕ, pos, ◌<◌, ◌≤◌, ◌≤ℤ◌, ◌+◌, ◌-◌, true, false}
+use Rattle.plan_num.proofs.Common.{List, length, get_or, Option, Some, None, option_map}
+use Rattle.plan_num.proofs.Common.{MatchOption, IfSome, refl, ap, sym, ◌∙◌, subst, arith, is_some}
+use Rattle.plan_num.proofs.Common.{get_or-set_same, ints, length_push, none-some}
+use Rattle.link_plans.proofs.Common.{next, is_next, Links, links_in, PotentialParts, at, Covers}
 use Rattle.plan_search.specs.declared.near.Member.{Member}
 use Rattle.plan_search.specs.declared.near.Near.{Near}
 use Rattle.plan_search.specs.Claims.{claim_at, AreClaims}

@@ -1,9 +1,7 @@
 -- What a turn of a growing tree leaves: a look, a shift and a claim together.
-use Rattle.std.specs.Prelude.{⊤}
-use Rattle.std.proofs.Common.{◌≡◌, ℕ, length, Option, Some, None, Result, Ok, Err, OnOk}
-use Rattle.std.proofs.Common.{OnErr, MatchOption, IfOk, ap, sym, ◌∙◌, subst, arith}
-use Rattle.link_plans.specs.Links.{links_in}
-use Rattle.link_plans.specs.Slacks.{Covers}
+use Rattle.plan_num.proofs.Common.{⊤, ◌≡◌, ℕ, length, Option, Some, None, Result, Ok, Err, OnOk}
+use Rattle.plan_num.proofs.Common.{OnErr, MatchOption, IfOk, ap, sym, ◌∙◌, subst, arith}
+use Rattle.link_plans.proofs.Common.{links_in, Covers}
 use Rattle.plan_search.specs.Claims.{ClaimsParts}
 use Rattle.plan_search.specs.Growing.{StillCovers}
 use Rattle.plan_search.specs.Trees.{TreeParts, IsLooked, AreOverOne, IsShifted, HasGrown}

@@ -1,9 +1,8 @@
 -- Lists that are written from the first place on: what is told of the places that are written, and that
 -- the others are as before.
-use Rattle.std.proofs.Common.{◌≡◌, ℕ, ◌<◌, ◌≤◌, ◌+◌, List, length, get_or, slice_set, ap, sym, ◌∙◌}
-use Rattle.std.proofs.Common.{subst, arith, get_or-set_same, get_or-set_other}
-use Rattle.std.proofs.lemmas.List.{length-set}
-use Rattle.link_plans.proofs.Linking.{by_number}
+use Rattle.plan_num.proofs.Common.{◌≡◌, ℕ, ◌<◌, ◌≤◌, ◌+◌, List, length, get_or, slice_set, ap, sym}
+use Rattle.plan_num.proofs.Common.{◌∙◌, subst, arith, get_or-set_same, get_or-set_other, length-set}
+use Rattle.link_plans.proofs.Common.{by_number}
 
 pub record IsTold {X : Type 0} (none : X) (told : ℕ → X) (old now : List X) (done : ℕ) : Type 0 where
   pub each : length now ≡ length old

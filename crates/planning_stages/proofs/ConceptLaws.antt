@@ -1,16 +1,11 @@
 -- What the stages of the line concept owe to the chain, and what later stages take of the concept.
-use Rattle.std.proofs.Common.{◌≡◌, ℕ, ℤ, Bool, true, false, cond, inl, inr, List, [], Option, None}
-use Rattle.std.proofs.Common.{Some, refl, subst, sym}
-use Rattle.std.specs.List.{Contains}
-use Rattle.tables.specs.declared.file_id.FileId.{FileId}
+use Rattle.plan_num.proofs.Common.{◌≡◌, ℕ, ℤ, Bool, true, false, cond, inl, inr, List, [], Option}
+use Rattle.plan_num.proofs.Common.{None, Some, refl, subst, sym, Contains}
+use Rattle.tables.proofs.Common.{FileId, input_names, names_only}
 use Rattle.tables.specs.declared.file_id.FileId.TheVariants as file
 use Rattle.giv_files.specs.declared.key.Key.TheVariants as key
-use Rattle.giv_files.specs.declared.made.MadeFile.{MadeFile}
+use Rattle.giv_files.proofs.Common.{MadeFile, ids_of, BundleParts, input_text}
 use Rattle.giv_files.specs.declared.stage.Stage.TheVariants as stage
-use Rattle.giv_files.specs.MadeLists.{ids_of}
-use Rattle.giv_files.specs.Settings.{BundleParts}
-use Rattle.giv_files.specs.StageCalls.{input_text}
-use Rattle.tables.proofs.Named.{input_names, names_only}
 use Rattle.ptn_network.specs.Loads.{load_input}
 use Rattle.ptn_network.specs.Networks.{network_in, network_of}
 use Rattle.line_walks.specs.PoolCosts.{pool_cost_input}

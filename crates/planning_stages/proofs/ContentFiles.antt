@@ -1,23 +1,15 @@
 -- Files of a stage, where they stand in a folder: which are there, where none lacks; and those that
 -- are to be what their stage makes of its inputs.
-use Rattle.std.proofs.Common.{◌≡◌, ℕ, Bool, true, false, cond, not, is_some, ◌&&◌, ◌||◌, List, []}
-use Rattle.std.proofs.Common.{◌∷◌, Option, Some, None, Result, Ok, Err, refl, ap, subst, sym, ◌∙◌}
-use Rattle.std.proofs.Common.{arith}
-use Rattle.std.specs.List.{Contains, list_all, list_any}
-use Rattle.std.specs.Option.{ok_or}
+use Rattle.plan_num.proofs.Common.{◌≡◌, ℕ, Bool, true, false, cond, not, is_some, ◌&&◌, ◌||◌, List}
+use Rattle.plan_num.proofs.Common.{[], ◌∷◌, Option, Some, None, Result, Ok, Err, refl, ap, subst}
+use Rattle.plan_num.proofs.Common.{sym, ◌∙◌, arith, Contains, list_all, list_any, ok_or, and_from}
+use Rattle.plan_num.proofs.Common.{and_parts, true≢false}
 use Rattle.std.specs.FinMap as map
-use Rattle.std.proofs.lemmas.Bool.{and_from, and_parts, true≢false}
-use Rattle.plan_files.specs.Folder.{Folder}
-use Rattle.tables.specs.declared.file_id.FileId.{FileId}
-use Rattle.giv_files.specs.declared.made.Made.{Made}
-use Rattle.giv_files.specs.declared.made.MadeFile.{MadeFile}
-use Rattle.tables.specs.declared.refusal.Refusal.{Refusal}
+use Rattle.plan_files.proofs.Common.{Folder}
+use Rattle.tables.proofs.Common.{FileId, Refusal, file_name}
+use Rattle.giv_files.proofs.Common.{Made, MadeFile, Stage, MakesAs, ids_of, made_lists, stage_makes}
 use Rattle.tables.specs.declared.file_id.FileId.TheVariants as file
-use Rattle.giv_files.specs.declared.stage.Stage.{Stage}
 use Rattle.giv_files.specs.declared.stage.Stage.TheVariants as stage
-use Rattle.tables.specs.FileNames.{file_name}
-use Rattle.giv_files.specs.MadeLists.{MakesAs, ids_of, made_lists}
-use Rattle.giv_files.specs.Stages.{stage_makes}
 use Rattle.stage_chain.specs.declared.cause.Cause.TheVariants as cause
 use Rattle.stage_chain.specs.declared.finding.Finding.{Finding}
 use Rattle.planning_stages.specs.Verdicts.{content_found, same_texts}

@@ -1,17 +1,12 @@
 -- What the stage of dispositions owes to the chain, and what the statistic takes of it.
 use Rattle.std.proofs.Common.{◌≡◌, ℕ, ℤ, inr, List, [], ◌∷◌, None, Some, refl, arith}
-use Rattle.tables.specs.declared.file_id.FileId.{FileId}
+use Rattle.tables.proofs.Common.{FileId, Refusal, input_faults, records_of, AllName, input_names}
+use Rattle.tables.proofs.Common.{names_both, names_only}
 use Rattle.tables.specs.declared.file_id.FileId.TheVariants as file
-use Rattle.giv_files.specs.declared.made.MadeFile.{MadeFile}
-use Rattle.tables.specs.declared.refusal.Refusal.{Refusal}
+use Rattle.giv_files.proofs.Common.{MadeFile, BundleParts, input_text}
 use Rattle.giv_files.specs.declared.stage.Stage.TheVariants as stage
-use Rattle.tables.specs.Inputs.{input_faults, records_of}
-use Rattle.giv_files.specs.Settings.{BundleParts}
-use Rattle.giv_files.specs.StageCalls.{input_text}
-use Rattle.tables.proofs.Named.{AllName, input_names, names_both, names_only}
-use Rattle.event_tables.specs.DisposedTimes.{disposed_time_input}
-use Rattle.event_tables.specs.ExpandedFiles.{expanded_activity_input, expanded_event_ids, expanded_event_input}
-use Rattle.event_tables.specs.Schedules.{schedule_input}
+use Rattle.event_tables.proofs.Common.{disposed_time_input, expanded_activity_input}
+use Rattle.event_tables.proofs.Common.{expanded_event_ids, expanded_event_input, schedule_input}
 use Rattle.delay_management.specs.DispositionStage.{disposition_faults, events_in, made_faults}
 use Rattle.delay_management.specs.RightDispositions.{DispositionFilesAreRight}
 use Rattle.delay_management.proofs.DispositionMakes.{disposition_names_delays, disposition_stage_makes}

@@ -1,24 +1,15 @@
 -- Periodic events that are made are at stops of their dataset.
-use Rattle.std.proofs.Common.{◌≡◌, ℕ, ℤ, zero, suc, pos, negsuc, ◌<◌, ◌≤ℤ◌, Bool, true, false, ◌||◌}
-use Rattle.std.proofs.Common.{All, Contains, List, [], ◌∷◌, length, map, get_or, unsigned_abs, Some}
-use Rattle.std.proofs.Common.{lit<, refl, ap, ◌∙◌, arith}
-use Rattle.std.specs.List.{list_any}
-use Rattle.std.specs.Ordering.{int_eq}
-use Rattle.std.proofs.lemmas.Cmp.{int_eq_equiv}
-use Rattle.std.proofs.lemmas.Int.{ints}
-use Rattle.std.proofs.lemmas.List.Elements.{All-contains, All-map, All-weaker}
+use Rattle.plan_num.proofs.Common.{◌≡◌, ℕ, ℤ, zero, suc, pos, negsuc, ◌<◌, ◌≤ℤ◌, Bool, true, false}
+use Rattle.plan_num.proofs.Common.{◌||◌, All, Contains, List, [], ◌∷◌, length, map, get_or}
+use Rattle.plan_num.proofs.Common.{unsigned_abs, Some, lit<, refl, ap, ◌∙◌, arith, list_any, int_eq}
+use Rattle.plan_num.proofs.Common.{int_eq_equiv, ints, All-contains, All-map, All-weaker}
 use Rattle.tables.specs.declared.column.ColumnKind.TheVariants as column
-use Rattle.tables.specs.Columns.{stop_columns}
-use Rattle.tables.specs.Inputs.{input_faults, records_of}
-use Rattle.tables.specs.Reading.{table_of}
-use Rattle.tables.specs.Tables.{TableRow}
-use Rattle.tables.proofs.Inputs.{sound_rows}
-use Rattle.tables.proofs.WriteFacts.{in_column}
-use Rattle.walks.proofs.RisingIds.{all_rising}
+use Rattle.tables.proofs.Common.{stop_columns, input_faults, records_of, table_of, TableRow}
+use Rattle.tables.proofs.Common.{sound_rows, in_column}
+use Rattle.walks.proofs.Common.{all_rising}
 use Rattle.ptn_network.specs.Inputs.{stop_input, stop_row}
 use Rattle.ptn_network.specs.Networks.{stops_of}
-use Rattle.event_tables.specs.declared.periodic_event.PeriodicEvent.{PeriodicEvent}
-use Rattle.event_tables.specs.Trips.{is_stop}
+use Rattle.event_tables.proofs.Common.{PeriodicEvent, is_stop}
 use Rattle.roll_out.specs.RightRollout.{AtStops}
 use Rattle.plan_num.proofs.Tests.{or_true}
 

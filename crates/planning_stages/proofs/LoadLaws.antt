@@ -1,10 +1,8 @@
 -- What the stage of loads owes to the chain, and what later stages take of it.
 use Rattle.std.proofs.Common.{◌≡◌, ℕ, ℤ, List, [], inr, refl, arith}
-use Rattle.tables.specs.declared.file_id.FileId.{FileId}
+use Rattle.tables.proofs.Common.{FileId, input_faults, names_only}
 use Rattle.tables.specs.declared.file_id.FileId.TheVariants as file
 use Rattle.giv_files.specs.declared.stage.Stage.TheVariants as stage
-use Rattle.tables.specs.Inputs.{input_faults}
-use Rattle.tables.proofs.Named.{names_only}
 use Rattle.ptn_network.specs.Loads.{load_input}
 use Rattle.ptn_network.specs.Networks.{network_of}
 use Rattle.demand_load.proofs.LoadMakes.{load_stage_makes}

@@ -1,13 +1,11 @@
 -- The stages that run in the places of the planning chain make up a list that can run.
 use Rattle.std.proofs.Common.{◌≡◌, ℤ, Bool, true, false, cond, List, [], ◌∷◌, map, refl, subst}
 use Rattle.std.specs.List.{Contains}
-use Rattle.tables.specs.declared.file_id.FileId.{FileId}
+use Rattle.tables.proofs.Common.{FileId}
 use Rattle.tables.specs.declared.file_id.FileId.TheVariants as file
-use Rattle.giv_files.specs.MadeLists.{MakesAs, made_lists}
+use Rattle.giv_files.proofs.Common.{MakesAs, made_lists, Stage, places}
 use Rattle.giv_files.specs.declared.key.Key.TheVariants as key
-use Rattle.giv_files.specs.declared.stage.Stage.{Stage}
 use Rattle.giv_files.specs.declared.stage.Stage.TheVariants as stage
-use Rattle.giv_files.specs.Stages.{places}
 use Rattle.stage_chain.specs.Hand.{is_hand}
 use Rattle.stage_chain.specs.StageLists.{CanRunIn, IsStageList, is_earlier, rising}
 use Rattle.stage_chain.specs.StageParts.{staged}

@@ -1,20 +1,16 @@
 -- What the stage of the roll-out owes to the chain, and what later stages take of it.
 use Rattle.std.proofs.Common.{◌≡◌, ℕ, ℤ, List, [], ◌++◌, map, Some, inr, refl, arith}
-use Rattle.tables.specs.declared.file_id.FileId.{FileId}
+use Rattle.tables.proofs.Common.{FileId, activities_p_columns, events_p_columns, input_faults}
+use Rattle.tables.proofs.Common.{AllName, input_names, names_both, names_only, names_or_else}
 use Rattle.tables.specs.declared.file_id.FileId.TheVariants as file
 use Rattle.giv_files.specs.declared.key.Key.TheVariants as key
 use Rattle.tables.specs.declared.row_why.RowWhy.TheVariants as why
 use Rattle.giv_files.specs.declared.stage.Stage.TheVariants as stage
-use Rattle.tables.specs.Columns.{activities_p_columns, events_p_columns}
-use Rattle.tables.specs.Inputs.{input_faults}
 use Rattle.giv_files.specs.Keys.{stage_keys}
-use Rattle.giv_files.specs.Settings.{BundleParts, amount}
-use Rattle.giv_files.specs.StageCalls.{input_text}
-use Rattle.tables.proofs.Named.{AllName, input_names, names_both, names_only, names_or_else}
-use Rattle.config_keys.specs.Config.{part_of}
+use Rattle.giv_files.proofs.Common.{BundleParts, amount, input_text}
+use Rattle.config_keys.proofs.Common.{part_of}
 use Rattle.ptn_network.specs.Networks.{stops_of}
-use Rattle.event_tables.specs.RunRules.{broken_events, stray_activities, unjoined_events}
-use Rattle.event_tables.specs.Trips.{trip_input}
+use Rattle.event_tables.proofs.Common.{broken_events, stray_activities, unjoined_events, trip_input}
 use Rattle.pesp_model.specs.PespTexts.{activities_of, events_of}
 use Rattle.pesp_search.proofs.TimetableMakes.{timetable_faults_name}
 use Rattle.roll_out.specs.RightRollout.{RolloutIsAccepted}

@@ -1,12 +1,7 @@
 -- Files with the same texts.
-use Rattle.std.proofs.Common.{◌≡◌, true, List, [], ◌∷◌, length, zip, refl, arith}
-use Rattle.std.specs.List.{list_all}
-use Rattle.std.specs.Str.{bytes_eq}
-use Rattle.std.proofs.lemmas.Bool.{and_parts, and_from}
-use Rattle.std.proofs.lemmas.Bool.Decides.{Decides-eqb}
-use Rattle.std.proofs.lemmas.Slice.Eq.{bytes_eq-Decides}
-use Rattle.giv_files.specs.declared.made.MadeFile.{MadeFile}
-use Rattle.giv_files.specs.MadeLists.{ids_of}
+use Rattle.plan_num.proofs.Common.{◌≡◌, true, List, [], ◌∷◌, length, zip, refl, arith, list_all}
+use Rattle.plan_num.proofs.Common.{bytes_eq, and_parts, and_from, Decides-eqb, bytes_eq-Decides}
+use Rattle.giv_files.proofs.Common.{MadeFile, ids_of}
 use Rattle.planning_stages.specs.Verdicts.{same_texts}
 
 each_own : (made : List MadeFile)

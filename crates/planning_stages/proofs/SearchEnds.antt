@@ -1,19 +1,14 @@
 -- How a search ends that has a solution or none, within its budget or beyond it.
-use Rattle.std.proofs.Common.{◌≡◌, ◌<◌, ◌⊎◌, inl, inr, ⊎_elim, ℕ, Bool, true, false, cond, nat_le}
-use Rattle.std.proofs.Common.{nat_lt, List, [], length, take, Option, Some, None, Result, Ok}
-use Rattle.std.proofs.Common.{Err, refl, ap, sym, ◌∙◌, arith, option_map}
-use Rattle.std.specs.Prelude.{ok_or}
-use Rattle.std.proofs.lemmas.Bool.{leb-false, leb-true, lt-ltb, ltb-true}
-use Rattle.giv_files.specs.declared.made.Made.{Made}
-use Rattle.tables.specs.declared.refusal.Refusal.{Refusal}
+use Rattle.plan_num.proofs.Common.{◌≡◌, ◌<◌, ◌⊎◌, inl, inr, ⊎_elim, ℕ, Bool, true, false, cond}
+use Rattle.plan_num.proofs.Common.{nat_le, nat_lt, List, [], length, take, Option, Some, None}
+use Rattle.plan_num.proofs.Common.{Result, Ok, Err, refl, ap, sym, ◌∙◌, arith, option_map, ok_or}
+use Rattle.plan_num.proofs.Common.{leb-false, leb-true, lt-ltb, ltb-true}
+use Rattle.giv_files.proofs.Common.{Made, Stage, BundleParts, Fits, StageGives}
+use Rattle.tables.proofs.Common.{Refusal, StageFault}
 use Rattle.tables.specs.declared.refusal.Refusal.TheVariants as refusal
-use Rattle.tables.specs.declared.refusal.StageFault.{StageFault}
 use Rattle.tables.specs.declared.refusal.StageFault.TheVariants as fault
-use Rattle.giv_files.specs.declared.stage.Stage.{Stage}
 use Rattle.giv_files.specs.declared.stage.Stage.TheVariants as stage
-use Rattle.giv_files.specs.Settings.{BundleParts, Fits}
-use Rattle.giv_files.specs.StageCalls.{StageGives}
-use Rattle.line_cost_model.specs.Problems.{ProblemParts}
+use Rattle.line_cost_model.proofs.Common.{ProblemParts}
 use Rattle.line_concepts.specs.Budgets.{nodes_in}
 use Rattle.line_search.specs.ConceptResults.{result_within, spent_result, whole_result}
 use Rattle.line_search.specs.ConceptStage.{after_faults, budget_of, concept_stage, search_made}

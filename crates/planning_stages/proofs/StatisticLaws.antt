@@ -1,20 +1,15 @@
 -- What the stage of the statistic owes to the chain: all plans that earlier stages made have no fault
 -- as it reads them.
 use Rattle.std.proofs.Common.{◌≡◌, ℕ, ℤ, inr, List, [], None, refl, subst, arith}
-use Rattle.tables.specs.declared.file_id.FileId.{FileId}
+use Rattle.tables.proofs.Common.{FileId, concept_columns, Input, input_faults, ReadsBack, AllName}
+use Rattle.tables.proofs.Common.{input_names, names_both, names_only, back_none, front_none}
 use Rattle.tables.specs.declared.file_id.FileId.TheVariants as file
 use Rattle.giv_files.specs.declared.key.Key.TheVariants as key
 use Rattle.giv_files.specs.declared.stage.Stage.TheVariants as stage
-use Rattle.tables.specs.Columns.{concept_columns}
-use Rattle.tables.specs.Inputs.{Input, input_faults}
 use Rattle.giv_files.specs.Keys.{stage_keys}
-use Rattle.giv_files.specs.Settings.{BundleParts, amount}
-use Rattle.giv_files.specs.StageCalls.{input_text}
-use Rattle.tables.specs.Writing.{ReadsBack}
-use Rattle.tables.proofs.Named.{AllName, input_names, names_both, names_only}
-use Rattle.tables.proofs.Ranges.{back_none, front_none}
-use Rattle.config_keys.specs.Config.{part_of}
-use Rattle.walks.specs.Networks.{NetworkParts}
+use Rattle.giv_files.proofs.Common.{BundleParts, amount, input_text}
+use Rattle.config_keys.proofs.Common.{part_of}
+use Rattle.walks.proofs.Common.{NetworkParts}
 use Rattle.ptn_network.specs.Networks.{network_faults, network_of}
 use Rattle.ptn_network.proofs.Sound.{network_sound}
 use Rattle.line_walks.specs.GivenCosts.{costs_of as pool_costs}

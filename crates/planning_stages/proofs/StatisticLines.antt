@@ -1,32 +1,24 @@
 -- The files of costs and of a line concept that were made have no fault as the statistic reads them.
-use Rattle.std.proofs.Common.{◌≡◌, ◌≢◌, ℕ, ℤ, suc, pos, ◌≤◌, Bool, true, false, not, ◌||◌, cond}
-use Rattle.std.proofs.Common.{is_some, List, [], ◌∷◌, ◌++◌, length, map, filter, zip, get_or}
-use Rattle.std.proofs.Common.{unsigned_abs, Some, refl, ap, subst, sym, ◌∙◌, arith}
-use Rattle.std.specs.List.{All, AllByRecursion, AllPairs, find, flat_map, list_any}
-use Rattle.std.specs.Ordering.{int_eq}
-use Rattle.std.specs.Set.{is_member}
-use Rattle.std.proofs.lemmas.Bool.{eq-eqb, true≢false, not-false}
-use Rattle.std.proofs.lemmas.Bool.Decides.{Decides-int_eq}
-use Rattle.std.proofs.lemmas.Cmp.{int_eq_equiv}
-use Rattle.std.proofs.lemmas.List.{length-map, map_push}
-use Rattle.std.proofs.lemmas.List.Elements.{All-cons, All-contains, All-filter, All-map, All-nil}
-use Rattle.std.proofs.lemmas.List.Elements.{All-weaker, filter_passes}
-use Rattle.std.proofs.lemmas.List.Kept.{AllPairs-cons, AllPairs-filter}
-use Rattle.std.proofs.lemmas.Map.Made.{IsDistinct-from_AllPairs, is_member-Decides, length-le_from_is_member}
-use Rattle.tables.specs.declared.file_id.FileId.{FileId}
+use Rattle.plan_num.proofs.Common.{◌≡◌, ◌≢◌, ℕ, ℤ, suc, pos, ◌≤◌, Bool, true, false, not, ◌||◌}
+use Rattle.plan_num.proofs.Common.{cond, is_some, List, [], ◌∷◌, ◌++◌, length, map, filter, zip}
+use Rattle.plan_num.proofs.Common.{get_or, unsigned_abs, Some, refl, ap, subst, sym, ◌∙◌, arith}
+use Rattle.plan_num.proofs.Common.{All, AllByRecursion, AllPairs, find, flat_map, list_any, int_eq}
+use Rattle.plan_num.proofs.Common.{is_member, eq-eqb, true≢false, not-false, Decides-int_eq}
+use Rattle.plan_num.proofs.Common.{int_eq_equiv, length-map, map_push, All-cons, All-contains}
+use Rattle.plan_num.proofs.Common.{All-filter, All-map, All-nil, All-weaker, filter_passes}
+use Rattle.plan_num.proofs.Common.{AllPairs-cons, AllPairs-filter, is_member-Decides}
+use Rattle.plan_num.proofs.Common.{length-le_from_is_member}
+use Rattle.std.proofs.lemmas.Map.Made.{IsDistinct-from_AllPairs}
+use Rattle.tables.proofs.Common.{FileId, concept_columns, pool_cost_columns, Input, Numbered}
+use Rattle.tables.proofs.Common.{RowRule, broken_whys, input_faults, table_of, TableRow, ReadsBack}
+use Rattle.tables.proofs.Common.{each_known, faults_of_table, limit_kept, no_faults, parts_sound}
+use Rattle.tables.proofs.Common.{rule_kept, rules_sound, table_sound, whole_rule_sound, back_none}
+use Rattle.tables.proofs.Common.{front_none}
 use Rattle.tables.specs.declared.file_id.FileId.TheVariants as file
 use Rattle.tables.specs.declared.row_why.RowWhy.TheVariants as why
-use Rattle.tables.specs.Columns.{concept_columns, pool_cost_columns}
-use Rattle.tables.specs.Inputs.{Input, Numbered, RowRule, broken_whys, input_faults, row_faults}
-use Rattle.tables.specs.Reading.{table_of}
-use Rattle.tables.specs.Tables.{TableRow}
-use Rattle.tables.specs.Writing.{ReadsBack}
-use Rattle.tables.proofs.Accepted.{each_known}
+use Rattle.tables.specs.Inputs.{row_faults}
 use Rattle.plan_num.proofs.Found.{any_mapped}
-use Rattle.tables.proofs.Inputs.{faults_of_table, limit_kept, no_faults, parts_sound, rule_kept}
-use Rattle.tables.proofs.Inputs.{rules_sound, table_sound, whole_rule_sound}
-use Rattle.tables.proofs.Ranges.{back_none, front_none}
-use Rattle.walks.specs.declared.edge.Edge.{Edge}
+use Rattle.walks.proofs.Common.{Edge}
 use Rattle.line_walks.specs.PoolCosts.{cost_row_of, pool_cost_input}
 use Rattle.line_walks.specs.Pools.{LineParts, differs as differs_first, first_frequency}
 use Rattle.line_walks.specs.Pools.{line_limit as pool_limit, line_row as pool_row, line_rules}

@@ -1,18 +1,14 @@
 -- What the stages of the timetable owe to the chain, and what later stages take of the timetable.
 use Rattle.std.proofs.Common.{◌≡◌, ℕ, ℤ, Bool, true, false, cond, inl, inr, List, [], None, refl, subst, sym}
 use Rattle.std.specs.List.{Contains}
-use Rattle.tables.specs.declared.file_id.FileId.{FileId}
+use Rattle.tables.proofs.Common.{FileId, input_faults, names_only}
 use Rattle.tables.specs.declared.file_id.FileId.TheVariants as file
 use Rattle.giv_files.specs.declared.key.Key.TheVariants as key
-use Rattle.giv_files.specs.declared.made.MadeFile.{MadeFile}
+use Rattle.giv_files.proofs.Common.{MadeFile, ids_of, BundleParts, amount}
 use Rattle.giv_files.specs.declared.stage.Stage.TheVariants as stage
-use Rattle.tables.specs.Inputs.{input_faults}
 use Rattle.giv_files.specs.Keys.{stage_keys}
-use Rattle.giv_files.specs.MadeLists.{ids_of}
-use Rattle.giv_files.specs.Settings.{BundleParts, amount}
-use Rattle.tables.proofs.Named.{names_only}
-use Rattle.config_keys.specs.Config.{part_of}
-use Rattle.event_tables.specs.PeriodicFiles.{periodic_event_ids, periodic_time_input}
+use Rattle.config_keys.proofs.Common.{part_of}
+use Rattle.event_tables.proofs.Common.{periodic_event_ids, periodic_time_input}
 use Rattle.pesp_model.specs.PespTexts.{events_of}
 use Rattle.pesp_search.specs.RightTimetables.{TimetableFilesAreRight}
 use Rattle.pesp_search.proofs.PinnedLaws.{pinned_timetable_makes, pinned_timetable_names}

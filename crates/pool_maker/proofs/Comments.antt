@@ -1,19 +1,14 @@
 -- A table is read back where comments stand behind it.
-use Rattle.std.proofs.Common.{◌≡◌, ◌≢◌, ℕ, suc, ◌+◌, ◌-◌, ◌==◌, Bool, true, false, cond, List, []}
-use Rattle.std.proofs.Common.{inl, inr, ◌∷◌, ◌++◌, length, map, filter, take, All, refl, ap, sym}
-use Rattle.std.proofs.Common.{subst, ◌∙◌, arith, append_assoc, ne_eqb}
-use Rattle.std.specs.List.{AllByRecursion, enumerate_from, flat_map, onto_first}
-use Rattle.std.specs.Str.Lines.{strip_carriage_return}
-use Rattle.std.proofs.lemmas.List.{map-append}
-use Rattle.std.proofs.lemmas.List.Splits.{slice_split_none}
-use Rattle.std.proofs.lemmas.Bool.{cases_Bool}
-use Rattle.tables.specs.declared.column.ColumnKind.{ColumnKind}
-use Rattle.tables.specs.Reading.{row_faults, table_row}
-use Rattle.tables.proofs.FirstFaults.{table_is}
-use Rattle.tables.proofs.FirstFaults.{no_mark}
+use Rattle.plan_num.proofs.Common.{◌≡◌, ◌≢◌, ℕ, suc, ◌+◌, ◌-◌, ◌==◌, Bool, true, false, cond, List}
+use Rattle.plan_num.proofs.Common.{[], inl, inr, ◌∷◌, ◌++◌, length, map, filter, take, All, refl}
+use Rattle.plan_num.proofs.Common.{ap, sym, subst, ◌∙◌, arith, append_assoc, ne_eqb, AllByRecursion}
+use Rattle.plan_num.proofs.Common.{enumerate_from, flat_map, onto_first, strip_carriage_return}
+use Rattle.plan_num.proofs.Common.{map-append, slice_split_none, cases_Bool}
+use Rattle.tables.proofs.Common.{ColumnKind, table_row, table_is, no_mark, TableRow, IsHeader}
+use Rattle.tables.proofs.Common.{ReadsBack, cell_texts, joined, line_text}
+use Rattle.tables.specs.Reading.{row_faults}
 use Rattle.text_fields.specs.Rows.{Row, has_byte, lines, parts_of, row_of, rows, has_mark}
-use Rattle.tables.specs.Tables.{TableRow}
-use Rattle.tables.specs.Writing.{IsHeader, ReadsBack, cell_texts, joined, line_text, table_text}
+use Rattle.tables.specs.Writing.{table_text}
 
 -- ---- the lines of two texts, the first of which ends a line
 

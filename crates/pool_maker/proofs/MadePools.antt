@@ -1,12 +1,9 @@
 -- What the parts of a pool give together.
 use Rattle.std.proofs.Common.{◌≡◌, ℕ, ℤ, List, [], map, ap, subst, sym, ◌∙◌, arith}
-use Rattle.tables.specs.declared.refusal.StageFault.{StageFault}
+use Rattle.tables.proofs.Common.{StageFault, Refuses, first_stays}
 use Rattle.tables.specs.declared.refusal.StageFault.TheVariants as stage
-use Rattle.tables.specs.Inputs.{Refuses}
-use Rattle.tables.proofs.FirstFaults.{first_stays}
-use Rattle.walks.specs.Networks.{NetworkParts}
+use Rattle.walks.proofs.Common.{NetworkParts, rising}
 use Rattle.ptn_network.specs.Networks.{network_faults, network_of}
-use Rattle.walks.specs.RisingIds.{rising}
 use Rattle.terminal_lines.specs.declared.terminal.Terminal.{Terminal}
 use Rattle.pool_maker.specs.PoolTexts.{pool_text, terminal_faults, text_of, unknown_terminals}
 use Rattle.plan_num.specs.Terminals.{AreTerminals}

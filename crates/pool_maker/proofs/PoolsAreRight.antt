@@ -1,22 +1,16 @@
 -- The text of the lines between terminals is right as a pool.
-use Rattle.std.proofs.Common.{◌≡◌, ◌≢◌, ℕ, ℤ, pos, ◌<◌, ◌≤◌, true, not, List, [], ◌∷◌, ◌++◌, length}
-use Rattle.std.proofs.Common.{map, get_or, All, Any, codes, refl, ap, subst, sym, ◌∙◌, arith}
-use Rattle.std.proofs.Common.{append_assoc}
-use Rattle.std.specs.Fmt.{signed_decimal}
-use Rattle.std.specs.List.{flat_map, range_with_len}
-use Rattle.std.proofs.lemmas.Int.{ints}
-use Rattle.std.proofs.lemmas.List.{get_or-map, get_or_default, length-map}
-use Rattle.std.proofs.lemmas.List.Elements.{All-append, All-filter, All-head, All-tail, All-weaker}
-use Rattle.std.proofs.lemmas.List.FromFn.{get_or-range_with_len, length-range_with_len}
-use Rattle.std.proofs.lemmas.List.Sums.{AllPass-from_list_all}
+use Rattle.plan_num.proofs.Common.{◌≡◌, ◌≢◌, ℕ, ℤ, pos, ◌<◌, ◌≤◌, true, not, List, [], ◌∷◌, ◌++◌}
+use Rattle.plan_num.proofs.Common.{length, map, get_or, All, Any, codes, refl, ap, subst, sym, ◌∙◌}
+use Rattle.plan_num.proofs.Common.{arith, append_assoc, signed_decimal, flat_map, range_with_len}
+use Rattle.plan_num.proofs.Common.{ints, get_or-map, get_or_default, length-map, All-append}
+use Rattle.plan_num.proofs.Common.{All-filter, All-head, All-tail, All-weaker}
+use Rattle.plan_num.proofs.Common.{get_or-range_with_len, length-range_with_len}
+use Rattle.plan_num.proofs.Common.{AllPass-from_list_all}
 use Rattle.plan_num.specs.Number.{is_number_byte}
 use Rattle.plan_num.proofs.ReadBack.{whole_bytes}
-use Rattle.tables.specs.Columns.{pool_columns}
-use Rattle.tables.specs.Writing.{ReadsBack}
-use Rattle.tables.proofs.Headers.{plain_header}
-use Rattle.tables.proofs.Ranges.{back_none, front_none}
-use Rattle.tables.proofs.WrittenBack.{written_back}
-use Rattle.walks.specs.Networks.{IsNetwork, NetworkParts}
+use Rattle.tables.proofs.Common.{pool_columns, ReadsBack, plain_header, back_none, front_none}
+use Rattle.tables.proofs.Common.{written_back, columns_written}
+use Rattle.walks.proofs.Common.{IsNetwork, NetworkParts}
 use Rattle.ptn_network.specs.Networks.{network_faults, network_of}
 use Rattle.ptn_network.proofs.Sound.{network_sound}
 use Rattle.line_walks.specs.Pools.{LineParts, pool_of}
@@ -32,7 +26,6 @@ use Rattle.terminal_lines.specs.TerminalPaths.{uncontained, uncovered}
 use Rattle.pool_maker.proofs.Comments.{AreComments, back_with_comments, comment_more, no_comments}
 use Rattle.pool_maker.proofs.PoolsRead.{lines_are, no_pool_faults, numbers_back}
 use Rattle.pool_maker.proofs.RowsInside.{header_plain, own_id, rows_inside}
-use Rattle.tables.proofs.WrittenColumns.{columns_written}
 use Rattle.pool_maker.proofs.SortedIds.{all_stops}
 use Rattle.terminal_lines.proofs.TerminalWays.{IsTerminalPath, few_lines, few_paths}
 use Rattle.terminal_lines.proofs.TerminalWays.{lines_too, path_short, paths_right}

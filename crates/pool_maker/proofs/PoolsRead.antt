@@ -1,22 +1,13 @@
 -- The text of a pool is read back as its lines.
-use Rattle.std.proofs.Common.{◌≡◌, ℕ, ℤ, pos, suc, ◌+◌, ◌<◌, ◌≤◌, true, nat_lt, List, [], ◌∷◌}
-use Rattle.std.proofs.Common.{length, map, All, Option, Some, None, is_some, option_map}
-use Rattle.std.proofs.Common.{option_and_then, inl, inr, refl, ap, ◌∙◌, arith}
-use Rattle.std.specs.List.{AllByRecursion, enumerate_from, flat_map, range_with_len}
+use Rattle.plan_num.proofs.Common.{◌≡◌, ℕ, ℤ, pos, suc, ◌+◌, ◌<◌, ◌≤◌, true, nat_lt, List, [], ◌∷◌}
+use Rattle.plan_num.proofs.Common.{length, map, All, Option, Some, None, is_some, option_map}
+use Rattle.plan_num.proofs.Common.{option_and_then, inl, inr, refl, ap, ◌∙◌, arith, AllByRecursion}
+use Rattle.plan_num.proofs.Common.{enumerate_from, flat_map, range_with_len, int_cmp, lt-ltb}
+use Rattle.plan_num.proofs.Common.{map-append, All-head, All-tail}
 use Rattle.std.specs.List.Sorted.{IsStrictlySortedBy}
-use Rattle.std.specs.Ordering.{int_cmp}
 use Rattle.std.specs.declared.cmp.Ordering.TheVariants.{Less}
-use Rattle.std.proofs.lemmas.Bool.{lt-ltb}
-use Rattle.std.proofs.lemmas.List.{map-append}
-use Rattle.std.proofs.lemmas.List.Elements.{All-head, All-tail}
-use Rattle.tables.specs.Columns.{pool_columns}
-use Rattle.tables.specs.Writing.{ReadsBack}
-use Rattle.walks.specs.declared.edge.Edge.{Edge}
-use Rattle.walks.specs.Networks.{NetworkParts}
-use Rattle.walks.specs.Paths.{edges_at}
-use Rattle.walks.specs.Walks.{IsWalk}
-use Rattle.walks.proofs.PathEdges.{ends_are}
-use Rattle.walks.proofs.Walks.{begins}
+use Rattle.tables.proofs.Common.{pool_columns, ReadsBack}
+use Rattle.walks.proofs.Common.{Edge, NetworkParts, edges_at, IsWalk, ends_are, begins}
 use Rattle.line_walks.specs.Pools.{lines_over, or_walk, pool_faults, pool_of, walk_from}
 use Rattle.line_walks.specs.Pools.{walk_of}
 use Rattle.line_walks.proofs.LinesBack.{HasEdge, edges_back, ids_back, pool_back}

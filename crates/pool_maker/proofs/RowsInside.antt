@@ -1,17 +1,10 @@
 -- The rows of a pool are within their columns.
-use Rattle.std.proofs.Common.{ℕ, pos, suc, ◌+◌, ◌<◌, ◌≤◌, List, [], ◌∷◌, length, map, All, Option}
-use Rattle.std.proofs.Common.{option_map, unwrap_or, refl, subst, sym, arith}
-use Rattle.std.specs.List.{enumerate_from, flat_map}
-use Rattle.std.proofs.lemmas.Int.{ints}
-use Rattle.std.proofs.lemmas.List.Elements.{All-append, All-cons, All-get_or, All-nil}
-use Rattle.std.proofs.lemmas.Option.{slice_get-get_or}
-use Rattle.tables.specs.Columns.{pool_columns}
-use Rattle.tables.specs.Tables.{TableRow}
-use Rattle.tables.specs.Writing.{InColumns, IsHeader}
-use Rattle.tables.proofs.Headers.{plain_header}
-use Rattle.walks.specs.declared.edge.Edge.{Edge}
-use Rattle.walks.specs.Networks.{NetworkParts}
-use Rattle.walks.proofs.PathSteps.{no_edge}
+use Rattle.plan_num.proofs.Common.{ℕ, pos, suc, ◌+◌, ◌<◌, ◌≤◌, List, [], ◌∷◌, length, map, All}
+use Rattle.plan_num.proofs.Common.{Option, option_map, unwrap_or, refl, subst, sym, arith}
+use Rattle.plan_num.proofs.Common.{enumerate_from, flat_map, ints, All-append, All-cons, All-get_or}
+use Rattle.plan_num.proofs.Common.{All-nil, slice_get-get_or}
+use Rattle.tables.proofs.Common.{pool_columns, TableRow, InColumns, IsHeader, plain_header}
+use Rattle.walks.proofs.Common.{Edge, NetworkParts, no_edge}
 use Rattle.pool_maker.specs.PoolTexts.{edge_id, line_rows, pool_header, pool_rows, row_at}
 use Rattle.pool_maker.specs.Tellable.{AreTellable, IsRowId}
 use Rattle.terminal_lines.specs.TerminalPaths.{IsShort}

@@ -1,25 +1,20 @@
 -- Ids that are sorted, and whether all of some ids are different or are known.
-use Rattle.std.proofs.Common.{arith, ◌≡◌, ℕ, ℤ, pos, ◌+◌, ◌-◌, ◌<◌, ◌≤◌, Bool, true, false, not}
-use Rattle.std.proofs.Common.{◌||◌, inl, inr, ◌&&◌, List, [], ◌∷◌, ◌++◌, cond, length, map, take}
-use Rattle.std.proofs.Common.{drop, get_or, slice_get, position, is_some, unwrap_or, Option, Some}
-use Rattle.std.proofs.Common.{None, option_map, refl, ap, subst, sym, ◌∙◌}
-use Rattle.std.specs.List.{AllByRecursion, IsDistinct, list_all, list_any}
-use Rattle.std.specs.List.Sorted.{IsPermutation, IsSorted}
-use Rattle.std.specs.Ordering.{int_cmp, int_eq}
-use Rattle.std.proofs.lemmas.Cmp.{int_eq_equiv}
-use Rattle.std.proofs.lemmas.List.{drop_all, drop_more, map_push, take_all, take_more, take_rest}
+use Rattle.plan_num.proofs.Common.{arith, ◌≡◌, ℕ, ℤ, pos, ◌+◌, ◌-◌, ◌<◌, ◌≤◌, Bool, true, false}
+use Rattle.plan_num.proofs.Common.{not, ◌||◌, inl, inr, ◌&&◌, List, [], ◌∷◌, ◌++◌, cond, length}
+use Rattle.plan_num.proofs.Common.{map, take, drop, get_or, slice_get, position, is_some, unwrap_or}
+use Rattle.plan_num.proofs.Common.{Option, Some, None, option_map, refl, ap, subst, sym, ◌∙◌}
+use Rattle.plan_num.proofs.Common.{AllByRecursion, list_all, list_any, IsPermutation, IsSorted}
+use Rattle.plan_num.proofs.Common.{int_cmp, int_eq, int_eq_equiv, drop_all, drop_more, map_push}
+use Rattle.plan_num.proofs.Common.{take_all, take_more, take_rest, same_Some}
+use Rattle.plan_num.proofs.Common.{list_any-IsPermutation, IsDistinct-IsPermutation, cases_Bool}
+use Rattle.std.specs.List.{IsDistinct}
 use Rattle.std.proofs.lemmas.List.Folds.{list_all_at, list_all_more}
-use Rattle.std.proofs.lemmas.Option.{same_Some}
-use Rattle.std.proofs.lemmas.List.Sorted.{list_any-IsPermutation}
-use Rattle.std.proofs.lemmas.Map.Keys.{IsDistinct-IsPermutation}
-use Rattle.std.proofs.lemmas.Bool.{cases_Bool}
 use Rattle.tables.specs.declared.file_id.FileId.TheVariants as file
-use Rattle.tables.specs.declared.refusal.Refusal.{Refusal}
+use Rattle.tables.proofs.Common.{Refusal}
 use Rattle.tables.specs.declared.refusal.Refusal.TheVariants as refusal
 use Rattle.tables.specs.declared.row_why.RowWhy.TheVariants as why
 use Rattle.plan_num.proofs.Found.{any_is}
-use Rattle.walks.specs.RisingIds.{rising}
-use Rattle.walks.proofs.ById.{sorted_ids}
+use Rattle.walks.proofs.Common.{rising, sorted_ids}
 use Rattle.terminal_lines.specs.declared.terminal.Terminal.{Terminal}
 use Rattle.pool_maker.specs.PoolTexts.{unknown_terminals}
 use Rattle.terminal_lines.specs.TerminalPaths.{are_stops}

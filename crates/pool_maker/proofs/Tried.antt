@@ -9,12 +9,9 @@ use Rattle.tables.specs.Reading.{faults, table_of, cells_from, cell_of, errors, 
 use Rattle.text_fields.specs.Rows.{rows, cleaned}
 use Rattle.tables.specs.Writing.{cell_text, cell_texts, joined, table_text}
 use Rattle.plan_num.specs.Number.{spelling_of, value_of, value_at, fixed_of, whole_of}
-use Rattle.walks.specs.declared.edge.Edge.{Edge}
-use Rattle.walks.specs.Networks.{NetworkParts}
+use Rattle.walks.proofs.Common.{Edge, NetworkParts, path_within, least_of, least_sum, walks_within}
 use Rattle.ptn_network.specs.Networks.{network_faults, network_of, stops_of}
 use Rattle.walks.specs.RisingIds.{by_id}
-use Rattle.walks.specs.Paths.{path_within}
-use Rattle.walks.specs.Walks.{least_of, least_sum, walks_within}
 use Rattle.line_walks.specs.Pools.{line_faults, lines_of, pool_faults, pool_of, walk_from}
 use Rattle.pool_maker.specs.PoolTexts.{pool_text, terminal_faults, pool_header}
 use Rattle.terminal_lines.specs.TerminalPaths.{lines_between, pairs_of}

@@ -1,12 +1,9 @@
 -- The comments of edges that no line has.
-use Rattle.std.proofs.Common.{◌≡◌, ℕ, ℤ, ◌+◌, false, List, [], ◌∷◌, ◌++◌, codes, append_assoc}
-use Rattle.std.proofs.Common.{append-nil, ap, sym, ◌∙◌, arith, map-id}
-use Rattle.std.specs.Fmt.{signed_decimal}
-use Rattle.std.specs.List.{flat_map, range_with_len}
-use Rattle.std.proofs.lemmas.Grind.{flat_map-append}
-use Rattle.std.proofs.lemmas.List.Elements.{filter-append}
-use Rattle.std.proofs.lemmas.List.FromFn.{map-range_with_len_more}
-use Rattle.walks.specs.Networks.{NetworkParts}
+use Rattle.plan_num.proofs.Common.{◌≡◌, ℕ, ℤ, ◌+◌, false, List, [], ◌∷◌, ◌++◌, codes, append_assoc}
+use Rattle.plan_num.proofs.Common.{append-nil, ap, sym, ◌∙◌, arith, map-id, signed_decimal}
+use Rattle.plan_num.proofs.Common.{flat_map, range_with_len, flat_map-append, filter-append}
+use Rattle.plan_num.proofs.Common.{map-range_with_len_more}
+use Rattle.walks.proofs.Common.{NetworkParts}
 use Rattle.pool_maker.specs.PoolTexts.{edge_id, uncovered_line}
 use Rattle.terminal_lines.specs.TerminalPaths.{is_covered, uncovered_among}
 

@@ -1,16 +1,14 @@
 -- Items key by key: they are all items, in the order of their keys.
-use Rattle.std.proofs.Common.{◌≡◌, ◌∙◌, ℕ, suc, ◌-◌, ◌<◌, ◌≤◌, ◌||◌, Bool, true, false, not, cond}
-use Rattle.std.proofs.Common.{eqb, List, [], ◌∷◌, ◌++◌, length, filter, flat_map, get_or, All, refl}
-use Rattle.std.proofs.Common.{ap, sym, subst, arith}
-use Rattle.std.specs.List.{AllByRecursion, IsDistinct, list_any}
-use Rattle.std.specs.List.Sorted.{IsNonDecreasingBy, IsPermutation}
-use Rattle.std.proofs.lemmas.Bool.{eqb-true, false≢true}
-use Rattle.std.proofs.lemmas.List.{get_or_append_left, length-append}
+use Rattle.plan_num.proofs.Common.{◌≡◌, ◌∙◌, ℕ, suc, ◌-◌, ◌<◌, ◌≤◌, ◌||◌, Bool, true, false, not}
+use Rattle.plan_num.proofs.Common.{cond, eqb, List, [], ◌∷◌, ◌++◌, length, filter, flat_map, get_or}
+use Rattle.plan_num.proofs.Common.{All, refl, ap, sym, subst, arith, AllByRecursion, IsDistinct}
+use Rattle.plan_num.proofs.Common.{list_any, IsNonDecreasingBy, IsPermutation, eqb-true, false≢true}
+use Rattle.plan_num.proofs.Common.{get_or_append_left, length-append, All-append, All-filter}
+use Rattle.plan_num.proofs.Common.{All-nil, All-tail, filter_passes, IsDistinct-head}
+use Rattle.plan_num.proofs.Common.{IsDistinct-tail}
 use Rattle.std.proofs.Math.Seq.{get_or-append_right}
-use Rattle.std.proofs.lemmas.List.Elements.{All-append, All-filter, All-nil, All-tail, filter_passes}
 use Rattle.std.proofs.lemmas.List.Sorted.{IsNonDecreasingBy-drop, IsPermutation-append_right, IsPermutation-filter_both}
 use Rattle.std.proofs.lemmas.List.Sorted.{IsPermutation-refl, IsPermutation-trans}
-use Rattle.std.proofs.lemmas.Map.Keys.{IsDistinct-head, IsDistinct-tail}
 use Rattle.bit_rows.proofs.Cases.{by_less}
 
 module _ {X : Type 0} (key : X → ℕ) where

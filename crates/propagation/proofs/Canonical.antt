@@ -1,12 +1,11 @@
 -- The reasons of a problem that are made are the canonical ones, and name ids that are not too
 -- great.
-use Rattle.std.proofs.Common.{◌≡◌, ◌∙◌, ℕ, ◌+◌, ◌<◌, ◌≤◌, Bool, true, false, cond, nat_eq, ltb}
-use Rattle.std.proofs.Common.{List, [], ◌∷◌, ◌++◌, length, map, filter, get_or, All, Result, Ok}
-use Rattle.std.proofs.Common.{Err, IfOk, refl, sym, subst, arith}
-use Rattle.std.specs.List.{fold, items_where_true, range_with_len, reduce}
-use Rattle.std.proofs.lemmas.Bool.{ltb-true}
-use Rattle.std.proofs.lemmas.List.Elements.{All-append, All-contains, All-filter, All-map}
-use Rattle.std.proofs.lemmas.List.FromFn.{get_or-map-range_with_len, length-map-range_with_len}
+use Rattle.plan_num.proofs.Common.{◌≡◌, ◌∙◌, ℕ, ◌+◌, ◌<◌, ◌≤◌, Bool, true, false, cond, nat_eq, ltb}
+use Rattle.plan_num.proofs.Common.{List, [], ◌∷◌, ◌++◌, length, map, filter, get_or, All, Result}
+use Rattle.plan_num.proofs.Common.{Ok, Err, IfOk, refl, sym, subst, arith, fold, items_where_true}
+use Rattle.plan_num.proofs.Common.{range_with_len, reduce, ltb-true, All-append, All-contains}
+use Rattle.plan_num.proofs.Common.{All-filter, All-map, get_or-map-range_with_len}
+use Rattle.plan_num.proofs.Common.{length-map-range_with_len}
 use Rattle.propagation.specs.declared.reason.Reason.{Reason}
 use Rattle.propagation.specs.declared.reason.Reason.TheVariants as reason
 use Rattle.propagation.specs.declared.step.Activity.{Activity}

@@ -1,9 +1,8 @@
 -- The changes that are chosen, one after the other.
-use Rattle.std.proofs.Common.{◌≡◌, ◌∙◌, ℕ, ℤ, zero, suc, ◌+◌, ◌<◌, ◌≤◌, Bool, true, false, cond}
-use Rattle.std.proofs.Common.{List, [], ◌∷◌, ◌++◌, length, map, filter, take, drop, get_or, Result}
-use Rattle.std.proofs.Common.{Ok, Err, IfOk, refl, ap, sym, arith}
-use Rattle.std.specs.List.{items_where_true}
-use Rattle.std.proofs.lemmas.List.{drop_all}
+use Rattle.plan_num.proofs.Common.{◌≡◌, ◌∙◌, ℕ, ℤ, zero, suc, ◌+◌, ◌<◌, ◌≤◌, Bool, true, false}
+use Rattle.plan_num.proofs.Common.{cond, List, [], ◌∷◌, ◌++◌, length, map, filter, take, drop}
+use Rattle.plan_num.proofs.Common.{get_or, Result, Ok, Err, IfOk, refl, ap, sym, arith}
+use Rattle.plan_num.proofs.Common.{items_where_true, drop_all}
 use Rattle.propagation.specs.declared.day_event.DayEvent.{DayEvent}
 use Rattle.propagation.specs.declared.step.Activity.{Activity}
 use Rattle.propagation.specs.LeastTimes.{least_times, time_at}

@@ -1,9 +1,7 @@
 -- Parts that make a problem, with their links in order.
-use Rattle.std.proofs.Common.{◌<◌, ◌≤◌, List, length, All, arith}
-use Rattle.std.specs.List.Sorted.{IsNonDecreasingBy, IsPermutation}
-use Rattle.std.proofs.lemmas.List.{length-append, length-map}
-use Rattle.std.proofs.lemmas.List.FromFn.{length-enumerate_from}
-use Rattle.std.proofs.lemmas.List.Sorted.{length_permutation}
+use Rattle.plan_num.proofs.Common.{◌<◌, ◌≤◌, List, length, All, arith, IsNonDecreasingBy}
+use Rattle.plan_num.proofs.Common.{IsPermutation, length-append, length-map, length-enumerate_from}
+use Rattle.plan_num.proofs.Common.{length_permutation}
 use Rattle.propagation.specs.declared.links.Link.{Link}
 use Rattle.propagation.specs.Links.{IsDay, IsLinked, links_of}
 use Rattle.propagation.specs.Problems.{DelayProblem, GoesForward}

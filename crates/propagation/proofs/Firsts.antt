@@ -1,7 +1,6 @@
 -- The first of so many numbers that pass a test.
-use Rattle.std.proofs.Common.{◌≡◌, ◌∙◌, ℕ, ◌+◌, ◌-◌, ◌<◌, ◌≤◌, Bool, true, false, cond, List, []}
-use Rattle.std.proofs.Common.{◌∷◌, filter, slice_get, Some, ap, arith}
-use Rattle.std.specs.List.{range_with_len}
+use Rattle.plan_num.proofs.Common.{◌≡◌, ◌∙◌, ℕ, ◌+◌, ◌-◌, ◌<◌, ◌≤◌, Bool, true, false, cond, List}
+use Rattle.plan_num.proofs.Common.{[], ◌∷◌, filter, slice_get, Some, ap, arith, range_with_len}
 
 module _ (test : ℕ → Bool) (n i : ℕ) where
   abbrev left_from : ℕ → List ℕ

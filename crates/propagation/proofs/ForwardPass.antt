@@ -1,11 +1,10 @@
 -- One pass along links in the forward order satisfies each of them, and is no later than it has to
 -- be.
-use Rattle.std.proofs.Common.{◌≡◌, ◌≢◌, ◌∙◌, ℕ, suc, ◌<◌, ◌≤◌, ◌⊎◌, inl, inr, Bool, true, false}
-use Rattle.std.proofs.Common.{eqb, List, [], ◌∷◌, length, get_or, All, refl, ap, sym, subst, arith}
-use Rattle.std.specs.List.Sorted.{IsNonDecreasingBy}
-use Rattle.std.proofs.lemmas.Bool.{eqb-true, eqb-false}
-use Rattle.std.proofs.lemmas.List.{get_or-set_same, get_or-set_other, length-set}
-use Rattle.std.proofs.lemmas.List.Elements.{All-cons, All-head, All-nil, All-tail}
+use Rattle.plan_num.proofs.Common.{◌≡◌, ◌≢◌, ◌∙◌, ℕ, suc, ◌<◌, ◌≤◌, ◌⊎◌, inl, inr, Bool, true}
+use Rattle.plan_num.proofs.Common.{false, eqb, List, [], ◌∷◌, length, get_or, All, refl, ap, sym}
+use Rattle.plan_num.proofs.Common.{subst, arith, IsNonDecreasingBy, eqb-true, eqb-false}
+use Rattle.plan_num.proofs.Common.{get_or-set_same, get_or-set_other, length-set, All-cons}
+use Rattle.plan_num.proofs.Common.{All-head, All-nil, All-tail}
 use Rattle.propagation.specs.declared.links.Link.{Link}
 use Rattle.propagation.specs.declared.step.Step.{Step}
 use Rattle.propagation.specs.LeastTimes.{asked, later, time_at}

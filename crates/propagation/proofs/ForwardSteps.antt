@@ -1,8 +1,6 @@
 -- The steps of a problem that was read join its events.
-use Rattle.std.proofs.Common.{◌≤◌, List, length, All, arith}
-use Rattle.std.proofs.lemmas.List.{length-append, length-map}
-use Rattle.std.proofs.lemmas.List.FromFn.{length-enumerate_from}
-use Rattle.std.proofs.lemmas.List.Sorted.{length_permutation}
+use Rattle.plan_num.proofs.Common.{◌≤◌, List, length, All, arith, length-append, length-map}
+use Rattle.plan_num.proofs.Common.{length-enumerate_from, length_permutation}
 use Rattle.propagation.specs.declared.links.Link.{Link}
 use Rattle.propagation.specs.Links.{IsLinked}
 use Rattle.propagation.specs.Problems.{DelayProblem, GoesForward, Joins}

@@ -1,7 +1,5 @@
 -- Times grow with the set of changes that is kept.
-use Rattle.std.proofs.Common.{ℕ, Bool, List, All}
-use Rattle.std.specs.List.{Contains}
-use Rattle.std.proofs.lemmas.List.Elements.{All-contains_itself}
+use Rattle.plan_num.proofs.Common.{ℕ, Bool, List, All, Contains, All-contains_itself}
 use Rattle.propagation.specs.LeastTimes.{IsLeast}
 use Rattle.propagation.specs.Problems.{DelayProblem}
 use Rattle.propagation.specs.Waiting.{GrowWithKept, KeepsAll, chosen_changes}

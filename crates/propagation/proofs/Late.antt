@@ -1,10 +1,7 @@
 -- The lateness of one event more, where each has a planned time and may be an arrival.
-use Rattle.std.proofs.Common.{◌≡◌, ◌∙◌, ℕ, ℤ, ◌+◌, ◌<◌, ◌+ℤ◌, ◌-ℤ◌, pos, Bool, true, false, cond, List, ◌∷◌, length}
-use Rattle.std.proofs.Common.{drop}
-use Rattle.std.proofs.Common.{filter, zip, get_or, ap, sym, arith}
-use Rattle.std.specs.List.{fold}
-use Rattle.std.proofs.lemmas.Int.{ints}
-use Rattle.std.proofs.lemmas.List.{drop_more}
+use Rattle.plan_num.proofs.Common.{◌≡◌, ◌∙◌, ℕ, ℤ, ◌+◌, ◌<◌, ◌+ℤ◌, ◌-ℤ◌, pos, Bool, true, false}
+use Rattle.plan_num.proofs.Common.{cond, List, ◌∷◌, length, drop, filter, zip, get_or, ap, sym}
+use Rattle.plan_num.proofs.Common.{arith, fold, ints, drop_more}
 
 module _ {X : Type 0} (planned : X → ℕ) (arrives : X → Bool) where
   abbrev late_by : X → ℕ → ℤ

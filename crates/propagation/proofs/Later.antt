@@ -1,7 +1,6 @@
 -- The latest of some times, and the least of some ids.
-use Rattle.std.proofs.Common.{◌≡◌, ℕ, ◌≤◌, suc, List, [], ◌∷◌, arith, refl, sym, ◌∙◌, ◌⊎◌, inl, inr}
-use Rattle.std.specs.List.{All, Contains, fold}
-use Rattle.std.proofs.lemmas.List.Elements.{All-cons, All-nil}
+use Rattle.plan_num.proofs.Common.{◌≡◌, ℕ, ◌≤◌, suc, List, [], ◌∷◌, arith, refl, sym, ◌∙◌, ◌⊎◌, inl}
+use Rattle.plan_num.proofs.Common.{inr, All, Contains, fold, All-cons, All-nil}
 use Rattle.propagation.specs.LeastTimes.{later, latest}
 use Rattle.propagation.specs.Reasons.{lesser}
 

@@ -1,3 +1,4 @@
+pub mod Common
 pub mod ByKeys
 pub mod Canonical
 pub mod ChosenChanges

@@ -1,17 +1,13 @@
 -- Links event by event, in the forward order of their events: they are all links, by their ranks.
-use Rattle.std.proofs.Common.{◌≡◌, ◌∙◌, ℕ, ◌+◌, ◌*◌, ◌<◌, ◌≤◌, Bool, true, false, cond, eqb, List}
-use Rattle.std.proofs.Common.{[], length, map, filter, get_or, All, refl, ap, sym, subst, arith}
-use Rattle.std.specs.List.{IsDistinct, range_with_len}
-use Rattle.std.specs.List.Sorted.{IsNonDecreasing, IsNonDecreasingBy, IsPermutation}
-use Rattle.std.proofs.lemmas.Bool.{eq-eqb, ne_eqb}
-use Rattle.std.proofs.lemmas.List.{get_or-map, length-map, map-id}
-use Rattle.std.proofs.lemmas.Simd.{map-map}
-use Rattle.std.proofs.lemmas.List.Elements.{All-map}
-use Rattle.std.proofs.lemmas.List.Folds.{flat_map-map, list_any_at}
-use Rattle.std.proofs.lemmas.List.FromFn.{get_or-range_with_len, length-range_with_len}
-use Rattle.std.proofs.lemmas.List.Sorted.{All-permutation, IsPermutation-map, list_any-IsPermutation}
-use Rattle.std.proofs.lemmas.Map.Keys.{IsDistinct-from_apart, IsDistinct-IsPermutation}
-use Rattle.std.proofs.lemmas.Nat.{mod-mul-add}
+use Rattle.plan_num.proofs.Common.{◌≡◌, ◌∙◌, ℕ, ◌+◌, ◌*◌, ◌<◌, ◌≤◌, Bool, true, false, cond, eqb}
+use Rattle.plan_num.proofs.Common.{List, [], length, map, filter, get_or, All, refl, ap, sym, subst}
+use Rattle.plan_num.proofs.Common.{arith, IsDistinct, range_with_len, IsNonDecreasingBy}
+use Rattle.plan_num.proofs.Common.{IsPermutation, eq-eqb, ne_eqb, get_or-map, length-map, map-id}
+use Rattle.plan_num.proofs.Common.{map-map, All-map, flat_map-map, list_any_at}
+use Rattle.plan_num.proofs.Common.{get_or-range_with_len, length-range_with_len, All-permutation}
+use Rattle.plan_num.proofs.Common.{IsPermutation-map, list_any-IsPermutation, IsDistinct-from_apart}
+use Rattle.plan_num.proofs.Common.{IsDistinct-IsPermutation, mod-mul-add}
+use Rattle.std.specs.List.Sorted.{IsNonDecreasing}
 use Rattle.propagation.specs.declared.day_event.DayEvent.{DayEvent}
 use Rattle.propagation.specs.DayEvents.{no_event}
 use Rattle.propagation.specs.DayEvents.{forward_rank}

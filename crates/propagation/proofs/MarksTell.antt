@@ -1,12 +1,9 @@
 -- Marks at the heads of items tell which events some item marks.
-use Rattle.std.proofs.Common.{◌≡◌, ◌∙◌, ℕ, zero, suc, ◌+◌, ◌<◌, ◌≤◌, ◌==◌, ◌&&◌, ◌||◌, Bool, true}
-use Rattle.std.proofs.Common.{false, cond, List, [], ◌∷◌, length, map, filter, get_or, All, refl}
-use Rattle.std.proofs.Common.{ap, sym, arith}
-use Rattle.std.specs.List.{list_any, range_with_len}
-use Rattle.std.proofs.lemmas.Bool.{eq-eqb, ne_eqb}
-use Rattle.std.proofs.lemmas.List.{length-set}
-use Rattle.std.proofs.lemmas.List.Elements.{All-head, All-tail}
-use Rattle.std.proofs.lemmas.List.FromFn.{get_or-map-range_with_len, length-map-range_with_len}
+use Rattle.plan_num.proofs.Common.{◌≡◌, ◌∙◌, ℕ, zero, suc, ◌+◌, ◌<◌, ◌≤◌, ◌==◌, ◌&&◌, ◌||◌, Bool}
+use Rattle.plan_num.proofs.Common.{true, false, cond, List, [], ◌∷◌, length, map, filter, get_or}
+use Rattle.plan_num.proofs.Common.{All, refl, ap, sym, arith, list_any, range_with_len, eq-eqb}
+use Rattle.plan_num.proofs.Common.{ne_eqb, length-set, All-head, All-tail}
+use Rattle.plan_num.proofs.Common.{get_or-map-range_with_len, length-map-range_with_len}
 use Rattle.propagation.specs.Marks.{marked_by, with_mark}
 use Rattle.bit_rows.proofs.Places.{told_anew}
 use Rattle.plan_num.proofs.Tests.{or_false}

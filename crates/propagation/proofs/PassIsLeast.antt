@@ -1,13 +1,11 @@
 -- What the pass along the links of a problem gives are its least times.
-use Rattle.std.proofs.Common.{◌≡◌, ◌∙◌, ℕ, zero, suc, ◌+◌, ◌<◌, ◌≤◌, Bool, true, false, List, []}
-use Rattle.std.proofs.Common.{◌∷◌, ◌++◌, length, map, get_or, All, Option, Some, None, Result, Ok}
-use Rattle.std.proofs.Common.{Err, IfOk, refl, ap, sym, subst, arith}
-use Rattle.std.specs.List.{Contains, enumerate_from, items_where_true}
-use Rattle.std.proofs.lemmas.List.{get_or-map, get_or-append-add, length-append, length-map}
-use Rattle.std.proofs.Math.ListN.{get_or-append}
-use Rattle.std.proofs.lemmas.List.Elements.{All-append, All-cons, All-map, All-nil, Contains-get_or}
-use Rattle.std.proofs.lemmas.List.FromFn.{get_or-enumerate_from, length-enumerate_from}
-use Rattle.std.proofs.lemmas.List.Sorted.{All-permutation, IsPermutation-sym}
+use Rattle.plan_num.proofs.Common.{◌≡◌, ◌∙◌, ℕ, zero, suc, ◌+◌, ◌<◌, ◌≤◌, Bool, true, false, List}
+use Rattle.plan_num.proofs.Common.{[], ◌∷◌, ◌++◌, length, map, get_or, All, Option, Some, None}
+use Rattle.plan_num.proofs.Common.{Result, Ok, Err, IfOk, refl, ap, sym, subst, arith, Contains}
+use Rattle.plan_num.proofs.Common.{enumerate_from, items_where_true, get_or-map, get_or-append-add}
+use Rattle.plan_num.proofs.Common.{length-append, length-map, get_or-append, All-append, All-cons}
+use Rattle.plan_num.proofs.Common.{All-map, All-nil, Contains-get_or, get_or-enumerate_from}
+use Rattle.plan_num.proofs.Common.{length-enumerate_from, All-permutation, IsPermutation-sym}
 use Rattle.propagation.specs.declared.day_event.DayEvent.{DayEvent}
 use Rattle.propagation.specs.DayEvents.{forward_rank}
 use Rattle.propagation.proofs.RanksRise.{rank_rises}

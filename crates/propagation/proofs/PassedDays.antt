@@ -1,14 +1,11 @@
 -- Parts that pass the test make a problem.
-use Rattle.std.proofs.Common.{◌≡◌, ◌∙◌, ℕ, ◌+◌, ◌<◌, ◌≤◌, ◌&&◌, nat_eq, nat_le, nat_lt, Bool, true}
-use Rattle.std.proofs.Common.{List, length, map, drop, zip, get_or, All, ap, sym, subst, arith}
-use Rattle.std.specs.List.{list_all, range_with_len}
-use Rattle.std.specs.List.Sorted.{IsStrictlyIncreasing}
-use Rattle.std.proofs.lemmas.Bool.{and_parts, eqb-true, leb-true, ltb-true}
-use Rattle.std.proofs.lemmas.List.{ext_get_or, get_or-drop, get_or-map, length-drop, length-map}
-use Rattle.std.proofs.lemmas.List.Elements.{All-append}
-use Rattle.std.proofs.lemmas.List.FromFn.{get_or-range_with_len, length-range_with_len}
-use Rattle.std.proofs.lemmas.List.Sums.{AllPass-from_list_all}
-use Rattle.std.proofs.lemmas.Slice.Zip.{get_or-zip, length-zip}
+use Rattle.plan_num.proofs.Common.{◌≡◌, ◌∙◌, ℕ, ◌+◌, ◌<◌, ◌≤◌, ◌&&◌, nat_eq, nat_le, nat_lt, Bool}
+use Rattle.plan_num.proofs.Common.{true, List, length, map, drop, zip, get_or, All, ap, sym, subst}
+use Rattle.plan_num.proofs.Common.{arith, list_all, range_with_len, IsStrictlyIncreasing, and_parts}
+use Rattle.plan_num.proofs.Common.{eqb-true, leb-true, ltb-true, ext_get_or, get_or-drop}
+use Rattle.plan_num.proofs.Common.{get_or-map, length-drop, length-map, All-append}
+use Rattle.plan_num.proofs.Common.{get_or-range_with_len, length-range_with_len}
+use Rattle.plan_num.proofs.Common.{AllPass-from_list_all, get_or-zip, length-zip}
 use Rattle.propagation.specs.declared.day_event.DayEvent.{DayEvent}
 use Rattle.propagation.specs.declared.step.Activity.{Activity}
 use Rattle.propagation.specs.declared.step.Step.{Step}

@@ -1,8 +1,6 @@
 -- One link more of a pass.
-use Rattle.std.proofs.Common.{◌≡◌, ℕ, ◌+◌, ◌*◌, ◌<◌, ◌≤◌, Bool, true, false, List, length, drop}
-use Rattle.std.proofs.Common.{get_or, All, arith, ◌⊎◌, inl, inr}
-use Rattle.std.proofs.lemmas.List.{drop_more}
-use Rattle.std.proofs.lemmas.List.Elements.{All-set}
+use Rattle.plan_num.proofs.Common.{◌≡◌, ℕ, ◌+◌, ◌*◌, ◌<◌, ◌≤◌, Bool, true, false, List, length}
+use Rattle.plan_num.proofs.Common.{drop, get_or, All, arith, ◌⊎◌, inl, inr, drop_more, All-set}
 use Rattle.propagation.specs.declared.links.Link.{Link}
 use Rattle.propagation.specs.declared.step.Step.{Step}
 use Rattle.propagation.specs.LeastTimes.{asked, later, time_at}

@@ -1,9 +1,8 @@
 -- Lists that tell one thing of each place.
-use Rattle.std.proofs.Common.{◌≡◌, ◌∙◌, ℕ, ◌+◌, ◌<◌, ◌++◌, append_assoc}
-use Rattle.std.proofs.Common.{List, [], ◌∷◌, map, sym, arith}
-use Rattle.std.specs.List.{range_with_len}
-use Rattle.std.proofs.lemmas.List.{ext_get_or}
-use Rattle.std.proofs.lemmas.List.FromFn.{get_or-map-range_with_len, length-map-range_with_len, map-range_with_len_more}
+use Rattle.plan_num.proofs.Common.{◌≡◌, ◌∙◌, ℕ, ◌+◌, ◌<◌, ◌++◌, append_assoc, List, [], ◌∷◌, map}
+use Rattle.plan_num.proofs.Common.{sym, arith, range_with_len, ext_get_or}
+use Rattle.plan_num.proofs.Common.{get_or-map-range_with_len, length-map-range_with_len}
+use Rattle.plan_num.proofs.Common.{map-range_with_len_more}
 
 -- one item more is done, and the others are left
 pub moved : {X : Type 0} (done new left rest all : List X) (x y : X) → left ≡ x ∷ rest

@@ -1,20 +1,16 @@
 -- Feasible times with a right reason for each event are the least ones.
-use Rattle.std.proofs.Common.{◌≡◌, ℕ, zero, suc, ◌<◌, ◌+◌, ◌&&◌, ◌≤◌, cond, nat_eq, Bool, true}
-use Rattle.std.proofs.Common.{false, List, [], ◌∷◌, ◌++◌, length, map, get_or, ap, sym, ◌∙◌, refl}
-use Rattle.std.proofs.Common.{arith, ◌⊎◌, inl, inr, subst}
-use Rattle.std.specs.Cmp.Lexicographic.{slice_cmp}
-use Rattle.std.specs.List.{All, Contains, list_any, filter}
-use Rattle.std.specs.Ordering.{nat_cmp, is_lt, ordering_reverse}
+use Rattle.plan_num.proofs.Common.{◌≡◌, ℕ, zero, suc, ◌<◌, ◌+◌, ◌&&◌, ◌≤◌, cond, nat_eq, Bool, true}
+use Rattle.plan_num.proofs.Common.{false, List, [], ◌∷◌, ◌++◌, length, map, get_or, ap, sym, ◌∙◌}
+use Rattle.plan_num.proofs.Common.{refl, arith, ◌⊎◌, inl, inr, subst, slice_cmp, All, Contains}
+use Rattle.plan_num.proofs.Common.{list_any, filter, nat_cmp, is_lt, ordering_reverse, Decides-eqb}
+use Rattle.plan_num.proofs.Common.{length-map, get_or-map, All-filter, All-contains_itself}
+use Rattle.plan_num.proofs.Common.{All-contains, filter_passes, Contains-append_left}
+use Rattle.plan_num.proofs.Common.{Contains-append_right, Contains-get_or, All-append, All-map}
+use Rattle.plan_num.proofs.Common.{All-weaker, Any-from_list_any, length-filter, count_by-le-length}
+use Rattle.plan_num.proofs.Common.{and_parts}
 use Rattle.std.specs.declared.cmp.Ordering.{Ordering}
 use Rattle.std.specs.declared.cmp.Ordering.TheVariants.{Less, Equal, Greater}
-use Rattle.std.proofs.lemmas.Bool.Decides.{Decides-eqb}
 use Rattle.std.proofs.lemmas.Cmp.{lists_total, nat_cmp_total}
-use Rattle.std.proofs.lemmas.List.{length-map, get_or-map}
-use Rattle.std.proofs.lemmas.List.Elements.{All-filter, All-contains_itself, All-contains, filter_passes}
-use Rattle.std.proofs.lemmas.List.Elements.{Contains-append_left, Contains-append_right, Contains-get_or, All-append}
-use Rattle.std.proofs.lemmas.List.Elements.{All-map, All-weaker}
-use Rattle.std.proofs.lemmas.List.Folds.{Any-from_list_any}
-use Rattle.std.proofs.lemmas.List.Sums.{length-filter, count_by-le-length}
 use Rattle.propagation.specs.DayEvents.{stands_before, forward_key}
 use Rattle.propagation.specs.declared.day_event.DayEvent.{DayEvent}
 use Rattle.propagation.specs.declared.reason.Reason.{Reason}
@@ -25,7 +21,6 @@ use Rattle.propagation.specs.LeastTimes.{IsFeasible, IsLeast, time_at, asked}
 use Rattle.propagation.specs.Problems.{DelayProblem, steps_with, event_at, earliest_at, GoesForward, IsForward}
 use Rattle.propagation.specs.Problems.{AreChanges}
 use Rattle.propagation.specs.Reasons.{AreRight, is_right, is_tight}
-use Rattle.std.proofs.lemmas.Bool.{and_parts}
 
 record Tight (steps : List Step) (times : List ℕ) (event : ℕ) : Type 0 where
   step : Step

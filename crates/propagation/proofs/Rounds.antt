@@ -1,14 +1,13 @@
 -- The least times that are computed are the least times, and the only ones.
-use Rattle.std.proofs.Common.{◌≡◌, ℕ, ℤ, zero, suc, ◌<◌, ◌+◌, ◌==◌, ◌≤◌, cond, Bool, true, false, List}
-use Rattle.std.proofs.Common.{[], ◌∷◌, ◌++◌, length, map, get_or, ap, sym, ◌∙◌, refl, arith, ◌⊎◌}
-use Rattle.std.proofs.Common.{inl, inr, subst}
-use Rattle.std.specs.List.{All, Contains, filter}
-use Rattle.std.proofs.lemmas.Bool.Decides.{Decides-eqb}
-use Rattle.std.proofs.lemmas.List.{length-map, get_or-map, ext_get_or}
-use Rattle.std.proofs.lemmas.List.Elements.{All-filter, All-contains_itself, All-contains, filter_passes}
-use Rattle.std.proofs.lemmas.List.Elements.{Contains-append_left, Contains-append_right, Contains-get_or, All-append}
-use Rattle.std.proofs.lemmas.List.Elements.{All-map, All-weaker, All-head, All-tail, All-from_get_or}
-use Rattle.std.proofs.lemmas.List.FromFn.{get_or-map-range_with_len, length-map-range_with_len}
+use Rattle.plan_num.proofs.Common.{◌≡◌, ℕ, ℤ, zero, suc, ◌<◌, ◌+◌, ◌==◌, ◌≤◌, cond, Bool, true}
+use Rattle.plan_num.proofs.Common.{false, List, [], ◌∷◌, ◌++◌, length, map, get_or, ap, sym, ◌∙◌}
+use Rattle.plan_num.proofs.Common.{refl, arith, ◌⊎◌, inl, inr, subst, All, Contains, filter}
+use Rattle.plan_num.proofs.Common.{Decides-eqb, length-map, get_or-map, ext_get_or, All-filter}
+use Rattle.plan_num.proofs.Common.{All-contains_itself, All-contains, filter_passes}
+use Rattle.plan_num.proofs.Common.{Contains-append_left, Contains-append_right, Contains-get_or}
+use Rattle.plan_num.proofs.Common.{All-append, All-map, All-weaker, All-head, All-tail}
+use Rattle.plan_num.proofs.Common.{All-from_get_or, get_or-map-range_with_len}
+use Rattle.plan_num.proofs.Common.{length-map-range_with_len}
 use Rattle.propagation.specs.declared.step.Activity.{Activity}
 use Rattle.propagation.specs.declared.step.Step.{Step}
 use Rattle.propagation.specs.LeastTimes.{IsLeast, time_at, asked, latest, pushed_at, pushed, pushed_often, least_times}

@@ -1,10 +1,8 @@
 -- The least times are not too great for their column.
-use Rattle.std.proofs.Common.{◌≡◌, ◌∙◌, ℕ, zero, suc, ◌+◌, ◌*◌, ◌<◌, ◌≤◌, ◌==◌, ◌⊎◌, inl, inr, List}
-use Rattle.std.proofs.Common.{length, map, filter, get_or, All, ap, sym, arith}
-use Rattle.std.specs.List.{Contains}
-use Rattle.std.proofs.lemmas.List.{get_or-map, length-map}
-use Rattle.std.proofs.lemmas.List.Elements.{All-contains}
-use Rattle.std.proofs.lemmas.List.FromFn.{get_or-map-range_with_len, length-map-range_with_len}
+use Rattle.plan_num.proofs.Common.{◌≡◌, ◌∙◌, ℕ, zero, suc, ◌+◌, ◌*◌, ◌<◌, ◌≤◌, ◌==◌, ◌⊎◌, inl, inr}
+use Rattle.plan_num.proofs.Common.{List, length, map, filter, get_or, All, ap, sym, arith, Contains}
+use Rattle.plan_num.proofs.Common.{get_or-map, length-map, All-contains, get_or-map-range_with_len}
+use Rattle.plan_num.proofs.Common.{length-map-range_with_len}
 use Rattle.propagation.specs.declared.step.Activity.{Activity}
 use Rattle.propagation.specs.declared.step.Step.{Step}
 use Rattle.propagation.specs.LeastTimes.{asked, least_times, pushed_at, pushed_often}

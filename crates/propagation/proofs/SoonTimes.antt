@@ -1,11 +1,9 @@
 -- Times behind links that gain little are not much later than planned.
-use Rattle.std.proofs.Common.{◌≡◌, ℕ, suc, ◌+◌, ◌*◌, ◌<◌, ◌≤◌, ◌⊎◌, inl, inr, Bool, true, false}
-use Rattle.std.proofs.Common.{cond, eqb, List, [], ◌∷◌, length, All, Result, Ok, Err, IfOk, refl}
-use Rattle.std.proofs.Common.{sym, subst, arith}
-use Rattle.std.proofs.lemmas.Bool.{eqb-true, eqb-false}
-use Rattle.std.proofs.lemmas.List.{get_or_default, get_or-set_same, get_or-set_other, length-set}
-use Rattle.std.proofs.lemmas.List.Elements.{All-head, All-tail}
-use Rattle.std.proofs.lemmas.List.Sorted.{All-permutation}
+use Rattle.plan_num.proofs.Common.{◌≡◌, ℕ, suc, ◌+◌, ◌*◌, ◌<◌, ◌≤◌, ◌⊎◌, inl, inr, Bool, true}
+use Rattle.plan_num.proofs.Common.{false, cond, eqb, List, [], ◌∷◌, length, All, Result, Ok, Err}
+use Rattle.plan_num.proofs.Common.{IfOk, refl, sym, subst, arith, eqb-true, eqb-false}
+use Rattle.plan_num.proofs.Common.{get_or_default, get_or-set_same, get_or-set_other, length-set}
+use Rattle.plan_num.proofs.Common.{All-head, All-tail, All-permutation}
 use Rattle.propagation.specs.declared.day_event.DayEvent.{DayEvent}
 use Rattle.propagation.specs.DayEvents.{forward_rank}
 use Rattle.propagation.specs.declared.links.Link.{Link}

@@ -1,13 +1,10 @@
 -- One tight activity more.
-use Rattle.std.proofs.Common.{◌≡◌, ◌∙◌, ℕ, suc, ◌+◌, ◌<◌, ◌≤◌, ◌&&◌, Bool, true, false, cond, eqb}
-use Rattle.std.proofs.Common.{nat_eq, List, [], ◌∷◌, ◌++◌, append_assoc, length, map, take, get_or}
-use Rattle.std.proofs.Common.{slice_set, Option, Some, None, refl, ap, sym, subst, arith}
-use Rattle.std.specs.List.{items_where_true, range_with_len, reduce}
-use Rattle.std.proofs.lemmas.Bool.{eq-eqb, eqb-true, false≢true, ne_eqb, and_parts}
-use Rattle.std.proofs.lemmas.List.{append-nil, take_all}
-use Rattle.std.proofs.lemmas.List.Elements.{filter-append}
-use Rattle.std.proofs.lemmas.List.FromFn.{get_or-map-range_with_len}
-use Rattle.std.proofs.lemmas.List.Sums.{fold_push}
+use Rattle.plan_num.proofs.Common.{◌≡◌, ◌∙◌, ℕ, suc, ◌+◌, ◌<◌, ◌≤◌, ◌&&◌, Bool, true, false, cond}
+use Rattle.plan_num.proofs.Common.{eqb, nat_eq, List, [], ◌∷◌, ◌++◌, append_assoc, length, map}
+use Rattle.plan_num.proofs.Common.{take, get_or, slice_set, Option, Some, None, refl, ap, sym}
+use Rattle.plan_num.proofs.Common.{subst, arith, items_where_true, range_with_len, reduce, eq-eqb}
+use Rattle.plan_num.proofs.Common.{eqb-true, false≢true, ne_eqb, and_parts, append-nil, take_all}
+use Rattle.plan_num.proofs.Common.{filter-append, get_or-map-range_with_len, fold_push}
 use Rattle.propagation.specs.declared.step.Activity.{Activity}
 use Rattle.propagation.specs.LeastTimes.{asked, time_at}
 use Rattle.propagation.specs.Reasons.{is_tight, lesser, tight_among}

@@ -1,8 +1,6 @@
 -- The reasons that are made are those that are written.
-use Rattle.std.proofs.Common.{◌≡◌, ℕ, List, length, map, get_or, Option, None, Result, Ok, Err}
-use Rattle.std.proofs.Common.{IfOk, arith}
-use Rattle.std.specs.List.{range_with_len, reduce}
-use Rattle.std.proofs.lemmas.List.FromFn.{get_or-map-range_with_len}
+use Rattle.plan_num.proofs.Common.{◌≡◌, ℕ, List, length, map, get_or, Option, None, Result, Ok, Err}
+use Rattle.plan_num.proofs.Common.{IfOk, arith, range_with_len, reduce, get_or-map-range_with_len}
 use Rattle.propagation.specs.declared.reason.Reason.{Reason}
 use Rattle.propagation.specs.declared.step.Activity.{Activity}
 use Rattle.propagation.specs.Reasons.{lesser, tight_among}

@@ -1,15 +1,11 @@
 -- The reasons that are written of least times are right.
-use Rattle.std.proofs.Common.{◌≡◌, ℕ, ◌<◌, ◌==◌, cond, nat_eq, Bool, true, false, List, [], ◌∷◌}
-use Rattle.std.proofs.Common.{◌++◌, length, map, get_or, ap, sym, ◌∙◌, refl, arith, ◌⊎◌, inl, inr}
-use Rattle.std.proofs.Common.{subst, Option, true≢false}
-use Rattle.std.specs.List.{Contains, list_any, filter, fold, reduce}
-use Rattle.std.proofs.lemmas.Bool.Decides.{Decides-eqb}
-use Rattle.std.specs.Cmp.{nat_eq_equiv}
-use Rattle.std.proofs.lemmas.List.{length-map, get_or-map}
-use Rattle.std.proofs.lemmas.List.Elements.{Contains-get_or, Contains-append_cases}
-use Rattle.std.proofs.lemmas.List.Folds.{list_any_at}
-use Rattle.std.proofs.lemmas.List.FromFn.{get_or-map-range_with_len, length-map-range_with_len}
-use Rattle.std.proofs.lemmas.Map.Views.{list_any-from_Contains}
+use Rattle.plan_num.proofs.Common.{◌≡◌, ℕ, ◌<◌, ◌==◌, cond, nat_eq, Bool, true, false, List, []}
+use Rattle.plan_num.proofs.Common.{◌∷◌, ◌++◌, length, map, get_or, ap, sym, ◌∙◌, refl, arith, ◌⊎◌}
+use Rattle.plan_num.proofs.Common.{inl, inr, subst, Option, true≢false, Contains, list_any, filter}
+use Rattle.plan_num.proofs.Common.{fold, reduce, Decides-eqb, nat_eq_equiv, length-map, get_or-map}
+use Rattle.plan_num.proofs.Common.{Contains-get_or, Contains-append_cases, list_any_at}
+use Rattle.plan_num.proofs.Common.{get_or-map-range_with_len, length-map-range_with_len}
+use Rattle.plan_num.proofs.Common.{list_any-from_Contains}
 use Rattle.propagation.specs.declared.reason.Reason.TheVariants as reason
 use Rattle.propagation.specs.declared.step.Activity.{Activity}
 use Rattle.propagation.specs.declared.step.Step.{Step}

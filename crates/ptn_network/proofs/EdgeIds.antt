@@ -1,17 +1,12 @@
 -- Edges by their ids.
-use Rattle.std.proofs.Common.{arith, ◌≡◌, ℕ, ℤ, ◌<◌, Bool, true, false, cond, List, length, map}
-use Rattle.std.proofs.Common.{get_or, slice_get, position, refl, ap, sym, ◌∙◌, Some, None, is_some}
-use Rattle.std.specs.List.{find, position_or_len}
-use Rattle.std.specs.Ordering.{int_eq}
-use Rattle.std.proofs.lemmas.Bool.{ltb-false}
-use Rattle.std.proofs.lemmas.Bool.Decides.{Decides-int_eq}
-use Rattle.std.proofs.lemmas.List.Folds.{find_at}
-use Rattle.std.proofs.lemmas.List.Quantifiers.{position-Some}
-use Rattle.std.proofs.lemmas.Option.{cond_some, slice_get_past, slice_get-get_or}
-use Rattle.tables.proofs.CellFacts.{position-map}
-use Rattle.walks.specs.declared.edge.Edge.{Edge}
+use Rattle.plan_num.proofs.Common.{arith, ◌≡◌, ℕ, ℤ, ◌<◌, Bool, true, false, cond, List, length}
+use Rattle.plan_num.proofs.Common.{map, get_or, slice_get, position, refl, ap, sym, ◌∙◌, Some, None}
+use Rattle.plan_num.proofs.Common.{is_some, find, position_or_len, int_eq, ltb-false}
+use Rattle.plan_num.proofs.Common.{Decides-int_eq, find_at, position-Some, cond_some}
+use Rattle.plan_num.proofs.Common.{slice_get_past, slice_get-get_or}
+use Rattle.tables.proofs.Common.{position-map}
+use Rattle.walks.proofs.Common.{Edge, no_edge}
 use Rattle.ptn_network.specs.Ids.{edge_with, StandsAt}
-use Rattle.walks.proofs.PathSteps.{no_edge}
 
 nothing_chosen : {X : Type 0} (b : Bool) (x : X) → cond b (Some x) None ≡ None → b ≡ false
 nothing_chosen true x e = cc

@@ -1,39 +1,26 @@
 -- Rows of given loads, one after the other.
-use Rattle.std.proofs.Common.{◌≡◌, ◌≢◌, ℕ, ℤ, pos, ◌<◌, int_lt, Bool, true, false, not, cond, List}
-use Rattle.std.proofs.Common.{[], ◌∷◌, ◌++◌, length, map, get_or, set, slice_get, refl, ap, subst}
-use Rattle.std.proofs.Common.{sym, ◌∙◌, arith, Option, Some, None, option_map, is_some, unwrap_or}
-use Rattle.std.proofs.Common.{inl, inr, get_or-set_other, get_or-set_same}
-use Rattle.std.specs.List.{All, list_any, find}
-use Rattle.std.proofs.lemmas.List.Elements.{All-head, All-tail, All-map}
-use Rattle.std.specs.List.Sorted.{IsStrictlySortedBy}
-use Rattle.std.specs.Option.{option_or}
-use Rattle.std.specs.Ordering.{int_eq, int_cmp}
+use Rattle.plan_num.proofs.Common.{◌≡◌, ◌≢◌, ℕ, ℤ, pos, ◌<◌, int_lt, Bool, true, false, not, cond}
+use Rattle.plan_num.proofs.Common.{List, [], ◌∷◌, ◌++◌, length, map, get_or, set, slice_get, refl}
+use Rattle.plan_num.proofs.Common.{ap, subst, sym, ◌∙◌, arith, Option, Some, None, option_map}
+use Rattle.plan_num.proofs.Common.{is_some, unwrap_or, inl, inr, get_or-set_other, get_or-set_same}
+use Rattle.plan_num.proofs.Common.{All, list_any, find, All-head, All-tail, All-map}
+use Rattle.plan_num.proofs.Common.{IsStrictlySortedBy, option_or, int_eq, int_cmp, cases_eq}
+use Rattle.plan_num.proofs.Common.{cases_Bool, cases_order, Decides-int_eq, length-map, get_or-map}
+use Rattle.plan_num.proofs.Common.{length-set, same_lists, find-append, Less-from_sorted, same_Some}
+use Rattle.plan_num.proofs.Common.{map-map}
 use Rattle.std.specs.declared.cmp.Ordering.TheVariants.{Less}
-use Rattle.std.proofs.lemmas.Bool.{cases_eq, cases_Bool, cases_order}
-use Rattle.std.proofs.lemmas.Bool.Decides.{Decides-int_eq}
-use Rattle.std.proofs.lemmas.List.{length-map, get_or-map, length-set, same_lists}
-use Rattle.std.proofs.lemmas.List.Folds.{find-append}
-use Rattle.std.proofs.lemmas.Map.Keys.{Less-from_sorted}
-use Rattle.std.proofs.lemmas.Option.{same_Some}
-use Rattle.std.proofs.lemmas.Simd.{map-map}
 use Rattle.tables.specs.declared.row_why.RowWhy.TheVariants as why
-use Rattle.tables.specs.declared.file_id.FileId.{FileId}
+use Rattle.tables.proofs.Common.{FileId, load_columns, Input, records_of, broken_whys, input_faults}
+use Rattle.tables.proofs.Common.{table_of, InColumns, sound_rows, without_whole, refused_as_whole}
+use Rattle.tables.proofs.Common.{sound_as_whole, TableRow}
 use Rattle.tables.specs.declared.refusal.Refusal.TheVariants as refusal
-use Rattle.tables.specs.Columns.{load_columns}
-use Rattle.tables.specs.Inputs.{Input, records_of, broken_whys, input_faults}
-use Rattle.tables.specs.Reading.{table_of}
-use Rattle.tables.specs.Writing.{InColumns}
-use Rattle.tables.proofs.Inputs.{sound_rows}
-use Rattle.tables.proofs.WholeRules.{without_whole, refused_as_whole, sound_as_whole}
-use Rattle.tables.specs.Tables.{TableRow}
 use Rattle.plan_num.proofs.Found.{any_mapped, any_found}
-use Rattle.walks.specs.declared.edge.Edge.{Edge}
+use Rattle.walks.proofs.Common.{Edge, no_edge}
 use Rattle.ptn_network.specs.declared.edge_load.EdgeLoad.{EdgeLoad}
 use Rattle.ptn_network.specs.declared.load_row.LoadRow.{LoadRow}
 use Rattle.ptn_network.specs.Ids.{edge_with, StandsAt}
 use Rattle.ptn_network.specs.Loads.{load_input, load_row_of, load_rules, given_for, loads_of, no_load, IsLoad}
 use Rattle.ptn_network.proofs.EdgeIds.{stands_within, own_id_at}
-use Rattle.walks.proofs.PathSteps.{no_edge}
 
 same_ids : (x y : ℤ) → int_eq x y ≡ true → x ≡ y
 same_ids x y e = (Decides-int_eq x y).0 e

@@ -1,17 +1,12 @@
 -- The edges of rows, one row after the other.
-use Rattle.std.proofs.Common.{arith, ◌≡◌, ℤ, Bool, true, false, cond, List, [], ◌∷◌, ◌++◌, map}
-use Rattle.std.proofs.Common.{refl, ap, ◌∙◌, Option, Some, None, is_some}
-use Rattle.std.specs.List.{list_any}
-use Rattle.std.specs.Map.{lookup}
-use Rattle.std.specs.Ordering.{int_eq}
-use Rattle.std.proofs.lemmas.List.{map_push}
-use Rattle.tables.specs.declared.row_why.RowWhy.{RowWhy}
+use Rattle.plan_num.proofs.Common.{arith, ◌≡◌, ℤ, Bool, true, false, cond, List, [], ◌∷◌, ◌++◌, map}
+use Rattle.plan_num.proofs.Common.{refl, ap, ◌∙◌, Option, Some, None, is_some, list_any, lookup}
+use Rattle.plan_num.proofs.Common.{int_eq, map_push}
+use Rattle.tables.proofs.Common.{RowWhy, broken_whys}
 use Rattle.tables.specs.declared.row_why.RowWhy.TheVariants as why
-use Rattle.tables.specs.Inputs.{broken_whys}
-use Rattle.walks.specs.declared.edge.Edge.{Edge}
+use Rattle.walks.proofs.Common.{Edge, AreKeyed}
 use Rattle.ptn_network.specs.declared.edge_row.EdgeRow.{EdgeRow}
 use Rattle.ptn_network.specs.Inputs.{edge_rules}
-use Rattle.walks.specs.Networks.{AreKeyed}
 use Rattle.ptn_network.specs.Networks.{edge_entry, edge_of}
 
 -- the entries of edges have the ids of the rows

@@ -1,40 +1,24 @@
 -- What holds of each network that texts give.
-use Rattle.std.proofs.Common.{◌≡◌, ◌≢◌, ℕ, ℤ, pos, ◌+◌, ◌<◌, ◌≤◌, ◌≤ℤ◌, int_lt, Bool, true, false}
-use Rattle.std.proofs.Common.{not, ◌||◌, cond, T, List, [], ◌∷◌, ◌++◌, length, map, get_or}
-use Rattle.std.proofs.Common.{refl, ap, subst, sym, ◌∙◌, arith, Some, None, lit<}
-use Rattle.std.specs.List.{All, list_any, position, position_or_len}
-use Rattle.std.specs.List.Sorted.{IsStrictlySortedBy}
-use Rattle.std.specs.Map.{keys_of, values_of}
-use Rattle.std.specs.Option.{unwrap_or}
-use Rattle.std.specs.Ordering.{int_eq, int_cmp}
+use Rattle.plan_num.proofs.Common.{◌≡◌, ◌≢◌, ℕ, ℤ, pos, ◌+◌, ◌<◌, ◌≤◌, ◌≤ℤ◌, int_lt, Bool, true}
+use Rattle.plan_num.proofs.Common.{false, not, ◌||◌, cond, T, List, [], ◌∷◌, ◌++◌, length, map}
+use Rattle.plan_num.proofs.Common.{get_or, refl, ap, subst, sym, ◌∙◌, arith, Some, None, lit<, All}
+use Rattle.plan_num.proofs.Common.{list_any, position, position_or_len, IsStrictlySortedBy, keys_of}
+use Rattle.plan_num.proofs.Common.{values_of, unwrap_or, int_eq, int_cmp, lt-ltb, or_parts}
+use Rattle.plan_num.proofs.Common.{not-false, Decides-int_eq, ints, length-map, All-cons, All-head}
+use Rattle.plan_num.proofs.Common.{All-tail, position-Some, length-keys_of}
 use Rattle.std.specs.Int.Signed.{lt_z_no}
-use Rattle.std.proofs.lemmas.Bool.{lt-ltb, or_parts, not-false}
-use Rattle.std.proofs.lemmas.Bool.Decides.{Decides-int_eq}
-use Rattle.std.proofs.lemmas.Int.{ints}
-use Rattle.std.proofs.lemmas.List.{length-map}
-use Rattle.std.proofs.lemmas.List.Elements.{All-cons, All-head, All-tail}
-use Rattle.std.proofs.lemmas.List.Quantifiers.{position-Some}
-use Rattle.std.proofs.lemmas.Map.Entries.{length-keys_of, length-values_of}
+use Rattle.std.proofs.lemmas.Map.Entries.{length-values_of}
 use Rattle.tables.specs.declared.column.ColumnKind.TheVariants as kind
-use Rattle.tables.specs.declared.row_why.RowWhy.{RowWhy}
+use Rattle.tables.proofs.Common.{RowWhy, TableRow, edge_columns, table_of, InColumns, records}
+use Rattle.tables.proofs.Common.{records_of, row_limit, broken_whys, input_faults, few_rows}
+use Rattle.tables.proofs.Common.{sound_rows, front_none, back_none, in_column}
 use Rattle.tables.specs.declared.row_why.RowWhy.TheVariants as why
-use Rattle.tables.specs.Tables.{TableRow}
-use Rattle.tables.specs.Columns.{edge_columns}
-use Rattle.tables.specs.Reading.{table_of}
-use Rattle.tables.specs.Writing.{InColumns}
 use Rattle.tables.specs.declared.counted.Counted.TheVariants as counted
-use Rattle.tables.specs.Inputs.{records, records_of, row_limit, broken_whys, input_faults}
-use Rattle.tables.proofs.Inputs.{few_rows, sound_rows}
-use Rattle.tables.proofs.Ranges.{front_none, back_none}
-use Rattle.tables.proofs.WriteFacts.{in_column}
-use Rattle.walks.specs.declared.edge.Edge.{Edge}
+use Rattle.walks.proofs.Common.{Edge, IsEdge, IsNetwork, by_id, index_in, by_id_sorted, by_id_keyed}
+use Rattle.walks.proofs.Common.{all_by_id, length_by_id, rising_rises, sorted_rise}
 use Rattle.ptn_network.specs.declared.edge_row.EdgeRow.{EdgeRow}
 use Rattle.ptn_network.specs.Inputs.{stop_input, edge_input, edge_row, edge_rules}
-use Rattle.walks.specs.Networks.{IsEdge, IsNetwork}
 use Rattle.ptn_network.specs.Networks.{edge_of, edge_entry, stops_of, network_of, network_faults}
-use Rattle.walks.specs.RisingIds.{by_id, index_in}
-use Rattle.walks.proofs.ById.{by_id_sorted, by_id_keyed}
-use Rattle.walks.proofs.RisingIds.{all_by_id, length_by_id, rising_rises, sorted_rise}
 use Rattle.ptn_network.proofs.Rows.{no_reason, entries_keyed}
 
 -- ---- one edge

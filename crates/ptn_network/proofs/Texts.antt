@@ -1,11 +1,9 @@
 -- The network of two texts, from what each of them gives.
-use Rattle.std.proofs.Common.{◌≡◌, ℕ, ℤ, List, [], map, arith}
-use Rattle.std.specs.Map.{values_of}
-use Rattle.tables.specs.Inputs.{records_of, input_faults}
-use Rattle.walks.specs.declared.edge.Edge.{Edge}
+use Rattle.plan_num.proofs.Common.{◌≡◌, ℕ, ℤ, List, [], map, arith, values_of}
+use Rattle.tables.proofs.Common.{records_of, input_faults}
+use Rattle.walks.proofs.Common.{Edge, by_id}
 use Rattle.ptn_network.specs.Inputs.{stop_input, edge_input}
 use Rattle.ptn_network.specs.Networks.{edge_entry, stops_of, network_of, network_faults}
-use Rattle.walks.specs.RisingIds.{by_id}
 
 module _ (stops_text edges_text : List ℕ) (stops : List ℤ) (is : stops ≡ stops_of stops_text) where
   -- the faults of the edges are all, where the stops have none

@@ -1,22 +1,18 @@
 -- The cells of the files of a day are in their columns.
-use Rattle.std.proofs.Common.{ℕ, pos, ◌+◌, ◌-◌, ◌<◌, ◌≤◌, ◌≤ℤ◌, arith, All, IfSome, List, [], ◌∷◌}
-use Rattle.std.proofs.Common.{◌++◌, length, filter, get_or, refl, Option, Some, None, subst, sym}
-use Rattle.std.specs.List.{flat_map, enumerate_from}
-use Rattle.std.proofs.lemmas.Int.{ints}
-use Rattle.std.proofs.lemmas.List.Elements.{All-nil, All-cons, All-append, All-head, All-tail, All-map, All-filter, All-weaker, All-from_recursion, recursion_from_All}
-use Rattle.std.proofs.lemmas.List.{length-map}
-use Rattle.std.proofs.lemmas.List.FromFn.{length-enumerate_from, get_or-enumerate_from}
+use Rattle.plan_num.proofs.Common.{ℕ, pos, ◌+◌, ◌-◌, ◌<◌, ◌≤◌, ◌≤ℤ◌, arith, All, IfSome, List, []}
+use Rattle.plan_num.proofs.Common.{◌∷◌, ◌++◌, length, filter, get_or, refl, Option, Some, None}
+use Rattle.plan_num.proofs.Common.{subst, sym, flat_map, enumerate_from, ints, All-nil, All-cons}
+use Rattle.plan_num.proofs.Common.{All-append, All-head, All-tail, All-map, All-filter, All-weaker}
+use Rattle.plan_num.proofs.Common.{All-from_recursion, recursion_from_All, length-map}
+use Rattle.plan_num.proofs.Common.{length-enumerate_from, get_or-enumerate_from}
 use Rattle.tables.specs.declared.words.WordTable.TheVariants as table
-use Rattle.tables.specs.Columns.{activities_p_columns, activities_x_columns, events_x_columns, trips_columns, word}
-use Rattle.tables.specs.Writing.{InColumn, InColumns}
-use Rattle.event_tables.specs.declared.activity_kind.ActivityKind.{ActivityKind}
+use Rattle.tables.proofs.Common.{activities_p_columns, activities_x_columns, events_x_columns}
+use Rattle.tables.proofs.Common.{trips_columns, word, InColumn, InColumns}
+use Rattle.event_tables.proofs.Common.{ActivityKind, EventKind, ExpandedActivity, ExpandedEvent}
+use Rattle.event_tables.proofs.Common.{PeriodicActivity, expanded_activity_cells}
+use Rattle.event_tables.proofs.Common.{expanded_event_cells, periodic_activity_cells, trip_cells}
+use Rattle.event_tables.proofs.Common.{activity_kind_place}
 use Rattle.event_tables.specs.declared.activity_kind.ActivityKind.TheVariants as day_kind
-use Rattle.event_tables.specs.declared.event_kind.EventKind.{EventKind}
-use Rattle.event_tables.specs.declared.expanded_activity.ExpandedActivity.{ExpandedActivity}
-use Rattle.event_tables.specs.declared.expanded_event.ExpandedEvent.{ExpandedEvent}
-use Rattle.event_tables.specs.declared.periodic_activity.PeriodicActivity.{PeriodicActivity}
-use Rattle.event_tables.specs.Cells.{expanded_activity_cells, expanded_event_cells, periodic_activity_cells, trip_cells}
-use Rattle.event_tables.specs.Kinds.{activity_kind_place}
 use Rattle.roll_out.specs.declared.timed_event.TimedEvent.{TimedEvent}
 use Rattle.roll_out.specs.DayActivities.{change_copies, change_copy, changes_from, copy_of, day_activities, day_changes, day_ways, is_change, is_copy, is_head, trip_ways, way_from, way_kind, with_number}
 use Rattle.roll_out.specs.DayTrips.{TripParts, day_event, day_events, no_timed, trip_events, trip_row}

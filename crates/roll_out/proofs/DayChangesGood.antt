@@ -4,16 +4,10 @@ use Rattle.std.proofs.Common.{map, filter, get_or, refl, ap, sym, ◌∙◌}
 use Rattle.std.specs.List.{flat_map, enumerate_from, AllByRecursion}
 use Rattle.std.proofs.lemmas.Bool.{eqb-true, and_parts as both_true, cases_Bool}
 use Rattle.std.proofs.lemmas.List.Elements.{recursion_from_All}
-use Rattle.event_tables.specs.declared.expanded_event.ExpandedEvent.{ExpandedEvent}
-use Rattle.event_tables.specs.declared.periodic_activity.PeriodicActivity.{PeriodicActivity}
-use Rattle.event_tables.specs.declared.periodic_event.PeriodicEvent.{PeriodicEvent}
-use Rattle.event_tables.specs.declared.periodic_kind.PeriodicKind.{PeriodicKind}
+use Rattle.event_tables.proofs.Common.{ExpandedEvent, PeriodicActivity, PeriodicEvent, PeriodicKind}
+use Rattle.event_tables.proofs.Common.{IsExpandedActivity, is_arrival, joins, AreNumbered}
+use Rattle.event_tables.proofs.Common.{same_kind}
 use Rattle.event_tables.specs.declared.periodic_kind.PeriodicKind.TheVariants as kind
-use Rattle.event_tables.specs.ExpandedFiles.{IsExpandedActivity}
-use Rattle.event_tables.specs.Kinds.{is_arrival}
-use Rattle.event_tables.specs.PeriodicRuns.{joins}
-use Rattle.event_tables.specs.Places.{AreNumbered}
-use Rattle.event_tables.specs.RunRules.{same_kind}
 use Rattle.roll_out.specs.DayActivities.{change_copies, changes_from, change_copy, day_changes, is_change, is_copy, is_head}
 use Rattle.roll_out.specs.DayTrips.{TripParts, day_event, day_events, trip_events}
 use Rattle.roll_out.specs.TimedRuns.{TimedParts, minutes_of, no_event, timed_from, minutes_on, way_on}

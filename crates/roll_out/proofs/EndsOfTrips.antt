@@ -1,14 +1,9 @@
 -- Trips start with departures of their day and end with arrivals.
-use Rattle.std.proofs.Common.{◌≡◌, ℕ, zero, suc, ◌+◌, ◌-◌, ◌<◌, arith, true, false, List, [], ◌∷◌}
-use Rattle.std.proofs.Common.{length, get_or, refl, subst}
-use Rattle.std.specs.List.{AllByRecursion, enumerate_from}
-use Rattle.std.proofs.lemmas.List.Elements.{All-from_recursion}
-use Rattle.std.proofs.lemmas.List.FromFn.{get_or-enumerate_from, length-enumerate_from}
-use Rattle.event_tables.specs.declared.event_kind.EventKind.{EventKind}
+use Rattle.plan_num.proofs.Common.{◌≡◌, ℕ, zero, suc, ◌+◌, ◌-◌, ◌<◌, arith, true, false, List, []}
+use Rattle.plan_num.proofs.Common.{◌∷◌, length, get_or, refl, subst, AllByRecursion, enumerate_from}
+use Rattle.plan_num.proofs.Common.{All-from_recursion, get_or-enumerate_from, length-enumerate_from}
+use Rattle.event_tables.proofs.Common.{EventKind, ExpandedEvent, PeriodicEvent, is_arrival}
 use Rattle.event_tables.specs.declared.event_kind.EventKind.TheVariants as kinds
-use Rattle.event_tables.specs.declared.expanded_event.ExpandedEvent.{ExpandedEvent}
-use Rattle.event_tables.specs.declared.periodic_event.PeriodicEvent.{PeriodicEvent}
-use Rattle.event_tables.specs.Kinds.{is_arrival}
 use Rattle.roll_out.specs.DayTrips.{TripParts, day_event, no_timed, trip_end_at, trip_events, trip_row}
 use Rattle.roll_out.specs.RightRollout.{IsEndAt, IsTripOver}
 use Rattle.roll_out.specs.RolloutStage.{trip_rows}

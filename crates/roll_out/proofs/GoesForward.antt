@@ -1,16 +1,11 @@
 -- Events that stand before others in the forward order.
-use Rattle.std.proofs.Common.{◌≡◌, ℕ, ◌<◌, ◌≤◌, ◌⊎◌, inl, inr, cond, arith, true, false, List, []}
-use Rattle.std.proofs.Common.{◌∷◌, Some, refl, sym}
-use Rattle.std.specs.Cmp.{nat_cmp_is}
-use Rattle.std.specs.Cmp.Lexicographic.{slice_cmp}
-use Rattle.std.specs.Ordering.{nat_cmp, is_lt}
+use Rattle.plan_num.proofs.Common.{◌≡◌, ℕ, ◌<◌, ◌≤◌, ◌⊎◌, inl, inr, cond, arith, true, false, List}
+use Rattle.plan_num.proofs.Common.{[], ◌∷◌, Some, refl, sym, nat_cmp_is, slice_cmp, nat_cmp, is_lt}
+use Rattle.plan_num.proofs.Common.{cases_lt}
 use Rattle.std.specs.declared.cmp.Ordering.TheVariants.{Less, Equal}
-use Rattle.std.proofs.lemmas.Bool.{cases_lt}
-use Rattle.event_tables.specs.declared.event_kind.EventKind.{EventKind}
+use Rattle.event_tables.proofs.Common.{EventKind, ExpandedEvent, event_with, goes_forward}
+use Rattle.event_tables.proofs.Common.{stands_before, is_arrival}
 use Rattle.event_tables.specs.declared.event_kind.EventKind.TheVariants as kinds
-use Rattle.event_tables.specs.declared.expanded_event.ExpandedEvent.{ExpandedEvent}
-use Rattle.event_tables.specs.ForwardOrder.{event_with, goes_forward, stands_before}
-use Rattle.event_tables.specs.Kinds.{is_arrival}
 
 less : (x y : ℕ) → x < y → nat_cmp x y ≡ Less
 less x y h = sym (nat_cmp_is x y Less h)

@@ -1,23 +1,19 @@
 -- Runs and activities that keep the rules of runs.
-use Rattle.std.proofs.Common.{◌≡◌, ℕ, zero, suc, ◌+◌, ◌-◌, ◌%◌, ◌<◌, ◌≤◌, ◌==◌, arith, Bool, true}
-use Rattle.std.proofs.Common.{false, ◌&&◌, ◌||◌, not, cond, All, IfSome, List, [], ◌∷◌, length}
-use Rattle.std.proofs.Common.{filter, get_or, find, Some, refl, ap, subst, sym, ◌∙◌, inl, inr}
-use Rattle.std.specs.List.{flat_map, enumerate_from, count_by, AllByRecursion}
-use Rattle.std.proofs.lemmas.Bool.{eqb-true, eqb-false, false≢true, not-false, cases_Bool}
-use Rattle.std.proofs.lemmas.List.{get_or-map, get_or_default}
-use Rattle.std.proofs.lemmas.List.Elements.{All-from_recursion, recursion_from_All}
-use Rattle.std.proofs.lemmas.List.FromFn.{get_or-enumerate_from, get_or-range_with_len, length-enumerate_from}
-use Rattle.std.proofs.lemmas.List.Sums.{sum_by-cons}
-use Rattle.tables.proofs.Ranges.{front_none, back_none}
-use Rattle.event_tables.specs.declared.event_kind.EventKind.{EventKind}
+use Rattle.plan_num.proofs.Common.{◌≡◌, ℕ, zero, suc, ◌+◌, ◌-◌, ◌%◌, ◌<◌, ◌≤◌, ◌==◌, arith, Bool}
+use Rattle.plan_num.proofs.Common.{true, false, ◌&&◌, ◌||◌, not, cond, All, IfSome, List, [], ◌∷◌}
+use Rattle.plan_num.proofs.Common.{length, filter, get_or, find, Some, refl, ap, subst, sym, ◌∙◌}
+use Rattle.plan_num.proofs.Common.{inl, inr, flat_map, enumerate_from, count_by, AllByRecursion}
+use Rattle.plan_num.proofs.Common.{eqb-true, eqb-false, false≢true, not-false, cases_Bool}
+use Rattle.plan_num.proofs.Common.{get_or-map, get_or_default, All-from_recursion}
+use Rattle.plan_num.proofs.Common.{recursion_from_All, get_or-enumerate_from, get_or-range_with_len}
+use Rattle.plan_num.proofs.Common.{length-enumerate_from, sum_by-cons}
+use Rattle.tables.proofs.Common.{front_none, back_none}
+use Rattle.event_tables.proofs.Common.{EventKind, PeriodicActivity, PeriodicEvent, event_kind_place}
+use Rattle.event_tables.proofs.Common.{is_arrival, runs_of, IsOneOf, KeepRunRules, breaks}
+use Rattle.event_tables.proofs.Common.{broken_in, drives_at_once, is_placed, is_stray, leads}
+use Rattle.event_tables.proofs.Common.{same_kind, unjoined_in}
 use Rattle.event_tables.specs.declared.event_kind.EventKind.TheVariants as kinds
-use Rattle.event_tables.specs.declared.periodic_activity.PeriodicActivity.{PeriodicActivity}
-use Rattle.event_tables.specs.declared.periodic_event.PeriodicEvent.{PeriodicEvent}
 use Rattle.event_tables.specs.declared.periodic_kind.PeriodicKind.TheVariants as kind
-use Rattle.event_tables.specs.Kinds.{event_kind_place, is_arrival}
-use Rattle.event_tables.specs.PeriodicRuns.{runs_of}
-use Rattle.event_tables.specs.Places.{IsOneOf}
-use Rattle.event_tables.specs.RunRules.{KeepRunRules, breaks, broken_in, drives_at_once, is_placed, is_stray, leads, same_kind, unjoined_in}
 use Rattle.roll_out.specs.Plans.{IsBetween, IsTimed}
 use Rattle.roll_out.specs.TimedRuns.{TimedParts, no_event}
 use Rattle.roll_out.proofs.SoundPlans.{between_all}

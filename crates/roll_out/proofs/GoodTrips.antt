@@ -1,22 +1,14 @@
 -- The trips of a day take time, and each has a start event of its own.
-use Rattle.std.proofs.Common.{◌≡◌, ℕ, ℤ, suc, pos, ◌+◌, ◌-◌, ◌<◌, ◌≤◌, arith, true, false, All}
-use Rattle.std.proofs.Common.{List, [], ◌∷◌, length, map, get_or, find, Some, subst, sym, IfSome}
-use Rattle.std.specs.List.{AllByRecursion}
+use Rattle.plan_num.proofs.Common.{◌≡◌, ℕ, ℤ, suc, pos, ◌+◌, ◌-◌, ◌<◌, ◌≤◌, arith, true, false, All}
+use Rattle.plan_num.proofs.Common.{List, [], ◌∷◌, length, map, get_or, find, Some, subst, sym}
+use Rattle.plan_num.proofs.Common.{IfSome, AllByRecursion, int_cmp, ints, All-from_recursion}
 use Rattle.std.specs.List.Sorted.{IsStrictlySortedBy}
-use Rattle.std.specs.Ordering.{int_cmp}
 use Rattle.std.specs.declared.cmp.Ordering.TheVariants.{Less}
-use Rattle.std.proofs.lemmas.Int.{ints}
-use Rattle.std.proofs.lemmas.List.Elements.{All-from_recursion}
-use Rattle.event_tables.specs.declared.event_kind.EventKind.{EventKind}
+use Rattle.event_tables.proofs.Common.{EventKind, PeriodicActivity, PeriodicEvent, Trip, is_stop}
+use Rattle.event_tables.proofs.Common.{lacks_stop, is_arrival, leads, same_kind}
 use Rattle.event_tables.specs.declared.event_kind.EventKind.TheVariants as kinds
-use Rattle.event_tables.specs.declared.periodic_activity.PeriodicActivity.{PeriodicActivity}
-use Rattle.event_tables.specs.declared.periodic_event.PeriodicEvent.{PeriodicEvent}
-use Rattle.event_tables.specs.declared.trip.Trip.{Trip}
-use Rattle.event_tables.specs.Trips.{is_stop, lacks_stop}
 use Rattle.roll_out.specs.declared.day.Day.{Day}
-use Rattle.event_tables.specs.Kinds.{is_arrival}
 use Rattle.event_tables.specs.RunRules as rules
-use Rattle.event_tables.specs.RunRules.{leads, same_kind}
 use Rattle.roll_out.specs.declared.timed_event.TimedEvent.{TimedEvent}
 use Rattle.roll_out.specs.DayTrips.{TripParts, no_timed, numbered_trips, trip_row, trips_of}
 use Rattle.roll_out.specs.RolloutStage.{trip_rows}

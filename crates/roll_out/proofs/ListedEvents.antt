@@ -1,14 +1,11 @@
 -- The events of a day are numbered in their order, so each is found by its id.
-use Rattle.std.proofs.Common.{◌≡◌, ℕ, ◌+◌, ◌-◌, ◌<◌, arith, List, [], ◌∷◌, ◌++◌, length, map}
-use Rattle.std.proofs.Common.{get_or, Some, refl, ap, sym, ◌∙◌}
-use Rattle.std.specs.List.{flat_map, range_with_len, enumerate_from, AllByRecursion}
-use Rattle.std.proofs.lemmas.List.{length-append, length-map, map-append, get_or-map}
-use Rattle.std.proofs.lemmas.List.Elements.{recursion_from_All}
-use Rattle.std.proofs.lemmas.List.FromFn.{get_or-range_with_len, length-enumerate_from}
-use Rattle.event_tables.specs.declared.expanded_event.ExpandedEvent.{ExpandedEvent}
-use Rattle.event_tables.specs.ForwardOrder.{event_with}
-use Rattle.event_tables.specs.Places.{AreNumbered, IsOneOf}
-use Rattle.event_tables.proofs.Numbering.{find_numbered}
+use Rattle.plan_num.proofs.Common.{◌≡◌, ℕ, ◌+◌, ◌-◌, ◌<◌, arith, List, [], ◌∷◌, ◌++◌, length, map}
+use Rattle.plan_num.proofs.Common.{get_or, Some, refl, ap, sym, ◌∙◌, flat_map, range_with_len}
+use Rattle.plan_num.proofs.Common.{enumerate_from, AllByRecursion, length-append, length-map}
+use Rattle.plan_num.proofs.Common.{map-append, get_or-map, recursion_from_All}
+use Rattle.plan_num.proofs.Common.{get_or-range_with_len, length-enumerate_from}
+use Rattle.event_tables.proofs.Common.{ExpandedEvent, event_with, AreNumbered, IsOneOf}
+use Rattle.event_tables.proofs.Common.{find_numbered}
 use Rattle.roll_out.specs.declared.day.Day.{Day}
 use Rattle.roll_out.specs.declared.timed_event.TimedEvent.{TimedEvent}
 use Rattle.roll_out.specs.DayTrips.{TripParts, day_event, day_events, numbered_trips, trip_events, trips_of}

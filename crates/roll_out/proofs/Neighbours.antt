@@ -2,8 +2,7 @@
 use Rattle.std.proofs.Common.{◌≡◌, ℕ, zero, suc, ◌+◌, ◌-◌, ◌<◌, ◌≤◌, arith, List, [], ◌∷◌, ◌++◌, length, take, get_or, refl, ap, ◌∙◌}
 use Rattle.std.specs.List.{zip}
 use Rattle.std.proofs.lemmas.List.{take_all, take_more}
-use Rattle.event_tables.specs.declared.periodic_event.PeriodicEvent.{PeriodicEvent}
-use Rattle.event_tables.specs.PeriodicRuns.{neighbours}
+use Rattle.event_tables.proofs.Common.{PeriodicEvent, neighbours}
 
 -- an event with the one behind it
 pairs_size : (event : PeriodicEvent) (run : List PeriodicEvent) → length (zip (event ∷ run) run)

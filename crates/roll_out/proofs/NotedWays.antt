@@ -1,17 +1,12 @@
 -- The drives and waits at the events that they leave.
-use Rattle.std.proofs.Common.{◌≡◌, ◌∙◌, ◌==◌, ◌||◌, not, Bool, arith, true, false, List, [], ◌∷◌}
-use Rattle.std.proofs.Common.{Some, filter, find, length, slice_get, refl, ap, sym}
-use Rattle.std.proofs.lemmas.Bool.{cases_Bool, false≢true, false_from_ne_true}
-use Rattle.std.proofs.lemmas.Bool.{or_left, or_right}
-use Rattle.std.proofs.lemmas.List.Sums.{length-filter}
-use Rattle.std.proofs.lemmas.Option.{none-some, same_Some}
-use Rattle.event_tables.specs.declared.event_kind.EventKind.{EventKind}
+use Rattle.plan_num.proofs.Common.{◌≡◌, ◌∙◌, ◌==◌, ◌||◌, not, Bool, arith, true, false, List, []}
+use Rattle.plan_num.proofs.Common.{◌∷◌, Some, filter, find, length, slice_get, refl, ap, sym}
+use Rattle.plan_num.proofs.Common.{cases_Bool, false≢true, false_from_ne_true, or_left, or_right}
+use Rattle.plan_num.proofs.Common.{length-filter, none-some, same_Some}
+use Rattle.event_tables.proofs.Common.{EventKind, PeriodicActivity, PeriodicEvent, PeriodicKind}
+use Rattle.event_tables.proofs.Common.{lacks_way, leads, same_kind, way_on}
 use Rattle.event_tables.specs.declared.event_kind.EventKind.TheVariants as event
-use Rattle.event_tables.specs.declared.periodic_activity.PeriodicActivity.{PeriodicActivity}
-use Rattle.event_tables.specs.declared.periodic_event.PeriodicEvent.{PeriodicEvent}
-use Rattle.event_tables.specs.declared.periodic_kind.PeriodicKind.{PeriodicKind}
 use Rattle.event_tables.specs.declared.periodic_kind.PeriodicKind.TheVariants as kind
-use Rattle.event_tables.specs.RunRules.{lacks_way, leads, same_kind, way_on}
 use Rattle.roll_out.specs.TimedRuns.{TimedParts}
 use Rattle.roll_out.specs.TimedRuns.{way_on as way_from}
 use Rattle.roll_out.specs.Plans.{leaves}

@@ -1,9 +1,7 @@
 -- Activities with their places as ids.
 use Rattle.std.proofs.Common.{◌≡◌, ℕ, ◌+◌, List, [], ◌∷◌, length, map, refl, ap, arith}
 use Rattle.std.specs.List.{AllByRecursion, enumerate_from, range_with_len}
-use Rattle.event_tables.specs.declared.expanded_activity.ExpandedActivity.{ExpandedActivity}
-use Rattle.event_tables.specs.declared.expanded_event.ExpandedEvent.{ExpandedEvent}
-use Rattle.event_tables.specs.ExpandedFiles.{IsExpandedActivity}
+use Rattle.event_tables.proofs.Common.{ExpandedActivity, ExpandedEvent, IsExpandedActivity}
 use Rattle.roll_out.specs.DayActivities.{with_number}
 
 -- their ids are these places

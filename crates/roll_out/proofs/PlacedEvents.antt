@@ -1,17 +1,11 @@
 -- Events whose ids are their places, and activities between them.
-use Rattle.std.proofs.Common.{◌≡◌, ℕ, zero, suc, ◌+◌, ◌-◌, ◌<◌, ◌≤◌, ◌==◌, ◌⊎◌, inl, inr, arith}
-use Rattle.std.proofs.Common.{Bool, true, false, ◌&&◌, ◌||◌, List, [], ◌∷◌, length, map, get_or}
-use Rattle.std.proofs.Common.{refl, ap, sym, ◌∙◌}
-use Rattle.std.specs.List.{list_any, range_with_len}
-use Rattle.std.proofs.lemmas.Bool.{eq-eqb, ne_eqb}
-use Rattle.std.proofs.lemmas.List.{get_or-map}
-use Rattle.std.proofs.lemmas.List.FromFn.{get_or-range_with_len}
+use Rattle.plan_num.proofs.Common.{◌≡◌, ℕ, zero, suc, ◌+◌, ◌-◌, ◌<◌, ◌≤◌, ◌==◌, ◌⊎◌, inl, inr}
+use Rattle.plan_num.proofs.Common.{arith, Bool, true, false, ◌&&◌, ◌||◌, List, [], ◌∷◌, length, map}
+use Rattle.plan_num.proofs.Common.{get_or, refl, ap, sym, ◌∙◌, list_any, range_with_len, eq-eqb}
+use Rattle.plan_num.proofs.Common.{ne_eqb, get_or-map, get_or-range_with_len}
 use Rattle.std.proofs.Math.Bool.{or-false as or_false}
-use Rattle.event_tables.specs.declared.periodic_activity.PeriodicActivity.{PeriodicActivity}
-use Rattle.event_tables.specs.declared.periodic_event.PeriodicEvent.{PeriodicEvent}
-use Rattle.event_tables.specs.PeriodicRuns.{joins}
-use Rattle.event_tables.specs.Places.{AreNumbered}
-use Rattle.event_tables.specs.RunRules.{goes_between, is_placed}
+use Rattle.event_tables.proofs.Common.{PeriodicActivity, PeriodicEvent, joins, AreNumbered}
+use Rattle.event_tables.proofs.Common.{goes_between, is_placed}
 
 no_any : {X : Type 0} (p : X → Bool) (xs : List X) → ((x : X) → p x ≡ false) → list_any p xs ≡ false
 no_any p [] none = refl

@@ -1,13 +1,11 @@
 -- What plans come to, where their trips and events are not too many.
-use Rattle.std.proofs.Common.{◌≡◌, ℕ, ◌+◌, ◌<◌, ◌≤◌, arith, List, ◌++◌, length, ap, sym, ◌∙◌}
-use Rattle.std.specs.List.{flat_map}
-use Rattle.std.proofs.lemmas.List.{length-map}
-use Rattle.std.proofs.lemmas.List.FromFn.{length-enumerate_from}
+use Rattle.plan_num.proofs.Common.{◌≡◌, ℕ, ◌+◌, ◌<◌, ◌≤◌, arith, List, ◌++◌, length, ap, sym, ◌∙◌}
+use Rattle.plan_num.proofs.Common.{flat_map, length-map, length-enumerate_from}
 use Rattle.tables.specs.declared.counted.Counted.TheVariants as counted
 use Rattle.tables.specs.declared.refusal.Refusal.TheVariants as refusal
 use Rattle.tables.specs.declared.refusal.StageFault.TheVariants as fault
-use Rattle.tables.specs.Inputs.{Refuses}
-use Rattle.event_tables.specs.declared.expanded_activity.ExpandedActivity.{ExpandedActivity}
+use Rattle.tables.proofs.Common.{Refuses}
+use Rattle.event_tables.proofs.Common.{ExpandedActivity}
 use Rattle.roll_out.specs.declared.copies.Copies.{Copies}
 use Rattle.roll_out.specs.DayActivities.{day_activities, day_ways, with_numbers}
 use Rattle.roll_out.specs.DayTrips.{TripParts}

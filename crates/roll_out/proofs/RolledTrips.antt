@@ -2,17 +2,11 @@
 use Rattle.std.proofs.Common.{◌≡◌, ℕ, ◌+◌, ◌≤◌, arith, true, false, All, IfSome, List, [], ◌∷◌}
 use Rattle.std.proofs.Common.{◌++◌, length, map, Option, Some, None, refl, ap, subst, sym}
 use Rattle.std.specs.List.{flat_map, enumerate_from, AllByRecursion}
-use Rattle.event_tables.specs.declared.event_kind.EventKind.{EventKind}
+use Rattle.event_tables.proofs.Common.{EventKind, ExpandedEvent, PeriodicActivity, PeriodicEvent}
+use Rattle.event_tables.proofs.Common.{IsExpandedActivity, stands_before, is_arrival, is_sync}
+use Rattle.event_tables.proofs.Common.{runs_of, leads, same_kind}
 use Rattle.event_tables.specs.declared.event_kind.EventKind.TheVariants as kinds
-use Rattle.event_tables.specs.declared.expanded_event.ExpandedEvent.{ExpandedEvent}
-use Rattle.event_tables.specs.declared.periodic_activity.PeriodicActivity.{PeriodicActivity}
-use Rattle.event_tables.specs.declared.periodic_event.PeriodicEvent.{PeriodicEvent}
-use Rattle.event_tables.specs.ExpandedFiles.{IsExpandedActivity}
-use Rattle.event_tables.specs.ForwardOrder.{stands_before}
-use Rattle.event_tables.specs.Kinds.{is_arrival, is_sync}
-use Rattle.event_tables.specs.PeriodicRuns.{runs_of}
 use Rattle.event_tables.specs.RunRules as rules
-use Rattle.event_tables.specs.RunRules.{leads, same_kind}
 use Rattle.roll_out.specs.declared.day.Day.{Day}
 use Rattle.roll_out.specs.declared.timed_event.TimedEvent.{TimedEvent}
 use Rattle.roll_out.specs.DayActivities.{day_ways, trip_ways, way_from, way_kind}

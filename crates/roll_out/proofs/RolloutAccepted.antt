@@ -1,30 +1,22 @@
 -- The files of a day are accepted by the rules of their kinds.
-use Rattle.std.proofs.Common.{◌≡◌, ℕ, ℤ, ◌<◌, ◌≤◌, arith, false, All, List, [], ◌∷◌, length, map}
-use Rattle.std.proofs.Common.{Option, None, refl, ap, subst, sym, ◌∙◌}
-use Rattle.std.specs.List.{AllByRecursion, list_any}
-use Rattle.std.specs.List.Sorted.{IsStrictlySortedBy}
-use Rattle.std.specs.Ordering.{int_cmp, int_eq}
-use Rattle.std.proofs.lemmas.Bool.{le-ltb, lt-leb}
+use Rattle.plan_num.proofs.Common.{◌≡◌, ℕ, ℤ, ◌<◌, ◌≤◌, arith, false, All, List, [], ◌∷◌, length}
+use Rattle.plan_num.proofs.Common.{map, Option, None, refl, ap, subst, sym, ◌∙◌, AllByRecursion}
+use Rattle.plan_num.proofs.Common.{list_any, IsStrictlySortedBy, int_cmp, int_eq, le-ltb, lt-leb}
 use Rattle.tables.specs.declared.counted.Counted.TheVariants as counted
-use Rattle.tables.specs.Columns.{activities_x_columns, events_x_columns, trips_columns}
-use Rattle.tables.specs.Inputs.{RowRule, broken_whys, input_faults, records}
-use Rattle.tables.specs.Writing.{InColumns, ReadsBack}
-use Rattle.tables.proofs.Accepted.{KeepRules, accepted, all_keep}
-use Rattle.tables.proofs.Headers.{plain_header}
-use Rattle.tables.proofs.InTurn.{under_limit}
-use Rattle.event_tables.specs.declared.expanded_activity.ExpandedActivity.{ExpandedActivity}
-use Rattle.event_tables.specs.declared.expanded_event.ExpandedEvent.{ExpandedEvent}
-use Rattle.event_tables.specs.declared.trip.Trip.{Trip}
-use Rattle.event_tables.specs.Cells.{expanded_activity, expanded_activity_cells, expanded_event, expanded_event_cells, trip, trip_cells}
-use Rattle.event_tables.specs.ExpandedFiles.{IsExpandedActivity, expanded_activity_input, expanded_event_ids, expanded_event_input, forward, no_sync}
-use Rattle.event_tables.specs.Headers.{expanded_activity_header, expanded_event_header, trip_header}
-use Rattle.event_tables.specs.Places.{AreNumbered, IsOneOf, bounds_in_order, is_none_of, known_ends}
-use Rattle.tables.specs.RowsOfTables.{ReadsAs, file_text, rows_by}
-use Rattle.event_tables.specs.Trips.{lacks_stop, trip_input, trip_rules}
-use Rattle.tables.proofs.WrittenColumns.{columns_written}
-use Rattle.event_tables.proofs.CellsBack.{expanded_activity_same, expanded_event_same, trip_same}
-use Rattle.event_tables.proofs.PlacesKept.{is_known, places_keep}
-use Rattle.event_tables.proofs.WrittenRecords.{file_back, records_back, text_as}
+use Rattle.tables.proofs.Common.{activities_x_columns, events_x_columns, trips_columns, RowRule}
+use Rattle.tables.proofs.Common.{broken_whys, input_faults, records, InColumns, ReadsBack}
+use Rattle.tables.proofs.Common.{KeepRules, accepted, all_keep, plain_header, under_limit, ReadsAs}
+use Rattle.tables.proofs.Common.{file_text, rows_by, columns_written}
+use Rattle.event_tables.proofs.Common.{ExpandedActivity, ExpandedEvent, Trip, expanded_activity}
+use Rattle.event_tables.proofs.Common.{expanded_activity_cells, expanded_event}
+use Rattle.event_tables.proofs.Common.{expanded_event_cells, trip, trip_cells, IsExpandedActivity}
+use Rattle.event_tables.proofs.Common.{expanded_activity_input, expanded_event_ids}
+use Rattle.event_tables.proofs.Common.{expanded_event_input, forward, no_sync}
+use Rattle.event_tables.proofs.Common.{expanded_activity_header, expanded_event_header, trip_header}
+use Rattle.event_tables.proofs.Common.{AreNumbered, IsOneOf, bounds_in_order, is_none_of}
+use Rattle.event_tables.proofs.Common.{known_ends, lacks_stop, trip_input, trip_rules}
+use Rattle.event_tables.proofs.Common.{expanded_activity_same, expanded_event_same, trip_same}
+use Rattle.event_tables.proofs.Common.{is_known, places_keep, file_back, records_back, text_as}
 use Rattle.roll_out.proofs.GoodTrips.{start_id}
 
 any_good : {X : Type 0} (xs : List X) → AllByRecursion (λ x. Unit {0}) xs

@@ -1,20 +1,13 @@
 -- The stage that rolls a timetable out, from what its parts give.
-use Rattle.std.proofs.Common.{◌≡◌, ℕ, ◌+◌, ◌<◌, ◌≤◌, arith, List, [], ◌∷◌, length, ◌∙◌, Ok, Err}
-use Rattle.std.proofs.Common.{Result}
-use Rattle.std.proofs.lemmas.List.{length-append, length-map}
-use Rattle.std.proofs.lemmas.List.FromFn.{length-enumerate_from}
+use Rattle.plan_num.proofs.Common.{◌≡◌, ℕ, ◌+◌, ◌<◌, ◌≤◌, arith, List, [], ◌∷◌, length, ◌∙◌, Ok}
+use Rattle.plan_num.proofs.Common.{Err, Result, length-append, length-map, length-enumerate_from}
 use Rattle.tables.specs.declared.counted.Counted.TheVariants as counted
-use Rattle.giv_files.specs.declared.made.Made.{Made}
-use Rattle.tables.specs.declared.refusal.Refusal.{Refusal}
+use Rattle.giv_files.proofs.Common.{Made, BundleParts, StageGives}
+use Rattle.tables.proofs.Common.{Refusal, StageFault, Refuses, UnlessFault, limit_faults, row_limit}
+use Rattle.tables.proofs.Common.{under_limit}
 use Rattle.tables.specs.declared.refusal.Refusal.TheVariants as refusal
-use Rattle.tables.specs.declared.refusal.StageFault.{StageFault}
 use Rattle.tables.specs.declared.refusal.StageFault.TheVariants as fault
-use Rattle.tables.specs.Inputs.{Refuses, UnlessFault, limit_faults, row_limit}
-use Rattle.giv_files.specs.Settings.{BundleParts}
-use Rattle.giv_files.specs.StageCalls.{StageGives}
-use Rattle.tables.proofs.InTurn.{under_limit}
-use Rattle.event_tables.specs.declared.expanded_activity.ExpandedActivity.{ExpandedActivity}
-use Rattle.event_tables.specs.declared.expanded_event.ExpandedEvent.{ExpandedEvent}
+use Rattle.event_tables.proofs.Common.{ExpandedActivity, ExpandedEvent}
 use Rattle.roll_out.specs.DayActivities.{day_activities, day_changes, day_ways}
 use Rattle.roll_out.specs.DayTrips.{TripParts, day_events}
 use Rattle.roll_out.specs.RolloutStage.{file_faults, long_lists, made_of, network_in, rollout_stage, run_faults, trips_in}

@@ -1,20 +1,11 @@
 -- Which files the stage of the roll-out makes, and which it names where it refuses a row.
 use Rattle.std.proofs.Common.{arith, ◌≡◌, ℕ, Bool, true, List, [], ◌∷◌, Err, Ok, ap, lit<}
-use Rattle.tables.specs.declared.column.ColumnKind.{ColumnKind}
-use Rattle.tables.specs.declared.counted.Counted.{Counted}
+use Rattle.tables.proofs.Common.{ColumnKind, Counted, FileId, Refusal, RowWhy, limit_faults}
+use Rattle.tables.proofs.Common.{row_limit, NamesInput, AllName}
 use Rattle.tables.specs.declared.counted.Counted.TheVariants as counted
-use Rattle.tables.specs.declared.file_id.FileId.{FileId}
-use Rattle.giv_files.specs.declared.made.Made.{Made}
-use Rattle.tables.specs.declared.refusal.Refusal.{Refusal}
+use Rattle.giv_files.proofs.Common.{Made, MakesAs, ids_of, BundleParts, made_unless}
 use Rattle.tables.specs.declared.refusal.Refusal.TheVariants as refusal
-use Rattle.tables.specs.declared.row_why.RowWhy.{RowWhy}
 use Rattle.giv_files.specs.declared.stage.Stage.TheVariants as stage
-use Rattle.tables.specs.Inputs.{limit_faults, row_limit}
-use Rattle.giv_files.specs.MadeLists.{MakesAs, ids_of}
-use Rattle.tables.specs.NamedFiles.{NamesInput}
-use Rattle.giv_files.specs.Settings.{BundleParts}
-use Rattle.tables.proofs.Named.{AllName}
-use Rattle.giv_files.proofs.StageCalls.{made_unless}
 use Rattle.roll_out.specs.RolloutStage.{faults_at, rollout_faults, rollout_stage}
 
 -- the files that are made are those that the stage is to make

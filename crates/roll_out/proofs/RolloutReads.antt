@@ -1,37 +1,25 @@
 -- The files of a day that are made, read again, are right.
-use Rattle.std.proofs.Common.{◌≡◌, ℕ, ℤ, ◌≤◌, arith, All, List, [], ◌++◌, length, map, Option, Some}
-use Rattle.std.proofs.Common.{None, refl, ap, subst, sym, Ok, Err, Result}
-use Rattle.std.specs.Prelude.{IfOk}
-use Rattle.std.specs.List.{AllByRecursion}
-use Rattle.std.proofs.lemmas.List.{length-map}
-use Rattle.std.proofs.lemmas.List.Elements.{All-from_recursion}
-use Rattle.std.proofs.lemmas.List.FromFn.{length-enumerate_from}
+use Rattle.plan_num.proofs.Common.{◌≡◌, ℕ, ℤ, ◌≤◌, arith, All, List, [], ◌++◌, length, map, Option}
+use Rattle.plan_num.proofs.Common.{Some, None, refl, ap, subst, sym, Ok, Err, Result, IfOk}
+use Rattle.plan_num.proofs.Common.{AllByRecursion, length-map, All-from_recursion}
+use Rattle.plan_num.proofs.Common.{length-enumerate_from}
 use Rattle.tables.specs.declared.counted.Counted.TheVariants as counted
 use Rattle.tables.specs.declared.file_id.FileId.TheVariants as file
 use Rattle.giv_files.specs.declared.key.Key.TheVariants as key
-use Rattle.giv_files.specs.declared.made.Made.{Made}
-use Rattle.tables.specs.declared.refusal.StageFault.{StageFault}
+use Rattle.giv_files.proofs.Common.{Made, BundleParts, Fits, SettingsFit, StageGives, input_text}
+use Rattle.giv_files.proofs.Common.{amount_within, made_unless, none_unless}
+use Rattle.tables.proofs.Common.{StageFault, activities_x_columns, events_x_columns, trips_columns}
+use Rattle.tables.proofs.Common.{input_faults, records_of, front_none, back_none, none_first}
+use Rattle.tables.proofs.Common.{none_after, file_text}
 use Rattle.tables.specs.declared.row_why.RowWhy.TheVariants as why
 use Rattle.giv_files.specs.declared.stage.Stage.TheVariants as stage
-use Rattle.tables.specs.Columns.{activities_x_columns, events_x_columns, trips_columns}
-use Rattle.tables.specs.Inputs.{input_faults, records_of}
-use Rattle.giv_files.specs.Settings.{BundleParts, Fits, SettingsFit}
-use Rattle.giv_files.specs.StageCalls.{StageGives, input_text}
-use Rattle.tables.proofs.Ranges.{front_none, back_none}
-use Rattle.giv_files.proofs.SettingFacts.{amount_within}
-use Rattle.tables.proofs.InTurn.{none_first, none_after}
-use Rattle.giv_files.proofs.StageCalls.{made_unless, none_unless}
-use Rattle.event_tables.specs.Cells.{expanded_activity_cells, expanded_event_cells, trip_cells}
-use Rattle.event_tables.specs.ExpandedFiles.{IsExpandedActivity, expanded_activity_input}
-use Rattle.event_tables.specs.Headers.{expanded_activity_header, expanded_event_header, trip_header}
-use Rattle.event_tables.specs.PeriodicFiles.{periodic_activity_input, periodic_time_input}
-use Rattle.event_tables.specs.PeriodicRuns.{runs_of}
-use Rattle.event_tables.specs.Places.{AreNumbered}
-use Rattle.tables.specs.RowsOfTables.{file_text}
-use Rattle.event_tables.specs.RunRules.{KeepRunRules}
-use Rattle.event_tables.specs.Trips.{trip_input}
-use Rattle.event_tables.proofs.SoundFiles.{periodic_activities_sound, periodic_events_sound}
-use Rattle.event_tables.proofs.SoundTimes.{periodic_times_sound}
+use Rattle.event_tables.proofs.Common.{expanded_activity_cells, expanded_event_cells, trip_cells}
+use Rattle.event_tables.proofs.Common.{IsExpandedActivity, expanded_activity_input}
+use Rattle.event_tables.proofs.Common.{expanded_activity_header, expanded_event_header, trip_header}
+use Rattle.event_tables.proofs.Common.{periodic_activity_input, periodic_time_input, runs_of}
+use Rattle.event_tables.proofs.Common.{AreNumbered, KeepRunRules, trip_input}
+use Rattle.event_tables.proofs.Common.{periodic_activities_sound, periodic_events_sound}
+use Rattle.event_tables.proofs.Common.{periodic_times_sound}
 use Rattle.pesp_model.specs.PespTexts.{activities_of, events_of}
 use Rattle.roll_out.specs.DayActivities.{day_activities, day_changes, day_ways}
 use Rattle.roll_out.specs.DayTrips.{TripParts, day_events, trip_events, trip_row}

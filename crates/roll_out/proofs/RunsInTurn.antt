@@ -3,8 +3,8 @@ use Rattle.std.proofs.Common.{◌≡◌, ℕ, suc, ◌==◌, ◌-◌, ◌+◌, �
 use Rattle.std.proofs.Common.{[], ◌∷◌, ◌++◌, length, take, drop, get_or, refl, ap}
 use Rattle.std.proofs.lemmas.List.{append_assoc, drop_more, drop_all, take_more, take_all}
 use Rattle.std.proofs.lemmas.Bool.{eqb-true, cases_Bool}
-use Rattle.event_tables.specs.declared.periodic_event.PeriodicEvent.{PeriodicEvent}
-use Rattle.event_tables.specs.PeriodicRuns.{same_run, before_runs, runs_of}
+use Rattle.event_tables.proofs.Common.{PeriodicEvent, same_run, before_runs}
+use Rattle.event_tables.specs.PeriodicRuns.{runs_of}
 
 -- events with the last of them before runs: the first run goes on with them where it agrees with
 -- the last

@@ -1,26 +1,17 @@
 -- The plans of the runs of a timetable.
-use Rattle.std.proofs.Common.{◌≡◌, ℕ, suc, ◌+◌, ◌*◌, ◌-◌, ◌/◌, ◌<◌, ◌≤◌, ◌≤ℤ◌, pos, nat_le, arith}
-use Rattle.std.proofs.Common.{Bool, true, false, cond, All, IfSome, List, [], ◌∷◌, length, map}
-use Rattle.std.proofs.Common.{get_or, Option, Some, None, refl, ap, subst, sym, ◌∙◌}
-use Rattle.std.specs.List.{flat_map, AllByRecursion}
-use Rattle.std.proofs.lemmas.List.{length-map, map-append}
-use Rattle.std.proofs.lemmas.List.Elements.{recursion_from_All, All-from_recursion}
-use Rattle.tables.specs.Columns.{events_p_columns, activities_p_columns}
-use Rattle.tables.specs.Writing.{InColumns}
-use Rattle.event_tables.specs.declared.periodic_activity.PeriodicActivity.{PeriodicActivity}
-use Rattle.event_tables.specs.declared.periodic_event.PeriodicEvent.{PeriodicEvent}
-use Rattle.event_tables.specs.Cells.{periodic_event_cells, periodic_activity_cells}
-use Rattle.event_tables.specs.PeriodicRuns.{runs_of}
-use Rattle.event_tables.specs.RunRules.{leads}
+use Rattle.plan_num.proofs.Common.{◌≡◌, ℕ, suc, ◌+◌, ◌*◌, ◌-◌, ◌/◌, ◌<◌, ◌≤◌, ◌≤ℤ◌, pos, nat_le}
+use Rattle.plan_num.proofs.Common.{arith, Bool, true, false, cond, All, IfSome, List, [], ◌∷◌}
+use Rattle.plan_num.proofs.Common.{length, map, get_or, Option, Some, None, refl, ap, subst, sym}
+use Rattle.plan_num.proofs.Common.{◌∙◌, flat_map, AllByRecursion, length-map, map-append}
+use Rattle.plan_num.proofs.Common.{recursion_from_All, All-from_recursion, ints, div-add-mod'}
+use Rattle.plan_num.proofs.Common.{mul-le, get_or-map, get_or-range_with_len}
+use Rattle.tables.proofs.Common.{events_p_columns, activities_p_columns, InColumns}
+use Rattle.event_tables.proofs.Common.{PeriodicActivity, PeriodicEvent, periodic_event_cells}
+use Rattle.event_tables.proofs.Common.{periodic_activity_cells, runs_of, leads, IsOneOf}
 use Rattle.roll_out.specs.declared.day.Day.{Day}
 use Rattle.roll_out.specs.declared.timed_event.TimedEvent.{TimedEvent}
 use Rattle.roll_out.specs.Plans.{ArePlans, IsBetween, IsDay, IsPlan, IsTimed, IsTimely, PlanParts, first_start, plan_of, start_count}
 use Rattle.roll_out.specs.TimedRuns.{TimedParts, minutes_of, minutes_on, no_time, time_at, timed_from, way_on}
-use Rattle.event_tables.specs.Places.{IsOneOf}
-use Rattle.std.proofs.lemmas.Int.{ints}
-use Rattle.std.proofs.lemmas.Nat.{div-add-mod', mul-le}
-use Rattle.std.proofs.lemmas.List.{get_or-map}
-use Rattle.std.proofs.lemmas.List.FromFn.{get_or-range_with_len}
 use Rattle.plan_num.proofs.Found.{found_has}
 use Rattle.roll_out.proofs.WholeRuns.{runs_few, runs_have, runs_short, runs_some, runs_whole, whole_run}
 

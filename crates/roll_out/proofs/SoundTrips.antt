@@ -1,12 +1,10 @@
 -- The trips of plans, and where the copies of their events are, have small numbers.
-use Rattle.std.proofs.Common.{◌≡◌, ℕ, zero, suc, ◌+◌, ◌*◌, ◌<◌, ◌≤◌, arith, All, List, [], ◌∷◌}
-use Rattle.std.proofs.Common.{length, map, refl, ap, ◌∙◌}
-use Rattle.std.specs.List.{flat_map, range_with_len, enumerate_from, AllByRecursion}
-use Rattle.std.proofs.lemmas.List.{length-map, length-append}
-use Rattle.std.proofs.lemmas.List.Elements.{All-nil, All-append, All-head, All-tail, All-map, All-from_recursion, recursion_from_All}
-use Rattle.std.proofs.lemmas.Grind.{flat_map-append}
-use Rattle.std.proofs.lemmas.List.FromFn.{length-range_with_len, length-enumerate_from}
-use Rattle.std.proofs.lemmas.List.Sums.{sum_by-cons}
+use Rattle.plan_num.proofs.Common.{◌≡◌, ℕ, zero, suc, ◌+◌, ◌*◌, ◌<◌, ◌≤◌, arith, All, List, [], ◌∷◌}
+use Rattle.plan_num.proofs.Common.{length, map, refl, ap, ◌∙◌, flat_map, range_with_len}
+use Rattle.plan_num.proofs.Common.{enumerate_from, AllByRecursion, length-map, length-append}
+use Rattle.plan_num.proofs.Common.{All-nil, All-append, All-head, All-tail, All-map}
+use Rattle.plan_num.proofs.Common.{All-from_recursion, recursion_from_All, flat_map-append}
+use Rattle.plan_num.proofs.Common.{length-range_with_len, length-enumerate_from, sum_by-cons}
 use Rattle.roll_out.specs.declared.timed_event.TimedEvent.{TimedEvent}
 use Rattle.roll_out.specs.DayTrips.{day_events, trip_events}
 use Rattle.roll_out.specs.Plans.{AreFew, ArePlans, IsPlan, IsTimely, IsTrip, PlanParts, copies_at, copies_by, event_total, plan_copies, plan_trips, trip_after, trip_total, trips_by}

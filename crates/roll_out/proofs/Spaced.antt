@@ -1,11 +1,9 @@
 -- Times that are whole periods apart.
-use Rattle.std.proofs.Common.{◌≡◌, ℕ, ◌+◌, ◌-◌, ◌*◌, ◌/◌, ◌%◌, ◌==◌, ◌<◌, ◌≤◌, nat_le, arith, Bool}
-use Rattle.std.proofs.Common.{true, false, ◌&&◌, [], ◌∷◌, map, filter, refl, ap, sym, ◌∙◌}
+use Rattle.plan_num.proofs.Common.{◌≡◌, ℕ, ◌+◌, ◌-◌, ◌*◌, ◌/◌, ◌%◌, ◌==◌, ◌<◌, ◌≤◌, nat_le, arith}
+use Rattle.plan_num.proofs.Common.{Bool, true, false, ◌&&◌, [], ◌∷◌, map, filter, refl, ap, sym}
+use Rattle.plan_num.proofs.Common.{◌∙◌, range_with_len, eq-eqb, ne_eqb, le-leb, lt-leb, leb-true}
+use Rattle.plan_num.proofs.Common.{leb-false, mul-le, div-add-mod', and-false}
 use Rattle.std.specs.Int.{div_ceil}
-use Rattle.std.specs.List.{range_with_len}
-use Rattle.std.proofs.lemmas.Bool.{eq-eqb, ne_eqb, le-leb, lt-leb, leb-true, leb-false}
-use Rattle.std.proofs.lemmas.Nat.{mul-le, div-add-mod'}
-use Rattle.std.proofs.Math.Bool.{and-false}
 use Rattle.roll_out.specs.declared.copies.Copies.{Copies}
 use Rattle.roll_out.specs.declared.day.Day.{Day}
 use Rattle.roll_out.specs.DayTrips.{is_in_day, starts}

@@ -1,14 +1,11 @@
 -- How many drives and waits a trip has.
-use Rattle.std.proofs.Common.{◌≡◌, ℕ, ◌+◌, List, [], ◌∷◌, length, Option, Some, None, refl, ap, sym, ◌∙◌}
-use Rattle.std.specs.List.{flat_map, enumerate_from, sum_by}
-use Rattle.std.proofs.lemmas.List.{length-append}
+use Rattle.plan_num.proofs.Common.{◌≡◌, ℕ, ◌+◌, List, [], ◌∷◌, length, Option, Some, None, refl, ap}
+use Rattle.plan_num.proofs.Common.{sym, ◌∙◌, flat_map, enumerate_from, sum_by, length-append}
+use Rattle.plan_num.proofs.Common.{sum_by-cons}
 use Rattle.std.proofs.lemmas.List.Concat.{flat_map-cons}
-use Rattle.std.proofs.lemmas.List.Sums.{sum_by-cons}
-use Rattle.event_tables.specs.declared.event_kind.EventKind.{EventKind}
-use Rattle.event_tables.specs.declared.expanded_activity.ExpandedActivity.{ExpandedActivity}
+use Rattle.event_tables.proofs.Common.{EventKind, ExpandedActivity, PeriodicActivity}
 use Rattle.roll_out.specs.declared.timed_event.TimedEvent.{TimedEvent}
 use Rattle.roll_out.specs.DayActivities.{way_from}
-use Rattle.event_tables.specs.declared.periodic_activity.PeriodicActivity.{PeriodicActivity}
 
 -- one where an activity is there, and else none
 abbrev pub size_of : Option PeriodicActivity → ℕ

@@ -1,14 +1,11 @@
 -- Lines over one edge or two.
-use Rattle.std.proofs.Common.{◌≡◌, ◌<◌, ◌≤◌, ◌+◌, ◌++◌, ◌∷◌, [], ◌∙◌, ℕ, zero, suc, List, length, take}
-use Rattle.std.proofs.Common.{nat_eq, get_or, slice_get, Some, None, option_map, ℤ, pos, refl, arith, ap, sym, subst}
-use Rattle.std.specs.List.{All, IsDistinct}
-use Rattle.std.proofs.Common.{◌<ℤ◌}
-use Rattle.std.proofs.lemmas.Int.{ints}
-use Rattle.line_cost_model.specs.Problems.{CostedLine, IsCostedLine, ProblemParts}
-use Rattle.std.proofs.lemmas.List.{take_all, take_more}
-use Rattle.std.proofs.lemmas.List.Elements.{All-push}
-use Rattle.std.proofs.lemmas.Option.{get_or_from_slice_get, none-some, slice_get_within}
-use Rattle.line_cost_model.specs.declared.multipliers.Multiplier.{Multiplier}
+use Rattle.plan_num.proofs.Common.{◌≡◌, ◌<◌, ◌≤◌, ◌+◌, ◌++◌, ◌∷◌, [], ◌∙◌, ℕ, zero, suc, List}
+use Rattle.plan_num.proofs.Common.{length, take, nat_eq, get_or, slice_get, Some, None, option_map}
+use Rattle.plan_num.proofs.Common.{ℤ, pos, refl, arith, ap, sym, subst, All, ◌<ℤ◌, ints, take_all}
+use Rattle.plan_num.proofs.Common.{take_more, All-push, get_or_from_slice_get, none-some}
+use Rattle.plan_num.proofs.Common.{slice_get_within}
+use Rattle.std.specs.List.{IsDistinct}
+use Rattle.line_cost_model.proofs.Common.{CostedLine, IsCostedLine, ProblemParts, Multiplier}
 
 pub two_apart : IsDistinct nat_eq (0 ∷ 1 ∷ [])
 unfolding IsDistinct

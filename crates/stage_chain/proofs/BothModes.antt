@@ -1,14 +1,10 @@
 -- A run over what is kept, and a fresh one, which first removes it.
-use Rattle.std.proofs.Common.{arith, ◌≡◌, ℕ, Bool, true, false, cond, not, List, [], ◌∷◌}
-use Rattle.std.proofs.Common.{◌++◌, Option, Some, None}
-use Rattle.std.proofs.Common.{refl, ap, sym, subst, ◌∙◌, inl, ⊎_elim, append-nil}
-use Rattle.std.specs.Option.{option_map}
+use Rattle.plan_num.proofs.Common.{arith, ◌≡◌, ℕ, Bool, true, false, cond, not, List, [], ◌∷◌, ◌++◌}
+use Rattle.plan_num.proofs.Common.{Option, Some, None, refl, ap, sym, subst, ◌∙◌, inl, ⊎_elim}
+use Rattle.plan_num.proofs.Common.{append-nil, option_map}
 use Rattle.std.specs.FinMap as files
-use Rattle.plan_files.specs.declared.write.Write.{Write}
-use Rattle.plan_files.specs.Applied.{AreApplied}
-use Rattle.plan_files.specs.Folder.{Folder}
-use Rattle.plan_files.proofs.OtherFiles.{get_part, same_folder}
-use Rattle.giv_files.specs.declared.stage.Stage.{Stage}
+use Rattle.plan_files.proofs.Common.{Write, AreApplied, Folder, get_part, same_folder}
+use Rattle.giv_files.proofs.Common.{Stage}
 use Rattle.stage_keep.specs.Entries.{keep_name}
 use Rattle.stage_chain.specs.declared.outcome.ChainFault.{ChainFault}
 use Rattle.command_line.specs.declared.mode.Mode.{Mode}

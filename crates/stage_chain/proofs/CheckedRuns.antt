@@ -1,20 +1,12 @@
 -- The folder that a finished run leaves passes a check.
-use Rattle.config_keys.specs.Config.{last_stage_of}
-use Rattle.std.proofs.Common.{map, nat_le, ◌≡◌, ℤ, suc, Bool, true, false, cond, List, [], ◌∷◌}
-use Rattle.std.proofs.Common.{◌++◌, length, Option, Some, None, IfSome, Result, Ok, Err, refl, ap}
-use Rattle.std.proofs.Common.{subst, sym, ◌∙◌, arith}
-use Rattle.std.specs.Option.{option_or}
-use Rattle.plan_files.specs.Folder.{Folder}
-use Rattle.giv_files.specs.declared.made.Made.{Made}
-use Rattle.giv_files.specs.declared.made.MadeFile.{MadeFile}
-use Rattle.tables.specs.declared.refusal.Refusal.{Refusal}
+use Rattle.config_keys.proofs.Common.{last_stage_of, ConfigFault, look_in, effective}
+use Rattle.plan_num.proofs.Common.{map, nat_le, ◌≡◌, ℤ, suc, Bool, true, false, cond, List, [], ◌∷◌}
+use Rattle.plan_num.proofs.Common.{◌++◌, length, Option, Some, None, IfSome, Result, Ok, Err, refl}
+use Rattle.plan_num.proofs.Common.{ap, subst, sym, ◌∙◌, arith, option_or}
+use Rattle.plan_files.proofs.Common.{Folder}
+use Rattle.giv_files.proofs.Common.{Made, MadeFile, Stage, BundleParts, stage_makes}
+use Rattle.tables.proofs.Common.{Refusal}
 use Rattle.tables.specs.declared.refusal.Refusal.TheVariants as refusal
-use Rattle.giv_files.specs.declared.stage.Stage.{Stage}
-use Rattle.giv_files.specs.Settings.{BundleParts}
-use Rattle.giv_files.specs.Stages.{stage_makes}
-use Rattle.config_keys.specs.declared.config_fault.ConfigFault.{ConfigFault}
-use Rattle.config_keys.specs.Items.{look_in}
-use Rattle.config_keys.specs.Values.{effective}
 use Rattle.stage_chain.specs.declared.cause.Cause.{Cause}
 use Rattle.stage_chain.specs.declared.cause.Cause.TheVariants as cause
 use Rattle.stage_chain.specs.declared.finding.Finding.{Finding}

@@ -1,11 +1,7 @@
 -- Names that differ from one another.
-use Rattle.std.proofs.Common.{◌≡◌, ℕ, Bool, true, false, cond, not, ◌||◌, List, [], ◌∷◌, ◌++◌}
-use Rattle.std.proofs.Common.{filter, refl, ap, sym, ◌∙◌}
-use Rattle.std.specs.List.{list_all}
-use Rattle.std.specs.Str.{bytes_eq}
-use Rattle.std.proofs.lemmas.Bool.{and_parts, and_from, not-true}
-use Rattle.std.proofs.lemmas.List.Folds.{list_all-append}
-use Rattle.std.proofs.lemmas.Slice.Eq.{bytes_eq-Decides}
+use Rattle.plan_num.proofs.Common.{◌≡◌, ℕ, Bool, true, false, cond, not, ◌||◌, List, [], ◌∷◌, ◌++◌}
+use Rattle.plan_num.proofs.Common.{filter, refl, ap, sym, ◌∙◌, list_all, bytes_eq, and_parts}
+use Rattle.plan_num.proofs.Common.{and_from, not-true, list_all-append, bytes_eq-Decides}
 use Rattle.stage_chain.specs.Hand.{is_among}
 use Rattle.stage_chain.specs.StageLists.{differing, differs_from}
 

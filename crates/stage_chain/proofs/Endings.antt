@@ -1,25 +1,13 @@
 -- A chain ends at a refusal exactly where a stage refuses what it is handed: one from scratch, and one over
 -- what a folder keeps.
-use Rattle.std.proofs.Common.{◌≡◌, ℕ, ℤ, Bool, true, false, cond, All, Contains, List, [], ◌∷◌}
-use Rattle.std.proofs.Common.{◌++◌, Option, Some, None, IfErr, Result, Ok, Err, refl, sym, ◌∙◌}
-use Rattle.std.proofs.Common.{arith}
-use Rattle.std.proofs.lemmas.List.Elements.{All-cons, Contains-append_right}
-use Rattle.std.specs.Prelude.{⊤}
-use Rattle.plan_files.specs.declared.store.Got.{Got}
-use Rattle.plan_files.specs.declared.store.Got.TheVariants.{Bytes, Absent, TooLong as Long}
-use Rattle.plan_files.specs.Folder.{Folder}
-use Rattle.tables.specs.declared.file_id.FileId.{FileId}
-use Rattle.giv_files.specs.declared.made.Made.{Made}
-use Rattle.giv_files.specs.declared.made.MadeFile.{MadeFile}
-use Rattle.tables.specs.declared.refusal.Refusal.{Refusal}
-use Rattle.giv_files.specs.declared.stage.Stage.{Stage}
-use Rattle.tables.specs.FileNames.{file_name}
-use Rattle.giv_files.specs.Settings.{BundleParts, Fits}
-use Rattle.giv_files.specs.Stages.{stage_inputs}
-use Rattle.config_keys.specs.declared.config_fault.ConfigFault.{ConfigFault}
-use Rattle.config_keys.specs.Config.{AreSettings}
-use Rattle.config_keys.specs.Items.{look_in}
-use Rattle.config_keys.proofs.Settling.{effective_settings}
+use Rattle.plan_num.proofs.Common.{◌≡◌, ℕ, ℤ, Bool, true, false, cond, All, Contains, List, [], ◌∷◌}
+use Rattle.plan_num.proofs.Common.{◌++◌, Option, Some, None, IfErr, Result, Ok, Err, refl, sym, ◌∙◌}
+use Rattle.plan_num.proofs.Common.{arith, All-cons, Contains-append_right, ⊤}
+use Rattle.plan_files.proofs.Common.{Got, Bytes, Absent, Folder}
+use Rattle.plan_files.specs.declared.store.Got.TheVariants.{TooLong as Long}
+use Rattle.tables.proofs.Common.{FileId, Refusal, file_name}
+use Rattle.giv_files.proofs.Common.{Made, MadeFile, Stage, BundleParts, Fits, stage_inputs}
+use Rattle.config_keys.proofs.Common.{ConfigFault, AreSettings, look_in, effective_settings}
 use Rattle.stage_chain.specs.declared.cause.Cause.{Cause}
 use Rattle.stage_chain.specs.declared.cause.Cause.TheVariants as cause
 use Rattle.stage_chain.specs.declared.origin.Origin.{Origin}

@@ -1,30 +1,17 @@
 -- What a run leaves in its folder is right there.
-use Rattle.std.proofs.Common.{arith, ◌≡◌, ℕ, ℤ, Bool, true, false, cond, leb, List, [], ◌∷◌, Option}
-use Rattle.std.proofs.Common.{Some, IfOk, Result, Ok, Err, refl, ap, subst, sym, ◌∙◌, map}
+use Rattle.plan_num.proofs.Common.{arith, ◌≡◌, ℕ, ℤ, Bool, true, false, cond, leb, List, [], ◌∷◌}
+use Rattle.plan_num.proofs.Common.{Option, Some, IfOk, Result, Ok, Err, refl, ap, subst, sym, ◌∙◌}
+use Rattle.plan_num.proofs.Common.{map, list_all, ok_or, bytes_eq, and_parts, list_all-map}
+use Rattle.plan_num.proofs.Common.{bytes_eq-Decides, and_from}
 use Rattle.stage_chain.proofs.Traces.{run_staged, staged_within}
 use Rattle.stage_chain.specs.StageParts.{staged}
-use Rattle.std.specs.List.{list_all}
-use Rattle.std.specs.Option.{ok_or}
-use Rattle.std.specs.Str.{bytes_eq}
 use Rattle.std.specs.FinMap as files
-use Rattle.std.proofs.lemmas.Bool.{and_parts}
-use Rattle.std.proofs.lemmas.List.Folds.{list_all-map}
-use Rattle.std.proofs.lemmas.Slice.Eq.{bytes_eq-Decides}
-use Rattle.plan_files.specs.declared.write.Write.TheVariants.{Put}
-use Rattle.plan_files.specs.Folder.{Folder}
-use Rattle.plan_files.proofs.OtherFiles.{get_part, part_after}
-use Rattle.plan_files.proofs.Writes.{get_written}
-use Rattle.tables.specs.declared.file_id.FileId.{FileId}
+use Rattle.plan_files.proofs.Common.{Put, Folder, get_part, part_after, get_written}
+use Rattle.tables.proofs.Common.{FileId, file_name}
 use Rattle.tables.specs.declared.file_id.FileId.TheVariants as file
-use Rattle.giv_files.specs.declared.made.MadeFile.{MadeFile}
-use Rattle.giv_files.specs.declared.stage.Stage.{Stage}
+use Rattle.giv_files.proofs.Common.{MadeFile, Stage, stage_makes}
 use Rattle.giv_files.specs.declared.stage.Stage.TheVariants as stage
-use Rattle.tables.specs.FileNames.{file_name}
-use Rattle.giv_files.specs.Stages.{stage_makes}
-use Rattle.config_keys.specs.Config.{last_stage_of}
-use Rattle.config_keys.specs.Items.{look_in}
-use Rattle.config_keys.specs.Values.{effective}
-use Rattle.config_keys.proofs.Settling.{effective_settings}
+use Rattle.config_keys.proofs.Common.{last_stage_of, look_in, effective, effective_settings}
 use Rattle.stage_chain.specs.declared.cause.Cause.{Cause}
 use Rattle.stage_chain.specs.declared.cause.Cause.TheVariants as cause
 use Rattle.stage_chain.specs.Built.{files_of, trace_of, made}
@@ -49,7 +36,6 @@ use Rattle.stage_chain.proofs.WrittenNames.{are_apart, file_no_keep, none_by}
 use Rattle.stage_chain.specs.StageLists.{differing, differs_from, is_kept_name}
 use Rattle.stage_chain.specs.StageParts.{StageParts}
 use Rattle.stage_chain.specs.Laws.{AreStages}
-use Rattle.std.proofs.lemmas.Bool.{and_from}
 use Rattle.stage_chain.specs.Checks.{standing}
 use Rattle.stage_chain.proofs.FoundAmongAllMade.{names_more}
 use Rattle.stage_chain.proofs.Differing.{all_parts}

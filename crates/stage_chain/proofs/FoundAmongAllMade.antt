@@ -1,22 +1,12 @@
 -- What was made by the stages of a chain is found among all that the chain made.
-use Rattle.std.proofs.Common.{arith, ◌≡◌, ℕ, ℤ, Bool, true, List, [], ◌∷◌, ◌++◌, map, filter}
-use Rattle.std.proofs.Common.{Option, Result, Ok, Err, refl, ap, subst, sym, ◌∙◌, append_assoc}
-use Rattle.std.specs.List.{list_all, flat_map}
-use Rattle.std.proofs.lemmas.Bool.{and_parts}
-use Rattle.std.proofs.lemmas.List.{map-append}
-use Rattle.std.proofs.lemmas.List.Folds.{list_all-map}
-use Rattle.std.proofs.lemmas.Simd.{map-map}
-use Rattle.plan_files.specs.Folder.{Folder}
-use Rattle.tables.specs.declared.file_id.FileId.{FileId}
-use Rattle.giv_files.specs.declared.made.Made.{Made}
-use Rattle.giv_files.specs.declared.made.MadeFile.{MadeFile}
-use Rattle.tables.specs.declared.refusal.Refusal.{Refusal}
-use Rattle.giv_files.specs.declared.stage.Stage.{Stage}
+use Rattle.plan_num.proofs.Common.{arith, ◌≡◌, ℕ, ℤ, Bool, true, List, [], ◌∷◌, ◌++◌, map, filter}
+use Rattle.plan_num.proofs.Common.{Option, Result, Ok, Err, refl, ap, subst, sym, ◌∙◌, append_assoc}
+use Rattle.plan_num.proofs.Common.{list_all, flat_map, and_parts, map-append, list_all-map, map-map}
+use Rattle.plan_files.proofs.Common.{Folder}
+use Rattle.tables.proofs.Common.{FileId, Refusal, file_name}
+use Rattle.giv_files.proofs.Common.{Made, MadeFile, Stage, MakesAs, ids_of, BundleParts}
+use Rattle.giv_files.proofs.Common.{stage_inputs, stage_makes}
 use Rattle.giv_files.specs.declared.stage.Stage.TheVariants as stage
-use Rattle.tables.specs.FileNames.{file_name}
-use Rattle.giv_files.specs.MadeLists.{MakesAs, ids_of}
-use Rattle.giv_files.specs.Settings.{BundleParts}
-use Rattle.giv_files.specs.Stages.{stage_inputs, stage_makes}
 use Rattle.stage_chain.specs.declared.cause.Cause.{Cause}
 use Rattle.stage_chain.specs.declared.origin.Origin.{Origin}
 use Rattle.stage_chain.specs.declared.origin.Origin.TheVariants as origin

@@ -1,18 +1,11 @@
 -- After a fresh run what is kept are the new entries, and nothing else.
-use Rattle.std.proofs.Common.{arith, ◌≡◌, ℕ, Bool, true, false, cond, ◌||◌, List, [], ◌∷◌, map}
-use Rattle.std.proofs.Common.{None, refl, ap, sym, ◌∙◌, nat_cmp, Option, Some, IfSome}
-use Rattle.std.specs.Cmp.Lexicographic.{slice_cmp}
-use Rattle.std.specs.Str.{bytes_eq}
+use Rattle.plan_num.proofs.Common.{arith, ◌≡◌, ℕ, Bool, true, false, cond, ◌||◌, List, [], ◌∷◌, map}
+use Rattle.plan_num.proofs.Common.{None, refl, ap, sym, ◌∙◌, nat_cmp, Option, Some, IfSome}
+use Rattle.plan_num.proofs.Common.{slice_cmp, bytes_eq, false≢true, bytes_eq-Decides}
 use Rattle.std.specs.FinMap as files
-use Rattle.std.proofs.lemmas.Bool.{false≢true}
-use Rattle.std.proofs.lemmas.Slice.Eq.{bytes_eq-Decides}
-use Rattle.plan_files.specs.declared.write.Write.{Write}
-use Rattle.plan_files.specs.Changes.{after_write, folder_after, left_by, write_name}
-use Rattle.plan_files.specs.Folder.{Folder}
-use Rattle.plan_files.proofs.OtherFiles.{get_part, same_folder}
-use Rattle.plan_files.proofs.Writes.{get_written}
-use Rattle.giv_files.specs.declared.stage.Stage.{Stage}
-use Rattle.giv_files.specs.Stages.{all_stages}
+use Rattle.plan_files.proofs.Common.{Write, after_write, folder_after, left_by, write_name, Folder}
+use Rattle.plan_files.proofs.Common.{get_part, same_folder, get_written}
+use Rattle.giv_files.proofs.Common.{Stage, all_stages}
 use Rattle.stage_keep.specs.Entries.{keep_name}
 use Rattle.command_line.specs.declared.mode.Mode.{Mode}
 use Rattle.command_line.specs.declared.mode.Mode.TheVariants as mode

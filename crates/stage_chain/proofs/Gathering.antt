@@ -3,10 +3,9 @@ use Rattle.std.proofs.Common.{arith, ◌≡◌, ℕ, ℤ, ◌+◌, ◌<◌, ◌�
 use Rattle.std.proofs.Common.{drop, Option, Some, None, IfSome, Result, Ok, Err, refl, ap, sym, ◌∙◌}
 use Rattle.std.proofs.Common.{append-nil, append_assoc}
 use Rattle.std.proofs.lemmas.List.{at_drop_more, at_drop_all}
-use Rattle.plan_files.specs.Folder.{Folder}
-use Rattle.tables.specs.declared.file_id.FileId.{FileId}
-use Rattle.giv_files.specs.declared.stage.Stage.{Stage}
-use Rattle.giv_files.specs.Settings.{BundleParts}
+use Rattle.plan_files.proofs.Common.{Folder}
+use Rattle.tables.proofs.Common.{FileId}
+use Rattle.giv_files.proofs.Common.{Stage, BundleParts}
 use Rattle.stage_chain.specs.declared.cause.Cause.{Cause}
 use Rattle.stage_chain.specs.declared.chain_end.ChainEnd.{ChainEnd}
 use Rattle.stage_chain.specs.declared.chain_end.ChainEnd.TheVariants as end

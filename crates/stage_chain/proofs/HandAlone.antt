@@ -1,27 +1,15 @@
 -- A chain depends on hand files alone.
-use Rattle.std.proofs.Common.{arith, ◌≡◌, ℕ, ℤ, Bool, true, false, cond, List, [], ◌∷◌, ◌++◌, codes}
-use Rattle.std.proofs.Common.{None, Result, Ok, Err, refl, ap, sym, ◌∙◌}
+use Rattle.plan_num.proofs.Common.{arith, ◌≡◌, ℕ, ℤ, Bool, true, false, cond, List, [], ◌∷◌, ◌++◌}
+use Rattle.plan_num.proofs.Common.{codes, None, Result, Ok, Err, refl, ap, sym, ◌∙◌, bytes_eq}
+use Rattle.plan_num.proofs.Common.{false≢true, bytes_eq-Decides}
 use Rattle.stage_chain.specs.StageParts.{staged}
-use Rattle.std.specs.Str.{bytes_eq}
 use Rattle.std.specs.FinMap as files
-use Rattle.std.proofs.lemmas.Bool.{false≢true}
-use Rattle.std.proofs.lemmas.Slice.Eq.{bytes_eq-Decides}
-use Rattle.plan_files.specs.Folder.{Folder, found}
-use Rattle.plan_files.proofs.OtherFiles.{get_part}
-use Rattle.tables.specs.declared.file_id.FileId.{FileId}
+use Rattle.plan_files.proofs.Common.{Folder, found, get_part}
+use Rattle.tables.proofs.Common.{FileId, Refusal, file_name}
 use Rattle.tables.specs.declared.file_id.FileId.TheVariants as file
-use Rattle.giv_files.specs.declared.made.Made.{Made}
-use Rattle.giv_files.specs.declared.made.MadeFile.{MadeFile}
-use Rattle.tables.specs.declared.refusal.Refusal.{Refusal}
-use Rattle.giv_files.specs.declared.stage.Stage.{Stage}
-use Rattle.tables.specs.FileNames.{file_name}
-use Rattle.giv_files.specs.Settings.{BundleParts}
-use Rattle.giv_files.specs.Stages.{stage_inputs}
-use Rattle.config_keys.specs.declared.config_fault.ConfigFault.{ConfigFault}
-use Rattle.config_keys.specs.Includes.{is_inside, path_of}
-use Rattle.config_keys.specs.Items.{look_in, config_name, file_limit}
-use Rattle.config_keys.specs.Values.{effective}
-use Rattle.config_keys.proofs.Looks.{effective_same}
+use Rattle.giv_files.proofs.Common.{Made, MadeFile, Stage, BundleParts, stage_inputs}
+use Rattle.config_keys.proofs.Common.{ConfigFault, is_inside, path_of, look_in, config_name}
+use Rattle.config_keys.proofs.Common.{file_limit, effective, effective_same}
 use Rattle.stage_chain.specs.Hand.{is_hand, hand_of}
 use Rattle.stage_chain.specs.Chain.{hand_text, input_text, texts_of}
 use Rattle.stage_chain.specs.Chain.{bundle_told, tried, go_on, visit_of, chain_from, to_run}

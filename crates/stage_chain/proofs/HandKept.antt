@@ -1,25 +1,11 @@
 -- The files that people write stay as they are.
-use Rattle.std.proofs.Common.{arith, ◌≡◌, ℕ, true, not, List, [], ◌∷◌, ◌++◌, map}
-use Rattle.std.proofs.Common.{Option, Ok, refl}
-use Rattle.std.specs.List.{list_all}
-use Rattle.std.proofs.lemmas.Bool.{and_parts, not-true}
-use Rattle.std.proofs.lemmas.List.{map-append}
-use Rattle.std.proofs.lemmas.List.Folds.{list_all-map}
-use Rattle.plan_files.specs.declared.write.Write.{Write}
-use Rattle.plan_files.specs.declared.write.Write.TheVariants.{Removal}
-use Rattle.plan_files.specs.declared.file_fault.FileFault.{FileFault}
-use Rattle.plan_files.specs.Changes.{write_name}
-use Rattle.plan_files.specs.Folder.{Folder}
-use Rattle.plan_files.specs.Applied.{AreApplied, AreCutShort}
-use Rattle.plan_files.specs.Others.{AreOutside}
-use Rattle.plan_files.proofs.OtherFiles.{outside_both, applied_part, cut_part}
-use Rattle.giv_files.specs.declared.made.Made.{Made}
-use Rattle.giv_files.specs.declared.made.MadeFile.{MadeFile}
-use Rattle.giv_files.specs.declared.stage.Stage.{Stage}
+use Rattle.plan_num.proofs.Common.{arith, ◌≡◌, ℕ, true, not, List, [], ◌∷◌, ◌++◌, map, Option, Ok}
+use Rattle.plan_num.proofs.Common.{refl, list_all, and_parts, not-true, map-append, list_all-map}
+use Rattle.plan_files.proofs.Common.{Write, Removal, FileFault, write_name, Folder, AreApplied}
+use Rattle.plan_files.proofs.Common.{AreCutShort, AreOutside, outside_both, applied_part, cut_part}
+use Rattle.giv_files.proofs.Common.{Made, MadeFile, Stage, MakesAs, ids_of, BundleParts}
+use Rattle.giv_files.proofs.Common.{stage_makes}
 use Rattle.giv_files.specs.declared.stage.Stage.TheVariants as stage
-use Rattle.giv_files.specs.MadeLists.{MakesAs, ids_of}
-use Rattle.giv_files.specs.Settings.{BundleParts}
-use Rattle.giv_files.specs.Stages.{stage_makes}
 use Rattle.stage_chain.specs.Hand.{is_hand, is_hand_file, hand_of}
 use Rattle.stage_chain.specs.Hand.{AreNoHandFiles}
 use Rattle.stage_keep.specs.Entries.{keep_name}

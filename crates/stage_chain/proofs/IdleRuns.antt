@@ -1,26 +1,15 @@
 -- Where each stage of a folder is kept, or off without files, the next run has nothing to do.
-use Rattle.std.proofs.Common.{◌≡◌, ℕ, ℤ, Bool, true, false, cond, not, is_some, List, [], ◌∷◌, ◌++◌}
-use Rattle.std.proofs.Common.{map, Option, Some, None, Result, Ok, Err, refl, ap, sym, subst, ◌∙◌}
-use Rattle.std.proofs.Common.{append_assoc, append-nil, IfOk, arith, fold, ◌+◌, ◌||◌}
-use Rattle.std.specs.List.{list_all, list_any, sum_by}
+use Rattle.plan_num.proofs.Common.{◌≡◌, ℕ, ℤ, Bool, true, false, cond, not, is_some, List, [], ◌∷◌}
+use Rattle.plan_num.proofs.Common.{◌++◌, map, Option, Some, None, Result, Ok, Err, refl, ap, sym}
+use Rattle.plan_num.proofs.Common.{subst, ◌∙◌, append_assoc, append-nil, IfOk, arith, fold, ◌+◌}
+use Rattle.plan_num.proofs.Common.{◌||◌, list_all, list_any, sum_by, and_parts, or_parts}
+use Rattle.plan_num.proofs.Common.{map-append, filter-append}
 use Rattle.std.specs.FinMap as files
-use Rattle.std.proofs.lemmas.Bool.{and_parts, or_parts}
-use Rattle.std.proofs.lemmas.List.{map-append}
-use Rattle.std.proofs.lemmas.List.Elements.{filter-append}
-use Rattle.plan_files.specs.declared.write.Write.{Write}
-use Rattle.plan_files.specs.declared.write.Write.TheVariants.{Removal}
-use Rattle.plan_files.specs.Folder.{Folder}
-use Rattle.tables.specs.declared.file_id.FileId.{FileId}
-use Rattle.giv_files.specs.declared.made.Made.{Made}
-use Rattle.giv_files.specs.declared.made.MadeFile.{MadeFile}
-use Rattle.giv_files.specs.declared.stage.Stage.{Stage}
-use Rattle.tables.specs.FileNames.{file_name}
-use Rattle.giv_files.specs.MadeLists.{MakesAs, ids_of}
-use Rattle.giv_files.specs.Settings.{BundleParts}
-use Rattle.giv_files.specs.Stages.{stage_inputs, stage_makes}
-use Rattle.config_keys.specs.declared.config_fault.ConfigFault.{ConfigFault}
-use Rattle.config_keys.specs.Items.{look_in}
-use Rattle.config_keys.specs.Values.{effective}
+use Rattle.plan_files.proofs.Common.{Write, Removal, Folder}
+use Rattle.tables.proofs.Common.{FileId, file_name}
+use Rattle.giv_files.proofs.Common.{Made, MadeFile, Stage, MakesAs, ids_of, BundleParts}
+use Rattle.giv_files.proofs.Common.{stage_inputs, stage_makes}
+use Rattle.config_keys.proofs.Common.{ConfigFault, look_in, effective}
 use Rattle.stage_chain.specs.declared.cause.Cause.{Cause}
 use Rattle.stage_chain.specs.declared.holding.Holding.{Holding}
 use Rattle.stage_chain.specs.declared.holding.Holding.TheVariants as holding

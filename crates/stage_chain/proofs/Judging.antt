@@ -1,20 +1,12 @@
 -- What is found of a stage whose files stand in a folder.
-use Rattle.std.proofs.Common.{arith, ◌≡◌, ℕ, ℤ, Bool, true, false, cond, is_some, List, Option}
-use Rattle.std.proofs.Common.{Some, None, IfSome, IfOk, Result, Ok, Err, refl, ap, subst, sym, ◌∙◌}
-use Rattle.std.proofs.Common.{◌+◌, ◌<◌, length, get_or, drop}
-use Rattle.std.specs.Option.{option_or}
-use Rattle.std.proofs.lemmas.List.{at_drop_more}
-use Rattle.plan_files.specs.Folder.{Folder}
-use Rattle.giv_files.specs.declared.made.MadeFile.{MadeFile}
-use Rattle.giv_files.specs.declared.stage.Stage.{Stage}
-use Rattle.giv_files.specs.Settings.{BundleParts}
-use Rattle.config_keys.specs.declared.config_end.ConfigEnd.{ConfigEnd}
+use Rattle.plan_num.proofs.Common.{arith, ◌≡◌, ℕ, ℤ, Bool, true, false, cond, is_some, List, Option}
+use Rattle.plan_num.proofs.Common.{Some, None, IfSome, IfOk, Result, Ok, Err, refl, ap, subst, sym}
+use Rattle.plan_num.proofs.Common.{◌∙◌, ◌+◌, ◌<◌, length, get_or, drop, option_or, at_drop_more}
+use Rattle.plan_files.proofs.Common.{Folder}
+use Rattle.giv_files.proofs.Common.{MadeFile, Stage, BundleParts}
+use Rattle.config_keys.proofs.Common.{ConfigEnd, ConfigFault, ConfigGives, look_in, effective}
 use Rattle.config_keys.specs.declared.config_end.ConfigEnd.TheVariants as config
-use Rattle.config_keys.specs.declared.config_fault.ConfigFault.{ConfigFault}
-use Rattle.config_keys.specs.Effective.{ConfigGives}
 use Rattle.config_keys.specs.Ends.{is_broken as config_broken}
-use Rattle.config_keys.specs.Items.{look_in}
-use Rattle.config_keys.specs.Values.{effective}
 use Rattle.stage_chain.specs.declared.cause.Cause.TheVariants as cause
 use Rattle.stage_chain.specs.declared.chain_end.ChainEnd.{ChainEnd}
 use Rattle.stage_chain.specs.declared.chain_end.ChainEnd.TheVariants as end

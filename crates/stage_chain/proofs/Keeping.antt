@@ -3,18 +3,11 @@ use Rattle.std.proofs.Common.{arith, ◌≡◌, ℕ, ℤ, cond, is_some, List, [
 use Rattle.std.proofs.Common.{None, Result, Ok, Err, refl, ap, sym, ◌∙◌}
 use Rattle.stage_chain.specs.StageParts.{staged}
 use Rattle.std.specs.FinMap as files
-use Rattle.plan_files.specs.Folder.{Folder}
-use Rattle.giv_files.specs.declared.made.Made.{Made}
-use Rattle.giv_files.specs.declared.made.MadeFile.{MadeFile}
-use Rattle.giv_files.specs.declared.stage.Stage.{Stage}
-use Rattle.giv_files.specs.MadeLists.{MakesAs, ids_of}
-use Rattle.giv_files.specs.Settings.{BundleParts, Fits}
-use Rattle.giv_files.specs.Stages.{stage_inputs}
-use Rattle.config_keys.specs.declared.config_fault.ConfigFault.{ConfigFault}
-use Rattle.config_keys.specs.Config.{AreSettings}
-use Rattle.config_keys.specs.Items.{look_in}
-use Rattle.config_keys.specs.Values.{effective}
-use Rattle.config_keys.proofs.Settling.{effective_settings}
+use Rattle.plan_files.proofs.Common.{Folder}
+use Rattle.giv_files.proofs.Common.{Made, MadeFile, Stage, MakesAs, ids_of, BundleParts, Fits}
+use Rattle.giv_files.proofs.Common.{stage_inputs}
+use Rattle.config_keys.proofs.Common.{ConfigFault, AreSettings, look_in, effective}
+use Rattle.config_keys.proofs.Common.{effective_settings}
 use Rattle.stage_keep.specs.Entries.{keep_name}
 use Rattle.stage_keep.specs.Honest.{kept_for}
 use Rattle.stage_keep.proofs.Honesty.{honest_is_made, kept_makes}

@@ -1,28 +1,16 @@
 -- What a run keeps is honest, and a further run over it makes the same and writes nothing.
-use Rattle.std.proofs.Common.{arith, ◌≡◌, ℕ, ℤ, Bool, true, false, cond, not, is_some, List, []}
-use Rattle.std.proofs.Common.{◌∷◌, ◌++◌, map, Option, Some, None, Result, Ok, Err, refl, ap, sym}
-use Rattle.std.proofs.Common.{subst, ◌∙◌, inl, inr, ⊎_elim}
-use Rattle.std.specs.Prelude.{⊤}
-use Rattle.std.specs.Str.{bytes_eq}
+use Rattle.plan_num.proofs.Common.{arith, ◌≡◌, ℕ, ℤ, Bool, true, false, cond, not, is_some, List}
+use Rattle.plan_num.proofs.Common.{[], ◌∷◌, ◌++◌, map, Option, Some, None, Result, Ok, Err, refl}
+use Rattle.plan_num.proofs.Common.{ap, sym, subst, ◌∙◌, inl, inr, ⊎_elim, ⊤, bytes_eq, and_parts}
+use Rattle.plan_num.proofs.Common.{bytes_eq-Decides, and_from}
 use Rattle.std.specs.FinMap as files
-use Rattle.std.proofs.lemmas.Bool.{and_parts}
-use Rattle.std.proofs.lemmas.Slice.Eq.{bytes_eq-Decides}
-use Rattle.plan_files.specs.Changes.{after_write, folder_after}
-use Rattle.plan_files.specs.Folder.{Folder}
-use Rattle.plan_files.proofs.OtherFiles.{get_part}
-use Rattle.plan_files.proofs.Writes.{folder_after_both, get_written}
-use Rattle.giv_files.specs.declared.made.Made.{Made}
-use Rattle.giv_files.specs.declared.made.MadeFile.{MadeFile}
-use Rattle.tables.specs.declared.refusal.Refusal.{Refusal}
-use Rattle.giv_files.specs.declared.stage.Stage.{Stage}
+use Rattle.plan_files.proofs.Common.{after_write, folder_after, Folder, get_part, folder_after_both}
+use Rattle.plan_files.proofs.Common.{get_written}
+use Rattle.giv_files.proofs.Common.{Made, MadeFile, Stage, Fits, all_stages}
+use Rattle.tables.proofs.Common.{Refusal}
 use Rattle.giv_files.specs.declared.stage.Stage.TheVariants as stage
-use Rattle.giv_files.specs.Settings.{Fits}
-use Rattle.giv_files.specs.Stages.{all_stages}
-use Rattle.config_keys.specs.declared.config_fault.ConfigFault.{ConfigFault}
-use Rattle.config_keys.specs.Config.{AreSettings}
-use Rattle.config_keys.specs.Items.{look_in}
-use Rattle.config_keys.specs.Values.{effective}
-use Rattle.config_keys.proofs.Settling.{effective_settings}
+use Rattle.config_keys.proofs.Common.{ConfigFault, AreSettings, look_in, effective}
+use Rattle.config_keys.proofs.Common.{effective_settings}
 use Rattle.stage_keep.specs.Entries.{entry_bytes, entry_for, keep_name}
 use Rattle.stage_keep.specs.EntryReading.{read_entry}
 use Rattle.stage_keep.specs.Honest.{IsHonest, kept_for}
@@ -51,7 +39,6 @@ use Rattle.stage_chain.specs.StageLists.{differing, differs_from}
 use Rattle.stage_chain.specs.StageParts.{StageParts}
 use Rattle.stage_chain.specs.Laws.{AreStages}
 use Rattle.stage_chain.specs.StageLists.{is_kept_name}
-use Rattle.std.proofs.lemmas.Bool.{and_from}
 use Rattle.stage_chain.proofs.WrittenNames.{apart_by, own_keep}
 use Rattle.stage_chain.proofs.Differing.{differ_swap}
 

@@ -1,12 +1,8 @@
 -- What a run over what is kept says.
-use Rattle.std.proofs.Common.{arith, ◌≡◌, ℕ, ◌+◌, ◌≤◌, List, [], ◌++◌, Option, Some, None, IfSome}
-use Rattle.std.proofs.Common.{IfOk, IfErr, OnOk, Result, Ok, Err, ap, sym, subst, ◌∙◌, inl}
-use Rattle.std.specs.Option.{option_map}
-use Rattle.std.proofs.lemmas.Option.{IfSome_then}
-use Rattle.plan_files.specs.declared.write.Write.{Write}
-use Rattle.plan_files.specs.Applied.{AreApplied}
-use Rattle.plan_files.specs.Counts.{Counts}
-use Rattle.plan_files.specs.Folder.{Folder}
+use Rattle.plan_num.proofs.Common.{arith, ◌≡◌, ℕ, ◌+◌, ◌≤◌, List, [], ◌++◌, Option, Some, None}
+use Rattle.plan_num.proofs.Common.{IfSome, IfOk, IfErr, OnOk, Result, Ok, Err, ap, sym, subst, ◌∙◌}
+use Rattle.plan_num.proofs.Common.{inl, option_map, IfSome_then}
+use Rattle.plan_files.proofs.Common.{Write, AreApplied, Counts, Folder}
 use Rattle.command_line.specs.declared.mode.Mode.TheVariants as mode
 use Rattle.stage_chain.specs.declared.cause.Cause.{Cause}
 use Rattle.stage_chain.specs.declared.outcome.ChainFault.{ChainFault}

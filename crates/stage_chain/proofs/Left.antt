@@ -1,16 +1,11 @@
 -- What the writes of a run leave.
-use Rattle.std.proofs.Common.{arith, ◌≡◌, ℕ, Bool, true, false, cond, not, ◌||◌, List, [], ◌∷◌}
-use Rattle.std.proofs.Common.{◌++◌, map, Option, Some, None, refl, ap, sym, ◌∙◌}
-use Rattle.std.specs.Str.{bytes_eq}
+use Rattle.plan_num.proofs.Common.{arith, ◌≡◌, ℕ, Bool, true, false, cond, not, ◌||◌, List, [], ◌∷◌}
+use Rattle.plan_num.proofs.Common.{◌++◌, map, Option, Some, None, refl, ap, sym, ◌∙◌, bytes_eq}
+use Rattle.plan_num.proofs.Common.{false≢true, bytes_eq-Decides}
 use Rattle.std.specs.FinMap as files
-use Rattle.std.proofs.lemmas.Bool.{false≢true}
-use Rattle.std.proofs.lemmas.Slice.Eq.{bytes_eq-Decides}
-use Rattle.plan_files.specs.declared.write.Write.TheVariants.{Put, Removal}
-use Rattle.plan_files.specs.Folder.{Folder}
-use Rattle.plan_files.specs.Changes.{after_write, folder_after}
-use Rattle.plan_files.proofs.OtherFiles.{get_part, same_folder}
-use Rattle.plan_files.proofs.Writes.{folder_after_both, get_written}
-use Rattle.giv_files.specs.declared.made.MadeFile.{MadeFile}
+use Rattle.plan_files.proofs.Common.{Put, Removal, Folder, after_write, folder_after, get_part}
+use Rattle.plan_files.proofs.Common.{same_folder, folder_after_both, get_written}
+use Rattle.giv_files.proofs.Common.{MadeFile}
 use Rattle.stage_chain.specs.Hand.{hand_of, is_among, keep_names, names_made_by}
 use Rattle.stage_chain.specs.Built.{files_of}
 use Rattle.stage_chain.specs.Kept.{made_over, new_entries, trace_over}

@@ -1,10 +1,7 @@
 -- One look of texts, in which each file has one.
 use Rattle.std.proofs.Common.{◌≡◌, ℕ, ℤ, List, [], ◌∷◌, ◌++◌, map, Result, Ok, Err, refl, ap, sym, ◌∙◌}
-use Rattle.tables.specs.declared.file_id.FileId.{FileId}
-use Rattle.giv_files.specs.declared.stage.Stage.{Stage}
-use Rattle.giv_files.specs.MadeLists.{ids_of}
-use Rattle.giv_files.specs.Settings.{BundleParts}
-use Rattle.giv_files.specs.Stages.{stage_inputs}
+use Rattle.tables.proofs.Common.{FileId}
+use Rattle.giv_files.proofs.Common.{Stage, ids_of, BundleParts, stage_inputs}
 use Rattle.stage_chain.specs.declared.cause.Cause.{Cause}
 use Rattle.stage_chain.specs.Chain.{bundle_for, bundle_told, bundle_by, chosen, texts_by, with_text}
 use Rattle.stage_chain.specs.Laws.{bundle_over, files_over}

@@ -1,14 +1,9 @@
 -- What holds of each list of files that a stage may make.
-use Rattle.std.proofs.Common.{◌≡◌, ℕ, zero, suc, ◌<◌, Bool, true, List, [], ◌∷◌, length, map}
-use Rattle.std.proofs.Common.{filter, refl, arith}
-use Rattle.std.specs.Prelude.{slice_index_or}
-use Rattle.std.specs.List.{list_all, Contains}
-use Rattle.tables.specs.declared.file_id.FileId.{FileId}
-use Rattle.giv_files.specs.declared.stage.Stage.{Stage}
+use Rattle.plan_num.proofs.Common.{◌≡◌, ℕ, zero, suc, ◌<◌, Bool, true, List, [], ◌∷◌, length, map}
+use Rattle.plan_num.proofs.Common.{filter, refl, arith, slice_index_or, list_all, Contains}
+use Rattle.tables.proofs.Common.{FileId, file_name}
+use Rattle.giv_files.proofs.Common.{Stage, MakesAs, stage_makes}
 use Rattle.giv_files.specs.declared.stage.Stage.TheVariants as stage
-use Rattle.tables.specs.FileNames.{file_name}
-use Rattle.giv_files.specs.MadeLists.{MakesAs}
-use Rattle.giv_files.specs.Stages.{stage_makes}
 use Rattle.stage_chain.specs.Hand.{is_among}
 use Rattle.stage_chain.specs.StageLists.{differing}
 use Rattle.stage_chain.specs.StageLists.{always_made}

@@ -1,14 +1,10 @@
 -- The made files of the folder that a run leaves are those that its hand files determine.
-use Rattle.std.proofs.Common.{arith, ◌≡◌, ℕ, Bool, true, false, cond, not, ◌||◌, List, [], ◌∷◌, map}
-use Rattle.std.proofs.Common.{Option, Some, None, IfSome, refl, ap, sym, ◌∙◌, nat_cmp}
-use Rattle.std.specs.Cmp.Lexicographic.{slice_cmp}
-use Rattle.std.specs.List.{list_all}
-use Rattle.std.specs.Str.{bytes_eq}
+use Rattle.plan_num.proofs.Common.{arith, ◌≡◌, ℕ, Bool, true, false, cond, not, ◌||◌, List, [], ◌∷◌}
+use Rattle.plan_num.proofs.Common.{map, Option, Some, None, IfSome, refl, ap, sym, ◌∙◌, nat_cmp}
+use Rattle.plan_num.proofs.Common.{slice_cmp, list_all, bytes_eq, false≢true, and_parts, not-true}
+use Rattle.plan_num.proofs.Common.{bytes_eq-Decides}
 use Rattle.std.specs.FinMap as files
-use Rattle.std.proofs.lemmas.Bool.{false≢true, and_parts, not-true}
-use Rattle.std.proofs.lemmas.Slice.Eq.{bytes_eq-Decides}
-use Rattle.plan_files.specs.Folder.{Folder}
-use Rattle.plan_files.proofs.OtherFiles.{get_part, same_folder}
+use Rattle.plan_files.proofs.Common.{Folder, get_part, same_folder}
 use Rattle.command_line.specs.declared.mode.Mode.{Mode}
 use Rattle.stage_chain.specs.Built.{files_of, made}
 use Rattle.stage_chain.specs.Hand.{hand_of, is_among, names_made_by}

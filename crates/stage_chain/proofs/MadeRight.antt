@@ -1,16 +1,11 @@
 -- What the stages of a chain make is right, over all files that the chain made.
-use Rattle.std.proofs.Common.{All, Contains, arith, ◌≡◌, ℕ, ℤ, suc, List, [], ◌∷◌, length, Result}
-use Rattle.std.proofs.Common.{Ok, Err, refl, ap, subst, sym, ◌∙◌}
-use Rattle.std.proofs.lemmas.List.Elements.{All-head, All-tail}
+use Rattle.plan_num.proofs.Common.{All, Contains, arith, ◌≡◌, ℕ, ℤ, suc, List, [], ◌∷◌, length}
+use Rattle.plan_num.proofs.Common.{Result, Ok, Err, refl, ap, subst, sym, ◌∙◌, All-head, All-tail}
 use Rattle.stage_chain.specs.StageParts.{staged}
-use Rattle.plan_files.specs.Folder.{Folder}
-use Rattle.tables.specs.declared.file_id.FileId.{FileId}
-use Rattle.giv_files.specs.declared.made.MadeFile.{MadeFile}
-use Rattle.giv_files.specs.declared.stage.Stage.{Stage}
-use Rattle.giv_files.specs.Settings.{BundleParts, Fits}
-use Rattle.giv_files.specs.Stages.{stage_inputs}
-use Rattle.config_keys.specs.Config.{AreSettings}
-use Rattle.config_keys.proofs.Settling.{part_fits}
+use Rattle.plan_files.proofs.Common.{Folder}
+use Rattle.tables.proofs.Common.{FileId}
+use Rattle.giv_files.proofs.Common.{MadeFile, Stage, BundleParts, Fits, stage_inputs}
+use Rattle.config_keys.proofs.Common.{AreSettings, part_fits}
 use Rattle.stage_chain.specs.declared.cause.Cause.{Cause}
 use Rattle.stage_chain.specs.Chain.{Visit, chosen, input_text, with_text, texts_by, bundle_for}
 use Rattle.stage_chain.specs.Chain.{bundle_told, bundle_by}

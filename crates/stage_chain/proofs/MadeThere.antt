@@ -1,17 +1,12 @@
 -- The files of a stage that stand in a folder, one after the other.
-use Rattle.std.proofs.Common.{arith, ◌≡◌, ℕ, ◌+◌, ◌<◌, ◌≤◌, Bool, true, false, cond, ◌||◌, List, []}
-use Rattle.std.proofs.Common.{◌∷◌, ◌++◌, length, get_or, drop, Option, Some, None, IfSome, refl, ap}
-use Rattle.std.proofs.Common.{sym, ◌∙◌, append-nil, append_assoc}
-use Rattle.std.specs.List.{list_any}
-use Rattle.std.specs.Option.{ok_or}
+use Rattle.plan_num.proofs.Common.{arith, ◌≡◌, ℕ, ◌+◌, ◌<◌, ◌≤◌, Bool, true, false, cond, ◌||◌}
+use Rattle.plan_num.proofs.Common.{List, [], ◌∷◌, ◌++◌, length, get_or, drop, Option, Some, None}
+use Rattle.plan_num.proofs.Common.{IfSome, refl, ap, sym, ◌∙◌, append-nil, append_assoc, list_any}
+use Rattle.plan_num.proofs.Common.{ok_or, at_drop_more, at_drop_all}
 use Rattle.std.specs.FinMap as map
-use Rattle.std.proofs.lemmas.List.{at_drop_more, at_drop_all}
-use Rattle.plan_files.specs.Folder.{Folder}
-use Rattle.tables.specs.declared.file_id.FileId.{FileId}
-use Rattle.giv_files.specs.declared.made.MadeFile.{MadeFile}
-use Rattle.giv_files.specs.declared.stage.Stage.{Stage}
-use Rattle.tables.specs.FileNames.{file_name}
-use Rattle.giv_files.specs.Stages.{stage_makes}
+use Rattle.plan_files.proofs.Common.{Folder}
+use Rattle.tables.proofs.Common.{FileId, file_name}
+use Rattle.giv_files.proofs.Common.{MadeFile, Stage, stage_makes}
 use Rattle.stage_chain.specs.declared.cause.Cause.TheVariants as cause
 use Rattle.stage_chain.specs.Checks.{found_one, is_lacking}
 use Rattle.stage_chain.specs.Right.{files_by, found_file, made_in}

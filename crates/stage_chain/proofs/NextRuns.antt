@@ -1,22 +1,14 @@
 -- What the states of stages tell of the next run.
-use Rattle.std.proofs.Common.{◌≡◌, ◌<◌, ◌⊎◌, inl, inr, ⊎_elim, ℕ, ℤ, zero, suc, ◌&&◌, Bool, true}
-use Rattle.std.proofs.Common.{false, cond, not, ltb, All, Contains, List, [], ◌∷◌, ◌++◌, map}
-use Rattle.std.proofs.Common.{Option, Some, None, Result, Ok, Err, refl, ap, sym, subst, ◌∙◌, arith}
-use Rattle.std.specs.List.{list_all, list_any}
-use Rattle.std.specs.Str.{bytes_eq}
-use Rattle.std.proofs.lemmas.Bool.{and_parts, ltb-true, or_parts}
-use Rattle.std.proofs.lemmas.List.Elements.{All-cons, All-contains, Contains-append_cases}
-use Rattle.std.proofs.lemmas.List.Folds.{list_all-map, list_any-append}
-use Rattle.plan_files.specs.Folder.{Folder}
-use Rattle.tables.specs.declared.file_id.FileId.{FileId}
-use Rattle.giv_files.specs.declared.made.Made.{Made}
-use Rattle.giv_files.specs.declared.made.MadeFile.{MadeFile}
-use Rattle.tables.specs.declared.refusal.Refusal.{Refusal}
-use Rattle.giv_files.specs.declared.stage.Stage.{Stage}
-use Rattle.tables.specs.FileNames.{file_name}
-use Rattle.giv_files.specs.MadeLists.{MakesAs, ids_of}
-use Rattle.giv_files.specs.Settings.{BundleParts}
-use Rattle.giv_files.specs.Stages.{stage_inputs, stage_makes}
+use Rattle.plan_num.proofs.Common.{◌≡◌, ◌<◌, ◌⊎◌, inl, inr, ⊎_elim, ℕ, ℤ, zero, suc, ◌&&◌, Bool}
+use Rattle.plan_num.proofs.Common.{true, false, cond, not, ltb, All, Contains, List, [], ◌∷◌, ◌++◌}
+use Rattle.plan_num.proofs.Common.{map, Option, Some, None, Result, Ok, Err, refl, ap, sym, subst}
+use Rattle.plan_num.proofs.Common.{◌∙◌, arith, list_all, list_any, bytes_eq, and_parts, ltb-true}
+use Rattle.plan_num.proofs.Common.{or_parts, All-cons, All-contains, Contains-append_cases}
+use Rattle.plan_num.proofs.Common.{list_all-map, list_any-append}
+use Rattle.plan_files.proofs.Common.{Folder}
+use Rattle.tables.proofs.Common.{FileId, Refusal, file_name}
+use Rattle.giv_files.proofs.Common.{Made, MadeFile, Stage, MakesAs, ids_of, BundleParts}
+use Rattle.giv_files.proofs.Common.{stage_inputs, stage_makes}
 use Rattle.stage_chain.specs.declared.cause.Cause.{Cause}
 use Rattle.stage_chain.specs.declared.cause.Cause.TheVariants as cause
 use Rattle.stage_chain.specs.declared.holding.Holding.{Holding}

@@ -1,18 +1,11 @@
 -- Files of which a check finds nothing satisfy the models of their stages.
-use Rattle.std.proofs.Common.{arith, ◌≡◌, ℕ, ℤ, false, cond, is_some, ◌+◌, ◌<◌, ◌≤◌, List, length}
-use Rattle.std.proofs.Common.{get_or, drop, Option, Some, None, IfSome, IfOk, IfNone, Result, Ok}
-use Rattle.std.proofs.Common.{Err, subst, sym}
-use Rattle.std.proofs.lemmas.List.{at_drop_more, at_drop_all}
-use Rattle.plan_files.specs.Folder.{Folder}
-use Rattle.giv_files.specs.declared.made.MadeFile.{MadeFile}
-use Rattle.giv_files.specs.declared.stage.Stage.{Stage}
-use Rattle.giv_files.specs.MadeLists.{MakesAs, ids_of}
-use Rattle.giv_files.specs.Settings.{BundleParts}
-use Rattle.config_keys.specs.declared.config_end.ConfigEnd.{ConfigEnd}
+use Rattle.plan_num.proofs.Common.{arith, ◌≡◌, ℕ, ℤ, false, cond, is_some, ◌+◌, ◌<◌, ◌≤◌, List}
+use Rattle.plan_num.proofs.Common.{length, get_or, drop, Option, Some, None, IfSome, IfOk, IfNone}
+use Rattle.plan_num.proofs.Common.{Result, Ok, Err, subst, sym, at_drop_more, at_drop_all}
+use Rattle.plan_files.proofs.Common.{Folder}
+use Rattle.giv_files.proofs.Common.{MadeFile, Stage, MakesAs, ids_of, BundleParts}
+use Rattle.config_keys.proofs.Common.{ConfigEnd, ConfigGives, look_in, effective}
 use Rattle.config_keys.specs.declared.config_end.ConfigEnd.TheVariants as config
-use Rattle.config_keys.specs.Effective.{ConfigGives}
-use Rattle.config_keys.specs.Items.{look_in}
-use Rattle.config_keys.specs.Values.{effective}
 use Rattle.stage_chain.specs.declared.chain_end.ChainEnd.{ChainEnd}
 use Rattle.stage_chain.specs.declared.chain_end.ChainEnd.TheVariants as end
 use Rattle.stage_chain.specs.declared.checked.CheckEnd.{CheckEnd}

@@ -1,27 +1,17 @@
 -- Why a chain ends early names a file that people write.
-use Rattle.std.proofs.Common.{◌≡◌, ℕ, ℤ, ltb, leb, Bool, true, false, cond, not, ◌||◌, List, []}
-use Rattle.std.proofs.Common.{◌∷◌, ◌++◌, map, filter, Option, Some, None, IfErr, Result, Ok, Err}
-use Rattle.std.proofs.Common.{refl, ap, subst, sym, ◌∙◌, append_assoc, append-nil, arith, ⊎_elim}
-use Rattle.std.specs.List.{list_all, flat_map}
-use Rattle.std.specs.Str.{bytes_eq}
-use Rattle.std.proofs.lemmas.Bool.{false≢true, and_parts, and_from, ltb-true, leb-true, le-leb}
-use Rattle.std.proofs.lemmas.Bool.{le-ltb}
-use Rattle.std.proofs.lemmas.Slice.Eq.{bytes_eq-Decides}
-use Rattle.plan_files.specs.declared.store.Got.{Got}
-use Rattle.plan_files.specs.declared.store.Got.TheVariants.{Bytes, Absent, TooLong as Long}
-use Rattle.plan_files.specs.Folder.{Folder}
-use Rattle.giv_files.specs.declared.made.MadeFile.{MadeFile}
-use Rattle.tables.specs.declared.file_id.FileId.{FileId}
+use Rattle.plan_num.proofs.Common.{◌≡◌, ℕ, ℤ, ltb, leb, Bool, true, false, cond, not, ◌||◌, List}
+use Rattle.plan_num.proofs.Common.{[], ◌∷◌, ◌++◌, map, filter, Option, Some, None, IfErr, Result}
+use Rattle.plan_num.proofs.Common.{Ok, Err, refl, ap, subst, sym, ◌∙◌, append_assoc, append-nil}
+use Rattle.plan_num.proofs.Common.{arith, ⊎_elim, list_all, flat_map, bytes_eq, false≢true}
+use Rattle.plan_num.proofs.Common.{and_parts, and_from, ltb-true, leb-true, le-leb, le-ltb}
+use Rattle.plan_num.proofs.Common.{bytes_eq-Decides}
+use Rattle.plan_files.proofs.Common.{Got, Bytes, Absent, Folder}
+use Rattle.plan_files.specs.declared.store.Got.TheVariants.{TooLong as Long}
+use Rattle.giv_files.proofs.Common.{MadeFile, Stage, ids_of, stage_inputs, stage_makes}
+use Rattle.tables.proofs.Common.{FileId, file_name}
 use Rattle.tables.specs.declared.file_id.FileId.TheVariants as file
-use Rattle.giv_files.specs.declared.stage.Stage.{Stage}
-use Rattle.tables.specs.FileNames.{file_name}
-use Rattle.giv_files.specs.MadeLists.{ids_of}
-use Rattle.giv_files.specs.Stages.{stage_inputs, stage_makes}
-use Rattle.config_keys.specs.Config.{last_stage_of}
-use Rattle.config_keys.specs.Items.{look_in}
-use Rattle.config_keys.specs.NamedConfigs.{ConfigNames}
-use Rattle.config_keys.proofs.NamedConfigs.{config_names}
-use Rattle.config_keys.proofs.Settling.{effective_settings}
+use Rattle.config_keys.proofs.Common.{last_stage_of, look_in, ConfigNames, config_names}
+use Rattle.config_keys.proofs.Common.{effective_settings}
 use Rattle.stage_chain.specs.declared.cause.Cause.{Cause}
 use Rattle.stage_chain.specs.declared.cause.Cause.TheVariants as cause
 use Rattle.stage_chain.specs.Hand.{is_among, is_hand, is_hand_file}

@@ -1,7 +1,6 @@
 -- A chain is what was made so far, and then the rest of it.
-use Rattle.std.specs.Prelude.{ℕ, ◌≡◌, ◌+◌, ◌++◌}
-use Rattle.std.specs.List.{sum_by}
-use Rattle.plan_files.specs.Folder.{Folder}
+use Rattle.plan_num.proofs.Common.{ℕ, ◌≡◌, ◌+◌, ◌++◌, sum_by}
+use Rattle.plan_files.proofs.Common.{Folder}
 use Rattle.stage_chain.specs.Built.{files_of}
 use Rattle.stage_chain.specs.Chain.{Trace, handed}
 use Rattle.stage_chain.specs.Kept.{HaveEntries, new_entries, work_over}

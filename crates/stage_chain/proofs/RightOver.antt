@@ -1,12 +1,9 @@
 -- What is right over one look of texts, stage by stage.
-use Rattle.std.proofs.Common.{◌≡◌, ℕ, ℤ, Bool, true, false, cond, ltb, ◌||◌, List, [], ◌∷◌, map}
-use Rattle.std.proofs.Common.{refl, ap, subst}
-use Rattle.std.specs.List.{list_any}
-use Rattle.std.specs.Str.{bytes_eq}
-use Rattle.std.proofs.lemmas.Bool.{false≢true}
-use Rattle.std.proofs.lemmas.Slice.Eq.{bytes_eq-Decides}
-use Rattle.tables.specs.declared.file_id.FileId.{FileId}
-use Rattle.giv_files.specs.declared.stage.Stage.{Stage}
+use Rattle.plan_num.proofs.Common.{◌≡◌, ℕ, ℤ, Bool, true, false, cond, ltb, ◌||◌, List, [], ◌∷◌}
+use Rattle.plan_num.proofs.Common.{map, refl, ap, subst, list_any, bytes_eq, false≢true}
+use Rattle.plan_num.proofs.Common.{bytes_eq-Decides}
+use Rattle.tables.proofs.Common.{FileId}
+use Rattle.giv_files.proofs.Common.{Stage}
 use Rattle.stage_keep.specs.Entries.{keep_name}
 use Rattle.stage_chain.specs.Chain.{stage_place}
 use Rattle.stage_chain.specs.Laws.{AreRightOver, IsRightOver}

@@ -1,12 +1,7 @@
 -- What a run says: the removals of a fresh one, and then a run over what is kept.
-use Rattle.std.proofs.Common.{arith, ◌≡◌, ◌+◌, ◌≤◌, List, ◌++◌, Option, Some, IfSome}
-use Rattle.std.proofs.Common.{Result, Ok, Err, ap, sym, subst, ◌∙◌, inl, inr}
-use Rattle.std.specs.Option.{option_map}
-use Rattle.std.proofs.lemmas.Option.{IfSome_then}
-use Rattle.plan_files.specs.declared.write.Write.{Write}
-use Rattle.plan_files.specs.Applied.{AreApplied}
-use Rattle.plan_files.specs.Counts.{Counts}
-use Rattle.plan_files.specs.Folder.{Folder}
+use Rattle.plan_num.proofs.Common.{arith, ◌≡◌, ◌+◌, ◌≤◌, List, ◌++◌, Option, Some, IfSome, Result}
+use Rattle.plan_num.proofs.Common.{Ok, Err, ap, sym, subst, ◌∙◌, inl, inr, option_map, IfSome_then}
+use Rattle.plan_files.proofs.Common.{Write, AreApplied, Counts, Folder}
 use Rattle.command_line.specs.declared.mode.Mode.{Mode}
 use Rattle.command_line.specs.declared.mode.Mode.TheVariants as mode
 use Rattle.stage_chain.specs.declared.outcome.ChainFault.{ChainFault}

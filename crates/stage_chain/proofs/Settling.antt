@@ -1,16 +1,10 @@
 -- Writes that change something, one after the other, and which files they name.
-use Rattle.std.proofs.Common.{◌≡◌, ℕ, Bool, true, false, cond, not, ◌⊎◌, List, [], ◌∷◌, ◌++◌, map}
-use Rattle.std.proofs.Common.{length, Option, Some, None, IfSome, refl, ap, sym, subst, ◌∙◌, ⊎_elim}
-use Rattle.std.proofs.Common.{append-nil, append_assoc, arith}
-use Rattle.std.specs.List.{list_all}
-use Rattle.plan_files.specs.declared.file_fault.FileFault.{FileFault}
-use Rattle.plan_files.specs.declared.write.Write.{Write}
-use Rattle.plan_files.specs.declared.write.Write.TheVariants.{Removal}
-use Rattle.plan_files.specs.Applied.{AreApplied, AreCutShort}
-use Rattle.plan_files.specs.Folder.{Folder}
-use Rattle.plan_files.specs.Others.{AreOutside}
-use Rattle.plan_files.proofs.OtherFiles.{outside_both, outside_front}
-use Rattle.giv_files.specs.declared.made.MadeFile.{MadeFile}
+use Rattle.plan_num.proofs.Common.{◌≡◌, ℕ, Bool, true, false, cond, not, ◌⊎◌, List, [], ◌∷◌, ◌++◌}
+use Rattle.plan_num.proofs.Common.{map, length, Option, Some, None, IfSome, refl, ap, sym, subst}
+use Rattle.plan_num.proofs.Common.{◌∙◌, ⊎_elim, append-nil, append_assoc, arith, list_all}
+use Rattle.plan_files.proofs.Common.{FileFault, Write, Removal, AreApplied, AreCutShort, Folder}
+use Rattle.plan_files.proofs.Common.{AreOutside, outside_both, outside_front}
+use Rattle.giv_files.proofs.Common.{MadeFile}
 use Rattle.stage_chain.specs.Hand.{AreNoHandFiles, is_hand, keep_names}
 use Rattle.stage_chain.specs.Runs.{AddsNoHandFile, SameHand, is_met, unmet, writes_for}
 use Rattle.stage_chain.proofs.HandKept.{applied_hand, cut_hand, made_outside, removals_outside}

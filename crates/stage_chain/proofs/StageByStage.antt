@@ -1,17 +1,12 @@
 -- A chain goes stage by stage.
-use Rattle.std.proofs.Common.{◌≡◌, ℕ, ℤ, ◌+◌, ◌<◌, ◌≤◌, Bool, true, false, leb, List, [], ◌++◌}
-use Rattle.std.proofs.Common.{length, get_or, drop, Option, Some, None, IfSome, Result, Ok, Err}
-use Rattle.std.proofs.Common.{refl, ap, ◌∙◌, subst, arith, append-nil, append_assoc}
-use Rattle.std.specs.List.{sum_by}
-use Rattle.std.proofs.lemmas.List.{at_drop_more, at_drop_all}
-use Rattle.std.proofs.lemmas.List.Sums.{sum_by-cons}
-use Rattle.plan_files.specs.Folder.{Folder}
-use Rattle.giv_files.specs.declared.made.Made.{Made}
-use Rattle.giv_files.specs.declared.made.MadeFile.{MadeFile}
-use Rattle.tables.specs.declared.refusal.Refusal.{Refusal}
-use Rattle.giv_files.specs.declared.stage.Stage.{Stage}
-use Rattle.giv_files.specs.Settings.{BundleParts}
-use Rattle.config_keys.specs.Config.{last_stage_of}
+use Rattle.plan_num.proofs.Common.{◌≡◌, ℕ, ℤ, ◌+◌, ◌<◌, ◌≤◌, Bool, true, false, leb, List, [], ◌++◌}
+use Rattle.plan_num.proofs.Common.{length, get_or, drop, Option, Some, None, IfSome, Result, Ok}
+use Rattle.plan_num.proofs.Common.{Err, refl, ap, ◌∙◌, subst, arith, append-nil, append_assoc}
+use Rattle.plan_num.proofs.Common.{sum_by, at_drop_more, at_drop_all, sum_by-cons}
+use Rattle.plan_files.proofs.Common.{Folder}
+use Rattle.giv_files.proofs.Common.{Made, MadeFile, Stage, BundleParts}
+use Rattle.tables.proofs.Common.{Refusal}
+use Rattle.config_keys.proofs.Common.{last_stage_of}
 use Rattle.stage_chain.specs.declared.chain_end.ChainEnd.{ChainEnd}
 use Rattle.stage_chain.specs.declared.chain_end.ChainEnd.TheVariants as end
 use Rattle.stage_chain.specs.Chain.{Visit, Halt, Trace, go_on, handed, handed_once, visit_of}

@@ -2,12 +2,9 @@
 use Rattle.stage_chain.specs.StageParts.{staged}
 use Rattle.std.proofs.Common.{◌≡◌, ℕ, ℤ, List, [], Option, Some, None, IfSome, Result, Ok, Err}
 use Rattle.std.proofs.Common.{arith}
-use Rattle.plan_files.specs.Folder.{Folder}
-use Rattle.config_keys.specs.declared.config_end.ConfigEnd.{ConfigEnd}
+use Rattle.plan_files.proofs.Common.{Folder}
+use Rattle.config_keys.proofs.Common.{ConfigEnd, ConfigGives, look_in, effective}
 use Rattle.config_keys.specs.declared.config_end.ConfigEnd.TheVariants as config
-use Rattle.config_keys.specs.Effective.{ConfigGives}
-use Rattle.config_keys.specs.Items.{look_in}
-use Rattle.config_keys.specs.Values.{effective}
 use Rattle.stage_chain.specs.declared.chain_end.ChainEnd.{ChainEnd}
 use Rattle.stage_chain.specs.Chain.{chain_from, to_run}
 use Rattle.stage_chain.specs.Kept.{solve_over, trace_over}

@@ -1,22 +1,16 @@
 -- The states of the stages, one after the other.
-use Rattle.std.proofs.Common.{arith, ◌≡◌, ℕ, ℤ, ◌+◌, ◌<◌, ◌≤◌, cond, List, ◌∷◌, ◌++◌, length}
-use Rattle.std.proofs.Common.{slice_get, get_or, drop, Option, Some, None, IfSome, IfOk, Result, Ok}
-use Rattle.std.proofs.Common.{Err, refl, ap, sym, subst, ◌∙◌, append-nil, append_assoc}
+use Rattle.plan_num.proofs.Common.{arith, ◌≡◌, ℕ, ℤ, ◌+◌, ◌<◌, ◌≤◌, cond, List, ◌∷◌, ◌++◌, length}
+use Rattle.plan_num.proofs.Common.{slice_get, get_or, drop, Option, Some, None, IfSome, IfOk}
+use Rattle.plan_num.proofs.Common.{Result, Ok, Err, refl, ap, sym, subst, ◌∙◌, append-nil}
+use Rattle.plan_num.proofs.Common.{append_assoc, list_all, at_drop_more, at_drop_all}
+use Rattle.plan_num.proofs.Common.{get_or_from_slice_get, slice_get_within}
 use Rattle.stage_chain.specs.States.{holding_in}
-use Rattle.std.specs.List.{list_all}
-use Rattle.std.proofs.lemmas.List.{at_drop_more, at_drop_all}
-use Rattle.std.proofs.lemmas.Option.{get_or_from_slice_get, slice_get_within}
-use Rattle.plan_files.specs.Folder.{Folder}
-use Rattle.tables.specs.declared.file_id.FileId.{FileId}
-use Rattle.giv_files.specs.declared.made.MadeFile.{MadeFile}
-use Rattle.giv_files.specs.declared.stage.Stage.{Stage}
-use Rattle.config_keys.specs.declared.config_end.ConfigEnd.{ConfigEnd}
+use Rattle.plan_files.proofs.Common.{Folder}
+use Rattle.tables.proofs.Common.{FileId}
+use Rattle.giv_files.proofs.Common.{MadeFile, Stage}
+use Rattle.config_keys.proofs.Common.{ConfigEnd, ConfigFault, ConfigGives, look_in, effective}
 use Rattle.config_keys.specs.declared.config_end.ConfigEnd.TheVariants as config
-use Rattle.config_keys.specs.declared.config_fault.ConfigFault.{ConfigFault}
-use Rattle.config_keys.specs.Effective.{ConfigGives}
 use Rattle.config_keys.specs.Ends.{is_broken as config_broken}
-use Rattle.config_keys.specs.Items.{look_in}
-use Rattle.config_keys.specs.Values.{effective}
 use Rattle.stage_chain.specs.declared.outcome.ChainFault.{ChainFault}
 use Rattle.stage_chain.specs.declared.state.StatesEnd.TheVariants as end
 use Rattle.stage_chain.specs.declared.state.StatesOutcome.{StatesOutcome}

@@ -1,12 +1,7 @@
 -- Where a run is stopped, the files that people write are as before, and what is kept is honest.
 use Rattle.std.proofs.Common.{◌≡◌, ◌+◌, ◌≤◌, List, ◌∷◌, [], ◌++◌, Option, Some, None, refl, ap, subst, ⊎_elim}
 use Rattle.std.proofs.lemmas.Option.{same_Some}
-use Rattle.plan_files.specs.declared.file_fault.FileFault.TheVariants.{Failed}
-use Rattle.plan_files.specs.declared.write.Write.{Write}
-use Rattle.plan_files.specs.Changes.{folder_after}
-use Rattle.plan_files.specs.Folder.{Folder}
-use Rattle.plan_files.specs.Others.{AreOutside}
-use Rattle.plan_files.proofs.OtherFiles.{outside_front}
+use Rattle.plan_files.proofs.Common.{Failed, Write, folder_after, Folder, AreOutside, outside_front}
 use Rattle.command_line.specs.declared.mode.Mode.{Mode}
 use Rattle.command_line.specs.declared.mode.Mode.TheVariants as mode
 use Rattle.stage_chain.specs.Hand.{hand_of, is_hand}

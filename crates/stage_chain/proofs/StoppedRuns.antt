@@ -1,27 +1,13 @@
 -- The writes of a run are harmless, and so it may be stopped anywhere.
-use Rattle.std.proofs.Common.{arith, ◌≡◌, ℕ, ℤ, Bool, true, false, cond, not, is_some, List, []}
-use Rattle.std.proofs.Common.{◌∷◌, ◌++◌, map, filter, take, drop, Option, Some, None, IfSome}
-use Rattle.std.proofs.Common.{Ok, refl, ap, sym, subst, ◌∙◌, inl, ⊎_elim}
-use Rattle.std.proofs.Common.{append-nil}
-use Rattle.std.specs.Option.{option_map}
-use Rattle.std.specs.Str.{bytes_eq}
-use Rattle.std.proofs.lemmas.Bool.{and_parts, false≢true}
-use Rattle.std.proofs.lemmas.List.{take-append-drop}
-use Rattle.std.proofs.lemmas.Slice.Eq.{bytes_eq-Decides}
-use Rattle.plan_files.specs.declared.write.Write.{Write}
-use Rattle.plan_files.specs.declared.write.Write.TheVariants.{Removal}
-use Rattle.plan_files.specs.Applied.{AreApplied, AreCutShort, LeftBy}
-use Rattle.plan_files.specs.Changes.{folder_after}
-use Rattle.plan_files.specs.Folder.{Folder}
-use Rattle.plan_files.specs.Others.{AreOutside}
-use Rattle.plan_files.proofs.OtherFiles.{outside_both, outside_front}
-use Rattle.giv_files.specs.declared.made.Made.{Made}
-use Rattle.giv_files.specs.declared.made.MadeFile.{MadeFile}
-use Rattle.giv_files.specs.declared.stage.Stage.{Stage}
-use Rattle.giv_files.specs.Settings.{Fits}
-use Rattle.config_keys.specs.Config.{AreSettings}
-use Rattle.config_keys.specs.Items.{look_in}
-use Rattle.config_keys.proofs.Settling.{effective_settings}
+use Rattle.plan_num.proofs.Common.{arith, ◌≡◌, ℕ, ℤ, Bool, true, false, cond, not, is_some, List}
+use Rattle.plan_num.proofs.Common.{[], ◌∷◌, ◌++◌, map, filter, take, drop, Option, Some, None}
+use Rattle.plan_num.proofs.Common.{IfSome, Ok, refl, ap, sym, subst, ◌∙◌, inl, ⊎_elim, append-nil}
+use Rattle.plan_num.proofs.Common.{option_map, bytes_eq, and_parts, false≢true, take-append-drop}
+use Rattle.plan_num.proofs.Common.{bytes_eq-Decides}
+use Rattle.plan_files.proofs.Common.{Write, Removal, AreApplied, AreCutShort, LeftBy, folder_after}
+use Rattle.plan_files.proofs.Common.{Folder, AreOutside, outside_both, outside_front}
+use Rattle.giv_files.proofs.Common.{Made, MadeFile, Stage, Fits}
+use Rattle.config_keys.proofs.Common.{AreSettings, look_in, effective_settings}
 use Rattle.stage_keep.specs.Entries.{entry_for, keep_name}
 use Rattle.stage_keep.specs.EntryReading.{read_entry}
 use Rattle.stage_keep.specs.Honest.{IsHonest}

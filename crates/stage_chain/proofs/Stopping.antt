@@ -1,20 +1,12 @@
 -- Wherever the writes of a run are stopped, what is kept is honest.
-use Rattle.std.proofs.Common.{◌≡◌, ℕ, Bool, true, false, cond, ◌||◌, List, [], ◌∷◌, ◌++◌, arith}
-use Rattle.std.proofs.Common.{take, length, Option, Some, None, IfSome, refl, ap, sym, subst, ◌∙◌}
-use Rattle.std.proofs.Common.{◌⊎◌, inl, inr, ⊎_elim}
-use Rattle.std.specs.List.{list_any}
-use Rattle.std.specs.Str.{bytes_eq}
+use Rattle.plan_num.proofs.Common.{◌≡◌, ℕ, Bool, true, false, cond, ◌||◌, List, [], ◌∷◌, ◌++◌}
+use Rattle.plan_num.proofs.Common.{arith, take, length, Option, Some, None, IfSome, refl, ap, sym}
+use Rattle.plan_num.proofs.Common.{subst, ◌∙◌, ◌⊎◌, inl, inr, ⊎_elim, list_any, bytes_eq}
+use Rattle.plan_num.proofs.Common.{take-length, false≢true, or_cases, bytes_eq-Decides}
 use Rattle.std.specs.FinMap as files
-use Rattle.std.proofs.Math.Seq.{take-length}
-use Rattle.std.proofs.lemmas.Bool.{false≢true, or_cases}
-use Rattle.std.proofs.lemmas.Slice.Eq.{bytes_eq-Decides}
-use Rattle.plan_files.specs.declared.write.Write.{Write}
-use Rattle.plan_files.specs.declared.write.Write.TheVariants.{Put, Removal}
-use Rattle.plan_files.specs.Applied.{IsTorn}
-use Rattle.plan_files.specs.Changes.{after_write, folder_after, left_by, write_name}
-use Rattle.plan_files.specs.Folder.{Folder}
-use Rattle.plan_files.proofs.Writes.{get_written}
-use Rattle.giv_files.specs.declared.stage.Stage.{Stage}
+use Rattle.plan_files.proofs.Common.{Write, Put, Removal, IsTorn, after_write, folder_after}
+use Rattle.plan_files.proofs.Common.{left_by, write_name, Folder, get_written}
+use Rattle.giv_files.proofs.Common.{Stage}
 use Rattle.stage_keep.specs.Entries.{keep_name}
 use Rattle.stage_keep.specs.Honest.{IsHonest}
 use Rattle.stage_chain.specs.Kept.{IsKeptHonest}

@@ -1,21 +1,12 @@
 -- The chain over hand files.
-use Rattle.std.proofs.Common.{All, Contains, map, arith, ◌≡◌, ℕ, ℤ, Bool, true, false, cond, leb}
-use Rattle.std.proofs.Common.{List, [], ◌∷◌, filter, Result, Ok, Err, refl, ap, sym, ◌∙◌}
-use Rattle.std.proofs.lemmas.List.Elements.{All-filter, All-contains_itself}
+use Rattle.plan_num.proofs.Common.{All, Contains, map, arith, ◌≡◌, ℕ, ℤ, Bool, true, false, cond}
+use Rattle.plan_num.proofs.Common.{leb, List, [], ◌∷◌, filter, Result, Ok, Err, refl, ap, sym, ◌∙◌}
+use Rattle.plan_num.proofs.Common.{All-filter, All-contains_itself, list_all}
 use Rattle.stage_chain.specs.StageParts.{staged}
-use Rattle.std.specs.List.{list_all}
-use Rattle.plan_files.specs.Folder.{Folder}
-use Rattle.giv_files.specs.declared.made.Made.{Made}
-use Rattle.tables.specs.declared.refusal.Refusal.{Refusal}
-use Rattle.giv_files.specs.declared.stage.Stage.{Stage}
-use Rattle.tables.specs.FileNames.{file_name}
-use Rattle.giv_files.specs.MadeLists.{MakesAs, ids_of}
-use Rattle.giv_files.specs.Settings.{BundleParts}
-use Rattle.giv_files.specs.Stages.{stage_makes}
-use Rattle.config_keys.specs.declared.config_fault.ConfigFault.{ConfigFault}
-use Rattle.config_keys.specs.Config.{last_stage_of}
-use Rattle.config_keys.specs.Items.{look_in}
-use Rattle.config_keys.specs.Values.{effective}
+use Rattle.plan_files.proofs.Common.{Folder}
+use Rattle.giv_files.proofs.Common.{Made, Stage, MakesAs, ids_of, BundleParts, stage_makes}
+use Rattle.tables.proofs.Common.{Refusal, file_name}
+use Rattle.config_keys.proofs.Common.{ConfigFault, last_stage_of, look_in, effective}
 use Rattle.stage_chain.specs.Built.{chain_under, files_of, trace_under, trace_of}
 use Rattle.stage_chain.specs.Chain.{Trace, stage_place, to_run}
 use Rattle.stage_chain.specs.Hand.{names_made_by}

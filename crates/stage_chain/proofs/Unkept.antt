@@ -3,11 +3,8 @@
 use Rattle.std.proofs.Common.{◌≡◌, ℕ, List, ◌++◌, arith, refl, sym, subst, ◌∙◌, Bool, false, Option}
 use Rattle.std.proofs.Common.{Some, None, Result, Ok, Err, IfSome, IfOk, option_map}
 use Rattle.std.specs.FinMap as files
-use Rattle.plan_files.specs.declared.file_fault.FileFault.{FileFault}
-use Rattle.plan_files.specs.Folder.{Folder}
-use Rattle.plan_files.specs.Reads.{FoundBehind, LacksEnds, LacksFront}
-use Rattle.giv_files.specs.declared.made.Made.{Made}
-use Rattle.giv_files.specs.Settings.{BundleParts, Fits}
+use Rattle.plan_files.proofs.Common.{FileFault, Folder, FoundBehind, LacksEnds, LacksFront}
+use Rattle.giv_files.proofs.Common.{Made, BundleParts, Fits}
 use Rattle.stage_keep.specs.Entries.{entry_front, given_front, keep_name, last_line}
 use Rattle.stage_keep.specs.EntryReading.{read_made}
 use Rattle.stage_keep.specs.Honest.{kept_for}

@@ -1,18 +1,11 @@
 -- Writes that change something leave what all of them leave, and then nothing is left to change.
-use Rattle.std.proofs.Common.{arith, ◌≡◌, ℕ, Bool, true, false, cond, not, List, [], ◌∷◌}
-use Rattle.std.proofs.Common.{◌++◌, map, filter, Option, Some, None, refl, ap, sym, ◌∙◌}
-use Rattle.std.specs.Prelude.{⊤}
-use Rattle.std.specs.List.{list_all}
-use Rattle.std.specs.Str.{bytes_eq}
+use Rattle.plan_num.proofs.Common.{arith, ◌≡◌, ℕ, Bool, true, false, cond, not, List, [], ◌∷◌, ◌++◌}
+use Rattle.plan_num.proofs.Common.{map, filter, Option, Some, None, refl, ap, sym, ◌∙◌, ⊤, list_all}
+use Rattle.plan_num.proofs.Common.{bytes_eq, false≢true, and_parts, and_from, not-true, or_parts}
+use Rattle.plan_num.proofs.Common.{bytes_eq-Decides}
 use Rattle.std.specs.FinMap as files
-use Rattle.std.proofs.lemmas.Bool.{false≢true, and_parts, and_from, not-true, or_parts}
-use Rattle.std.proofs.lemmas.Slice.Eq.{bytes_eq-Decides}
-use Rattle.plan_files.specs.declared.write.Write.{Write}
-use Rattle.plan_files.specs.Changes.{after_write, folder_after, left_by, write_name}
-use Rattle.plan_files.specs.Folder.{Folder}
-use Rattle.plan_files.specs.Others.{AreOutside}
-use Rattle.plan_files.proofs.OtherFiles.{same_folder}
-use Rattle.plan_files.proofs.Writes.{get_written}
+use Rattle.plan_files.proofs.Common.{Write, after_write, folder_after, left_by, write_name, Folder}
+use Rattle.plan_files.proofs.Common.{AreOutside, same_folder, get_written}
 use Rattle.stage_chain.specs.Hand.{is_among}
 use Rattle.stage_chain.specs.Runs.{IsOnce, is_met, same_bytes, unmet}
 use Rattle.stage_chain.proofs.Differing.{Differ, not_among, same_way}

@@ -1,23 +1,15 @@
 -- The names that a run writes: those of made files and of what is kept, each at most once.
-use Rattle.std.proofs.Common.{arith, ◌≡◌, ℕ, ℤ, Bool, true, false, cond, not, is_some, leb, ◌||◌}
-use Rattle.std.proofs.Common.{List, [], ◌∷◌, ◌++◌, map, filter, Option, refl, ap, sym, ◌∙◌}
+use Rattle.plan_num.proofs.Common.{arith, ◌≡◌, ℕ, ℤ, Bool, true, false, cond, not, is_some, leb}
+use Rattle.plan_num.proofs.Common.{◌||◌, List, [], ◌∷◌, ◌++◌, map, filter, Option, refl, ap, sym}
+use Rattle.plan_num.proofs.Common.{◌∙◌, list_all, bytes_eq, false≢true, and_parts, and_from}
+use Rattle.plan_num.proofs.Common.{map-append, bytes_eq-Decides}
 use Rattle.stage_chain.specs.StageParts.{staged}
-use Rattle.std.specs.List.{list_all}
-use Rattle.std.specs.Str.{bytes_eq}
-use Rattle.std.proofs.lemmas.Bool.{false≢true, and_parts, and_from}
-use Rattle.std.proofs.lemmas.List.{map-append}
-use Rattle.std.proofs.lemmas.Slice.Eq.{bytes_eq-Decides}
-use Rattle.plan_files.specs.declared.write.Write.{Write}
-use Rattle.plan_files.specs.declared.write.Write.TheVariants.{Removal}
-use Rattle.plan_files.specs.Changes.{write_name}
-use Rattle.plan_files.specs.Folder.{Folder}
-use Rattle.tables.specs.declared.file_id.FileId.{FileId}
+use Rattle.plan_files.proofs.Common.{Write, Removal, write_name, Folder}
+use Rattle.tables.proofs.Common.{FileId, file_name}
 use Rattle.tables.specs.declared.file_id.FileId.TheVariants as file
-use Rattle.giv_files.specs.declared.made.MadeFile.{MadeFile}
-use Rattle.giv_files.specs.declared.stage.Stage.{Stage}
+use Rattle.giv_files.proofs.Common.{MadeFile, Stage}
 use Rattle.giv_files.specs.declared.stage.Stage.TheVariants as stage
-use Rattle.tables.specs.FileNames.{file_name}
-use Rattle.config_keys.specs.Config.{last_stage_of}
+use Rattle.config_keys.proofs.Common.{last_stage_of}
 use Rattle.stage_keep.specs.Entries.{keep_name}
 use Rattle.stage_chain.specs.Built.{files_of}
 use Rattle.stage_chain.specs.Chain.{Visit, Halt, stage_place}

@@ -1,29 +1,17 @@
 -- The plans that a run leaves are feasible, and best where certificates stand beside them.
-use Rattle.std.proofs.Common.{◌≡◌, ℕ, ℤ, Bool, true, false, cond, not, is_some, List, [], ◌∷◌, ◌++◌}
-use Rattle.std.proofs.Common.{map, Option, Some, None, IfSome, IfOk, Result, Ok, Err, Contains, ◌⊎◌}
-use Rattle.std.proofs.Common.{inl, inr, ⊎_elim, refl, ap, subst, sym, ◌∙◌, nat_cmp}
-use Rattle.std.specs.Cmp.Lexicographic.{slice_cmp}
+use Rattle.plan_num.proofs.Common.{◌≡◌, ℕ, ℤ, Bool, true, false, cond, not, is_some, List, [], ◌∷◌}
+use Rattle.plan_num.proofs.Common.{◌++◌, map, Option, Some, None, IfSome, IfOk, Result, Ok, Err}
+use Rattle.plan_num.proofs.Common.{Contains, ◌⊎◌, inl, inr, ⊎_elim, refl, ap, subst, sym, ◌∙◌}
+use Rattle.plan_num.proofs.Common.{nat_cmp, slice_cmp, list_all, bytes_eq, and_from, and_parts}
+use Rattle.plan_num.proofs.Common.{false≢true, map-append, All-contains, AllPass-from_list_all}
 use Rattle.std.specs.FinMap as files
-use Rattle.std.specs.List.{list_all}
-use Rattle.std.specs.Str.{bytes_eq}
-use Rattle.std.proofs.lemmas.Bool.{and_from, and_parts, false≢true}
-use Rattle.std.proofs.lemmas.List.{map-append}
-use Rattle.std.proofs.lemmas.List.Elements.{All-contains}
-use Rattle.std.proofs.lemmas.List.Sums.{AllPass-from_list_all}
-use Rattle.plan_files.specs.Folder.{Folder}
-use Rattle.plan_files.proofs.OtherFiles.{get_part}
-use Rattle.tables.specs.declared.file_id.FileId.{FileId}
+use Rattle.plan_files.proofs.Common.{Folder, get_part}
+use Rattle.tables.proofs.Common.{FileId, file_name}
 use Rattle.tables.specs.declared.file_id.FileId.TheVariants as file
 use Rattle.giv_files.specs.declared.key.Key.TheVariants as key
-use Rattle.giv_files.specs.declared.made.MadeFile.{MadeFile}
-use Rattle.giv_files.specs.declared.stage.Stage.{Stage}
+use Rattle.giv_files.proofs.Common.{MadeFile, Stage, BundleParts, stage_inputs, stage_makes}
 use Rattle.giv_files.specs.declared.stage.Stage.TheVariants as stage
-use Rattle.tables.specs.FileNames.{file_name}
-use Rattle.giv_files.specs.Settings.{BundleParts}
-use Rattle.giv_files.specs.Stages.{stage_inputs, stage_makes}
-use Rattle.config_keys.specs.declared.config_fault.ConfigFault.{ConfigFault}
-use Rattle.config_keys.specs.Items.{look_in}
-use Rattle.config_keys.specs.Values.{effective}
+use Rattle.config_keys.proofs.Common.{ConfigFault, look_in, effective}
 use Rattle.vehicle_flow.specs.RightSchedules.{ScheduleIsRight}
 use Rattle.vehicle_flow.specs.RightVehicles.{VehicleFilesAreRight, VehiclesAreRight}
 use Rattle.delay_management.specs.RightDispositions.{DispositionFilesAreRight}

@@ -1,13 +1,11 @@
 -- The plans of a folder that passes a check are feasible, and best where certificates stand beside them.
 use Rattle.std.proofs.Common.{◌≡◌, ℤ, Bool, true, false, List, [], ◌∷◌, ◌++◌, take, drop, Option}
 use Rattle.std.proofs.Common.{Some, None, IfSome, IfOk, Result, Ok, Err, ap, subst, sym, ◌∙◌}
-use Rattle.plan_files.specs.Folder.{Folder}
+use Rattle.plan_files.proofs.Common.{Folder}
 use Rattle.tables.specs.declared.file_id.FileId.TheVariants as file
 use Rattle.giv_files.specs.declared.key.Key.TheVariants as key
-use Rattle.giv_files.specs.declared.stage.Stage.{Stage}
+use Rattle.giv_files.proofs.Common.{Stage, BundleParts, places}
 use Rattle.giv_files.specs.declared.stage.Stage.TheVariants as stage
-use Rattle.giv_files.specs.Settings.{BundleParts}
-use Rattle.giv_files.specs.Stages.{places}
 use Rattle.vehicle_flow.specs.RightSchedules.{ScheduleIsRight}
 use Rattle.vehicle_flow.proofs.PinnedOver.{plain_schedule}
 use Rattle.stage_chain.specs.declared.checked.CheckEnd.TheVariants as ends

@@ -1,20 +1,14 @@
 -- What the models of the stages say of the files that stand in a folder, as promises of its plans.
-use Rattle.std.proofs.Common.{◌≡◌, ℕ, ℤ, true, is_some, List, [], ◌∷◌, map, length}
-use Rattle.std.proofs.Common.{Option, Some, None, IfSome, Ok, option_to_list, refl, ap}
-use Rattle.std.proofs.Common.{sym, ◌∙◌, arith}
-use Rattle.std.proofs.lemmas.Int.{ints}
+use Rattle.plan_num.proofs.Common.{◌≡◌, ℕ, ℤ, true, is_some, List, [], ◌∷◌, map, length, Option}
+use Rattle.plan_num.proofs.Common.{Some, None, IfSome, Ok, option_to_list, refl, ap, sym, ◌∙◌}
+use Rattle.plan_num.proofs.Common.{arith, ints, ok_or}
 use Rattle.std.specs.FinMap as files
-use Rattle.std.specs.Option.{ok_or}
-use Rattle.plan_files.specs.Folder.{Folder}
-use Rattle.tables.specs.declared.file_id.FileId.{FileId}
+use Rattle.plan_files.proofs.Common.{Folder}
+use Rattle.tables.proofs.Common.{FileId, file_name}
 use Rattle.tables.specs.declared.file_id.FileId.TheVariants as file
-use Rattle.giv_files.specs.declared.made.MadeFile.{MadeFile}
+use Rattle.giv_files.proofs.Common.{MadeFile, ids_of, BundleParts}
 use Rattle.giv_files.specs.declared.stage.Stage.TheVariants as stage
-use Rattle.tables.specs.FileNames.{file_name}
-use Rattle.giv_files.specs.MadeLists.{ids_of}
-use Rattle.giv_files.specs.Settings.{BundleParts}
-use Rattle.config_keys.specs.Items.{look_in}
-use Rattle.config_keys.specs.Values.{effective}
+use Rattle.config_keys.proofs.Common.{look_in, effective}
 use Rattle.line_search.specs.GivenProblems.{problem_faults, problem_of}
 use Rattle.line_search.specs.Judged.{Passes}
 use Rattle.line_search.specs.ConceptStage.{mark_files}

@@ -1,12 +1,10 @@
 -- How the chain of the planning stages ends.
 use Rattle.std.proofs.Common.{◌≡◌, ℕ, Contains, Option, Some, None, Result, Err, refl, ap, sym, ◌∙◌}
 use Rattle.std.proofs.lemmas.List.Elements.{All-contains}
-use Rattle.plan_files.specs.Folder.{Folder}
-use Rattle.giv_files.specs.declared.made.Made.{Made}
-use Rattle.tables.specs.declared.refusal.Refusal.{Refusal}
+use Rattle.plan_files.proofs.Common.{Folder}
+use Rattle.giv_files.proofs.Common.{Made, Stage, BundleParts}
+use Rattle.tables.proofs.Common.{Refusal}
 use Rattle.tables.specs.declared.refusal.Refusal.TheVariants as refusal
-use Rattle.giv_files.specs.declared.stage.Stage.{Stage}
-use Rattle.giv_files.specs.Settings.{BundleParts}
 use Rattle.stage_chain.specs.declared.cause.Cause.{Cause}
 use Rattle.stage_chain.specs.declared.cause.Cause.TheVariants as cause
 use Rattle.command_line.specs.declared.ends.RunEnd.TheVariants as end

@@ -1,21 +1,16 @@
 -- Blocks at the front of bytes.
-use Rattle.std.proofs.Common.{◌≡◌, ◌≢◌, ℕ, ◌<◌, ◌≤◌, ◌+◌, ◌^◌, List, [], ◌∷◌, ◌++◌, length}
-use Rattle.std.proofs.Common.{drop, get_or, refl, ap, sym, subst, ◌∙◌, arith, All, Bool, true}
-use Rattle.std.proofs.Common.{false, not, cond, eqb, nat_eq, nat_le, zero, suc, Option, Some, None}
-use Rattle.std.proofs.Common.{decimal, codes, slice_get, append_assoc, inl, inr, ◌⊎◌, unwrap_or}
-use Rattle.std.specs.List.{filter_map, position, prefix_len, range_with_len, starts_with}
-use Rattle.std.specs.Prelude.{option_and_then}
-use Rattle.std.specs.Str.{IsUtf8}
-use Rattle.std.specs.Str.Parse.{AllDigits}
-use Rattle.std.proofs.lemmas.Fmt.{decimal_is_IsNumeral, IsAscii-decimal}
-use Rattle.std.proofs.lemmas.List.{get_or_append_left, length-append}
-use Rattle.std.proofs.lemmas.List.Elements.{All-nil, All-cons}
-use Rattle.std.proofs.lemmas.List.Sums.{prefix_len_is}
-use Rattle.std.proofs.lemmas.Str.{IsUtf8-from_ascii}
-use Rattle.std.proofs.lemmas.Bool.{ne_eqb, cases_eq}
-use Rattle.std.proofs.lemmas.Bool.Decides.{nat_tests, Decides-eqb}
+use Rattle.plan_num.proofs.Common.{◌≡◌, ◌≢◌, ℕ, ◌<◌, ◌≤◌, ◌+◌, ◌^◌, List, [], ◌∷◌, ◌++◌, length}
+use Rattle.plan_num.proofs.Common.{drop, get_or, refl, ap, sym, subst, ◌∙◌, arith, All, Bool, true}
+use Rattle.plan_num.proofs.Common.{false, not, cond, eqb, nat_eq, nat_le, zero, suc, Option, Some}
+use Rattle.plan_num.proofs.Common.{None, decimal, codes, slice_get, append_assoc, inl, inr, ◌⊎◌}
+use Rattle.plan_num.proofs.Common.{unwrap_or, filter_map, position, prefix_len, range_with_len}
+use Rattle.plan_num.proofs.Common.{option_and_then, IsUtf8, AllDigits, decimal_is_IsNumeral}
+use Rattle.plan_num.proofs.Common.{get_or_append_left, length-append, All-nil, All-cons}
+use Rattle.plan_num.proofs.Common.{prefix_len_is, IsUtf8-from_ascii, ne_eqb, cases_eq, nat_tests}
+use Rattle.plan_num.proofs.Common.{Decides-eqb, get_or-append_seam, take-append_seam}
+use Rattle.std.specs.List.{starts_with}
+use Rattle.std.proofs.lemmas.Fmt.{IsAscii-decimal}
 use Rattle.std.proofs.lemmas.Slice.Eq.{starts_is}
-use Rattle.std.proofs.Math.Seq.{get_or-append_seam, take-append_seam}
 use Rattle.stage_keep.specs.Entries.{opening}
 use Rattle.stage_keep.specs.EntryReading.{behind, block_at, block_of_size, cut}
 use Rattle.stage_keep.specs.InnerReading.{line_behind, line_of}

@@ -1,15 +1,12 @@
 -- Blocks are read back, and what is read are blocks.
-use Rattle.std.proofs.Common.{◌≡◌, ℕ, ◌<◌, ◌≤◌, ◌+◌, ◌^◌, List, [], ◌∷◌, ◌++◌, length, map, take}
-use Rattle.std.proofs.Common.{drop, refl, ap, sym, subst, ◌∙◌, arith, Bool, true, false, cond}
-use Rattle.std.proofs.Common.{nat_le, suc, Option, Some, None, option_map, option_and_then}
-use Rattle.std.proofs.Common.{slice_get, append_assoc, take-append-drop}
-use Rattle.std.specs.List.{Contains, cons_option, filter_map, flat_map, range_with_len}
-use Rattle.std.specs.Str.{bytes_eq}
-use Rattle.std.proofs.lemmas.Bool.Decides.{nat_tests}
-use Rattle.std.proofs.lemmas.List.{append_cancel_left, length-append, length-take-le}
-use Rattle.std.proofs.lemmas.Option.{same_Some}
-use Rattle.std.proofs.lemmas.Slice.Eq.{bytes_eq-Decides}
-use Rattle.std.proofs.Math.Seq.{take-append_seam}
+use Rattle.plan_num.proofs.Common.{◌≡◌, ℕ, ◌<◌, ◌≤◌, ◌+◌, ◌^◌, [], ◌∷◌, ◌++◌, length, map, take}
+use Rattle.plan_num.proofs.Common.{drop, refl, ap, sym, subst, ◌∙◌, arith, Bool, true, false, cond}
+use Rattle.plan_num.proofs.Common.{nat_le, suc, Option, Some, None, option_map, option_and_then}
+use Rattle.plan_num.proofs.Common.{slice_get, append_assoc, take-append-drop, Contains, cons_option}
+use Rattle.plan_num.proofs.Common.{filter_map, flat_map, range_with_len, bytes_eq, nat_tests}
+use Rattle.plan_num.proofs.Common.{append_cancel_left, length-append, length-take-le, same_Some}
+use Rattle.plan_num.proofs.Common.{bytes_eq-Decides, take-append_seam}
+use Rattle.std.proofs.Common.{List}
 use Rattle.stage_keep.specs.Entries.{Block, block_bytes, last_line, opening}
 use Rattle.stage_keep.specs.EntryReading.{behind, block_at, block_of_size, cut, texts_at}
 use Rattle.stage_keep.proofs.Blocks.{block_is, drop_front, front_back, front_is, spread_line}

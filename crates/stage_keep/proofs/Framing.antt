@@ -1,14 +1,10 @@
 -- Bytes that do not begin and end as the entry of a bundle keep nothing for it.
-use Rattle.std.proofs.Common.{arith, ◌≡◌, ◌≢◌, ◌<◌, ◌^◌, ℕ, List, [], ◌∷◌, ◌++◌, length, map, codes}
-use Rattle.std.proofs.Common.{refl, subst, ◌∙◌, Bool, true, false, cond, Option, Some, None}
-use Rattle.std.proofs.Common.{option_and_then}
-use Rattle.std.specs.List.{flat_map}
-use Rattle.std.specs.Cmp.Lexicographic.{pointwise}
-use Rattle.std.specs.Str.{bytes_eq}
-use Rattle.std.proofs.lemmas.Bool.{and_parts}
-use Rattle.std.proofs.lemmas.Slice.Eq.{bytes_eq-Decides}
-use Rattle.giv_files.specs.Settings.{BundleParts}
-use Rattle.giv_files.specs.SettingsText.{settings_text}
+use Rattle.plan_num.proofs.Common.{arith, ◌≡◌, ◌≢◌, ◌<◌, ◌^◌, [], ◌∷◌, ◌++◌, length, map, codes}
+use Rattle.plan_num.proofs.Common.{refl, subst, ◌∙◌, Bool, true, false, cond, Option, Some, None}
+use Rattle.plan_num.proofs.Common.{option_and_then, flat_map, pointwise, bytes_eq, and_parts}
+use Rattle.plan_num.proofs.Common.{bytes_eq-Decides}
+use Rattle.std.proofs.Common.{ℕ, List}
+use Rattle.giv_files.proofs.Common.{BundleParts, settings_text}
 use Rattle.stage_keep.specs.Entries.{EntryParts, block_bytes, entry_bytes, entry_front, input_block}
 use Rattle.stage_keep.specs.Entries.{last_line, made_block}
 use Rattle.stage_keep.specs.EntryReading.{ReadsEntry, read_entry}

@@ -1,18 +1,12 @@
 -- What is read as an entry of what was made is honest, and so is a front of it; what an honest keep
 -- holds is made.
-use Rattle.std.proofs.Common.{arith, ◌≡◌, ℕ, List, refl, ap, sym, subst, ◌∙◌, Bool, true, false}
-use Rattle.std.proofs.Common.{cond, Option, Some, None, option_and_then, Result, Ok}
-use Rattle.std.specs.Cmp.Lexicographic.{pointwise}
-use Rattle.std.specs.Str.{bytes_eq}
-use Rattle.std.proofs.lemmas.Bool.{and_parts}
-use Rattle.std.proofs.lemmas.Option.{same_Some}
-use Rattle.std.proofs.lemmas.Slice.Eq.{bytes_eq-Decides, slice_eq-Decides}
-use Rattle.giv_files.specs.declared.made.Made.{Made}
-use Rattle.tables.specs.declared.refusal.Refusal.{Refusal}
-use Rattle.giv_files.specs.MadeLists.{MakesAs, ids_of}
-use Rattle.giv_files.specs.Settings.{BundleParts, Fits, SettingsFit}
-use Rattle.giv_files.specs.SettingsText.{settings_text}
-use Rattle.giv_files.proofs.SettingsTold.{text_tells}
+use Rattle.plan_num.proofs.Common.{arith, ◌≡◌, ℕ, List, refl, ap, sym, subst, ◌∙◌, Bool, true}
+use Rattle.plan_num.proofs.Common.{false, cond, Option, Some, None, option_and_then, Result, Ok}
+use Rattle.plan_num.proofs.Common.{pointwise, bytes_eq, and_parts, same_Some, bytes_eq-Decides}
+use Rattle.std.proofs.lemmas.Slice.Eq.{slice_eq-Decides}
+use Rattle.giv_files.proofs.Common.{Made, MakesAs, ids_of, BundleParts, Fits, SettingsFit}
+use Rattle.giv_files.proofs.Common.{settings_text, text_tells}
+use Rattle.tables.proofs.Common.{Refusal}
 use Rattle.stage_keep.specs.Entries.{EntryParts, entry_for}
 use Rattle.stage_keep.specs.EntryReading.{read_entry}
 use Rattle.stage_keep.specs.Honest.{IsHonest, held_for, kept_for, matches}

@@ -1,25 +1,15 @@
 -- What is kept of a bundle is what stands behind its front in the entry.
-use Rattle.std.proofs.Common.{◌≡◌, ◌≢◌, ◌<◌, ◌^◌, ◌+◌, ℕ, suc, List, [], ◌∷◌, ◌++◌, length, map}
-use Rattle.std.proofs.Common.{take, drop, get_or, codes, refl, ap, sym, subst, ◌∙◌, arith}
-use Rattle.std.proofs.Common.{cond, Option, Some, None, option_map, option_and_then}
-use Rattle.std.proofs.Common.{slice_get, append_assoc, IfOk, IfSome, Result, Ok, Err}
-use Rattle.std.specs.List.{cons_option, filter_map, flat_map, zip}
-use Rattle.std.specs.Cmp.Lexicographic.{pointwise}
-use Rattle.std.specs.Str.{bytes_eq}
-use Rattle.std.proofs.Math.Seq.{drop-append_seam, take-append_seam}
-use Rattle.std.proofs.lemmas.Bool.{and_parts}
-use Rattle.std.proofs.lemmas.Grind.{flat_map-append}
+use Rattle.plan_num.proofs.Common.{◌≡◌, ◌≢◌, ◌<◌, ◌^◌, ◌+◌, ℕ, suc, List, [], ◌∷◌, ◌++◌, length}
+use Rattle.plan_num.proofs.Common.{map, take, drop, get_or, codes, refl, ap, sym, subst, ◌∙◌, arith}
+use Rattle.plan_num.proofs.Common.{cond, Option, Some, None, option_map, option_and_then, slice_get}
+use Rattle.plan_num.proofs.Common.{append_assoc, IfOk, IfSome, Result, Ok, Err, cons_option}
+use Rattle.plan_num.proofs.Common.{filter_map, flat_map, zip, pointwise, bytes_eq, drop-append_seam}
+use Rattle.plan_num.proofs.Common.{take-append_seam, and_parts, flat_map-append, get_or-drop}
+use Rattle.plan_num.proofs.Common.{length-append, length-map, same_Some, bytes_eq-Decides}
 use Rattle.std.proofs.lemmas.Iterator.Adapters.{option_map_id}
-use Rattle.std.proofs.lemmas.List.{get_or-drop, length-append, length-map}
-use Rattle.std.proofs.lemmas.Option.{same_Some}
-use Rattle.std.proofs.lemmas.Slice.Eq.{bytes_eq-Decides}
-use Rattle.tables.specs.declared.file_id.FileId.{FileId}
-use Rattle.giv_files.specs.declared.made.Made.{Made}
-use Rattle.giv_files.specs.declared.stage.Stage.{Stage}
-use Rattle.giv_files.specs.MadeLists.{MakesAs, ids_of, made_lists}
-use Rattle.giv_files.specs.Settings.{BundleParts, Fits}
-use Rattle.giv_files.specs.SettingsText.{settings_text}
-use Rattle.giv_files.specs.Stages.{stage_inputs}
+use Rattle.tables.proofs.Common.{FileId}
+use Rattle.giv_files.proofs.Common.{Made, Stage, MakesAs, ids_of, made_lists, BundleParts, Fits}
+use Rattle.giv_files.proofs.Common.{settings_text, stage_inputs}
 use Rattle.stage_keep.specs.Entries.{Block, EntryParts, block_bytes, entry_bytes, entry_for}
 use Rattle.stage_keep.specs.Entries.{entry_front, first_line, given_front, input_block, last_line}
 use Rattle.stage_keep.specs.Entries.{made_block, made_head}

@@ -1,9 +1,7 @@
 -- The pieces of the front of an entry.
-use Rattle.std.proofs.Common.{◌≡◌, ℕ, ◌<◌, ◌+◌, suc, List, [], ◌∷◌, ◌++◌, length, map, drop, get_or}
-use Rattle.std.proofs.Common.{ap, sym, ◌∙◌, arith, append_assoc, append-nil}
-use Rattle.std.specs.List.{flat_map}
-use Rattle.std.proofs.lemmas.Grind.{flat_map-append}
-use Rattle.std.proofs.lemmas.List.{get_or-map}
+use Rattle.plan_num.proofs.Common.{◌≡◌, ℕ, ◌<◌, ◌+◌, suc, List, [], ◌∷◌, ◌++◌, length, map, drop}
+use Rattle.plan_num.proofs.Common.{get_or, ap, sym, ◌∙◌, arith, append_assoc, append-nil, flat_map}
+use Rattle.plan_num.proofs.Common.{flat_map-append, get_or-map}
 use Rattle.stage_keep.specs.Entries.{block_bytes, input_block, input_line}
 use Rattle.stage_keep.proofs.Reading.{drop_at}
 

@@ -1,18 +1,13 @@
 -- Places of texts in the last part of an entry.
-use Rattle.std.proofs.Common.{◌≡◌, ℕ, ◌<◌, ◌+◌, ◌-◌, suc, zero, List, [], ◌∷◌, ◌++◌, All, length}
-use Rattle.std.proofs.Common.{map, take, drop, get_or, refl, ap, sym, subst, ◌∙◌, arith, Option}
-use Rattle.std.proofs.Common.{Some, None, option_map, slice_get, append_assoc, append-nil}
-use Rattle.std.specs.List.{cons_option, filter_map, take-map, zip}
-use Rattle.std.specs.Option.{option_to_list}
-use Rattle.std.proofs.Math.Seq.{drop-append_seam, take-append_seam}
-use Rattle.std.proofs.lemmas.List.{get_or-map, length-append, length-drop, map-append, nil_from_length, take_all}
-use Rattle.std.proofs.lemmas.List.Elements.{All-push}
-use Rattle.tables.specs.declared.file_id.FileId.{FileId}
-use Rattle.giv_files.specs.declared.made.Made.{Made}
-use Rattle.giv_files.specs.declared.made.MadeFile.{MadeFile}
-use Rattle.giv_files.specs.declared.stage.Stage.{Stage}
-use Rattle.giv_files.specs.MadeLists.{made_lists}
-use Rattle.giv_files.specs.Stages.{stage_makes}
+use Rattle.plan_num.proofs.Common.{◌≡◌, ℕ, ◌<◌, ◌+◌, ◌-◌, suc, zero, List, [], ◌∷◌, ◌++◌, All}
+use Rattle.plan_num.proofs.Common.{length, map, take, drop, get_or, refl, ap, sym, subst, ◌∙◌}
+use Rattle.plan_num.proofs.Common.{arith, Option, Some, None, option_map, slice_get, append_assoc}
+use Rattle.plan_num.proofs.Common.{append-nil, cons_option, filter_map, take-map, zip}
+use Rattle.plan_num.proofs.Common.{option_to_list, drop-append_seam, take-append_seam, get_or-map}
+use Rattle.plan_num.proofs.Common.{length-append, length-drop, map-append, nil_from_length}
+use Rattle.plan_num.proofs.Common.{take_all, All-push}
+use Rattle.tables.proofs.Common.{FileId}
+use Rattle.giv_files.proofs.Common.{Made, MadeFile, Stage, made_lists, stage_makes}
 use Rattle.stage_keep.specs.declared.place.Place.{Place}
 use Rattle.stage_keep.specs.Entries.{opening}
 use Rattle.stage_keep.specs.EntryReading.{block_at, last_heads, made_file, made_of, made_with, read_made, texts_at}

@@ -1,21 +1,16 @@
 -- Steps of reading an entry.
-use Rattle.std.proofs.Common.{◌≡◌, ℕ, ◌<◌, ◌≤◌, ◌+◌, ◌-◌, suc, List, [], ◌∷◌, ◌++◌, length, map}
-use Rattle.std.proofs.Common.{take, drop, get_or, refl, ap, sym, ◌∙◌, arith, Option, Some, None}
-use Rattle.std.proofs.Common.{option_map, slice_get, append_assoc, if◌then◌else◌, codes, cond, Bool}
-use Rattle.std.proofs.Common.{true, false, option_and_then, append-nil, drop-drop}
-use Rattle.std.specs.List.{cons_option, filter_map, zip}
-use Rattle.std.specs.Option.{option_to_list}
-use Rattle.std.specs.Str.{bytes_eq}
-use Rattle.std.specs.List.{drop-map, take-map}
-use Rattle.std.proofs.lemmas.List.{get_or-drop, get_or-map, length-drop, map-append, take_all, take_more}
+use Rattle.plan_num.proofs.Common.{◌≡◌, ℕ, ◌<◌, ◌≤◌, ◌+◌, ◌-◌, suc, List, [], ◌∷◌, ◌++◌, length}
+use Rattle.plan_num.proofs.Common.{map, take, drop, get_or, refl, ap, sym, ◌∙◌, arith, Option, Some}
+use Rattle.plan_num.proofs.Common.{None, option_map, slice_get, append_assoc, if◌then◌else◌, codes}
+use Rattle.plan_num.proofs.Common.{cond, Bool, true, false, option_and_then, append-nil, drop-drop}
+use Rattle.plan_num.proofs.Common.{cons_option, filter_map, zip, option_to_list, bytes_eq, take-map}
+use Rattle.plan_num.proofs.Common.{get_or-drop, get_or-map, length-drop, map-append, take_all}
+use Rattle.plan_num.proofs.Common.{take_more}
+use Rattle.std.specs.List.{drop-map}
 use Rattle.std.proofs.Math.ListN.{drop_of_length-le}
 use Rattle.std.proofs.Math.Seq.{drop-cons}
-use Rattle.tables.specs.declared.file_id.FileId.{FileId}
-use Rattle.giv_files.specs.declared.made.Made.{Made}
-use Rattle.giv_files.specs.declared.made.MadeFile.{MadeFile}
-use Rattle.giv_files.specs.declared.stage.Stage.{Stage}
-use Rattle.giv_files.specs.MadeLists.{made_lists}
-use Rattle.giv_files.specs.Stages.{stage_inputs, stage_makes}
+use Rattle.tables.proofs.Common.{FileId}
+use Rattle.giv_files.proofs.Common.{Made, MadeFile, Stage, made_lists, stage_inputs, stage_makes}
 use Rattle.stage_keep.specs.Entries.{EntryParts, last_line}
 use Rattle.stage_keep.specs.EntryReading.{block_at, entry_of, entry_with, made_file, made_with}
 use Rattle.stage_keep.specs.EntryReading.{read_entry, read_made, texts_at}

@@ -1,10 +1,9 @@
 -- The one list of files that the stage of costs makes.
 use Rattle.std.proofs.Common.{◌≡◌, List, [], ◌∷◌, sym, subst, refl, arith}
-use Rattle.tables.specs.declared.file_id.FileId.{FileId}
+use Rattle.tables.proofs.Common.{FileId}
 use Rattle.tables.specs.declared.file_id.FileId.TheVariants as file
-use Rattle.giv_files.specs.declared.stage.Stage.{Stage}
+use Rattle.giv_files.proofs.Common.{Stage, MakesAs}
 use Rattle.giv_files.specs.declared.stage.Stage.TheVariants as stage
-use Rattle.giv_files.specs.MadeLists.{MakesAs}
 
 -- it makes the file of the costs
 pub costs_are_made : (at : Stage) (files : List FileId) → at ≡ stage.Cost → files ≡ file.PoolCost ∷ []

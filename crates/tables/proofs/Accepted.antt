@@ -1,14 +1,10 @@
 -- A text that reads back is accepted by the rules of its kind, where its rows keep them.
-use Rattle.std.proofs.Common.{arith, ◌≡◌, ℕ, ℤ, ◌||◌, not, Bool, true, false, cond, List, [], ◌∷◌}
-use Rattle.std.proofs.Common.{◌++◌, map, refl, ap, sym, ◌∙◌, subst, Some, None}
-use Rattle.std.specs.List.{AllByRecursion, list_any}
+use Rattle.plan_num.proofs.Common.{arith, ◌≡◌, ℕ, ℤ, ◌||◌, not, Bool, true, false, cond, List, []}
+use Rattle.plan_num.proofs.Common.{◌∷◌, ◌++◌, map, refl, ap, sym, ◌∙◌, subst, Some, None}
+use Rattle.plan_num.proofs.Common.{AllByRecursion, list_any, int_eq, int_cmp, Decides-int_eq}
+use Rattle.plan_num.proofs.Common.{int_eq_equiv, list_any-append, map-map, or_right}
 use Rattle.std.specs.List.Sorted.{IsStrictlySortedBy}
-use Rattle.std.specs.Ordering.{int_eq, int_cmp}
 use Rattle.std.specs.declared.cmp.Ordering.TheVariants.{Less}
-use Rattle.std.proofs.lemmas.Bool.Decides.{Decides-int_eq}
-use Rattle.std.proofs.lemmas.Cmp.{int_eq_equiv}
-use Rattle.std.proofs.lemmas.List.Folds.{list_any-append}
-use Rattle.std.proofs.lemmas.Simd.{map-map}
 use Rattle.tables.specs.declared.file_id.FileId.{FileId}
 use Rattle.tables.specs.declared.row_why.RowWhy.{RowWhy}
 use Rattle.tables.specs.declared.refusal.Refusal.TheVariants as refusal
@@ -17,7 +13,6 @@ use Rattle.tables.specs.Reading.{table_of}
 use Rattle.tables.specs.Tables.{TableRow}
 use Rattle.tables.specs.Writing.{ReadsBack}
 use Rattle.tables.proofs.Inputs.{faults_of_table, no_faults, unnumbered_records, whole_kept}
-use Rattle.std.proofs.lemmas.Bool.{or_right}
 use Rattle.plan_num.proofs.Tests.{above_differs}
 
 -- each row keeps the rules after the rows before it

@@ -1,9 +1,8 @@
 -- Cells of a row, one after the other.
-use Rattle.std.proofs.Common.{arith, ◌≡◌, ℕ, ◌+◌, ◌<◌, ◌≤◌, List, [], ◌∷◌, ◌++◌, length, map, drop}
-use Rattle.std.proofs.Common.{get_or, refl, ap, sym, ◌∙◌, Bool, cond, Some, Ok, Err, Result, ℤ, not}
-use Rattle.std.proofs.Common.{append_assoc, append-nil}
-use Rattle.std.specs.List.{prefix_len, position, slice_get}
-use Rattle.std.proofs.lemmas.List.{length-map, drop_more, drop_all}
+use Rattle.plan_num.proofs.Common.{arith, ◌≡◌, ℕ, ◌+◌, ◌<◌, ◌≤◌, List, [], ◌∷◌, ◌++◌, length, map}
+use Rattle.plan_num.proofs.Common.{drop, get_or, refl, ap, sym, ◌∙◌, Bool, cond, Some, Ok, Err}
+use Rattle.plan_num.proofs.Common.{Result, ℤ, not, append_assoc, append-nil, prefix_len, position}
+use Rattle.plan_num.proofs.Common.{slice_get, length-map, drop_more, drop_all}
 use Rattle.tables.specs.declared.column.ColumnKind.{ColumnKind}
 use Rattle.tables.specs.declared.row_why.RowWhy.{RowWhy}
 use Rattle.tables.specs.declared.read_fault.ReadFault.{ReadFault}

@@ -1,19 +1,11 @@
 -- The texts of cells, and that they are read back.
-use Rattle.std.proofs.Common.{◌≡◌, ℕ, ◌+◌, ◌<◌, ◌≤◌, ◌&&◌, ◌/◌, ◌%◌, ltb, ne_eqb, zero-add, zero}
-use Rattle.std.proofs.Common.{suc, List, [], ◌∷◌, length, get_or, refl, ap, ◌∙◌, arith, ℤ, pos}
-use Rattle.std.proofs.Common.{negsuc, neg_ℤ, sym, subst, ◌≤ℤ◌, Bool, true, false, T, Some, Ok, All}
-use Rattle.std.proofs.Common.{length-append}
-use Rattle.std.specs.Prelude.{int_le, decimal}
-use Rattle.std.specs.List.{list_all}
-use Rattle.std.specs.Str.{bytes_eq}
-use Rattle.std.proofs.lemmas.Slice.Eq.{bytes_eq-Decides}
-use Rattle.std.proofs.lemmas.List.Quantifiers.{position-Some}
-use Rattle.std.specs.Fmt.{signed_decimal}
-use Rattle.std.proofs.lemmas.Int.{ints}
+use Rattle.plan_num.proofs.Common.{◌≡◌, ℕ, ◌+◌, ◌<◌, ◌≤◌, ◌&&◌, ◌/◌, ◌%◌, ltb, ne_eqb, zero-add}
+use Rattle.plan_num.proofs.Common.{zero, suc, List, [], ◌∷◌, length, get_or, refl, ap, ◌∙◌, arith}
+use Rattle.plan_num.proofs.Common.{ℤ, pos, negsuc, neg_ℤ, sym, subst, ◌≤ℤ◌, Bool, true, false, T}
+use Rattle.plan_num.proofs.Common.{Some, Ok, All, length-append, int_le, decimal, list_all}
+use Rattle.plan_num.proofs.Common.{bytes_eq, bytes_eq-Decides, position-Some, signed_decimal, ints}
+use Rattle.plan_num.proofs.Common.{ltb-true, and_parts, nat_tests, All-head, All-tail}
 use Rattle.std.proofs.lemmas.Fmt.{decimal_nonempty}
-use Rattle.std.proofs.lemmas.Bool.{ltb-true, and_parts}
-use Rattle.std.proofs.lemmas.Bool.Decides.{nat_tests}
-use Rattle.std.proofs.lemmas.List.Elements.{All-head, All-tail}
 use Rattle.plan_num.specs.Number.{is_number_byte}
 use Rattle.plan_num.specs.Print.{fixed_text, fraction_text}
 use Rattle.plan_num.proofs.ReadBack.{whole_back, fixed_back, whole_bytes, fixed_bytes}

@@ -1,9 +1,8 @@
 -- From the table of a text to the text: what refuses the one refuses the other.
-use Rattle.std.proofs.Common.{arith, ◌≡◌, ℕ, ◌≤◌, nat_lt, Bool, true, false, cond, List, [], ◌∷◌}
-use Rattle.std.proofs.Common.{length, All, IfOk, IfSome, refl, ap, subst, sym, ◌∙◌, Result, Ok, Err}
-use Rattle.std.proofs.Common.{Option, Some, None, slice_get}
-use Rattle.std.proofs.lemmas.Bool.{ltb-false}
-use Rattle.std.proofs.lemmas.List.{append-nil}
+use Rattle.plan_num.proofs.Common.{arith, ◌≡◌, ℕ, ◌≤◌, nat_lt, Bool, true, false, cond, List, []}
+use Rattle.plan_num.proofs.Common.{◌∷◌, length, All, IfOk, IfSome, refl, ap, subst, sym, ◌∙◌}
+use Rattle.plan_num.proofs.Common.{Result, Ok, Err, Option, Some, None, slice_get, ltb-false}
+use Rattle.plan_num.proofs.Common.{append-nil}
 use Rattle.tables.specs.declared.column.ColumnKind.{ColumnKind}
 use Rattle.tables.specs.declared.file_id.FileId.{FileId}
 use Rattle.tables.specs.declared.refusal.Refusal.{Refusal}

@@ -1,7 +1,6 @@
 -- The first fault of a text, row by row.
-use Rattle.std.proofs.Common.{◌≡◌, ℕ, List, [], ◌∷◌, ◌++◌, map, refl}
-use Rattle.std.proofs.Common.{true, false, Some, Err}
-use Rattle.std.specs.List.{flat_map, slice_get}
+use Rattle.plan_num.proofs.Common.{◌≡◌, ℕ, List, [], ◌∷◌, ◌++◌, map, refl, true, false, Some, Err}
+use Rattle.plan_num.proofs.Common.{flat_map, slice_get}
 use Rattle.tables.specs.declared.column.ColumnKind.{ColumnKind}
 use Rattle.tables.specs.declared.row_why.RowWhy.TheVariants as why
 use Rattle.tables.specs.declared.read_fault.RowFault.{RowFault}

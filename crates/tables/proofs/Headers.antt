@@ -1,8 +1,6 @@
 -- Headers of tables.
-use Rattle.std.proofs.Common.{◌≡◌, ◌≢◌, ◌==◌, ℕ, true, not, List, [], ◌∷◌, All}
-use Rattle.std.specs.List.{list_all}
-use Rattle.std.proofs.lemmas.Bool.{and_parts, eqb-false, not-true}
-use Rattle.std.proofs.lemmas.List.Elements.{All-nil, All-cons}
+use Rattle.plan_num.proofs.Common.{◌≡◌, ◌≢◌, ◌==◌, ℕ, true, not, List, [], ◌∷◌, All, list_all}
+use Rattle.plan_num.proofs.Common.{and_parts, eqb-false, not-true, All-nil, All-cons}
 
 -- no byte of a header ends its line, by a test that computes
 pub plain_header : (bytes : List ℕ) → list_all (λ byte. not (byte == 10)) bytes ≡ true → All (λ byte. byte ≢ 10) bytes

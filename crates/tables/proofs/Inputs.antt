@@ -1,13 +1,10 @@
 -- The faults of an input, part by part, for any limits and rules.
-use Rattle.std.proofs.Common.{◌≡◌, ℕ, zero, suc, ◌+◌, ◌<◌, ◌≤◌, arith, Bool, true, false, cond}
-use Rattle.std.proofs.Common.{List, [], ◌∷◌, ◌++◌, length, map, get_or, slice_get, take, drop, refl}
-use Rattle.std.proofs.Common.{ap, subst, sym, ◌∙◌, Option, Some, None, Result, Ok, Err}
-use Rattle.std.proofs.Common.{append_assoc}
-use Rattle.std.proofs.lemmas.Bool.{lt-ltb, le-ltb, ltb-false}
-use Rattle.std.proofs.lemmas.List.{at_drop_more, at_drop_all, take_more, take_all, map_push, append-nil, length-map}
-use Rattle.std.proofs.lemmas.Simd.{map-map}
-use Rattle.std.proofs.lemmas.List.Elements.{All-cons}
-use Rattle.std.specs.List.{All}
+use Rattle.plan_num.proofs.Common.{◌≡◌, ℕ, zero, suc, ◌+◌, ◌<◌, ◌≤◌, arith, Bool, true, false, cond}
+use Rattle.plan_num.proofs.Common.{List, [], ◌∷◌, ◌++◌, length, map, get_or, slice_get, take, drop}
+use Rattle.plan_num.proofs.Common.{refl, ap, subst, sym, ◌∙◌, Option, Some, None, Result, Ok, Err}
+use Rattle.plan_num.proofs.Common.{append_assoc, lt-ltb, le-ltb, ltb-false, at_drop_more}
+use Rattle.plan_num.proofs.Common.{at_drop_all, take_more, take_all, map_push, append-nil}
+use Rattle.plan_num.proofs.Common.{length-map, map-map, All-cons, All}
 use Rattle.tables.specs.declared.counted.Counted.{Counted}
 use Rattle.tables.specs.declared.file_id.FileId.{FileId}
 use Rattle.tables.specs.declared.row_why.RowWhy.{RowWhy}

@@ -1,3 +1,4 @@
+pub mod Common
 pub mod Accepted
 pub mod CellFacts
 pub mod CellTexts

@@ -1,14 +1,12 @@
 -- Texts of bytes that mean nothing between cells.
-use Rattle.std.proofs.Common.{◌≡◌, ◌≢◌, ℕ, ◌-◌, ◌<◌, ◌==◌, ◌&&◌, zero, suc, List, [], ◌∷◌, ◌++◌}
-use Rattle.std.proofs.Common.{length, map, get_or, refl, ap, sym, ◌∙◌, arith, All, Bool, true}
-use Rattle.std.proofs.Common.{false, not, eqb, codes, append-nil, length-append}
-use Rattle.std.specs.List.{list_all, suffix_len, position_or_len, flat_map}
-use Rattle.std.specs.Str.Lines.{strip_carriage_return}
-use Rattle.std.proofs.lemmas.Bool.{eqb-false, ne_eqb, not-true, and_parts}
-use Rattle.std.proofs.lemmas.List.{take_all}
-use Rattle.std.proofs.lemmas.List.Sums.{prefix_len_is, suffix_len_is, position_or_len_is}
-use Rattle.std.proofs.lemmas.List.Folds.{list_all-append}
-use Rattle.std.proofs.lemmas.List.Splits.{slice_split_none, slice_split_at}
+use Rattle.plan_num.proofs.Common.{◌≡◌, ◌≢◌, ℕ, ◌-◌, ◌<◌, ◌==◌, ◌&&◌, zero, suc, List, [], ◌∷◌}
+use Rattle.plan_num.proofs.Common.{◌++◌, length, map, get_or, refl, ap, sym, ◌∙◌, arith, All, Bool}
+use Rattle.plan_num.proofs.Common.{true, false, not, eqb, codes, append-nil, length-append}
+use Rattle.plan_num.proofs.Common.{list_all, suffix_len, position_or_len, flat_map}
+use Rattle.plan_num.proofs.Common.{strip_carriage_return, eqb-false, ne_eqb, not-true, and_parts}
+use Rattle.plan_num.proofs.Common.{take_all, prefix_len_is, position_or_len_is, list_all-append}
+use Rattle.plan_num.proofs.Common.{slice_split_none, slice_split_at}
+use Rattle.std.proofs.lemmas.List.Sums.{suffix_len_is}
 use Rattle.text_fields.specs.Rows.{is_blank, without_blanks, without_quotes, ends_empty, cleaned, pieces, parts_of, before_comment, row_of}
 use Rattle.tables.specs.Writing.{joined}
 use Rattle.text_fields.proofs.FieldFacts.{space_first}

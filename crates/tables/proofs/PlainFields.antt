@@ -1,12 +1,8 @@
 -- Fields of digits alone.
-use Rattle.std.proofs.Common.{◌≡◌, ℕ, pos, ◌^◌, ◌<◌, ◌≤◌, ◌-◌, ◌+◌, ◌*◌, true, List, [], ◌∷◌}
-use Rattle.std.proofs.Common.{length, length-take, take, get_or, Some, ap, ◌∙◌, arith, refl, sym}
-use Rattle.std.proofs.Common.{add-zero, append-nil}
-use Rattle.std.specs.Char.{is_ascii_digit}
-use Rattle.std.proofs.lemmas.Bool.{le-ltb, ne_eqb}
-use Rattle.std.proofs.lemmas.List.{take_all, take_more}
-use Rattle.std.proofs.lemmas.List.Folds.{list_all-append}
-use Rattle.std.proofs.lemmas.Str.Parse.{digits_value_short}
+use Rattle.plan_num.proofs.Common.{◌≡◌, ℕ, pos, ◌^◌, ◌<◌, ◌≤◌, ◌-◌, ◌+◌, ◌*◌, true, List, [], ◌∷◌}
+use Rattle.plan_num.proofs.Common.{length, length-take, take, get_or, Some, ap, ◌∙◌, arith, refl}
+use Rattle.plan_num.proofs.Common.{sym, add-zero, append-nil, is_ascii_digit, le-ltb, ne_eqb}
+use Rattle.plan_num.proofs.Common.{take_all, take_more, list_all-append, digits_value_short}
 use Rattle.plan_num.specs.Number.{all_digits, spelling_of, value_of, value_at, fixed_of, whole_of}
 use Rattle.plan_num.proofs.Digits.{value_of-push}
 use Rattle.plan_num.proofs.Printed.{no_minus, numerals, parts_of-digits}

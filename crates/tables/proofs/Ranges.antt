@@ -1,9 +1,7 @@
 -- The cells that are read are in the ranges of their columns.
-use Rattle.std.proofs.Common.{◌≡◌, ℕ, ℤ, pos, ◌+◌, ◌<◌, ◌≤ℤ◌, arith, List, [], ◌∷◌, ◌++◌, length}
-use Rattle.std.proofs.Common.{map, refl, eqb-true, Option, Some, None, Ok, Err}
-use Rattle.std.specs.List.{flat_map, All}
-use Rattle.std.specs.Option.{ok_or, option_map}
-use Rattle.std.proofs.lemmas.List.Elements.{All-cons}
+use Rattle.plan_num.proofs.Common.{◌≡◌, ℕ, ℤ, pos, ◌+◌, ◌<◌, ◌≤ℤ◌, arith, List, [], ◌∷◌, ◌++◌}
+use Rattle.plan_num.proofs.Common.{length, map, refl, eqb-true, Option, Some, None, Ok, Err}
+use Rattle.plan_num.proofs.Common.{flat_map, All, ok_or, option_map, All-cons}
 use Rattle.tables.specs.declared.column.ColumnKind.{ColumnKind}
 use Rattle.tables.specs.declared.column.ColumnKind.TheVariants as kind
 use Rattle.tables.specs.declared.row_why.RowWhy.TheVariants as why

@@ -1,10 +1,9 @@
 -- The rows of a table, against its numbers and its cells one after the other.
-use Rattle.std.proofs.Common.{◌≡◌, ℕ, ◌+◌, ◌*◌, ◌<◌, ◌≤◌, zero, suc, List, [], ◌∷◌, ◌++◌, length}
-use Rattle.std.proofs.Common.{take, drop, get_or, refl, ap, sym, ◌∙◌, arith, ℤ, pos, length-drop}
-use Rattle.std.proofs.Common.{get_or-take, get_or-drop}
-use Rattle.std.proofs.lemmas.List.{take_all, nil_from_length, take-append-le, drop-append-le, drop-drop}
-use Rattle.std.proofs.lemmas.List.{length-take-le}
-use Rattle.std.proofs.lemmas.List.Elements.{All-nil, All-cons}
+use Rattle.plan_num.proofs.Common.{◌≡◌, ℕ, ◌+◌, ◌*◌, ◌<◌, ◌≤◌, zero, suc, List, [], ◌∷◌, ◌++◌}
+use Rattle.plan_num.proofs.Common.{length, take, drop, get_or, refl, ap, sym, ◌∙◌, arith, ℤ, pos}
+use Rattle.plan_num.proofs.Common.{length-drop, get_or-take, get_or-drop, take_all, nil_from_length}
+use Rattle.plan_num.proofs.Common.{take-append-le, drop-drop, length-take-le, All-nil, All-cons}
+use Rattle.std.proofs.lemmas.List.{drop-append-le}
 use Rattle.std.proofs.lemmas.Nat.{mul-add-lt}
 use Rattle.std.proofs.Math.Nat.{mul_comm, mul-le-mul_right}
 use Rattle.tables.specs.Tables.{TableRow, rows_of, no_row, row_number, cell_at, Wide}

@@ -1,7 +1,6 @@
 -- Files that have one rule as a whole, behind the rules of their rows.
-use Rattle.std.proofs.Common.{arith, ◌≡◌, ℕ, Bool, true, false, List, [], ◌∷◌, ◌++◌, slice_get}
-use Rattle.std.proofs.Common.{refl, ap, sym, subst, ◌∙◌, Some}
-use Rattle.std.proofs.lemmas.List.{append-nil}
+use Rattle.plan_num.proofs.Common.{arith, ◌≡◌, ℕ, Bool, true, false, List, [], ◌∷◌, ◌++◌, slice_get}
+use Rattle.plan_num.proofs.Common.{refl, ap, sym, subst, ◌∙◌, Some, append-nil}
 use Rattle.tables.specs.declared.row_why.RowWhy.{RowWhy}
 use Rattle.tables.specs.declared.refusal.Refusal.{Refusal}
 use Rattle.tables.specs.declared.refusal.Refusal.TheVariants as refusal

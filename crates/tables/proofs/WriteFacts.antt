@@ -1,11 +1,8 @@
 -- The line of a row, cell by cell.
-use Rattle.std.proofs.Common.{◌≡◌, ℕ, ◌+◌, ◌<◌, ◌≤◌, zero, suc, List, [], ◌∷◌, ◌++◌, length, map}
-use Rattle.std.proofs.Common.{take, get_or, refl, ap, sym, ◌∙◌, arith, ℤ, append_assoc, append-nil}
-use Rattle.std.proofs.Common.{All, Bor}
-use Rattle.std.proofs.lemmas.List.{take_more, take_all, length-take-le, length-map, get_or-map}
-use Rattle.std.proofs.lemmas.Bool.{lt-ltb}
-use Rattle.std.proofs.lemmas.List.Elements.{All-get_or}
-use Rattle.std.proofs.lemmas.Grind.{flat_map-append}
+use Rattle.plan_num.proofs.Common.{◌≡◌, ℕ, ◌+◌, ◌<◌, ◌≤◌, zero, suc, List, [], ◌∷◌, ◌++◌, length}
+use Rattle.plan_num.proofs.Common.{map, take, get_or, refl, ap, sym, ◌∙◌, arith, ℤ, append_assoc}
+use Rattle.plan_num.proofs.Common.{append-nil, All, Bor, take_more, take_all, length-take-le}
+use Rattle.plan_num.proofs.Common.{length-map, get_or-map, lt-ltb, All-get_or, flat_map-append}
 use Rattle.tables.specs.declared.column.ColumnKind.{ColumnKind}
 use Rattle.tables.specs.Tables.{TableRow, no_row}
 use Rattle.tables.specs.Writing.{cell_text, cell_texts, joined, separator, line_text, row_line, InColumn, InColumns}

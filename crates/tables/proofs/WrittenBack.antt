@@ -1,9 +1,8 @@
 -- A written table is read back.
-use Rattle.std.proofs.Common.{◌≡◌, ◌≢◌, ℕ, ◌+◌, ◌-◌, ◌<◌, suc, List, [], ◌∷◌, ◌++◌, length, map, take, get_or, refl, ap, sym, ◌∙◌, arith, Bool, true, false, cond, eqb, All, append_assoc, ne_eqb}
-use Rattle.std.specs.List.{flat_map, list_all}
-use Rattle.std.specs.Str.Lines.{strip_carriage_return}
-use Rattle.std.proofs.lemmas.Bool.{false≢true}
-use Rattle.std.proofs.lemmas.List.Elements.{All-head, All-tail}
+use Rattle.plan_num.proofs.Common.{◌≡◌, ◌≢◌, ℕ, ◌+◌, ◌-◌, ◌<◌, suc, List, [], ◌∷◌, ◌++◌, length}
+use Rattle.plan_num.proofs.Common.{map, take, get_or, refl, ap, sym, ◌∙◌, arith, Bool, true, false}
+use Rattle.plan_num.proofs.Common.{cond, eqb, All, append_assoc, ne_eqb, flat_map, list_all}
+use Rattle.plan_num.proofs.Common.{strip_carriage_return, false≢true, All-head, All-tail}
 use Rattle.tables.specs.declared.column.ColumnKind.{ColumnKind}
 use Rattle.text_fields.specs.Rows.{Row, row_of, parts_of, rows, has_mark}
 use Rattle.tables.specs.Tables.{TableRow}

@@ -1,9 +1,6 @@
 -- Columns whose cells can be written, by a test that computes.
-use Rattle.std.proofs.Common.{arith, ◌≡◌, ℤ, pos, neg_ℤ, true, false, ◌&&◌, Bool, List, [], ◌∷◌}
-use Rattle.std.proofs.Common.{All, int_le}
-use Rattle.std.specs.List.{list_all}
-use Rattle.std.proofs.lemmas.Bool.{and_parts}
-use Rattle.std.proofs.lemmas.List.Elements.{All-nil, All-cons}
+use Rattle.plan_num.proofs.Common.{arith, ◌≡◌, ℤ, pos, neg_ℤ, true, false, ◌&&◌, Bool, List, []}
+use Rattle.plan_num.proofs.Common.{◌∷◌, All, int_le, list_all, and_parts, All-nil, All-cons}
 use Rattle.tables.specs.declared.column.ColumnKind.{ColumnKind}
 use Rattle.tables.specs.declared.column.ColumnKind.TheVariants as kind
 use Rattle.tables.specs.Writing.{CanWrite, IsSmall as IsSmallRange}

@@ -1,21 +1,15 @@
 -- A walk tells its two ends by the edges that it has: at each other stop it has an even number of
 -- them.
-use Rattle.std.proofs.Common.{arith, ◌≡◌, ◌≢◌, ℕ, ◌<◌, Bool, true, false, not, ◌||◌, cond, nat_eq}
-use Rattle.std.proofs.Common.{List, [], ◌∷◌, length, get_or, All, inl, inr, ◌⊎◌, refl, ap, subst}
-use Rattle.std.proofs.Common.{sym, ◌∙◌, Some}
-use Rattle.std.specs.List.{AllByRecursion, IsDistinct, cons_option, list_all, list_any}
-use Rattle.std.proofs.lemmas.Bool.{eq-eqb, eqb-true, ne_eqb, or_right as or_second, cases_Bool}
-use Rattle.std.proofs.lemmas.List.Elements.{All-contains, All-head, All-tail}
-use Rattle.std.proofs.lemmas.Option.{slice_get-get_or}
-use Rattle.std.proofs.lemmas.List.Folds.{Any-from_list_any}
-use Rattle.std.proofs.lemmas.List.Sums.{AllPass-from_list_all}
-use Rattle.walks.specs.declared.edge.Edge.{Edge}
-use Rattle.walks.specs.Networks.{IsEdge}
-use Rattle.walks.specs.Paths.{IsSimple, edges_at}
-use Rattle.walks.specs.Walks.{IsWalk, across}
-use Rattle.walks.proofs.PathEdges.{ends_are}
-use Rattle.walks.proofs.PathSteps.{no_edge}
-use Rattle.walks.proofs.Walks.{begins, staying_end}
+use Rattle.plan_num.proofs.Common.{arith, ◌≡◌, ◌≢◌, ℕ, ◌<◌, Bool, true, false, not, ◌||◌, cond}
+use Rattle.plan_num.proofs.Common.{nat_eq, List, [], ◌∷◌, length, get_or, All, inl, inr, ◌⊎◌, refl}
+use Rattle.plan_num.proofs.Common.{ap, subst, sym, ◌∙◌, Some, AllByRecursion, cons_option, list_all}
+use Rattle.plan_num.proofs.Common.{list_any, eq-eqb, eqb-true, ne_eqb, cases_Bool, All-contains}
+use Rattle.plan_num.proofs.Common.{All-head, All-tail, slice_get-get_or, Any-from_list_any}
+use Rattle.plan_num.proofs.Common.{AllPass-from_list_all}
+use Rattle.std.specs.List.{IsDistinct}
+use Rattle.std.proofs.lemmas.Bool.{or_right as or_second}
+use Rattle.walks.proofs.Common.{Edge, IsEdge, IsSimple, edges_at, IsWalk, across, ends_are, no_edge}
+use Rattle.walks.proofs.Common.{begins, staying_end}
 
 -- ---- one of two, and not both
 

@@ -1,22 +1,19 @@
 -- The least sum of the definition is the least over all walks: a walk that comes to a stop twice
 -- can be cut short.
-use Rattle.std.proofs.Common.{◌≡◌, ℕ, ℤ, pos, suc, ◌<◌, ◌≤◌, true, false, nat_eq, inl, inr}
-use Rattle.std.proofs.Common.{List, [], ◌∷◌, length, map, refl, ap, subst, sym, ◌∙◌, arith, Option}
-use Rattle.std.proofs.Common.{Some, None, option_map, unsigned_abs, unwrap_or, All, Contains}
-use Rattle.std.specs.List.{AllByRecursion, IsDistinct, list_any}
-use Rattle.std.proofs.lemmas.Bool.{eqb-true, cases_Bool}
-use Rattle.std.proofs.lemmas.List.Elements.{All-contains}
-use Rattle.std.proofs.lemmas.List.FromFn.{get_or-map-range_with_len}
-use Rattle.std.proofs.lemmas.Map.Steps.{length-le_from_distinct_below}
-use Rattle.walks.specs.declared.edge.Edge.{Edge}
-use Rattle.walks.specs.Networks.{IsEdge, IsNetwork, NetworkParts}
-use Rattle.walks.specs.Walks.{AreLeastSums, IsLeastSum, IsWalk, across, least_of, least_sum}
-use Rattle.walks.specs.Walks.{least_sums, walk_sum, walks_within}
-use Rattle.walks.proofs.LastWalks.{starts_within}
+use Rattle.plan_num.proofs.Common.{◌≡◌, ℕ, ℤ, pos, suc, ◌<◌, ◌≤◌, true, false, nat_eq, inl, inr}
+use Rattle.plan_num.proofs.Common.{List, [], ◌∷◌, length, map, refl, ap, subst, sym, ◌∙◌, arith}
+use Rattle.plan_num.proofs.Common.{Option, Some, None, option_map, unsigned_abs, unwrap_or, All}
+use Rattle.plan_num.proofs.Common.{Contains, AllByRecursion, list_any, eqb-true, cases_Bool}
+use Rattle.plan_num.proofs.Common.{All-contains, get_or-map-range_with_len}
+use Rattle.plan_num.proofs.Common.{length-le_from_distinct_below}
+use Rattle.std.specs.List.{IsDistinct}
+use Rattle.walks.proofs.Common.{Edge, IsEdge, IsNetwork, NetworkParts, AreLeastSums, IsLeastSum}
+use Rattle.walks.proofs.Common.{IsWalk, across, least_of, least_sums, walk_sum, walks_within}
+use Rattle.walks.proofs.Common.{starts_within, IsUpTo, begins, edge_first, least_of_all}
+use Rattle.walks.proofs.Common.{least_of_there, walk_sum-cons, within_all, within_there}
+use Rattle.walks.specs.Walks.{least_sum}
 use Rattle.plan_num.proofs.Members.{Contains-cons, Contains-head, Contains-map}
 use Rattle.plan_num.proofs.Members.{Contains-rec}
-use Rattle.walks.proofs.Walks.{IsUpTo, begins, edge_first, least_of_all}
-use Rattle.walks.proofs.Walks.{least_of_there, walk_sum-cons, within_all, within_there}
 use Rattle.plan_num.proofs.Lists.{back_again}
 
 -- ---- the stops from which a walk goes on

@@ -1,7 +1,5 @@
 -- The lines among some paths.
-use Rattle.std.proofs.Common.{◌≡◌, ℕ, List, ◌++◌, arith}
-use Rattle.std.proofs.lemmas.List.{map-append}
-use Rattle.std.proofs.lemmas.List.Elements.{filter-append}
+use Rattle.plan_num.proofs.Common.{◌≡◌, ℕ, List, ◌++◌, arith, map-append, filter-append}
 use Rattle.terminal_lines.specs.TerminalPaths.{lines_among}
 
 -- those of paths one behind another are those of each of them

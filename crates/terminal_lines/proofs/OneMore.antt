@@ -1,9 +1,7 @@
 -- Loops that put one item more behind what is there.
-use Rattle.std.proofs.Common.{◌≡◌, ℕ, ◌+◌, ◌<◌, ◌≤◌, List, [], ◌∷◌, ◌++◌, length, take, get_or, ap}
-use Rattle.std.proofs.Common.{sym, ◌∙◌, arith, append_assoc}
-use Rattle.std.specs.List.{enumerate_from}
-use Rattle.std.proofs.lemmas.List.{take_all, take_more}
-use Rattle.std.proofs.lemmas.List.FromFn.{get_or-enumerate_from, length-enumerate_from}
+use Rattle.plan_num.proofs.Common.{◌≡◌, ℕ, ◌+◌, ◌<◌, ◌≤◌, List, [], ◌∷◌, ◌++◌, length, take, get_or}
+use Rattle.plan_num.proofs.Common.{ap, sym, ◌∙◌, arith, append_assoc, enumerate_from, take_all}
+use Rattle.plan_num.proofs.Common.{take_more, get_or-enumerate_from, length-enumerate_from}
 
 -- one numbered item more
 pub numbered_more : {X : Type 0} (n : ℕ) (xs : List X) (i place : ℕ) (d x : X) → i < length xs

@@ -1,18 +1,15 @@
 -- The pairs of terminals: each of them once, and not more than 190.
-use Rattle.std.proofs.Common.{◌≡◌, ℕ, ℤ, zero, suc, ◌+◌, ◌≤◌, ◌<ℤ◌, Bool, true, false, cond, int_lt}
-use Rattle.std.proofs.Common.{List, [], ◌∷◌, ◌++◌, length, map, filter, All, refl, ap, ◌∙◌, arith}
-use Rattle.std.proofs.Common.{append_assoc}
-use Rattle.std.specs.List.{AllByRecursion, flat_map}
+use Rattle.plan_num.proofs.Common.{◌≡◌, ℕ, zero, suc, ◌+◌, ◌≤◌, ◌<ℤ◌, Bool, true, false, cond}
+use Rattle.plan_num.proofs.Common.{int_lt, [], ◌∷◌, ◌++◌, length, map, filter, All, refl, ap, ◌∙◌}
+use Rattle.plan_num.proofs.Common.{arith, append_assoc, AllByRecursion, flat_map, int_cmp}
+use Rattle.plan_num.proofs.Common.{ordering_reverse, int_cmp_total, length-append, length-map}
+use Rattle.plan_num.proofs.Common.{All-append, All-cons, All-head, All-nil, All-tail, filter-append}
+use Rattle.std.proofs.Common.{ℤ}
+use Rattle.std.proofs.Common.{List}
 use Rattle.std.specs.List.Sorted.{IsStrictlySortedBy}
-use Rattle.std.specs.Ordering.{int_cmp, ordering_reverse}
 use Rattle.std.specs.declared.cmp.Ordering.{Ordering}
 use Rattle.std.specs.declared.cmp.Ordering.TheVariants.{Equal, Greater, Less}
-use Rattle.std.proofs.lemmas.Cmp.{int_cmp_total}
-use Rattle.std.proofs.lemmas.List.{length-append, length-map}
-use Rattle.std.proofs.lemmas.List.Elements.{All-append, All-cons, All-head, All-nil, All-tail}
-use Rattle.std.proofs.lemmas.List.Elements.{filter-append}
-use Rattle.walks.specs.RisingIds.{rising}
-use Rattle.walks.proofs.RisingIds.{rising_rises}
+use Rattle.walks.proofs.Common.{rising, rising_rises}
 use Rattle.terminal_lines.specs.TerminalPaths.{pairs_of}
 
 -- ---- ids in order

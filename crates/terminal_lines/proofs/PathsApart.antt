@@ -1,21 +1,15 @@
 -- No two paths between terminals lie in one another, so each path lies in a line.
-use Rattle.std.proofs.Common.{◌≡◌, ◌≢◌, ℕ, ℤ, zero, suc, ◌<◌, Bool, true, false, ◌||◌, nat_eq, List}
-use Rattle.std.proofs.Common.{[], ◌∷◌, ◌++◌, length, map, filter_map, get_or, All, Option, Some}
-use Rattle.std.proofs.Common.{None, inl, inr, refl, ap, subst, sym, arith}
-use Rattle.std.specs.List.{AllByRecursion, IsDistinct, cons_option, list_all, list_any}
+use Rattle.plan_num.proofs.Common.{◌≡◌, ◌≢◌, ℕ, ℤ, zero, suc, ◌<◌, Bool, true, false, ◌||◌, nat_eq}
+use Rattle.plan_num.proofs.Common.{List, [], ◌∷◌, ◌++◌, length, map, filter_map, get_or, All}
+use Rattle.plan_num.proofs.Common.{Option, Some, None, inl, inr, refl, ap, subst, sym, arith}
+use Rattle.plan_num.proofs.Common.{AllByRecursion, cons_option, list_all, list_any, int_cmp}
+use Rattle.plan_num.proofs.Common.{cases_lt, eq-eqb, eqb-true, or_right, cases_Bool, nat_eq_equiv}
+use Rattle.plan_num.proofs.Common.{ints, All-head, All-tail, length-le_from_is_member}
+use Rattle.std.specs.List.{IsDistinct}
 use Rattle.std.specs.List.Sorted.{IsStrictlySortedBy}
-use Rattle.std.specs.Ordering.{int_cmp}
 use Rattle.std.specs.declared.cmp.Ordering.TheVariants.{Less}
-use Rattle.std.proofs.lemmas.Bool.{cases_lt, eq-eqb, eqb-true, or_right, cases_Bool}
-use Rattle.std.proofs.lemmas.Cmp.{nat_eq_equiv}
-use Rattle.std.proofs.lemmas.Int.{ints}
-use Rattle.std.proofs.lemmas.List.Elements.{All-head, All-tail}
-use Rattle.std.proofs.lemmas.Map.Made.{length-le_from_is_member}
-use Rattle.walks.specs.Networks.{IsNetwork, NetworkParts}
-use Rattle.walks.specs.RisingIds.{index_in, rising}
-use Rattle.walks.specs.Paths.{edges_at, way}
-use Rattle.walks.specs.Walks.{IsWalk}
-use Rattle.walks.proofs.RisingIds.{rising_rises}
+use Rattle.walks.proofs.Common.{IsNetwork, NetworkParts, index_in, rising, edges_at, way, IsWalk}
+use Rattle.walks.proofs.Common.{rising_rises}
 use Rattle.terminal_lines.specs.TerminalPaths.{are_stops, lies_in, pairs_of, paths_of}
 use Rattle.terminal_lines.proofs.EndsOfWalks.{members_in, paths_ends}
 use Rattle.terminal_lines.proofs.PairsOfIds.{AreInOrder, less_is, not_own, pairs_after, pairs_are}

@@ -1,19 +1,12 @@
 -- The paths over terminals with their stops are the paths between their ids.
-use Rattle.std.proofs.Common.{◌≡◌, ℕ, ℤ, ◌<◌, true, int_lt, List, [], ◌∷◌, arith, length, map}
-use Rattle.std.proofs.Common.{filter, filter_map, Option, refl}
-use Rattle.std.specs.List.{flat_map}
-use Rattle.std.proofs.lemmas.List.Elements.{All-map, All-weaker, filter_map-append}
-use Rattle.walks.specs.Networks.{NetworkParts}
-use Rattle.walks.specs.RisingIds.{index_in, rising}
-use Rattle.walks.specs.Paths.{way}
-use Rattle.walks.proofs.RisingIds.{all_rising}
+use Rattle.plan_num.proofs.Common.{◌≡◌, ℕ, ℤ, ◌<◌, true, int_lt, List, [], ◌∷◌, arith, length, map}
+use Rattle.plan_num.proofs.Common.{filter, filter_map, Option, refl, flat_map, All-map, All-weaker}
+use Rattle.plan_num.proofs.Common.{filter_map-append, list_any, int_eq, AllPass-from_list_all}
+use Rattle.plan_num.proofs.Common.{cases_Bool}
+use Rattle.walks.proofs.Common.{NetworkParts, index_in, rising, way, all_rising}
 use Rattle.terminal_lines.specs.TerminalPaths.{are_stops, paths_of}
 use Rattle.terminal_lines.specs.Terminals.{AreStops, paths_over, terminal_of, way_between}
 use Rattle.terminal_lines.proofs.TerminalWays.{is_index}
-use Rattle.std.specs.List.{list_any}
-use Rattle.std.specs.Ordering.{int_eq}
-use Rattle.std.proofs.lemmas.List.Sums.{AllPass-from_list_all}
-use Rattle.std.proofs.lemmas.Bool.{cases_Bool}
 
 module _ (network : NetworkParts) where
   abbrev way_of : ℤ × ℤ → Option (List ℕ)

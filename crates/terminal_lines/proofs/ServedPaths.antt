@@ -1,13 +1,11 @@
 -- Each path between terminals lies in a line.
-use Rattle.std.proofs.Common.{◌≡◌, ◌≢◌, ℕ, zero, suc, ◌+◌, ◌<◌, ◌≤◌, Bool, true, false, inl, inr}
-use Rattle.std.proofs.Common.{◌&&◌, ◌||◌, nat_eq, List, [], ◌∷◌, length, get_or, All, Any, refl, ap}
-use Rattle.std.proofs.Common.{subst, ◌∙◌, arith}
-use Rattle.std.specs.List.{IsDistinct, enumerate_from, list_any}
-use Rattle.std.proofs.lemmas.Bool.{and_parts, eq-eqb, eqb-false, not-true, or_right as or_second, cases_Bool}
-use Rattle.std.proofs.lemmas.List.{get_or_default}
-use Rattle.std.proofs.lemmas.List.Elements.{All-get_or, All-weaker}
-use Rattle.std.proofs.lemmas.List.Folds.{Any-from_list_any, list_any_at}
-use Rattle.std.proofs.lemmas.List.FromFn.{get_or-enumerate_from, length-enumerate_from}
+use Rattle.plan_num.proofs.Common.{◌≡◌, ◌≢◌, ℕ, zero, suc, ◌+◌, ◌<◌, ◌≤◌, Bool, true, false, inl}
+use Rattle.plan_num.proofs.Common.{inr, ◌&&◌, ◌||◌, nat_eq, List, [], ◌∷◌, length, get_or, All, Any}
+use Rattle.plan_num.proofs.Common.{refl, ap, subst, ◌∙◌, arith, IsDistinct, enumerate_from}
+use Rattle.plan_num.proofs.Common.{list_any, and_parts, eq-eqb, eqb-false, not-true, cases_Bool}
+use Rattle.plan_num.proofs.Common.{get_or_default, All-get_or, All-weaker, Any-from_list_any}
+use Rattle.plan_num.proofs.Common.{list_any_at, get_or-enumerate_from, length-enumerate_from}
+use Rattle.std.proofs.lemmas.Bool.{or_right as or_second}
 use Rattle.terminal_lines.specs.Laws.{EachPathIsServed}
 use Rattle.terminal_lines.specs.TerminalPaths.{is_contained, lies_in, lines_among, lines_between}
 use Rattle.terminal_lines.specs.TerminalPaths.{paths_of, uncontained}

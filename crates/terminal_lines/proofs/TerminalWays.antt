@@ -1,30 +1,19 @@
 -- The paths between terminals are shortest lines, and there are not more than 190 of them.
-use Rattle.std.proofs.Common.{◌≡◌, ℕ, ℤ, pos, ◌+◌, ◌<◌, ◌≤◌, Bool, true, false, cond, inl, inr}
-use Rattle.std.proofs.Common.{nat_eq, List, [], ◌∷◌, length, filter_map, get_or, position, All}
-use Rattle.std.proofs.Common.{Contains, Option, Some, None, option_map, is_some, unwrap_or}
-use Rattle.std.proofs.Common.{unsigned_abs, refl, ap, subst, sym, ◌∙◌, arith}
-use Rattle.std.specs.List.{cons_option, enumerate_from, list_all, list_any}
-use Rattle.std.specs.Ordering.{int_eq}
-use Rattle.std.proofs.lemmas.Bool.{eqb-true, cases_Bool}
-use Rattle.std.proofs.lemmas.Bool.Decides.{Decides-int_eq}
-use Rattle.std.proofs.lemmas.List.Elements.{All-cons, All-contains_itself, All-head, All-nil}
-use Rattle.std.proofs.lemmas.List.Elements.{All-tail}
-use Rattle.std.proofs.lemmas.List.FromFn.{get_or-map-range_with_len, length-enumerate_from}
-use Rattle.std.proofs.lemmas.List.Quantifiers.{position-Some}
-use Rattle.std.proofs.lemmas.List.Sums.{AllPass-from_list_all, length-filter, count_by-le-length}
-use Rattle.std.proofs.lemmas.Map.Steps.{length-le_from_distinct_below}
-use Rattle.std.proofs.lemmas.Option.{same_Some}
-use Rattle.std.proofs.lemmas.List.Folds.{Any-from_list_any}
-use Rattle.std.proofs.lemmas.List.{length-map}
+use Rattle.plan_num.proofs.Common.{◌≡◌, ℕ, ℤ, pos, ◌+◌, ◌<◌, ◌≤◌, Bool, true, false, cond, inl, inr}
+use Rattle.plan_num.proofs.Common.{nat_eq, List, [], ◌∷◌, length, filter_map, get_or, position, All}
+use Rattle.plan_num.proofs.Common.{Contains, Option, Some, None, option_map, is_some, unwrap_or}
+use Rattle.plan_num.proofs.Common.{unsigned_abs, refl, ap, subst, sym, ◌∙◌, arith, cons_option}
+use Rattle.plan_num.proofs.Common.{enumerate_from, list_all, list_any, int_eq, eqb-true, cases_Bool}
+use Rattle.plan_num.proofs.Common.{Decides-int_eq, All-cons, All-contains_itself, All-head, All-nil}
+use Rattle.plan_num.proofs.Common.{All-tail, get_or-map-range_with_len, length-enumerate_from}
+use Rattle.plan_num.proofs.Common.{position-Some, AllPass-from_list_all, length-filter}
+use Rattle.plan_num.proofs.Common.{count_by-le-length, length-le_from_distinct_below, same_Some}
+use Rattle.plan_num.proofs.Common.{Any-from_list_any, length-map}
 use Rattle.plan_num.proofs.Found.{any_is}
-use Rattle.walks.specs.Networks.{IsNetwork, NetworkParts}
-use Rattle.walks.specs.RisingIds.{index_in, rising}
-use Rattle.walks.specs.Paths.{IsShortest, IsSimple, length_to, path, way}
-use Rattle.walks.specs.Walks.{edge_length, least_sum, least_sums}
-use Rattle.walks.proofs.PathEdges.{path_simple}
-use Rattle.walks.proofs.ShortestPaths.{path_shortest}
-use Rattle.walks.proofs.RisingIds.{all_rising, rising_length, rising_rises}
-use Rattle.walks.proofs.Walks.{staying_end}
+use Rattle.walks.proofs.Common.{IsNetwork, NetworkParts, index_in, rising, IsShortest, IsSimple}
+use Rattle.walks.proofs.Common.{length_to, path, way, edge_length, least_sum, least_sums}
+use Rattle.walks.proofs.Common.{path_simple, path_shortest, all_rising, rising_length, rising_rises}
+use Rattle.walks.proofs.Common.{staying_end}
 use Rattle.terminal_lines.specs.TerminalPaths.{IsShort, IsShortestLine, is_contained, lines_among}
 use Rattle.terminal_lines.specs.TerminalPaths.{are_stops, pairs_of, paths_of, uncontained}
 use Rattle.terminal_lines.proofs.LeastWalks.{least_of_stop}

@@ -1,12 +1,10 @@
 -- Paths between stops, where a walk joins them.
-use Rattle.std.proofs.Common.{◌≡◌, ℕ, pos, ◌<◌, true, false, cond, List, [], ◌++◌, length, get_or}
-use Rattle.std.proofs.Common.{refl, ap, sym, ◌∙◌, arith, Option, Some, None, option_map}
-use Rattle.std.proofs.Common.{option_to_list, is_some}
-use Rattle.std.specs.List.{cons_option}
-use Rattle.std.proofs.lemmas.List.FromFn.{get_or-map-range_with_len}
-use Rattle.walks.specs.Networks.{NetworkParts}
-use Rattle.walks.specs.Paths.{PathParts, path, paths_from, way}
-use Rattle.walks.specs.Walks.{edge_length, least_sum}
+use Rattle.plan_num.proofs.Common.{◌≡◌, ℕ, pos, ◌<◌, true, false, cond, List, [], ◌++◌, length}
+use Rattle.plan_num.proofs.Common.{get_or, refl, ap, sym, ◌∙◌, arith, Option, Some, None}
+use Rattle.plan_num.proofs.Common.{option_map, option_to_list, is_some, cons_option}
+use Rattle.plan_num.proofs.Common.{get_or-map-range_with_len}
+use Rattle.walks.proofs.Common.{NetworkParts, PathParts, path, paths_from, way, edge_length}
+use Rattle.walks.proofs.Common.{least_sum}
 use Rattle.terminal_lines.specs.declared.terminal.Terminal.{Terminal}
 
 abbrev pub no_terminal : Terminal

@@ -1,16 +1,15 @@
 -- What csv is given of the lines at the front of a text.
-use Rattle.std.proofs.Common.{◌≡◌, ◌≢◌, ℕ, ◌+◌, ◌-◌, ◌<◌, ◌≤◌, List, [], ◌∷◌, ◌++◌, length, take, drop}
-use Rattle.std.proofs.Common.{get_or, refl, ap, sym, ◌∙◌, Bool, true, false, eqb, All, arith}
-use Rattle.std.proofs.Common.{append_assoc, append-nil, length-append, length-take, cond, ne_eqb}
-use Rattle.std.proofs.Common.{eqb-true, add-one, drop-cons, get_or-take, length-drop, filter, ltb}
-use Rattle.std.proofs.Common.{◌||◌, one-add, suc, zero, min}
-use Rattle.std.specs.List.{onto_first, position_or_len}
-use Rattle.std.proofs.lemmas.Bool.{eqb-false, false≢true, lt-ltb}
-use Rattle.std.proofs.lemmas.List.{get_or-append-add, take-append-drop, take_rest}
+use Rattle.plan_num.proofs.Common.{◌≡◌, ◌≢◌, ℕ, ◌+◌, ◌-◌, ◌<◌, ◌≤◌, List, [], ◌∷◌, ◌++◌, length}
+use Rattle.plan_num.proofs.Common.{take, drop, get_or, refl, ap, sym, ◌∙◌, Bool, true, false, eqb}
+use Rattle.plan_num.proofs.Common.{All, arith, append_assoc, append-nil, length-append, length-take}
+use Rattle.plan_num.proofs.Common.{cond, ne_eqb, eqb-true, add-one, drop-cons, get_or-take}
+use Rattle.plan_num.proofs.Common.{length-drop, filter, ltb, ◌||◌, one-add, suc, zero, min}
+use Rattle.plan_num.proofs.Common.{onto_first, position_or_len, eqb-false, false≢true, lt-ltb}
+use Rattle.plan_num.proofs.Common.{get_or-append-add, take-append-drop, take_rest, All-cons}
+use Rattle.plan_num.proofs.Common.{All-head, All-push, All-tail, fails_before_first, slice_split_at}
+use Rattle.plan_num.proofs.Common.{slice_split_none}
 use Rattle.std.proofs.Math.Seq.{take-suc}
-use Rattle.std.proofs.lemmas.List.Elements.{All-cons, All-head, All-push, All-tail}
-use Rattle.std.proofs.lemmas.List.Sums.{fails_before_first, passes_at_first}
-use Rattle.std.proofs.lemmas.List.Splits.{slice_split_at, slice_split_none}
+use Rattle.std.proofs.lemmas.List.Sums.{passes_at_first}
 use Rattle.text_fields.specs.Rows.{before_comment, has_byte, parts_of}
 use Rattle.text_fields.specs.Told.{begins, given, handed, is_odd, is_told}
 use Rattle.text_fields.specs.Handed.{AreLines, Stops, fed}

@@ -1,11 +1,9 @@
 -- The fields of a line, from the pieces between its semicolons.
-use Rattle.std.proofs.Common.{◌≡◌, ℕ, ◌-◌, ◌<◌, ◌≤◌, zero, suc, List, [], ◌∷◌, length, map, take}
-use Rattle.std.proofs.Common.{drop, get_or, refl, ap, sym, ◌∙◌, Bool, true, false, eqb, leb, Some}
-use Rattle.std.proofs.Common.{None, Option, arith, Bor, one-add}
-use Rattle.std.specs.Option.{option_map, unwrap_or}
-use Rattle.std.specs.List.{prefix_len}
-use Rattle.std.proofs.lemmas.List.{take_all, length-map, get_or-map, length-take-le, get_or-take}
-use Rattle.std.proofs.lemmas.Bool.{le-leb, lt-leb}
+use Rattle.plan_num.proofs.Common.{◌≡◌, ℕ, ◌-◌, ◌<◌, ◌≤◌, zero, suc, List, [], ◌∷◌, length, map}
+use Rattle.plan_num.proofs.Common.{take, drop, get_or, refl, ap, sym, ◌∙◌, Bool, true, false, eqb}
+use Rattle.plan_num.proofs.Common.{leb, Some, None, Option, arith, Bor, one-add, option_map}
+use Rattle.plan_num.proofs.Common.{unwrap_or, prefix_len, take_all, length-map, get_or-map}
+use Rattle.plan_num.proofs.Common.{length-take-le, get_or-take, le-leb, lt-leb}
 use Rattle.csv.specs.Records.{field_at}
 use Rattle.text_fields.specs.Rows.{is_blank, without_blanks, without_quotes, ends_empty, cleaned}
 

@@ -1,10 +1,8 @@
 -- What csv is given of lines, some of which begin with the sign of a comment.
-use Rattle.std.proofs.Common.{◌≡◌, ℕ, ◌+◌, ◌<◌, List, [], ◌∷◌, length, refl, ap, sym}
-use Rattle.std.proofs.Common.{◌∙◌, Bool, true, false, eqb, arith, filter}
-use Rattle.std.proofs.Common.{ne_eqb, add-zero, ◌≤◌, Bor, Option, Some, None}
-use Rattle.std.specs.Option.{IfSome, option_copied}
-use Rattle.std.specs.Option.{option_copied}
-use Rattle.std.proofs.lemmas.Bool.{eqb-true, false≢true}
+use Rattle.plan_num.proofs.Common.{◌≡◌, ℕ, ◌+◌, ◌<◌, List, [], ◌∷◌, length, refl, ap, sym, ◌∙◌}
+use Rattle.plan_num.proofs.Common.{Bool, true, false, eqb, arith, filter, ne_eqb, add-zero, ◌≤◌}
+use Rattle.plan_num.proofs.Common.{Bor, Option, Some, None, IfSome, option_copied, eqb-true}
+use Rattle.plan_num.proofs.Common.{false≢true}
 use Rattle.text_fields.specs.Rows.{before_comment, has_byte}
 use Rattle.text_fields.specs.Told.{PassesComments, begins, given, handed, is_odd, left_size, told_left}
 use Rattle.text_fields.proofs.ToldFacts.{told_sign}

@@ -1,10 +1,9 @@
 -- Handing out what is ready piece by piece.
-use Rattle.std.proofs.Common.{◌≡◌, ℕ, ◌+◌, ◌≤◌, List, [], ◌++◌, length, take, drop, ap, sym, ◌∙◌}
-use Rattle.std.proofs.Common.{append_assoc, arith, false, length-append, min, ◌-◌, Bor, Option, Some}
-use Rattle.std.proofs.Common.{refl}
-use Rattle.std.specs.Option.{option_copied}
-use Rattle.std.proofs.lemmas.List.{length-take-le, take-append-le, take-append-drop, take_all, take_rest}
-use Rattle.std.proofs.Math.Seq.{take-append-add}
+use Rattle.plan_num.proofs.Common.{◌≡◌, ℕ, ◌+◌, ◌≤◌, List, [], ◌++◌, length, take, drop, ap, sym}
+use Rattle.plan_num.proofs.Common.{◌∙◌, append_assoc, arith, false, length-append, min, ◌-◌, Bor}
+use Rattle.plan_num.proofs.Common.{Option, Some, refl, option_copied, length-take-le}
+use Rattle.plan_num.proofs.Common.{take-append-le, take-append-drop, take_all, take_rest}
+use Rattle.plan_num.proofs.Common.{take-append-add}
 use borrow.Rule.Slice.PartMut.{put_mid}
 use Rattle.text_fields.specs.Rows.{parts_left}
 use Rattle.text_fields.specs.Told.{given}

@@ -1,10 +1,9 @@
 -- What csv is given of one line.
-use Rattle.std.proofs.Common.{◌≡◌, ◌≢◌, ℕ, ◌<◌, ◌≤◌, List, [], ◌∷◌, ◌++◌, length, refl, Bool, true}
-use Rattle.std.proofs.Common.{false, eqb, All, arith, zero, suc, ne_eqb, ap, sym}
-use Rattle.std.proofs.Common.{◌∙◌, ◌-◌, ◌&&◌, ◌||◌, get_or, length-append, ltb, not, one-add}
-use Rattle.std.specs.List.{position_or_len}
-use Rattle.std.proofs.lemmas.Bool.{eqb-true, false≢true, le-ltb, lt-leb, lt-ltb}
-use Rattle.std.proofs.lemmas.List.Elements.{All-head, All-tail, All-take}
+use Rattle.plan_num.proofs.Common.{◌≡◌, ◌≢◌, ℕ, ◌<◌, ◌≤◌, List, [], ◌∷◌, ◌++◌, length, refl, Bool}
+use Rattle.plan_num.proofs.Common.{true, false, eqb, All, arith, zero, suc, ne_eqb, ap, sym, ◌∙◌}
+use Rattle.plan_num.proofs.Common.{◌-◌, ◌&&◌, ◌||◌, get_or, length-append, ltb, not, one-add}
+use Rattle.plan_num.proofs.Common.{position_or_len, eqb-true, false≢true, le-ltb, lt-leb, lt-ltb}
+use Rattle.plan_num.proofs.Common.{All-head, All-tail, All-take}
 use Rattle.text_fields.specs.Rows.{before_comment}
 use Rattle.text_fields.specs.Told.{begins, handed, is_odd, is_told, returns}
 use Rattle.text_fields.proofs.Lines.{not_commented}

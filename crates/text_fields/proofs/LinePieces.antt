@@ -1,12 +1,9 @@
 -- The pieces of a line, one after the other.
-use Rattle.std.proofs.Common.{◌≡◌, ℕ, suc, ◌+◌, ◌-◌, ◌<◌, ◌≤◌, List, [], ◌∷◌, length, take, drop}
-use Rattle.std.proofs.Common.{get_or, refl, ap, sym, ◌∙◌, Bool, true, false, eqb, ltb, arith}
-use Rattle.std.proofs.Common.{filter}
-use Rattle.std.specs.List.{position_or_len}
-use Rattle.std.proofs.lemmas.Bool.{ltb-true, ltb-false}
-use Rattle.std.proofs.lemmas.List.{take_rest, take_all}
-use Rattle.std.proofs.lemmas.List.Sums.{length-filter, fails_before_first}
-use Rattle.std.proofs.lemmas.List.Splits.{slice_split_none, slice_split_first, length-slice_split}
+use Rattle.plan_num.proofs.Common.{◌≡◌, ℕ, suc, ◌+◌, ◌-◌, ◌<◌, ◌≤◌, List, [], ◌∷◌, length, take}
+use Rattle.plan_num.proofs.Common.{drop, get_or, refl, ap, sym, ◌∙◌, Bool, true, false, eqb, ltb}
+use Rattle.plan_num.proofs.Common.{arith, filter, position_or_len, ltb-true, ltb-false, take_rest}
+use Rattle.plan_num.proofs.Common.{take_all, length-filter, fails_before_first, slice_split_none}
+use Rattle.plan_num.proofs.Common.{slice_split_first, length-slice_split}
 use Rattle.text_fields.specs.Rows.{pieces}
 
 -- a semicolon

@@ -1,14 +1,11 @@
 -- Lines that are read one by one.
-use Rattle.std.proofs.Common.{◌≡◌, ℕ, ◌+◌, ◌<◌, ◌≤◌, List, [], ◌∷◌, length, drop}
-use Rattle.std.proofs.Common.{get_or, refl, ap, sym, ◌∙◌, arith, filter, Bool, true, false}
-use Rattle.std.proofs.Common.{length-drop, add-one, drop-cons, suc, drop_of_length-le, Bor, Option}
-use Rattle.std.proofs.Common.{Some, None}
-use Rattle.std.proofs.lemmas.List.Splits.{length-slice_split}
-use Rattle.std.proofs.lemmas.List.Sums.{count_by-le-length}
-use Rattle.std.proofs.lemmas.Option.{slice_get-get_or, slice_get_past}
-use Rattle.std.specs.List.{slice_get}
-use Rattle.std.specs.Bool.{MatchBool}
-use Rattle.std.specs.Option.{MatchOption, option_copied, unwrap_or}
+use Rattle.plan_num.proofs.Common.{◌≡◌, ℕ, ◌+◌, ◌<◌, ◌≤◌, List, [], ◌∷◌, length, drop, get_or, refl}
+use Rattle.plan_num.proofs.Common.{ap, sym, ◌∙◌, arith, filter, Bool, true, false, length-drop}
+use Rattle.plan_num.proofs.Common.{add-one, drop-cons, suc, Bor, Option, Some, None}
+use Rattle.plan_num.proofs.Common.{length-slice_split, count_by-le-length, slice_get-get_or}
+use Rattle.plan_num.proofs.Common.{slice_get_past, slice_get, MatchBool, MatchOption, option_copied}
+use Rattle.plan_num.proofs.Common.{unwrap_or}
+use Rattle.std.proofs.Common.{drop_of_length-le}
 use Rattle.csv.specs.declared.reader.Reader.{Reader}
 use Rattle.text_fields.specs.declared.handed.Handed.{Handed}
 use Rattle.text_fields.specs.Rows.{has_byte, parts_of}

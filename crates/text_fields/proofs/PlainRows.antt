@@ -1,14 +1,12 @@
 -- The pieces of a line without a comment are those of its row.
-use Rattle.std.proofs.Common.{◌≡◌, ◌≢◌, ℕ, ◌+◌, ◌-◌, ◌≤◌, List, [], ◌∷◌, length, take, map, cond}
-use Rattle.std.proofs.Common.{get_or, refl, ap, sym, ◌∙◌, Bool, true, false, eqb, All, arith, zero}
-use Rattle.std.proofs.Common.{suc, ne_eqb, not, slice_index, ltb, ◌<◌, one-add}
-use Rattle.std.specs.List.{list_all, onto_first, position_or_len}
-use Rattle.std.specs.Str.Lines.{strip_carriage_return}
-use Rattle.std.proofs.lemmas.Bool.{eqb-false, eqb-true, false≢true, ltb-false, ltb-true}
-use Rattle.std.proofs.lemmas.List.{length-take, take_all}
-use Rattle.std.proofs.lemmas.List.Elements.{All-take}
-use Rattle.std.proofs.lemmas.List.Splits.{join_with_byte-slice_split, length-slice_split}
-use Rattle.std.proofs.lemmas.List.Sums.{fails_before_first}
+use Rattle.plan_num.proofs.Common.{◌≡◌, ◌≢◌, ℕ, ◌+◌, ◌-◌, ◌≤◌, List, [], ◌∷◌, length, take, map}
+use Rattle.plan_num.proofs.Common.{cond, get_or, refl, ap, sym, ◌∙◌, Bool, true, false, eqb, All}
+use Rattle.plan_num.proofs.Common.{arith, zero, suc, ne_eqb, not, ltb, ◌<◌, one-add, list_all}
+use Rattle.plan_num.proofs.Common.{onto_first, position_or_len, strip_carriage_return, eqb-false}
+use Rattle.plan_num.proofs.Common.{eqb-true, false≢true, ltb-false, ltb-true, length-take, take_all}
+use Rattle.plan_num.proofs.Common.{All-take, length-slice_split, fails_before_first}
+use Rattle.std.proofs.Common.{slice_index}
+use Rattle.std.proofs.lemmas.List.Splits.{join_with_byte-slice_split}
 use Rattle.text_fields.specs.Rows.{Row, before_comment, cleaned, is_blank, pieces}
 use Rattle.text_fields.specs.declared.text_row.LineRead.TheVariants as read
 use Rattle.text_fields.specs.Told.{LineGives, handed, is_odd, returns, row_told, told_left}

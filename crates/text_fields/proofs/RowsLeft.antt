@@ -1,9 +1,8 @@
 -- The rows of the lines that are left of a text.
-use Rattle.std.proofs.Common.{◌≡◌, ℕ, ◌+◌, List, [], ◌∷◌, ◌++◌, length, map, filter, refl}
-use Rattle.std.proofs.Common.{false, eqb, Bor, Option, Some, None}
-use Rattle.std.specs.List.{flat_map, enumerate_from}
-use Rattle.std.specs.Option.{option_copied}
-use Rattle.std.specs.Str.Lines.{strip_carriage_return}
+use Rattle.plan_num.proofs.Common.{◌≡◌, ◌+◌, [], ◌∷◌, ◌++◌, length, map, filter, refl, false, eqb}
+use Rattle.plan_num.proofs.Common.{Bor, Option, Some, None, flat_map, enumerate_from, option_copied}
+use Rattle.plan_num.proofs.Common.{strip_carriage_return}
+use Rattle.std.proofs.Common.{ℕ, List}
 use Rattle.text_fields.specs.Rows.{Row, row_of, has_byte, parts_of, parts_left, rows}
 
 -- the rows of lines, after so many that were numbered

@@ -1,9 +1,8 @@
 -- A byte that does not stand in a piece stands behind it.
-use Rattle.std.proofs.Common.{◌≡◌, ℕ, ◌+◌, ◌-◌, ◌≤◌, List, [], ◌∷◌, ◌++◌, length, take, drop, ap}
-use Rattle.std.proofs.Common.{sym, ◌∙◌, Bool, true, false, cond, ◌||◌, not, arith, zero-add}
-use Rattle.std.proofs.Common.{length-drop, length-take}
-use Rattle.std.specs.List.{list_any, position_or_len}
-use Rattle.std.proofs.lemmas.List.{take-append-drop}
+use Rattle.plan_num.proofs.Common.{◌≡◌, ℕ, ◌+◌, ◌-◌, ◌≤◌, List, [], ◌∷◌, ◌++◌, length, take, drop}
+use Rattle.plan_num.proofs.Common.{ap, sym, ◌∙◌, Bool, true, false, cond, ◌||◌, not, arith}
+use Rattle.plan_num.proofs.Common.{zero-add, length-drop, length-take, list_any, position_or_len}
+use Rattle.plan_num.proofs.Common.{take-append-drop}
 
 module _ (test : ℕ → Bool) where
   skip_one : (t : Bool) (any : Bool) (place behind : ℕ) → (any ≡ false → place ≡ behind)

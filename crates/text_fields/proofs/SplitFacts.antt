@@ -1,10 +1,9 @@
 -- How csv splits lines, each before a line feed, with its settings for these tables.
-use Rattle.std.proofs.Common.{◌≡◌, ◌≢◌, ℕ, Bool, true, false, eqb, List, [], ◌∷◌, ◌++◌, refl, ap}
-use Rattle.std.proofs.Common.{◌∙◌, All, Option, Some, None, append_assoc, append-nil, ne_eqb, cond}
-use Rattle.std.proofs.Common.{inl, filter, arith}
-use Rattle.std.specs.Bool.{MatchBool}
-use Rattle.std.specs.List.{onto_first, slice_split}
-use Rattle.std.proofs.lemmas.List.Elements.{All-head, All-tail}
+use Rattle.plan_num.proofs.Common.{◌≡◌, ◌≢◌, ℕ, Bool, true, false, eqb, List, [], ◌∷◌, ◌++◌, refl}
+use Rattle.plan_num.proofs.Common.{ap, ◌∙◌, All, Option, Some, None, append_assoc, append-nil}
+use Rattle.plan_num.proofs.Common.{ne_eqb, cond, inl, filter, arith, MatchBool, onto_first}
+use Rattle.plan_num.proofs.Common.{All-head, All-tail}
+use Rattle.std.specs.List.{slice_split}
 use Rattle.csv.specs.Machine.{step, is_end, fields_after, field_after, next_record}
 use Rattle.csv.specs.declared.parser.State.{State}
 use Rattle.csv.specs.declared.parser.State.TheVariants as st

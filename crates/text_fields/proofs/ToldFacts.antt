@@ -1,10 +1,9 @@
 -- The lines that have rows, one after the other.
-use Rattle.std.proofs.Common.{◌≡◌, ℕ, ◌+◌, List, [], ◌∷◌, ◌++◌, length, map, refl, sym, ◌∙◌, Bool}
-use Rattle.std.proofs.Common.{true, false, not, eqb, arith, filter, ap, get_or, ne_eqb, suc, take, ◌-◌}
-use Rattle.std.specs.List.{flat_map, enumerate_from, list_all}
-use Rattle.std.specs.Str.Lines.{strip_carriage_return}
-use Rattle.std.proofs.lemmas.Bool.{eqb-true, false≢true, not-true, not-false}
-use Rattle.std.proofs.lemmas.List.{map-append}
+use Rattle.plan_num.proofs.Common.{◌≡◌, ℕ, ◌+◌, List, [], ◌∷◌, ◌++◌, length, map, refl, sym, ◌∙◌}
+use Rattle.plan_num.proofs.Common.{Bool, true, false, not, eqb, arith, filter, ap, get_or, ne_eqb}
+use Rattle.plan_num.proofs.Common.{suc, take, ◌-◌, flat_map, enumerate_from, list_all}
+use Rattle.plan_num.proofs.Common.{strip_carriage_return, eqb-true, false≢true, not-true, not-false}
+use Rattle.plan_num.proofs.Common.{map-append}
 use Rattle.text_fields.specs.Rows.{is_blank, before_comment, row_of, has_byte, lines, parts_of}
 use Rattle.text_fields.specs.Rows.{rows}
 use Rattle.text_fields.specs.Told.{Told, told_of, told_left, row_told}

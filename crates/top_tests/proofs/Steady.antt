@@ -1,6 +1,6 @@
 -- Over files and a sink whose counts of faults are 0, no fault is answered.
 use Rattle.std.proofs.Common.{◌≡◌, ◌≢◌, inl, inr, ℕ, arith}
-use Rattle.plan_files.specs.Counts.{Rose}
+use Rattle.plan_files.proofs.Common.{Rose}
 use Rattle.command_line.specs.declared.status.Status.{Status}
 use Rattle.command_line.specs.declared.status.Status.TheVariants as status
 use Rattle.lintim_cli.specs.Says.{SaysAlways}

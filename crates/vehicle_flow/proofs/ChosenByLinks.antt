@@ -1,12 +1,7 @@
 -- The chosen plan, from the first of the plans that gain the most over the links that are worth
 -- something.
 use Rattle.std.proofs.Common.{◌≡◌, ℕ, List, Option, subst}
-use Rattle.link_plans.specs.declared.link_table.Link.{Link}
-use Rattle.link_plans.specs.declared.solved.Solved.{Solved}
-use Rattle.link_plans.specs.Links.{links_in}
-use Rattle.link_plans.specs.LinkRows.{worthy}
-use Rattle.link_plans.specs.Plans.{IsPlan, IsFirstBest}
-use Rattle.link_plans.specs.Potentials.{AreValid}
+use Rattle.link_plans.proofs.Common.{Link, Solved, links_in, worthy, IsPlan, IsFirstBest, AreValid}
 use Rattle.assignment.proofs.Worthwhile.{first_up, plan_down, valid_down}
 use Rattle.vehicle_model.specs.Plans.{IsCheapest, IsChosen}
 use Rattle.vehicle_model.specs.Trips.{TripsParts, links_of}

@@ -1,18 +1,15 @@
 -- A plan that is chosen is the one that the definition finds among all plans.
-use Rattle.std.proofs.Common.{◌≡◌, ℕ, zero, suc, ◌+◌, ◌<◌, ◌≤◌, inl, inr, Bool, true, false, cond}
-use Rattle.std.proofs.Common.{not, is_some, ◌&&◌, nat_eq, List, [], ◌∷◌, ◌++◌, length, map, filter}
-use Rattle.std.proofs.Common.{find, Option, Some, None, unwrap_or, refl, ap, sym, ◌∙◌, subst, arith}
-use Rattle.std.proofs.Common.{eqb-true, eq-eqb}
-use Rattle.std.specs.List.{AllByRecursion, range_with_len}
-use Rattle.std.proofs.lemmas.Bool.{false≢true}
-use Rattle.std.proofs.lemmas.Option.{none-some}
+use Rattle.plan_num.proofs.Common.{◌≡◌, ℕ, zero, suc, ◌+◌, ◌<◌, ◌≤◌, inl, inr, Bool, true, false}
+use Rattle.plan_num.proofs.Common.{cond, not, is_some, ◌&&◌, nat_eq, List, [], ◌∷◌, ◌++◌, length}
+use Rattle.plan_num.proofs.Common.{map, filter, find, Option, Some, None, unwrap_or, refl, ap, sym}
+use Rattle.plan_num.proofs.Common.{◌∙◌, subst, arith, eqb-true, eq-eqb, AllByRecursion}
+use Rattle.plan_num.proofs.Common.{range_with_len, false≢true, none-some}
 use Rattle.vehicle_model.specs.Plans.{is_apart, all_lists, all_plans, choices_of, chosen_plan}
 use Rattle.vehicle_model.specs.Plans.{least_cost, plan_cost, IsChosen, IsCheapest}
-use Rattle.link_plans.specs.Plans.{next, is_next, ComesNoLater, IsPlan}
+use Rattle.link_plans.proofs.Common.{next, is_next, ComesNoLater, IsPlan, Links, by_number}
+use Rattle.link_plans.proofs.Common.{next_found, never_next}
 use Rattle.vehicle_model.specs.Trips.{TripsParts, links_of}
-use Rattle.link_plans.specs.Links.{Links}
 use Rattle.vehicle_model.proofs.Following.{links_within}
-use Rattle.link_plans.proofs.Linking.{by_number, next_found, never_next}
 use Rattle.vehicle_flow.proofs.FirstOfLists.{IsIn, AreChoices, AreRising, find_filtered, first_of}
 use Rattle.vehicle_flow.proofs.FirstOfLists.{all_choices, reduced, filtered_all}
 use Rattle.plan_num.proofs.Tests.{both_true, second_true, first_true}

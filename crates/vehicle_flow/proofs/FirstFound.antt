@@ -1,14 +1,10 @@
 -- Of all lists of choices the first that is found passes, and comes no later than any other that does.
-use Rattle.std.proofs.Common.{◌≡◌, ℕ, zero, suc, ◌≤◌, ◌⊎◌, inl, inr, nat_le, Bool, true, false}
-use Rattle.std.proofs.Common.{cond, List, [], ◌∷◌, map, find, Option, Some, None, option_map, refl}
-use Rattle.std.proofs.Common.{ap, sym, ◌∙◌, subst, arith}
-use Rattle.std.specs.List.{AllByRecursion}
-use Rattle.std.specs.Option.{option_or}
-use Rattle.std.proofs.lemmas.Bool.{leb-true, leb-false}
-use Rattle.std.proofs.lemmas.List.Folds.{find-append}
-use Rattle.std.proofs.lemmas.Option.{none-some, same_Some}
+use Rattle.plan_num.proofs.Common.{◌≡◌, ℕ, zero, suc, ◌≤◌, ◌⊎◌, inl, inr, nat_le, Bool, true, false}
+use Rattle.plan_num.proofs.Common.{cond, List, [], ◌∷◌, map, find, Option, Some, None, option_map}
+use Rattle.plan_num.proofs.Common.{refl, ap, sym, ◌∙◌, subst, arith, AllByRecursion, option_or}
+use Rattle.plan_num.proofs.Common.{leb-true, leb-false, find-append, none-some, same_Some}
 use Rattle.vehicle_model.specs.Plans.{all_lists}
-use Rattle.link_plans.specs.Plans.{ComesNoLater, AreNoLater}
+use Rattle.link_plans.proofs.Common.{ComesNoLater, AreNoLater}
 use Rattle.vehicle_flow.proofs.FirstOfLists.{IsIn, AreChoices, AreRising, behind, find_mapped, later_found}
 
 -- ---- the first that is found

@@ -1,15 +1,12 @@
 -- Of all lists of choices that pass a test, the one that comes first is found first.
-use Rattle.std.proofs.Common.{◌≡◌, ℕ, suc, ◌≤◌, ◌⊎◌, inl, inr, Bool, true, false, cond, ◌&&◌}
-use Rattle.std.proofs.Common.{nat_eq, List, [], ◌∷◌, ◌++◌, map, filter, fold, find, min, Option}
-use Rattle.std.proofs.Common.{Some, None, option_map, refl, ap, sym, ◌∙◌, subst, arith, eqb-true}
-use Rattle.std.specs.List.{AllByRecursion, flat_map, reduce}
-use Rattle.std.specs.Option.{option_or}
-use Rattle.std.proofs.lemmas.List.Folds.{find-append}
-use Rattle.std.proofs.lemmas.Option.{none-some}
+use Rattle.plan_num.proofs.Common.{◌≡◌, ℕ, suc, ◌≤◌, ◌⊎◌, inl, inr, Bool, true, false, cond, ◌&&◌}
+use Rattle.plan_num.proofs.Common.{nat_eq, List, [], ◌∷◌, ◌++◌, map, filter, fold, find, min}
+use Rattle.plan_num.proofs.Common.{Option, Some, None, option_map, refl, ap, sym, ◌∙◌, subst, arith}
+use Rattle.plan_num.proofs.Common.{eqb-true, AllByRecursion, flat_map, reduce, option_or}
+use Rattle.plan_num.proofs.Common.{find-append, none-some, false_from_ne_true}
 use Rattle.vehicle_model.specs.Plans.{all_lists}
-use Rattle.link_plans.specs.Plans.{ComesNoLater, AreNoLater}
+use Rattle.link_plans.proofs.Common.{ComesNoLater, AreNoLater}
 use Rattle.plan_num.proofs.Lists.{append_all}
-use Rattle.std.proofs.lemmas.Bool.{false_from_ne_true}
 
 -- an item is one of some
 abbrev pub IsIn : List (Option ℕ) → Option ℕ → Type 0

@@ -1,19 +1,17 @@
 -- The first rule that a schedule breaks, from what its parts are found to be.
-use Rattle.std.proofs.Common.{arith, ◌≡◌, ℕ, List, [], ◌∷◌, length, map, filter_map, slice_get}
-use Rattle.std.proofs.Common.{Option, Some, None, option_map, Result, Ok, Err, IfOk, IfNone, refl}
-use Rattle.std.proofs.Common.{ap, sym, ◌∙◌, subst}
-use Rattle.std.proofs.lemmas.Option.{none-some, same_Some, slice_get-map}
-use Rattle.tables.specs.declared.read_fault.RowFault.{RowFault}
+use Rattle.plan_num.proofs.Common.{arith, ◌≡◌, ℕ, List, [], ◌∷◌, length, map, filter_map, slice_get}
+use Rattle.plan_num.proofs.Common.{Option, Some, None, option_map, Result, Ok, Err, IfOk, IfNone}
+use Rattle.plan_num.proofs.Common.{refl, ap, sym, ◌∙◌, subst, none-some, same_Some, slice_get-map}
+use Rattle.tables.proofs.Common.{RowFault}
 use Rattle.vehicle_model.specs.declared.plan_fault.PlanFault.{PlanFault}
 use Rattle.vehicle_model.specs.declared.plan_fault.PlanFault.TheVariants as plan_faults
 use Rattle.vehicle_model.specs.Plans.{IsCheapest}
-use Rattle.link_plans.specs.Plans.{IsPlan}
+use Rattle.link_plans.proofs.Common.{IsPlan, PotentialParts, AreValid}
 use Rattle.vehicle_model.specs.ReadSchedules.{plan_faults as faults_of_plan, plan_of, or_others, PlanGives}
 use Rattle.vehicle_model.specs.Trips.{TripsParts, links_of}
 use Rattle.flow_potentials.specs.declared.potential_fault.PotentialFault.{PotentialFault}
 use Rattle.flow_potentials.specs.PotentialTables.{table_faults, potentials_of}
 use Rattle.flow_potentials.specs.PotentialFaults.{potential_faults}
-use Rattle.link_plans.specs.Potentials.{PotentialParts, AreValid}
 use Rattle.flow_potentials.proofs.Checked.{told_valid}
 use Rattle.vehicle_flow.specs.declared.schedule_fault.ScheduleFault.{ScheduleFault}
 use Rattle.vehicle_flow.specs.declared.schedule_fault.ScheduleFault.TheVariants as rule

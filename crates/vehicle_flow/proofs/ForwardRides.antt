@@ -1,23 +1,13 @@
 -- An empty ride between two trips goes forward over the events of the day.
-use Rattle.std.proofs.Common.{◌≡◌, ℕ, ◌+◌, ◌<◌, ◌≤◌, ◌⊎◌, inl, inr, ◌==◌, ◌||◌, Bool, true}
-use Rattle.std.proofs.Common.{false, cond, not, List, [], ◌∷◌, Some, refl, ap, sym, ◌∙◌, arith}
-use Rattle.std.specs.Cmp.{nat_cmp_is}
-use Rattle.std.specs.Cmp.Lexicographic.{slice_cmp}
-use Rattle.std.specs.List.{list_any}
-use Rattle.std.specs.Ordering.{nat_cmp, is_lt}
+use Rattle.plan_num.proofs.Common.{◌≡◌, ℕ, ◌+◌, ◌<◌, ◌≤◌, ◌⊎◌, inl, inr, ◌==◌, ◌||◌, Bool, true}
+use Rattle.plan_num.proofs.Common.{false, cond, not, List, [], ◌∷◌, Some, refl, ap, sym, ◌∙◌, arith}
+use Rattle.plan_num.proofs.Common.{nat_cmp_is, slice_cmp, list_any, nat_cmp, is_lt, cases_lt}
+use Rattle.plan_num.proofs.Common.{le-ltb, none-some}
 use Rattle.std.specs.declared.cmp.Ordering.TheVariants.{Less, Equal}
-use Rattle.std.proofs.lemmas.Bool.{cases_lt, le-ltb}
-use Rattle.std.proofs.lemmas.Option.{none-some}
-use Rattle.event_tables.specs.declared.event_kind.EventKind.{EventKind}
+use Rattle.event_tables.proofs.Common.{EventKind, ExpandedEvent, ScheduleRow, TripEnd}
+use Rattle.event_tables.proofs.Common.{expanded_event_ids, both_pass, event_with, stands_before}
+use Rattle.event_tables.proofs.Common.{is_arrival, is_none_of, ends_early, goes_back, lacks_room}
 use Rattle.event_tables.specs.declared.event_kind.EventKind.TheVariants as kinds
-use Rattle.event_tables.specs.declared.expanded_event.ExpandedEvent.{ExpandedEvent}
-use Rattle.event_tables.specs.declared.schedule_row.ScheduleRow.{ScheduleRow}
-use Rattle.event_tables.specs.declared.trip.TripEnd.{TripEnd}
-use Rattle.event_tables.specs.ExpandedFiles.{expanded_event_ids}
-use Rattle.event_tables.specs.ForwardOrder.{both_pass, event_with, stands_before}
-use Rattle.event_tables.specs.Kinds.{is_arrival}
-use Rattle.event_tables.specs.Places.{is_none_of}
-use Rattle.event_tables.specs.Schedules.{ends_early, goes_back, lacks_room}
 use Rattle.vehicle_flow.specs.AcceptedSchedules.{IsPlanned}
 
 -- ---- an event that is found is there

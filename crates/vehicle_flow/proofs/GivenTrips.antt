@@ -4,16 +4,10 @@ use Rattle.std.proofs.Common.{unsigned_abs, to_z}
 use Rattle.std.proofs.lemmas.Int.{ints, to_z-of_z}
 use mir.Syntax.{w64}
 use Rattle.giv_files.specs.declared.key.Key.TheVariants as key
-use Rattle.tables.specs.declared.refusal.StageFault.{StageFault}
-use Rattle.giv_files.specs.declared.stage.Stage.{Stage}
+use Rattle.tables.proofs.Common.{StageFault, UnlessFault, UnlessFault-weaker}
+use Rattle.giv_files.proofs.Common.{Stage, BundleParts, Fits, amount, has_key, input_text}
+use Rattle.giv_files.proofs.Common.{stage_inputs, amount_within}
 use Rattle.giv_files.specs.declared.stage.Stage.TheVariants as stage
-use Rattle.tables.specs.Inputs.{UnlessFault}
-use Rattle.giv_files.specs.Settings.{BundleParts, Fits, amount}
-use Rattle.giv_files.specs.Keys.{has_key}
-use Rattle.giv_files.specs.StageCalls.{input_text}
-use Rattle.giv_files.specs.Stages.{stage_inputs}
-use Rattle.tables.proofs.Inputs.{UnlessFault-weaker}
-use Rattle.giv_files.proofs.SettingFacts.{amount_within}
 use Rattle.vehicle_model.specs.Trips.{TripsParts, trips_faults, trips_of}
 use Rattle.vehicle_flow.specs.VehicleStage.{takes_trips, trips_in, vehicles_faults}
 

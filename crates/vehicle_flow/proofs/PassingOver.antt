@@ -1,13 +1,12 @@
 -- What is known of a schedule of which no rule is broken but that of a certificate.
-use Rattle.std.proofs.Common.{◌≡◌, List, [], ◌∷◌, ℕ, map, slice_get, Option, Some, None, Result, Ok}
-use Rattle.std.proofs.Common.{Err, IfOk, IfNone, IfSome, refl, sym, subst}
-use Rattle.std.specs.Prelude.{⊤}
-use Rattle.std.proofs.lemmas.Option.{none-some}
-use Rattle.tables.specs.declared.read_fault.RowFault.{RowFault}
-use Rattle.giv_files.specs.Settings.{BundleParts}
+use Rattle.plan_num.proofs.Common.{◌≡◌, List, [], ◌∷◌, ℕ, map, slice_get, Option, Some, None}
+use Rattle.plan_num.proofs.Common.{Result, Ok, Err, IfOk, IfNone, IfSome, refl, sym, subst, ⊤}
+use Rattle.plan_num.proofs.Common.{none-some}
+use Rattle.tables.proofs.Common.{RowFault}
+use Rattle.giv_files.proofs.Common.{BundleParts}
 use Rattle.vehicle_model.specs.declared.plan_fault.PlanFault.{PlanFault}
 use Rattle.vehicle_model.specs.declared.plan_fault.PlanFault.TheVariants as plan_fault
-use Rattle.link_plans.specs.Plans.{IsPlan}
+use Rattle.link_plans.proofs.Common.{IsPlan}
 use Rattle.vehicle_model.specs.ReadSchedules.{or_others, plan_faults, plan_of}
 use Rattle.vehicle_model.specs.Trips.{TripsParts, links_of}
 use Rattle.flow_potentials.specs.declared.potential_fault.PotentialFault.{PotentialFault}

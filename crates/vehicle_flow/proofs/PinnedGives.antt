@@ -2,21 +2,15 @@
 use Rattle.std.proofs.Common.{arith, ◌≡◌, ℕ, List, [], ◌∷◌, ◌++◌, length, map, slice_get, Option}
 use Rattle.std.proofs.Common.{Some, None, option_map, Ok, Err, refl, ap, sym, ◌∙◌, subst}
 use Rattle.std.proofs.lemmas.Option.{none-some, slice_get-map}
-use Rattle.giv_files.specs.declared.made.Made.{Made}
-use Rattle.tables.specs.declared.refusal.StageFault.{StageFault}
-use Rattle.tables.specs.declared.read_fault.RowFault.{RowFault}
-use Rattle.tables.specs.Inputs.{Refuses}
-use Rattle.giv_files.specs.Settings.{BundleParts}
-use Rattle.giv_files.specs.StageCalls.{StageGives, input_text}
-use Rattle.tables.proofs.Inputs.{refused_append}
-use Rattle.giv_files.proofs.StageCalls.{stage_refused}
+use Rattle.giv_files.proofs.Common.{Made, BundleParts, StageGives, input_text, stage_refused}
+use Rattle.tables.proofs.Common.{StageFault, RowFault, Refuses, refused_append}
 use Rattle.vehicle_model.specs.declared.plan_fault.PlanFault.{PlanFault}
 use Rattle.vehicle_model.specs.declared.plan_fault.PlanFault.TheVariants as plan_fault
 use Rattle.vehicle_model.specs.ReadSchedules.{plan_faults, plan_of, PlanGives}
 use Rattle.vehicle_model.specs.Trips.{TripsParts, links_of}
 use Rattle.flow_potentials.specs.declared.potential_fault.PotentialFault.{PotentialFault}
 use Rattle.flow_potentials.specs.PotentialFaults.{potential_faults}
-use Rattle.link_plans.specs.Potentials.{PotentialParts}
+use Rattle.link_plans.proofs.Common.{PotentialParts}
 use Rattle.flow_potentials.specs.PotentialTables.{potentials_of, table_faults}
 use Rattle.vehicle_flow.specs.declared.schedule_fault.ScheduleFault.{ScheduleFault}
 use Rattle.vehicle_flow.specs.PinnedSchedules.{marking_potentials, pinned_vehicles_faults}

@@ -1,28 +1,20 @@
 -- Which files the stage of a planner's schedule makes, which it names where it refuses a row, and what it gives.
 use Rattle.std.proofs.Common.{arith, ◌≡◌, ℕ, List, [], ◌∷◌, map, true, Bool, Option, Some, None}
 use Rattle.std.proofs.Common.{Result, Ok, Err, IfOk, ap, lit<, refl}
-use Rattle.tables.specs.declared.file_id.FileId.{FileId}
+use Rattle.tables.proofs.Common.{FileId, Refusal, StageFault, input_faults, NamesInput, AllName}
+use Rattle.tables.proofs.Common.{names_both, front_none}
 use Rattle.tables.specs.declared.file_id.FileId.TheVariants as file
-use Rattle.giv_files.specs.declared.made.Made.{Made}
-use Rattle.tables.specs.declared.refusal.Refusal.{Refusal}
-use Rattle.tables.specs.declared.refusal.StageFault.{StageFault}
+use Rattle.giv_files.proofs.Common.{Made, MakesAs, ids_of, BundleParts, Fits, StageGives}
+use Rattle.giv_files.proofs.Common.{input_text, none_unless, refused_names}
 use Rattle.giv_files.specs.declared.stage.Stage.TheVariants as stage
-use Rattle.tables.specs.Inputs.{input_faults}
-use Rattle.giv_files.specs.MadeLists.{MakesAs, ids_of}
-use Rattle.tables.specs.NamedFiles.{NamesInput}
-use Rattle.giv_files.specs.Settings.{BundleParts, Fits}
-use Rattle.giv_files.specs.StageCalls.{StageGives, input_text}
-use Rattle.tables.proofs.Named.{AllName, names_both}
-use Rattle.tables.proofs.Ranges.{front_none}
-use Rattle.giv_files.proofs.StageCalls.{none_unless, refused_names}
 use Rattle.ptn_network.specs.Networks.{network_faults, stops_of}
 use Rattle.ptn_network.proofs.NamedFaults.{network_names}
-use Rattle.event_tables.specs.Trips.{trip_input}
+use Rattle.event_tables.proofs.Common.{trip_input}
 use Rattle.vehicle_model.specs.declared.plan_fault.PlanFault.{PlanFault}
 use Rattle.vehicle_model.specs.declared.plan_fault.PlanFault.TheVariants as plan_fault
 use Rattle.vehicle_model.specs.ReadSchedules.{plan_faults, plan_of}
 use Rattle.vehicle_model.specs.Trips.{TripsParts, trips_faults}
-use Rattle.link_plans.specs.Potentials.{PotentialParts}
+use Rattle.link_plans.proofs.Common.{PotentialParts}
 use Rattle.vehicle_flow.specs.PinnedSchedules.{marking_potentials, pinned_vehicles_faults}
 use Rattle.vehicle_flow.specs.PinnedSchedules.{pinned_vehicles_stage, plan_kept, plan_refusal}
 use Rattle.vehicle_flow.specs.RightSchedules.{PinnedScheduleIsRight}

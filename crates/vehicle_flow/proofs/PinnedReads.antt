@@ -1,20 +1,16 @@
 -- What is made of a planner's schedule is right.
 use Rattle.std.proofs.Common.{◌≡◌, ℕ, List, [], ◌∷◌, length, map, slice_get, Option, Some, None, Ok}
 use Rattle.std.proofs.Common.{refl, ap, sym, subst, arith}
-use Rattle.giv_files.specs.declared.made.Made.{Made}
-use Rattle.giv_files.specs.Settings.{BundleParts}
-use Rattle.giv_files.specs.StageCalls.{input_text}
-use Rattle.tables.proofs.Ranges.{back_none, front_none}
-use Rattle.giv_files.proofs.StageCalls.{made_unless, none_unless}
+use Rattle.giv_files.proofs.Common.{Made, BundleParts, input_text, made_unless, none_unless}
+use Rattle.tables.proofs.Common.{back_none, front_none}
 use Rattle.vehicle_model.specs.Plans.{IsCheapest}
-use Rattle.link_plans.specs.Plans.{IsPlan}
+use Rattle.link_plans.proofs.Common.{IsPlan, ArePotentials, AreOver, PotentialParts, AreValid}
 use Rattle.vehicle_model.specs.ReadSchedules.{or_others, plan_faults, plan_of, IsReadBack}
 use Rattle.vehicle_model.specs.Schedules.{plan_text}
 use Rattle.vehicle_model.specs.Trips.{AreTrips, TripsParts, links_of}
 use Rattle.vehicle_model.proofs.FaultlessPlans.{faultless_is_plan}
 use Rattle.vehicle_model.proofs.PlanBack.{plan_text_back}
 use Rattle.flow_potentials.specs.PotentialFaults.{potential_faults}
-use Rattle.link_plans.specs.Potentials.{ArePotentials, AreOver, PotentialParts, AreValid}
 use Rattle.flow_potentials.specs.PotentialTables.{potentials_of, potentials_text, table_faults}
 use Rattle.flow_potentials.specs.PotentialTables.{IsReadBack as IsPotentialBack}
 use Rattle.flow_potentials.proofs.Checked.{told_cheapest, told_valid}

@@ -1,11 +1,9 @@
 -- Plans of least cost gain the same.
-use Rattle.std.proofs.Common.{ℕ, List, Option, arith}
-use Rattle.std.proofs.lemmas.Int.{ints}
-use Rattle.link_plans.specs.Plans.{IsBest, IsFirstBest}
+use Rattle.plan_num.proofs.Common.{ℕ, List, Option, arith, ints}
+use Rattle.link_plans.proofs.Common.{IsBest, IsFirstBest, PotentialParts, AreValid}
 use Rattle.vehicle_model.specs.Plans.{IsCheapest, IsChosen}
 use Rattle.vehicle_model.specs.Trips.{TripsParts, links_of}
 use Rattle.vehicle_model.proofs.Costs.{cost_by_gain}
-use Rattle.link_plans.specs.Potentials.{PotentialParts, AreValid}
 
 -- so potentials that are valid for one are valid for the other
 pub valid_for : (trips : TripsParts) (plan other : List (Option ℕ)) (potentials : PotentialParts)

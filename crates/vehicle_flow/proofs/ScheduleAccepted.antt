@@ -1,36 +1,23 @@
 -- The schedule of a plan has no fault as an input over the events of which its trips are.
-use Rattle.std.proofs.Common.{◌≡◌, ℕ, ◌+◌, ◌<◌, ◌≤◌, ◌&&◌, ◌||◌, false, not, cond, nat_lt, List, []}
-use Rattle.std.proofs.Common.{◌∷◌, ◌++◌, length, filter, replicate, slice_set, All, Option, Some}
-use Rattle.std.proofs.Common.{None, unwrap_or, refl, ap, sym, ◌∙◌, subst, arith}
-use Rattle.std.specs.List.{AllByRecursion}
-use Rattle.std.proofs.lemmas.Bool.{le-ltb}
-use Rattle.event_tables.specs.declared.expanded_event.ExpandedEvent.{ExpandedEvent}
-use Rattle.event_tables.specs.declared.schedule_row.ScheduleRow.{ScheduleRow}
-use Rattle.event_tables.specs.Cells.{schedule_row, schedule_cells}
-use Rattle.event_tables.specs.ExpandedFiles.{expanded_event_ids}
-use Rattle.event_tables.specs.Headers.{schedule_header}
-use Rattle.event_tables.specs.Places.{is_none_of}
-use Rattle.tables.specs.RowsOfTables.{rows_by}
-use Rattle.event_tables.specs.Schedules.{ends_early, goes_back, is_empty_row, is_trip_row}
-use Rattle.event_tables.specs.Schedules.{lacks_room, schedule_input, schedule_rules}
-use Rattle.tables.proofs.WrittenColumns.{columns_written}
-use Rattle.event_tables.proofs.CellsBack.{schedule_row_same}
-use Rattle.event_tables.proofs.WrittenRecords.{rows_inside}
+use Rattle.plan_num.proofs.Common.{◌≡◌, ℕ, ◌+◌, ◌<◌, ◌≤◌, ◌&&◌, ◌||◌, false, not, cond, nat_lt}
+use Rattle.plan_num.proofs.Common.{List, [], ◌∷◌, ◌++◌, length, filter, replicate, slice_set, All}
+use Rattle.plan_num.proofs.Common.{Option, Some, None, unwrap_or, refl, ap, sym, ◌∙◌, subst, arith}
+use Rattle.plan_num.proofs.Common.{AllByRecursion, le-ltb}
+use Rattle.event_tables.proofs.Common.{ExpandedEvent, ScheduleRow, schedule_row, schedule_cells}
+use Rattle.event_tables.proofs.Common.{expanded_event_ids, schedule_header, is_none_of, ends_early}
+use Rattle.event_tables.proofs.Common.{goes_back, is_empty_row, is_trip_row, lacks_room}
+use Rattle.event_tables.proofs.Common.{schedule_input, schedule_rules, schedule_row_same}
+use Rattle.event_tables.proofs.Common.{rows_inside}
+use Rattle.tables.proofs.Common.{rows_by, columns_written, schedule_columns, input_faults}
+use Rattle.tables.proofs.Common.{limit_faults, records, ReadsBack, KeepRules, accepted}
+use Rattle.tables.proofs.Common.{plain_header, written_back}
 use Rattle.tables.specs.declared.counted.Counted.TheVariants as counted
 use Rattle.tables.specs.declared.refusal.Refusal.TheVariants as refusal
-use Rattle.tables.specs.Columns.{schedule_columns}
-use Rattle.tables.specs.Inputs.{input_faults, limit_faults, records}
-use Rattle.tables.specs.Writing.{ReadsBack}
-use Rattle.tables.proofs.Accepted.{KeepRules, accepted}
-use Rattle.tables.proofs.Headers.{plain_header}
-use Rattle.tables.proofs.WrittenBack.{written_back}
-use Rattle.link_plans.specs.Plans.{next, IsPlan}
+use Rattle.link_plans.proofs.Common.{next, IsPlan, count, count_most, one_less, some_of}
 use Rattle.vehicle_model.specs.Schedules.{dead_between, empty_row, no_trip, plan_rows, plan_text}
 use Rattle.vehicle_model.specs.Schedules.{rows_behind, rows_from, tours, trip_of, trip_row}
 use Rattle.vehicle_model.specs.Trips.{TripsParts, AreTrips, links_of}
-use Rattle.link_plans.proofs.Counting.{count, count_most, one_less}
 use Rattle.vehicle_model.proofs.Following.{gain_there, is_link}
-use Rattle.link_plans.proofs.Linking.{some_of}
 use Rattle.vehicle_model.proofs.RowsFit.{plan_fits}
 use Rattle.vehicle_model.proofs.Tours.{AreBehind, AreTours, has, tours_are}
 use Rattle.vehicle_flow.specs.AcceptedSchedules.{IsAccepted, IsRolledOut}

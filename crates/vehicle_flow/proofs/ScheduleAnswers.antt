@@ -1,7 +1,6 @@
 -- What the test of a schedule answers, over a bundle.
 use Rattle.std.proofs.Common.{◌≡◌, ℕ, List, [], map, Option, Some, None, IfNone, refl, ap, sym, subst}
-use Rattle.giv_files.specs.declared.made.MadeFile.{MadeFile}
-use Rattle.giv_files.specs.Settings.{BundleParts}
+use Rattle.giv_files.proofs.Common.{MadeFile, BundleParts}
 use Rattle.vehicle_model.specs.Trips.{TripsParts}
 use Rattle.vehicle_flow.specs.declared.schedule_fault.ScheduleFault.{ScheduleFault}
 use Rattle.vehicle_flow.specs.RightVehicles.{VehiclesAreRight, files_of}

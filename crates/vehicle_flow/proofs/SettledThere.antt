@@ -9,7 +9,7 @@ use Rattle.canonical_potentials.proofs.Rounds.{canonical_is, canonical_small, ca
 use Rattle.vehicle_flow.specs.SettledPlans.{IsSettled}
 use Rattle.vehicle_flow.proofs.ChosenIsOne.{all_rising, apart_where}
 use Rattle.vehicle_flow.proofs.ChosenIsOne.{chosen_is, lists, plan_where, where_plan}
-use Rattle.link_plans.proofs.ChosenThere.{HasValid, valid_there}
+use Rattle.link_plans.proofs.Common.{HasValid, valid_there}
 use Rattle.vehicle_flow.proofs.FirstFound.{found_holds, found_no_later, none_passes}
 use Rattle.vehicle_flow.proofs.FirstOfLists.{AreChoices, all_choices}
 use Rattle.vehicle_flow.proofs.SameGains.{valid_for}

@@ -2,10 +2,9 @@
 use Rattle.std.proofs.Common.{◌≡◌, ℕ, ◌≤◌, ◌+◌, ◌-◌, List, length, drop, Option, arith}
 use Rattle.std.proofs.lemmas.List.{drop_all}
 use Rattle.vehicle_model.specs.Plans.{starts}
-use Rattle.link_plans.specs.Plans.{plan_links, IsPlan}
+use Rattle.link_plans.proofs.Common.{plan_links, IsPlan, links_from}
 use Rattle.vehicle_model.specs.Trips.{TripsParts, links_of}
 use Rattle.vehicle_model.proofs.Costs.{starts_and_links}
-use Rattle.link_plans.proofs.Totals.{links_from}
 
 -- the links before a trip, with those from there on, are those of the plan
 pub record AreLinksBefore (plan : List (Option ℕ)) (i links : ℕ) : Type 0 where

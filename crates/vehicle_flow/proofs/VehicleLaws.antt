@@ -1,17 +1,11 @@
 -- What the stage of vehicles makes of a bundle that fits it is right.
 use Rattle.std.proofs.Common.{◌≡◌, true, [], Some, Result, Ok, Err, IfOk, ap}
-use Rattle.giv_files.specs.declared.made.Made.{Made}
-use Rattle.tables.specs.declared.refusal.StageFault.{StageFault}
+use Rattle.giv_files.proofs.Common.{Made, BundleParts, Fits, StageGives, input_text, none_unless}
+use Rattle.tables.proofs.Common.{StageFault, input_faults, back_none, front_none}
 use Rattle.giv_files.specs.declared.stage.Stage.TheVariants as stage
-use Rattle.tables.specs.Inputs.{input_faults}
-use Rattle.giv_files.specs.Settings.{BundleParts, Fits}
-use Rattle.giv_files.specs.StageCalls.{StageGives, input_text}
-use Rattle.tables.proofs.Ranges.{back_none, front_none}
-use Rattle.giv_files.proofs.StageCalls.{none_unless}
 use Rattle.ptn_network.specs.Networks.{network_faults, network_of, stops_of}
 use Rattle.ptn_network.proofs.Sound.{network_sound}
-use Rattle.event_tables.specs.Trips.{trip_input}
-use Rattle.event_tables.proofs.SoundTrips.{trips_sound}
+use Rattle.event_tables.proofs.Common.{trip_input, trips_sound}
 use Rattle.vehicle_model.specs.Plans.{chosen_plan}
 use Rattle.vehicle_model.specs.Trips.{AreTrips, trips_faults, trips_of}
 use Rattle.vehicle_flow.specs.RightVehicles.{VehicleFilesAreRight}

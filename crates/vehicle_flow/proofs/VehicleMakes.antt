@@ -1,22 +1,14 @@
 -- Which files the stage of vehicles makes, which it names where it refuses a row, and what it gives.
 use Rattle.std.proofs.Common.{◌≡◌, [], true, Bool, Some, Ok, Err, ap, lit<, arith}
-use Rattle.tables.specs.declared.file_id.FileId.{FileId}
+use Rattle.tables.proofs.Common.{FileId, Refusal, StageFault, Refuses, input_faults, NamesInput}
+use Rattle.tables.proofs.Common.{AllName, names_both}
 use Rattle.tables.specs.declared.file_id.FileId.TheVariants as file
-use Rattle.giv_files.specs.declared.made.Made.{Made}
-use Rattle.tables.specs.declared.refusal.Refusal.{Refusal}
-use Rattle.tables.specs.declared.refusal.StageFault.{StageFault}
+use Rattle.giv_files.proofs.Common.{Made, MakesAs, ids_of, BundleParts, StageGives, input_text}
+use Rattle.giv_files.proofs.Common.{refused_names, made_unless, stage_refused}
 use Rattle.giv_files.specs.declared.stage.Stage.TheVariants as stage
-use Rattle.tables.specs.Inputs.{Refuses, input_faults}
-use Rattle.giv_files.specs.MadeLists.{MakesAs, ids_of}
-use Rattle.tables.specs.NamedFiles.{NamesInput}
-use Rattle.giv_files.specs.Settings.{BundleParts}
-use Rattle.giv_files.specs.StageCalls.{StageGives, input_text}
-use Rattle.tables.proofs.Named.{AllName, names_both}
-use Rattle.giv_files.proofs.StageCalls.{refused_names}
-use Rattle.giv_files.proofs.StageCalls.{made_unless, stage_refused}
 use Rattle.ptn_network.specs.Networks.{network_faults, stops_of}
 use Rattle.ptn_network.proofs.NamedFaults.{network_names}
-use Rattle.event_tables.specs.Trips.{trip_input}
+use Rattle.event_tables.proofs.Common.{trip_input}
 use Rattle.vehicle_model.specs.Plans.{chosen_plan}
 use Rattle.vehicle_model.specs.Trips.{TripsParts, trips_faults}
 use Rattle.vehicle_flow.specs.VehicleStage.{trips_in, vehicles_faults, vehicles_made, vehicles_stage}

@@ -1,17 +1,14 @@
 -- The files of the stage are right, from what is known of the chosen plan.
 use Rattle.std.proofs.Common.{◌≡◌, ℕ, List, [], Option, Some, Ok, refl, sym, subst, arith}
-use Rattle.giv_files.specs.declared.made.Made.{Made}
-use Rattle.giv_files.specs.Settings.{BundleParts}
-use Rattle.giv_files.proofs.StageCalls.{made_unless, none_unless}
+use Rattle.giv_files.proofs.Common.{Made, BundleParts, made_unless, none_unless}
 use Rattle.vehicle_model.specs.Plans.{chosen_plan, IsChosen}
-use Rattle.link_plans.specs.Plans.{IsPlan}
+use Rattle.link_plans.proofs.Common.{IsPlan, PotentialParts}
 use Rattle.vehicle_model.specs.ReadSchedules.{IsReadBack}
 use Rattle.vehicle_model.specs.Schedules.{plan_text}
 use Rattle.vehicle_model.specs.Trips.{TripsParts, links_of}
 use Rattle.vehicle_model.proofs.PlanBack.{plan_text_back}
 use Rattle.canonical_potentials.specs.Canonical.{AreCanonical}
 use Rattle.flow_potentials.specs.PotentialTables.{potentials_of, potentials_text, IsReadBack as IsPotentialBack}
-use Rattle.link_plans.specs.Potentials.{PotentialParts}
 use Rattle.canonical_potentials.specs.Rounds.{canonical}
 use Rattle.flow_potentials.proofs.TablesBack.{text_back}
 use Rattle.vehicle_flow.specs.RightVehicles.{VehicleFilesAreRight}

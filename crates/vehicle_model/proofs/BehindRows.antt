@@ -1,21 +1,16 @@
 -- A reader behind some of the rows of a table, one row more, and behind all of them.
-use Rattle.std.proofs.Common.{◌≡◌, ℕ, zero, suc, ◌+◌, ◌<◌, ◌≤◌, Bool, true, false, cond, List, []}
-use Rattle.std.proofs.Common.{◌∷◌, ◌++◌, length, map, filter, drop, get_or, slice_get, Option, Some}
-use Rattle.std.proofs.Common.{None, IfSome, option_map, Result, Err, IfOk, refl, ap, sym, ◌∙◌}
-use Rattle.std.proofs.Common.{subst, arith, append_assoc}
-use Rattle.std.specs.Option.{option_to_list}
+use Rattle.plan_num.proofs.Common.{◌≡◌, ℕ, zero, suc, ◌+◌, ◌<◌, ◌≤◌, Bool, true, false, cond, List}
+use Rattle.plan_num.proofs.Common.{[], ◌∷◌, ◌++◌, length, map, filter, drop, get_or, slice_get}
+use Rattle.plan_num.proofs.Common.{Option, Some, None, IfSome, option_map, Result, Err, IfOk, refl}
+use Rattle.plan_num.proofs.Common.{ap, sym, ◌∙◌, subst, arith, append_assoc, option_to_list}
+use Rattle.plan_num.proofs.Common.{append-nil, drop_all, length-map, none-some, map-map}
 use Rattle.std.proofs.Math.Seq.{drop-cons}
-use Rattle.std.proofs.lemmas.List.{append-nil, drop_all, drop-map, length-map}
-use Rattle.std.proofs.lemmas.Option.{none-some}
-use Rattle.std.proofs.lemmas.Simd.{map-map}
-use Rattle.event_tables.specs.declared.schedule_row.ScheduleRow.{ScheduleRow}
-use Rattle.event_tables.specs.Cells.{schedule_row}
-use Rattle.tables.specs.RowsOfTables.{records_by, numbered_by}
-use Rattle.tables.specs.Inputs.{Numbered}
-use Rattle.tables.specs.Tables.{TableRow, no_row, row_number}
+use Rattle.std.proofs.lemmas.List.{drop-map}
+use Rattle.event_tables.proofs.Common.{ScheduleRow, schedule_row}
+use Rattle.tables.proofs.Common.{records_by, numbered_by, Numbered, TableRow, no_row, row_number}
 use Rattle.vehicle_model.specs.declared.plan_fault.PlanFault.{PlanFault}
 use Rattle.vehicle_model.specs.declared.plan_fault.PlanFault.TheVariants as fault
-use Rattle.link_plans.specs.Plans.{next, IsPlan}
+use Rattle.link_plans.proofs.Common.{next, IsPlan}
 use Rattle.vehicle_model.specs.ReadSchedules.{nothing_read, one_more, trip_in, begins, row_fits}
 use Rattle.vehicle_model.specs.ReadSchedules.{has_form, first_row, all_come, form_faults, link_of}
 use Rattle.vehicle_model.specs.ReadSchedules.{link_to, links_in, is_late, follow_faults, or_others}

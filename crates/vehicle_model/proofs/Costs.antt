@@ -1,18 +1,15 @@
 -- What a plan costs, by the gains of its links.
-use Rattle.std.proofs.Common.{◌≡◌, ℕ, ℤ, suc, pos, ◌+◌, ◌*◌, ◌<◌, ◌≤◌, ◌+ℤ◌, ◌-ℤ◌, true, false, not}
-use Rattle.std.proofs.Common.{◌-◌, List, [], ◌∷◌, length, drop, is_some, Option, Some, None}
-use Rattle.std.proofs.Common.{option_map, unwrap_or, refl, ap, sym, ◌∙◌, subst, arith}
-use Rattle.std.proofs.lemmas.Int.{ints}
-use Rattle.std.proofs.lemmas.List.{drop_all}
+use Rattle.plan_num.proofs.Common.{◌≡◌, ℕ, ℤ, suc, pos, ◌+◌, ◌*◌, ◌<◌, ◌≤◌, ◌+ℤ◌, ◌-ℤ◌, true, false}
+use Rattle.plan_num.proofs.Common.{not, ◌-◌, List, [], ◌∷◌, length, drop, is_some, Option, Some}
+use Rattle.plan_num.proofs.Common.{None, option_map, unwrap_or, refl, ap, sym, ◌∙◌, subst, arith}
+use Rattle.plan_num.proofs.Common.{ints, drop_all}
 use Rattle.vehicle_model.specs.Plans.{starts, plan_minutes, plan_cost}
-use Rattle.link_plans.specs.Plans.{next, is_next, plan_links, plan_gain, IsPlan}
+use Rattle.link_plans.proofs.Common.{next, is_next, plan_links, plan_gain, IsPlan, count, but_one}
+use Rattle.link_plans.proofs.Common.{all_count, one_less, some_of, never_next, links_from}
+use Rattle.link_plans.proofs.Common.{gains_from, minutes_from, gains_more, minutes_more}
+use Rattle.link_plans.proofs.Common.{alone_count, alone_minutes, linked_count, linked_minutes}
 use Rattle.vehicle_model.specs.Trips.{TripsParts, link_minutes, gain_of, links_of}
-use Rattle.link_plans.proofs.Counting.{count, but_one, all_count, one_less}
 use Rattle.vehicle_model.proofs.Following.{links_within, gain_there}
-use Rattle.link_plans.proofs.Linking.{some_of}
-use Rattle.link_plans.proofs.Linking.{never_next}
-use Rattle.link_plans.proofs.Totals.{links_from, gains_from, minutes_from, gains_more, minutes_more}
-use Rattle.link_plans.proofs.Totals.{alone_count, alone_minutes, linked_count, linked_minutes}
 
 -- ---- vehicles and links are as many as trips
 

@@ -1,15 +1,13 @@
 -- The stops of trips, one after the other, and looking up dead minutes by them.
-use Rattle.std.proofs.Common.{◌≡◌, ℕ, ℤ, pos, ◌+◌, ◌<◌, List, [], ◌∷◌, ◌++◌, length, map, take}
-use Rattle.std.proofs.Common.{get_or, slice_get, unsigned_abs, All, Option, Some, None, option_map}
-use Rattle.std.proofs.Common.{refl, ap, sym, ◌∙◌, subst, arith}
-use Rattle.std.specs.List.{range_with_len}
-use Rattle.std.proofs.lemmas.List.{take_more, map-append, length-map, get_or-map, get_or_default}
-use Rattle.std.proofs.lemmas.List.Elements.{All-push}
-use Rattle.std.proofs.lemmas.List.FromFn.{get_or-range_with_len, length-range_with_len}
-use Rattle.std.proofs.lemmas.Option.{slice_get-map, slice_get-get_or, get_or_from_slice_get, same_Some}
-use Rattle.event_tables.specs.declared.trip.Trip.{Trip}
-use Rattle.walks.specs.Networks.{NetworkParts}
-use Rattle.walks.specs.Walks.{edge_time, least_sum, IsLeastSum}
+use Rattle.plan_num.proofs.Common.{◌≡◌, ℕ, ℤ, pos, ◌+◌, ◌<◌, List, [], ◌∷◌, ◌++◌, length, map, take}
+use Rattle.plan_num.proofs.Common.{get_or, slice_get, unsigned_abs, All, Option, Some, None}
+use Rattle.plan_num.proofs.Common.{option_map, refl, ap, sym, ◌∙◌, subst, arith, range_with_len}
+use Rattle.plan_num.proofs.Common.{take_more, map-append, length-map, get_or-map, get_or_default}
+use Rattle.plan_num.proofs.Common.{All-push, get_or-range_with_len, length-range_with_len}
+use Rattle.plan_num.proofs.Common.{slice_get-map, slice_get-get_or, get_or_from_slice_get}
+use Rattle.plan_num.proofs.Common.{same_Some}
+use Rattle.event_tables.proofs.Common.{Trip}
+use Rattle.walks.proofs.Common.{NetworkParts, edge_time, least_sum, IsLeastSum}
 use Rattle.vehicle_model.specs.DeadTables.{DeadTable, AreTimesFrom, HasTimesFrom, IsDeadTable, AreDeadMinutes}
 use Rattle.vehicle_model.specs.Schedules.{no_trip}
 use Rattle.vehicle_model.specs.Trips.{start_stop, end_stop}

@@ -1,17 +1,11 @@
 -- What reading a schedule gives, told by vehicles.
-use Rattle.std.proofs.Common.{◌≡◌, ℕ, suc, not, is_some, Bool, true, false, cond, List, []}
-use Rattle.std.proofs.Common.{◌∷◌, ◌++◌, length, map, filter, slice_get, Option, Some, None}
-use Rattle.std.proofs.Common.{◌⊎◌, inl, inr, Result, Ok, Err, refl, ap, sym, ◌∙◌, subst}
-use Rattle.std.specs.List.{concat}
-use Rattle.std.proofs.lemmas.List.Elements.{All-weaker}
-use Rattle.std.proofs.lemmas.Option.{none-some, same_Some, slice_get-map}
-use Rattle.event_tables.specs.declared.schedule_row.ScheduleRow.{ScheduleRow}
-use Rattle.event_tables.specs.Cells.{schedule_row}
-use Rattle.tables.specs.declared.read_fault.RowFault.{RowFault}
-use Rattle.tables.specs.Columns.{schedule_columns}
-use Rattle.tables.specs.Inputs.{Numbered}
-use Rattle.tables.specs.Reading.{faults, table_of}
-use Rattle.tables.specs.RowsOfTables.{records_by, numbered_by}
+use Rattle.plan_num.proofs.Common.{◌≡◌, ℕ, suc, not, is_some, Bool, true, false, cond, List, []}
+use Rattle.plan_num.proofs.Common.{◌∷◌, ◌++◌, length, map, filter, slice_get, Option, Some, None}
+use Rattle.plan_num.proofs.Common.{◌⊎◌, inl, inr, Result, Ok, Err, refl, ap, sym, ◌∙◌, subst}
+use Rattle.plan_num.proofs.Common.{concat, All-weaker, none-some, same_Some, slice_get-map}
+use Rattle.event_tables.proofs.Common.{ScheduleRow, schedule_row}
+use Rattle.tables.proofs.Common.{RowFault, schedule_columns, Numbered, faults, table_of, records_by}
+use Rattle.tables.proofs.Common.{numbered_by}
 use Rattle.vehicle_model.specs.declared.plan_fault.PlanFault.{PlanFault}
 use Rattle.vehicle_model.specs.declared.plan_fault.PlanFault.TheVariants as fault
 use Rattle.vehicle_model.specs.DrivenSchedules.{IsScheduleOf, Drives, IsLateIn, IsPlanOf, ReadsWhatIsDriven}

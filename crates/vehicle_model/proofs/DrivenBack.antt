@@ -1,13 +1,9 @@
 -- The schedule of some vehicles has the form that is due, and its links are those of the vehicles.
-use Rattle.std.proofs.Common.{◌≡◌, ℕ, ◌+◌, ◌<◌, ◌==◌, ◌&&◌, ◌||◌, not, Bool, true, false, List, [], ◌∷◌}
-use Rattle.std.proofs.Common.{◌++◌, length, map, slice_get, Option, Some, None, refl, ap, sym, ◌∙◌}
-use Rattle.std.proofs.Common.{subst, arith, eq-eqb, cond}
-use Rattle.std.specs.List.{concat}
-use Rattle.std.specs.Option.{option_to_list}
-use Rattle.std.proofs.lemmas.Bool.{ne_eqb}
-use Rattle.std.proofs.lemmas.List.Elements.{All-tail}
-use Rattle.event_tables.specs.declared.schedule_row.ScheduleRow.{ScheduleRow}
-use Rattle.event_tables.specs.Schedules.{is_trip_row, is_empty_row}
+use Rattle.plan_num.proofs.Common.{◌≡◌, ℕ, ◌+◌, ◌<◌, ◌==◌, ◌&&◌, ◌||◌, not, Bool, true, false, List}
+use Rattle.plan_num.proofs.Common.{[], ◌∷◌, ◌++◌, length, map, slice_get, Option, Some, None, refl}
+use Rattle.plan_num.proofs.Common.{ap, sym, ◌∙◌, subst, arith, eq-eqb, cond, concat, option_to_list}
+use Rattle.plan_num.proofs.Common.{ne_eqb, All-tail}
+use Rattle.event_tables.proofs.Common.{ScheduleRow, is_trip_row, is_empty_row}
 use Rattle.vehicle_model.specs.DrivenSchedules.{as_told}
 use Rattle.vehicle_model.specs.ReadSchedules.{Reading, nothing_read, one_more, trip_in, begins}
 use Rattle.vehicle_model.specs.ReadSchedules.{last_vehicle, follows_empty, is_new, is_ride}

@@ -1,14 +1,11 @@
 -- Rows have the form that is due exactly where they are the schedule of some vehicles.
-use Rattle.std.proofs.Common.{◌≡◌, ℕ, ◌+◌, ◌<◌, ◌==◌, ◌&&◌, ◌||◌, not, cond, Bool, true, false}
-use Rattle.std.proofs.Common.{List, [], ◌∷◌, ◌++◌, length, map, slice_get, All, Option, Some, None}
-use Rattle.std.proofs.Common.{flat_map, refl, ap, sym, ◌∙◌, subst, arith, inl, inr, position}
-use Rattle.std.specs.List.{concat, list_all, range_with_len}
-use Rattle.std.specs.Option.{option_to_list}
-use Rattle.std.proofs.lemmas.Bool.{false≢true, eqb-true, and_parts, ne_eqb, cases_Bool, not-true}
-use Rattle.std.proofs.lemmas.List.Elements.{All-nil, All-cons}
-use Rattle.std.proofs.lemmas.Option.{none-some}
-use Rattle.event_tables.specs.declared.schedule_row.ScheduleRow.{ScheduleRow}
-use Rattle.event_tables.specs.Schedules.{is_trip_row, is_empty_row}
+use Rattle.plan_num.proofs.Common.{◌≡◌, ℕ, ◌+◌, ◌<◌, ◌==◌, ◌&&◌, ◌||◌, not, cond, Bool, true, false}
+use Rattle.plan_num.proofs.Common.{List, [], ◌∷◌, ◌++◌, length, map, slice_get, All, Option, Some}
+use Rattle.plan_num.proofs.Common.{None, flat_map, refl, ap, sym, ◌∙◌, subst, arith, inl, inr}
+use Rattle.plan_num.proofs.Common.{position, concat, list_all, range_with_len, option_to_list}
+use Rattle.plan_num.proofs.Common.{false≢true, eqb-true, and_parts, ne_eqb, cases_Bool, not-true}
+use Rattle.plan_num.proofs.Common.{All-nil, All-cons, none-some}
+use Rattle.event_tables.proofs.Common.{ScheduleRow, is_trip_row, is_empty_row}
 use Rattle.vehicle_model.specs.DrivenSchedules.{as_told}
 use Rattle.vehicle_model.specs.ReadSchedules.{Reading, nothing_read, one_more, trip_in}
 use Rattle.vehicle_model.specs.ReadSchedules.{last_vehicle, begins, is_next_row, follows_trip}

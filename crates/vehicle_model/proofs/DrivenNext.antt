@@ -1,22 +1,20 @@
 -- The links of vehicles make the plan of the vehicles, and each of them is between two trips that one
 -- vehicle drives one after the other.
-use Rattle.std.proofs.Common.{◌≡◌, ◌≢◌, ◌⊎◌, inl, inr, ℕ, zero, suc, ◌+◌, ◌<◌, Bool, true, false, cond}
-use Rattle.std.proofs.Common.{List, [], ◌∷◌, ◌++◌, length, filter, fold, slice_get, slice_set, replicate}
-use Rattle.std.proofs.Common.{All, Option, Some, None, refl, ap, sym, ◌∙◌, subst, arith}
-use Rattle.std.proofs.Common.{get_or-set_same, get_or-set_other}
-use Rattle.std.specs.List.{concat}
-use Rattle.std.proofs.lemmas.List.{length-set, length-replicate}
-use Rattle.std.proofs.lemmas.List.Elements.{All-cons, All-tail, filter-append}
+use Rattle.plan_num.proofs.Common.{◌≡◌, ◌≢◌, ◌⊎◌, inl, inr, ℕ, zero, suc, ◌+◌, ◌<◌, Bool, true}
+use Rattle.plan_num.proofs.Common.{false, cond, List, [], ◌∷◌, ◌++◌, length, filter, fold}
+use Rattle.plan_num.proofs.Common.{slice_get, slice_set, replicate, All, Option, Some, None, refl}
+use Rattle.plan_num.proofs.Common.{ap, sym, ◌∙◌, subst, arith, get_or-set_same, get_or-set_other}
+use Rattle.plan_num.proofs.Common.{concat, length-set, length-replicate, All-cons, All-tail}
+use Rattle.plan_num.proofs.Common.{filter-append, none-some, same_Some}
 use Rattle.std.proofs.lemmas.List.Sums.{fold-append}
-use Rattle.std.proofs.lemmas.Option.{none-some, same_Some, some_pair_parts}
+use Rattle.std.proofs.lemmas.Option.{some_pair_parts}
 use Rattle.vehicle_model.specs.DrivenSchedules.{Drives, IsPlanOf}
-use Rattle.link_plans.specs.Plans.{next}
+use Rattle.link_plans.proofs.Common.{next, none_next}
 use Rattle.vehicle_model.specs.ReadSchedules.{plan_by}
 use Rattle.vehicle_model.proofs.DrivenForms.{AreFresh, AreBusy, links_behind, driven_links}
 use Rattle.vehicle_model.proofs.DrivenPlans.{after, fresh_after, after_none, after_seen, after_at}
 use Rattle.vehicle_model.proofs.DrivenPlans.{has_first, has_more, apart_from, seen_apart}
 use Rattle.vehicle_model.proofs.DrivenPlans.{front_apart}
-use Rattle.link_plans.proofs.Linking.{none_next}
 use Rattle.vehicle_model.proofs.Tours.{has}
 use Rattle.plan_num.proofs.Tests.{not_both}
 

@@ -1,15 +1,13 @@
 -- The links of vehicles make the plan of the vehicles.
-use Rattle.std.proofs.Common.{◌≡◌, ◌≢◌, ℕ, zero, suc, ◌+◌, ◌<◌, ◌≤◌, ◌==◌, ◌||◌, nat_eq}
-use Rattle.std.proofs.Common.{Bool, true, false, cond, List, [], ◌∷◌, ◌++◌, length, filter}
-use Rattle.std.proofs.Common.{slice_get, All, Some, refl, ap, sym, ◌∙◌}
-use Rattle.std.proofs.Common.{arith, eq-eqb}
-use Rattle.std.specs.List.{list_all, range_with_len}
-use Rattle.std.proofs.lemmas.Bool.{false≢true, ne_eqb, eqb-true, and_parts, or_parts}
-use Rattle.std.proofs.lemmas.List.Elements.{All-nil, All-cons, All-head, All-tail}
-use Rattle.std.proofs.lemmas.Option.{none-some, same_Some}
+use Rattle.plan_num.proofs.Common.{◌≡◌, ◌≢◌, ℕ, zero, suc, ◌+◌, ◌<◌, ◌≤◌, ◌==◌, ◌||◌, nat_eq, Bool}
+use Rattle.plan_num.proofs.Common.{true, false, cond, List, [], ◌∷◌, ◌++◌, length, filter}
+use Rattle.plan_num.proofs.Common.{slice_get, All, Some, refl, ap, sym, ◌∙◌, arith, eq-eqb}
+use Rattle.plan_num.proofs.Common.{list_all, range_with_len, false≢true, ne_eqb, eqb-true}
+use Rattle.plan_num.proofs.Common.{and_parts, or_parts, All-nil, All-cons, All-head, All-tail}
+use Rattle.plan_num.proofs.Common.{none-some, same_Some}
 use Rattle.vehicle_model.specs.DrivenSchedules.{AreEachOnce}
 use Rattle.vehicle_model.proofs.DrivenForms.{AreFresh}
-use Rattle.link_plans.proofs.Linking.{by_number}
+use Rattle.link_plans.proofs.Common.{by_number}
 use Rattle.vehicle_model.proofs.Tours.{has, all_in_range}
 use Rattle.plan_num.proofs.Tests.{later_true, not_both}
 

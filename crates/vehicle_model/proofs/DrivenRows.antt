@@ -1,18 +1,11 @@
 -- Rows have the form that is due exactly where they are the schedule of some vehicles.
-use Rattle.std.proofs.Common.{◌≡◌, ℕ, ◌+◌, ◌<◌, ◌==◌, ◌&&◌, not, is_some, cond, Bool}
-use Rattle.std.proofs.Common.{true, false, length, position}
-use Rattle.std.proofs.Common.{Option, Some, None, unwrap_or, refl, ap, sym, ◌∙◌, arith}
-use Rattle.std.proofs.Common.{eq-eqb}
-use Rattle.std.proofs.lemmas.Bool.{eqb-true, and_parts}
-use Rattle.std.proofs.lemmas.List.Quantifiers.{position-Some}
-use Rattle.std.proofs.lemmas.Option.{none-some}
-use Rattle.event_tables.specs.declared.schedule_kind.ScheduleKind.{ScheduleKind}
+use Rattle.plan_num.proofs.Common.{◌≡◌, ℕ, ◌+◌, ◌<◌, ◌==◌, ◌&&◌, not, is_some, cond, Bool, true}
+use Rattle.plan_num.proofs.Common.{false, length, position, Option, Some, None, unwrap_or, refl, ap}
+use Rattle.plan_num.proofs.Common.{sym, ◌∙◌, arith, eq-eqb, eqb-true, and_parts, position-Some}
+use Rattle.plan_num.proofs.Common.{none-some}
+use Rattle.event_tables.proofs.Common.{ScheduleKind, ScheduleRow, Trip, TripEnd, is_empty}
+use Rattle.event_tables.proofs.Common.{is_empty_row}
 use Rattle.event_tables.specs.declared.schedule_kind.ScheduleKind.TheVariants as kind
-use Rattle.event_tables.specs.declared.schedule_row.ScheduleRow.{ScheduleRow}
-use Rattle.event_tables.specs.declared.trip.Trip.{Trip}
-use Rattle.event_tables.specs.declared.trip.TripEnd.{TripEnd}
-use Rattle.event_tables.specs.Kinds.{is_empty}
-use Rattle.event_tables.specs.Schedules.{is_empty_row}
 use Rattle.vehicle_model.specs.DrivenSchedules.{is_nowhere, at_once, as_told}
 use Rattle.vehicle_model.specs.ReadSchedules.{same_end, same_run, trip_in, leaves, takes, goes_to, is_ride}
 use Rattle.vehicle_model.specs.Schedules.{no_trip, trip_of, dead_between, empty_ride, trip_row, empty_row}

@@ -1,18 +1,12 @@
 -- A text without a fault as a plan is one.
-use Rattle.std.proofs.Common.{◌≡◌, ℕ, zero, suc, ◌+◌, ◌≤◌, Bool, true, false, cond, List, [], ◌∷◌}
-use Rattle.std.proofs.Common.{length, map, drop, replicate, slice_get, Option, Some, None, Err}
-use Rattle.std.proofs.Common.{IfOk, refl, ap, sym, ◌∙◌, subst, arith}
-use Rattle.std.proofs.lemmas.Option.{none-some}
-use Rattle.std.proofs.lemmas.List.{drop_all}
-use Rattle.event_tables.specs.declared.schedule_row.ScheduleRow.{ScheduleRow}
-use Rattle.event_tables.specs.Cells.{schedule_row}
-use Rattle.tables.specs.RowsOfTables.{numbered_by}
-use Rattle.tables.specs.Columns.{schedule_columns}
-use Rattle.tables.specs.Inputs.{Numbered}
-use Rattle.tables.specs.Reading.{faults, table_of}
+use Rattle.plan_num.proofs.Common.{◌≡◌, ℕ, zero, suc, ◌+◌, ◌≤◌, Bool, true, false, cond, List, []}
+use Rattle.plan_num.proofs.Common.{◌∷◌, length, map, drop, replicate, slice_get, Option, Some, None}
+use Rattle.plan_num.proofs.Common.{Err, IfOk, refl, ap, sym, ◌∙◌, subst, arith, none-some, drop_all}
+use Rattle.event_tables.proofs.Common.{ScheduleRow, schedule_row}
+use Rattle.tables.proofs.Common.{numbered_by, schedule_columns, Numbered, faults, table_of}
 use Rattle.vehicle_model.specs.declared.plan_fault.PlanFault.{PlanFault}
 use Rattle.vehicle_model.specs.declared.plan_fault.PlanFault.TheVariants as fault
-use Rattle.link_plans.specs.Plans.{IsPlan}
+use Rattle.link_plans.proofs.Common.{IsPlan}
 use Rattle.vehicle_model.specs.ReadSchedules.{all_come, first_row, links_in, nothing_read}
 use Rattle.vehicle_model.specs.ReadSchedules.{or_others, plan_by, plan_faults, plan_of, PlanGives}
 use Rattle.vehicle_model.specs.ReadSchedules.{row_faults, row_fits}

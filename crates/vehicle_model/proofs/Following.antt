@@ -5,10 +5,9 @@ use Rattle.std.proofs.Common.{option_map, option_and_then, IfSome, refl, ap, sym
 use Rattle.std.proofs.lemmas.Bool.{false≢true, leb-true, le-leb}
 use Rattle.std.proofs.lemmas.Int.{ints}
 use Rattle.std.proofs.lemmas.Option.{none-some, same_Some, slice_get-get_or, slice_get_within, get_or_from_slice_get}
-use Rattle.event_tables.specs.declared.trip.Trip.{Trip}
-use Rattle.walks.specs.declared.edge.Edge.{Edge}
-use Rattle.walks.specs.Walks.{edge_time, IsLeastSum}
-use Rattle.link_plans.proofs.Linking.{some_of}
+use Rattle.event_tables.proofs.Common.{Trip}
+use Rattle.walks.proofs.Common.{Edge, edge_time, IsLeastSum}
+use Rattle.link_plans.proofs.Common.{some_of}
 use Rattle.vehicle_model.specs.Schedules.{trip_of, no_trip, dead_between}
 use Rattle.vehicle_model.specs.Trips.{TripsParts, AreTrips, MayFollow, start_stop, end_stop}
 use Rattle.vehicle_model.specs.Trips.{if_in_time, link_between, link_minutes, gain_of, links_of}

@@ -1,22 +1,12 @@
 -- A text that is read as the rows of a plan is read as the plan.
-use Rattle.std.proofs.Common.{◌≡◌, ℕ, List, [], ◌∷◌, length, map, cond, Ok, arith, Option, refl, ap}
-use Rattle.std.proofs.Common.{sym, ◌∙◌}
-use Rattle.std.proofs.lemmas.Option.{slice_get-map}
-use Rattle.event_tables.specs.declared.schedule_row.ScheduleRow.{ScheduleRow}
-use Rattle.event_tables.specs.Cells.{schedule_row, schedule_cells}
-use Rattle.event_tables.specs.Headers.{schedule_header}
-use Rattle.tables.specs.RowsOfTables.{numbered_by, rows_by, ReadsAs}
-use Rattle.tables.specs.Columns.{schedule_columns}
-use Rattle.tables.specs.Inputs.{Numbered}
-use Rattle.tables.specs.Reading.{table_of}
-use Rattle.tables.specs.Writing.{table_text}
-use Rattle.tables.proofs.Headers.{plain_header}
-use Rattle.tables.proofs.WrittenBack.{written_back}
-use Rattle.tables.proofs.WrittenColumns.{columns_written}
-use Rattle.event_tables.proofs.CellsBack.{schedule_row_same}
-use Rattle.event_tables.proofs.WrittenRecords.{rows_inside, reads_as}
+use Rattle.plan_num.proofs.Common.{◌≡◌, ℕ, List, [], ◌∷◌, length, map, cond, Ok, arith, Option}
+use Rattle.plan_num.proofs.Common.{refl, ap, sym, ◌∙◌, slice_get-map}
+use Rattle.event_tables.proofs.Common.{ScheduleRow, schedule_row, schedule_cells, schedule_header}
+use Rattle.event_tables.proofs.Common.{schedule_row_same, rows_inside, reads_as}
+use Rattle.tables.proofs.Common.{numbered_by, rows_by, ReadsAs, schedule_columns, Numbered}
+use Rattle.tables.proofs.Common.{table_of, table_text, plain_header, written_back, columns_written}
 use Rattle.vehicle_model.specs.declared.plan_fault.PlanFault.TheVariants as fault
-use Rattle.link_plans.specs.Plans.{IsPlan}
+use Rattle.link_plans.proofs.Common.{IsPlan}
 use Rattle.vehicle_model.specs.ReadSchedules.{Reading, nothing_read, one_more, form_faults}
 use Rattle.vehicle_model.specs.ReadSchedules.{links_in, or_others, row_faults, plan_by, plan_faults}
 use Rattle.vehicle_model.specs.ReadSchedules.{plan_of, IsReadBack}

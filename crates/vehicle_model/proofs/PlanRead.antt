@@ -1,14 +1,11 @@
 -- The rows of a plan are read as the plan.
-use Rattle.std.proofs.Common.{◌≡◌, ℕ, ◌+◌, ◌<◌, ◌==◌, ◌&&◌, ◌||◌, not, Bool, true, false, List, []}
-use Rattle.std.proofs.Common.{◌∷◌, ◌++◌, length, filter, fold, replicate, slice_get, slice_set}
-use Rattle.std.proofs.Common.{Option, Some, None, IfSome, unwrap_or, refl, ap, sym, ◌∙◌, subst}
-use Rattle.std.proofs.Common.{arith}
-use Rattle.std.specs.List.{list_all, range_with_len}
-use Rattle.std.specs.Option.{option_to_list}
-use Rattle.std.proofs.lemmas.Bool.{ne_eqb}
-use Rattle.event_tables.specs.declared.schedule_row.ScheduleRow.{ScheduleRow}
-use Rattle.event_tables.specs.Schedules.{is_trip_row}
-use Rattle.link_plans.specs.Plans.{next, IsPlan}
+use Rattle.plan_num.proofs.Common.{◌≡◌, ℕ, ◌+◌, ◌<◌, ◌==◌, ◌&&◌, ◌||◌, not, Bool, true, false, List}
+use Rattle.plan_num.proofs.Common.{[], ◌∷◌, ◌++◌, length, filter, fold, replicate, slice_get}
+use Rattle.plan_num.proofs.Common.{slice_set, Option, Some, None, IfSome, unwrap_or, refl, ap, sym}
+use Rattle.plan_num.proofs.Common.{◌∙◌, subst, arith, list_all, range_with_len, option_to_list}
+use Rattle.plan_num.proofs.Common.{ne_eqb}
+use Rattle.event_tables.proofs.Common.{ScheduleRow, is_trip_row}
+use Rattle.link_plans.proofs.Common.{next, IsPlan}
 use Rattle.vehicle_model.specs.ReadSchedules.{Reading, nothing_read, one_more, trip_in, begins}
 use Rattle.vehicle_model.specs.ReadSchedules.{last_vehicle, follows_trip, follows_empty, is_new}
 use Rattle.vehicle_model.specs.ReadSchedules.{leaves, goes_to, is_ride, leads_to, last_seen}

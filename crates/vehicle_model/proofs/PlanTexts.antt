@@ -1,17 +1,10 @@
 -- From the table of a text to the text.
-use Rattle.std.proofs.Common.{arith, ◌≡◌, ℕ, List, [], ◌∷◌, length, map, slice_get, Option, Some}
-use Rattle.std.proofs.Common.{All, Result, Err, refl, ap, sym, subst}
-use Rattle.std.proofs.lemmas.Option.{same_Some}
-use Rattle.event_tables.specs.Cells.{schedule_row, AreSmall}
-use Rattle.tables.specs.RowsOfTables.{records_by, numbered_by}
-use Rattle.event_tables.proofs.CellFacts.{small_cells}
-use Rattle.tables.specs.declared.read_fault.ReadFault.{ReadFault}
+use Rattle.plan_num.proofs.Common.{arith, ◌≡◌, ℕ, List, [], ◌∷◌, length, map, slice_get, Option}
+use Rattle.plan_num.proofs.Common.{Some, All, Result, Err, refl, ap, sym, subst, same_Some}
+use Rattle.event_tables.proofs.Common.{schedule_row, AreSmall, small_cells}
+use Rattle.tables.proofs.Common.{records_by, numbered_by, ReadFault, RowFault, schedule_columns}
+use Rattle.tables.proofs.Common.{faults, table_of, ReadGives, TableRow, table_in_columns}
 use Rattle.tables.specs.declared.read_fault.ReadFault.TheVariants as read
-use Rattle.tables.specs.declared.read_fault.RowFault.{RowFault}
-use Rattle.tables.specs.Columns.{schedule_columns}
-use Rattle.tables.specs.Reading.{faults, table_of, ReadGives}
-use Rattle.tables.specs.Tables.{TableRow}
-use Rattle.tables.proofs.Ranges.{table_in_columns}
 use Rattle.vehicle_model.specs.declared.plan_fault.PlanFault.{PlanFault}
 use Rattle.vehicle_model.specs.declared.plan_fault.PlanFault.TheVariants as fault
 use Rattle.vehicle_model.specs.PlanFaults.{fault_of}

@@ -1,19 +1,16 @@
 -- What a reader of a schedule knows behind each row.
-use Rattle.std.proofs.Common.{◌≡◌, ◌≢◌, ℕ, zero, suc, ◌<◌, ◌==◌, ◌||◌, nat_eq, not, is_some, Bool}
-use Rattle.std.proofs.Common.{true, false, cond, List, [], ◌∷◌, ◌++◌, length, filter, get_or}
-use Rattle.std.proofs.Common.{slice_get, slice_set, replicate, position, Option, Some, None, IfSome}
-use Rattle.std.proofs.Common.{option_map, refl, ap, sym, ◌∙◌, subst, arith, eq-eqb, inl, inr}
-use Rattle.std.proofs.Common.{get_or-set_same, get_or-set_other}
-use Rattle.std.specs.List.{list_any}
-use Rattle.std.specs.Option.{option_to_list}
-use Rattle.std.proofs.lemmas.Bool.{false≢true, ne_eqb, or_parts, not-true}
-use Rattle.std.proofs.lemmas.List.{length-set, length-replicate, append-nil}
-use Rattle.std.proofs.lemmas.List.Sums.{fold_push}
-use Rattle.std.proofs.lemmas.List.Quantifiers.{position-Some}
-use Rattle.std.proofs.lemmas.Option.{none-some, same_Some}
-use Rattle.event_tables.specs.declared.schedule_row.ScheduleRow.{ScheduleRow}
-use Rattle.event_tables.specs.Schedules.{is_empty_row}
-use Rattle.link_plans.specs.Plans.{next, is_next, AreSuccessors}
+use Rattle.plan_num.proofs.Common.{◌≡◌, ◌≢◌, ℕ, zero, suc, ◌<◌, ◌==◌, ◌||◌, nat_eq, not, is_some}
+use Rattle.plan_num.proofs.Common.{Bool, true, false, cond, List, [], ◌∷◌, ◌++◌, length, filter}
+use Rattle.plan_num.proofs.Common.{get_or, slice_get, slice_set, replicate, position, Option, Some}
+use Rattle.plan_num.proofs.Common.{None, IfSome, option_map, refl, ap, sym, ◌∙◌, subst, arith}
+use Rattle.plan_num.proofs.Common.{eq-eqb, inl, inr, get_or-set_same, get_or-set_other, list_any}
+use Rattle.plan_num.proofs.Common.{option_to_list, false≢true, ne_eqb, or_parts, not-true}
+use Rattle.plan_num.proofs.Common.{length-set, length-replicate, append-nil, fold_push}
+use Rattle.plan_num.proofs.Common.{position-Some, none-some, same_Some}
+use Rattle.event_tables.proofs.Common.{ScheduleRow, is_empty_row}
+use Rattle.link_plans.proofs.Common.{next, is_next, AreSuccessors, by_number, none_next}
+use Rattle.link_plans.proofs.Common.{none_linked, next_in, next_before, not_linked, linked}
+use Rattle.link_plans.proofs.Common.{never_next}
 use Rattle.vehicle_model.specs.ReadSchedules.{Reading, nothing_read, one_more, trip_in, begins}
 use Rattle.vehicle_model.specs.ReadSchedules.{is_new, last_seen, has_seen, row_fits, has_form}
 use Rattle.vehicle_model.specs.ReadSchedules.{same_run, link_of, link_to, plan_by, is_late}
@@ -21,8 +18,6 @@ use Rattle.vehicle_model.specs.Readers.{ReaderParts, late_after, after_link, aft
 use Rattle.vehicle_model.specs.Readers.{late_of, CanLink, Knows}
 use Rattle.vehicle_model.specs.Schedules.{no_trip}
 use Rattle.vehicle_model.specs.Trips.{TripsParts, link_minutes}
-use Rattle.link_plans.proofs.Linking.{by_number, none_next, none_linked, next_in, next_before}
-use Rattle.link_plans.proofs.Linking.{not_linked, linked, never_next}
 
 -- ---- before all rows
 

@@ -1,22 +1,16 @@
 -- The rows of a plan are in the ranges of their columns.
-use Rattle.std.proofs.Common.{◌≡◌, ℕ, zero, suc, pos, ◌+◌, ◌*◌, ◌<◌, ◌≤◌, ◌≤ℤ◌, List, [], ◌∷◌, ◌++◌}
-use Rattle.std.proofs.Common.{length, not, replicate, slice_set, get_or, All, Option, Some, None}
-use Rattle.std.proofs.Common.{unwrap_or, refl, ap, sym, ◌∙◌, arith}
-use Rattle.std.proofs.lemmas.Int.{ints}
-use Rattle.std.proofs.lemmas.List.{length-map}
-use Rattle.std.proofs.lemmas.List.Elements.{All-nil, All-cons, All-map}
-use Rattle.event_tables.specs.declared.schedule_row.ScheduleRow.{ScheduleRow}
-use Rattle.event_tables.specs.Cells.{trip_cells, schedule_cells}
-use Rattle.tables.specs.Columns.{trips_columns, schedule_columns}
-use Rattle.tables.specs.Writing.{InColumns}
+use Rattle.plan_num.proofs.Common.{◌≡◌, ℕ, zero, suc, pos, ◌+◌, ◌*◌, ◌<◌, ◌≤◌, ◌≤ℤ◌, List, [], ◌∷◌}
+use Rattle.plan_num.proofs.Common.{◌++◌, length, not, replicate, slice_set, get_or, All, Option}
+use Rattle.plan_num.proofs.Common.{Some, None, unwrap_or, refl, ap, sym, ◌∙◌, arith, ints}
+use Rattle.plan_num.proofs.Common.{length-map, All-nil, All-cons, All-map}
+use Rattle.event_tables.proofs.Common.{ScheduleRow, trip_cells, schedule_cells}
+use Rattle.tables.proofs.Common.{trips_columns, schedule_columns, InColumns}
 use Rattle.vehicle_model.specs.Plans.{starts}
-use Rattle.link_plans.specs.Plans.{next, is_next, IsPlan}
+use Rattle.link_plans.proofs.Common.{next, is_next, IsPlan, count_most, some_of}
 use Rattle.vehicle_model.specs.Schedules.{trip_of, no_trip, dead_between, tour, tours, trip_row}
 use Rattle.vehicle_model.specs.Schedules.{empty_row, rows_behind, rows_from, plan_rows}
 use Rattle.vehicle_model.specs.Trips.{TripsParts, AreTrips, links_of}
-use Rattle.link_plans.proofs.Counting.{count_most}
 use Rattle.vehicle_model.proofs.Following.{is_link, gain_there}
-use Rattle.link_plans.proofs.Linking.{some_of}
 use Rattle.vehicle_model.proofs.Tours.{AreBehind, AreTours, tours_are}
 
 -- a row in its columns

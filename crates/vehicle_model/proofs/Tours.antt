@@ -1,20 +1,16 @@
 -- The tours of a plan: each trip stands in one of them, once, and behind it the one that its vehicle
 -- runs next.
-use Rattle.std.proofs.Common.{◌≡◌, ◌≢◌, ◌⊎◌, inl, inr, ℕ, zero, suc, ◌+◌, ◌-◌, ◌<◌, ◌≤◌, ◌==◌, ◌||◌}
-use Rattle.std.proofs.Common.{◌&&◌, nat_eq, Bool, true, false, not, cond, List, [], ◌∷◌, length}
-use Rattle.std.proofs.Common.{map, filter, slice_set, replicate, Option, Some, None, refl, ap, sym}
-use Rattle.std.proofs.Common.{◌∙◌, subst, arith, eq-eqb}
-use Rattle.std.specs.List.{list_any, list_all, range_with_len}
-use Rattle.std.proofs.lemmas.Bool.{false≢true, ne_eqb, or_parts}
-use Rattle.std.proofs.lemmas.List.{length-set, length-replicate}
-use Rattle.std.proofs.lemmas.Option.{same_Some}
-use Rattle.link_plans.specs.Plans.{next, is_next, IsPlan}
+use Rattle.plan_num.proofs.Common.{◌≡◌, ◌≢◌, ◌⊎◌, inl, inr, ℕ, zero, suc, ◌+◌, ◌-◌, ◌<◌, ◌≤◌, ◌==◌}
+use Rattle.plan_num.proofs.Common.{◌||◌, ◌&&◌, nat_eq, Bool, true, false, not, cond, List, [], ◌∷◌}
+use Rattle.plan_num.proofs.Common.{length, map, filter, slice_set, replicate, Option, Some, None}
+use Rattle.plan_num.proofs.Common.{refl, ap, sym, ◌∙◌, subst, arith, eq-eqb, list_any, list_all}
+use Rattle.plan_num.proofs.Common.{range_with_len, false≢true, ne_eqb, or_parts, length-set}
+use Rattle.plan_num.proofs.Common.{length-replicate, same_Some}
+use Rattle.link_plans.proofs.Common.{next, is_next, IsPlan, count, one_less, count_most, some_of}
+use Rattle.link_plans.proofs.Common.{by_number, next_found, followed, none_next, next_is, next_in}
 use Rattle.vehicle_model.specs.Schedules.{trip_of, tour, tours}
 use Rattle.vehicle_model.specs.Trips.{TripsParts, AreTrips, links_of}
-use Rattle.link_plans.proofs.Counting.{count, one_less, count_most}
 use Rattle.vehicle_model.proofs.Following.{links_within, gain_there, starts_later}
-use Rattle.link_plans.proofs.Linking.{some_of}
-use Rattle.link_plans.proofs.Linking.{by_number, next_found, followed, none_next, next_is, next_in}
 use Rattle.plan_num.proofs.Tests.{both_true, not_both}
 
 -- whether a trip is among some

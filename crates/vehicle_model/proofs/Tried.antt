@@ -3,18 +3,17 @@ use Rattle.std.specs.Prelude.{⊤}
 use Rattle.std.proofs.Common.{◌≡◌, ℕ, refl, pos, negsuc, ◌+◌, ◌*◌, List, [], ◌∷◌, ◌++◌, codes}
 use Rattle.std.proofs.Common.{slice_get, Option, Some, None}
 use Rattle.std.specs.Fmt.{digits}
-use Rattle.event_tables.specs.declared.trip.Trip.{Trip}
-use Rattle.event_tables.specs.declared.trip.TripEnd.{TripEnd}
+use Rattle.event_tables.proofs.Common.{Trip, TripEnd}
 use Rattle.tables.specs.declared.file_id.FileId.TheVariants as file
 use Rattle.tables.specs.declared.row_why.RowWhy.TheVariants as why
 use Rattle.tables.specs.declared.refusal.Refusal.TheVariants as refusal
 use Rattle.tables.specs.Inputs.{input_faults, row_faults}
-use Rattle.tables.specs.Reading.{faults, table_of, cells_from, cell_of, errors, values, row_whys}
+use Rattle.tables.proofs.Common.{cells_from, cell_of, values}
+use Rattle.tables.specs.Reading.{faults, table_of, errors, row_whys}
 use Rattle.text_fields.specs.Rows.{rows, cleaned}
 use Rattle.tables.specs.Writing.{cell_text, cell_texts, joined, table_text}
 use Rattle.plan_num.specs.Number.{spelling_of, value_of, value_at, fixed_of, whole_of}
-use Rattle.walks.specs.declared.edge.Edge.{Edge}
-use Rattle.walks.specs.Networks.{NetworkParts}
+use Rattle.walks.proofs.Common.{Edge, NetworkParts}
 use Rattle.ptn_network.specs.Networks.{stops_of, network_of, network_faults}
 use Rattle.walks.specs.RisingIds.{by_id}
 use Rattle.walks.specs.Walks.{walks_within, least_of, least_sum}

@@ -1,11 +1,10 @@
 -- Schedules told by vehicles, on small ones.
 use Rattle.std.proofs.Common.{◌≡◌, ℕ, refl, List, [], ◌∷◌, ◌++◌, codes, map, nat_eq, length, filter, slice_get, Some}
 use Rattle.std.specs.List.{concat, range_with_len}
-use Rattle.event_tables.specs.Cells.{schedule_row}
-use Rattle.tables.specs.Columns.{schedule_columns}
+use Rattle.event_tables.proofs.Common.{schedule_row}
+use Rattle.tables.proofs.Common.{schedule_columns, records_by}
 use Rattle.tables.specs.Reading.{table_of, cells_from, cell_of, values}
 use Rattle.text_fields.specs.Rows.{rows, cleaned}
-use Rattle.tables.specs.RowsOfTables.{records_by}
 use Rattle.plan_num.specs.Number.{spelling_of, value_of, value_at, fixed_of, whole_of}
 use Rattle.ptn_network.specs.Networks.{stops_of, network_of}
 use Rattle.walks.specs.RisingIds.{by_id}

@@ -1,7 +1,6 @@
 -- The links between trips are links: there are few trips, and none gains more than a vehicle costs.
-use Rattle.std.proofs.Common.{ℤ, pos, ◌≤ℤ◌, Option, Some, None, IfSome, arith}
-use Rattle.std.proofs.lemmas.Int.{ints}
-use Rattle.link_plans.specs.Links.{AreLinks}
+use Rattle.plan_num.proofs.Common.{ℤ, pos, ◌≤ℤ◌, Option, Some, None, IfSome, arith, ints}
+use Rattle.link_plans.proofs.Common.{AreLinks}
 use Rattle.vehicle_model.specs.Trips.{TripsParts, AreTrips, links_of}
 use Rattle.vehicle_model.proofs.Following.{links_most, links_within}
 

@@ -1,13 +1,10 @@
 -- The trips of three texts, from what each of them gives.
-use Rattle.std.proofs.Common.{◌≡◌, ℕ, ℤ, pos, negsuc, ◌+◌, ◌≤◌, ◌≤ℤ◌, List, [], ◌∷◌, ◌++◌, take}
-use Rattle.std.proofs.Common.{slice_get, unsigned_abs, Some, ap, sym, ◌∙◌, arith}
-use Rattle.std.proofs.lemmas.Int.{ints}
-use Rattle.std.proofs.lemmas.List.{take_more}
-use Rattle.std.proofs.lemmas.Option.{get_or_from_slice_get, slice_get_within}
-use Rattle.event_tables.specs.declared.trip.Trip.{Trip}
-use Rattle.event_tables.specs.Trips.{trip_input}
-use Rattle.tables.specs.Inputs.{records_of, input_faults}
-use Rattle.walks.specs.Networks.{NetworkParts}
+use Rattle.plan_num.proofs.Common.{◌≡◌, ℕ, ℤ, pos, negsuc, ◌+◌, ◌≤◌, ◌≤ℤ◌, List, [], ◌∷◌, ◌++◌}
+use Rattle.plan_num.proofs.Common.{take, slice_get, unsigned_abs, Some, ap, sym, ◌∙◌, arith, ints}
+use Rattle.plan_num.proofs.Common.{take_more, get_or_from_slice_get, slice_get_within}
+use Rattle.event_tables.proofs.Common.{Trip, trip_input}
+use Rattle.tables.proofs.Common.{records_of, input_faults}
+use Rattle.walks.proofs.Common.{NetworkParts}
 use Rattle.ptn_network.specs.Networks.{stops_of, network_of, network_faults}
 use Rattle.vehicle_model.specs.Trips.{trips_of, trips_faults}
 

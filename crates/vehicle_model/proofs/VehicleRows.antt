@@ -1,18 +1,14 @@
 -- The rows of vehicles, one after the other.
-use Rattle.std.proofs.Common.{◌≡◌, ℕ, zero, suc, ◌+◌, ◌-◌, ◌*◌, ◌<◌, ◌≤◌, not, List, [], ◌∷◌, ◌++◌}
-use Rattle.std.proofs.Common.{length, map, drop, get_or, All, Option, Some, None, Result, Ok, Err}
-use Rattle.std.proofs.Common.{IfOk, refl, ap, sym, ◌∙◌, subst, arith, append_assoc}
-use Rattle.std.specs.List.{range_with_len}
+use Rattle.plan_num.proofs.Common.{◌≡◌, ℕ, zero, suc, ◌+◌, ◌-◌, ◌*◌, ◌<◌, ◌≤◌, not, List, [], ◌∷◌}
+use Rattle.plan_num.proofs.Common.{◌++◌, length, map, drop, get_or, All, Option, Some, None, Result}
+use Rattle.plan_num.proofs.Common.{Ok, Err, IfOk, refl, ap, sym, ◌∙◌, subst, arith, append_assoc}
+use Rattle.plan_num.proofs.Common.{range_with_len, append-nil, drop_all, All-filter}
+use Rattle.plan_num.proofs.Common.{get_or-range_with_len, length-range_with_len}
 use Rattle.std.proofs.Math.Seq.{drop-cons}
-use Rattle.std.proofs.lemmas.List.{append-nil, drop_all}
-use Rattle.std.proofs.lemmas.List.Elements.{All-filter}
-use Rattle.std.proofs.lemmas.List.FromFn.{get_or-range_with_len, length-range_with_len}
-use Rattle.event_tables.specs.declared.schedule_row.ScheduleRow.{ScheduleRow}
-use Rattle.event_tables.specs.Cells.{schedule_row}
-use Rattle.tables.specs.RowsOfTables.{ReadsAs}
-use Rattle.tables.specs.Columns.{schedule_columns}
+use Rattle.event_tables.proofs.Common.{ScheduleRow, schedule_row}
+use Rattle.tables.proofs.Common.{ReadsAs, schedule_columns}
 use Rattle.vehicle_model.specs.Plans.{starts}
-use Rattle.link_plans.specs.Plans.{next, is_next, IsPlan}
+use Rattle.link_plans.proofs.Common.{next, is_next, IsPlan}
 use Rattle.vehicle_model.specs.ReadSchedules.{IsReadBack}
 use Rattle.vehicle_model.specs.Schedules.{tour, trip_row, empty_row, rows_behind, vehicle_rows, rows_from, plan_rows}
 use Rattle.vehicle_model.specs.Trips.{TripsParts, AreTrips, links_of}

@@ -1,14 +1,12 @@
 -- The rules of nodes and of rows, one after the other.
-use Rattle.std.proofs.Common.{◌≡◌, ℕ, ℤ, ◌<◌, ◌==◌, not, cond, pos, Bool, true}
-use Rattle.std.proofs.Common.{false, List, [], ◌∷◌, ◌++◌, length, map, slice_get}
-use Rattle.std.proofs.Common.{Some, None, refl, ap, sym, arith}
-use Rattle.std.specs.Prelude.{option_map}
-use Rattle.propagation.specs.Problems.{DelayProblem}
+use Rattle.plan_num.proofs.Common.{◌≡◌, ℕ, ℤ, ◌<◌, ◌==◌, not, cond, pos, Bool, true, false, List}
+use Rattle.plan_num.proofs.Common.{[], ◌∷◌, ◌++◌, length, map, slice_get, Some, None, refl, ap, sym}
+use Rattle.plan_num.proofs.Common.{arith, option_map, int_eq}
+use Rattle.propagation.proofs.Common.{DelayProblem}
 use Rattle.waiting_decisions.specs.declared.node.WaitNode.{WaitNode}
 use Rattle.wait_choice.specs.declared.rule.WaitRule.TheVariants as rule
 use Rattle.waiting_decisions.specs.Certified.{are_tree, has_low_leaf}
-use Rattle.std.specs.Ordering.{int_eq}
-use Rattle.tables.specs.Reading.{faults}
+use Rattle.tables.proofs.Common.{faults}
 use Rattle.wait_choice.specs.declared.row.WaitRow.{WaitRow}
 use Rattle.waiting_decisions.specs.Choices.{cost_of}
 use Rattle.waiting_decisions.specs.TreeFaults.{fault_by, first_fault}

@@ -1,21 +1,17 @@
 -- Items of lists, one after the other.
-use Rattle.std.proofs.Common.{◌-◌, ◌≡◌, ◌∙◌, ℕ, zero, suc, ◌+◌, ◌<◌, ◌≤◌, ◌==◌, ◌&&◌, Bool, true}
-use Rattle.std.proofs.Common.{List, [], ◌∷◌, ◌++◌, length, map, drop, take, get_or, Some, ap, sym}
-use Rattle.std.proofs.Common.{subst, refl, arith, append_assoc, inl, inr}
-use Rattle.std.specs.Prelude.{position, unwrap_or, slice_get, zip, All}
-use Rattle.std.proofs.lemmas.List.Elements.{All-append, All-cons, All-nil}
-use Rattle.std.proofs.lemmas.List.Kept.{AllPairs-from_increasing}
-use Rattle.std.proofs.lemmas.Option.{unwrap_or-slice_get}
-use Rattle.std.proofs.lemmas.Simd.{map-map}
+use Rattle.plan_num.proofs.Common.{◌-◌, ◌≡◌, ◌∙◌, ℕ, zero, suc, ◌+◌, ◌<◌, ◌≤◌, ◌==◌, ◌&&◌, Bool}
+use Rattle.plan_num.proofs.Common.{true, List, [], ◌∷◌, ◌++◌, length, map, drop, take, get_or, Some}
+use Rattle.plan_num.proofs.Common.{ap, sym, subst, refl, arith, append_assoc, inl, inr, position}
+use Rattle.plan_num.proofs.Common.{unwrap_or, slice_get, zip, All, All-append, All-cons, All-nil}
+use Rattle.plan_num.proofs.Common.{AllPairs-from_increasing, unwrap_or-slice_get, map-map, list_all}
+use Rattle.plan_num.proofs.Common.{IsStrictlyIncreasing, eq-eqb, ne_eqb, le-leb, cases_lt, drop_all}
+use Rattle.plan_num.proofs.Common.{drop_more, get_or-map, length-drop, length-map, take_all}
+use Rattle.plan_num.proofs.Common.{take_more}
 use Rattle.delay_trials.proofs.TrialFacts.{first_found, none_found}
 use Rattle.wait_choice.specs.declared.row.WaitRow.{WaitRow}
 use Rattle.wait_choice.specs.Judged.{are_choices, is_choice, is_node}
 use Rattle.waiting_decisions.proofs.PathFacts.{position_alike}
-use Rattle.std.specs.List.{list_all}
-use Rattle.std.specs.List.Sorted.{IsStrictlyIncreasing}
-use Rattle.std.proofs.lemmas.Bool.{eq-eqb, ne_eqb, le-leb, cases_lt}
-use Rattle.std.proofs.lemmas.List.{drop_all, drop_more, get_or-map, length-drop, length-map, take_all, take_more}
-use Rattle.propagation.specs.declared.step.Activity.{Activity}
+use Rattle.propagation.proofs.Common.{Activity}
 
 -- what one more item of a list is turned into stands behind those of the first ones
 pub one_pushed : {X Y : Type 0} (f : X → Y) (xs : List X) (i : ℕ) (d : X) (old new : List Y) (y : Y) → i < length xs

@@ -1,29 +1,18 @@
 -- A text that breaks no rule is the table of a waiting decision that is right, and conversely.
-use Rattle.std.proofs.Common.{◌≡◌, ◌∙◌, ℕ, ℤ, negsuc, zero, suc, ◌+◌, ◌<◌, ◌≤◌, ◌==◌, ◌≤ℤ◌, not}
-use Rattle.std.proofs.Common.{cond, pos, Bool, true, false, List, [], ◌∷◌, ◌++◌, length, map, drop}
-use Rattle.std.proofs.Common.{take, get_or, slice_get, Option, Some, None, IfSome, IfNone, IfOk}
-use Rattle.std.proofs.Common.{Result, Ok, Err, All, refl, ap, sym, subst, arith}
-use Rattle.std.specs.Prelude.{position, unsigned_abs, unwrap_or, zip}
-use Rattle.std.specs.List.{list_all}
-use Rattle.std.specs.List.Sorted.{IsStrictlyIncreasing}
-use Rattle.std.specs.Ordering.{int_eq}
-use Rattle.std.proofs.lemmas.Bool.{and_from, and_parts, both_ways, eqb-true, eq-eqb, leb-true, le-leb, not-false}
-use Rattle.std.proofs.lemmas.Int.{ints}
-use Rattle.std.proofs.Math.Seq.{take-append_seam}
-use Rattle.std.proofs.lemmas.List.{get_or-map, length-append, length-map, length-take-le, take-append-drop}
-use Rattle.std.proofs.lemmas.List.Elements.{All-nil}
-use Rattle.std.proofs.lemmas.List.Quantifiers.{position-Some}
-use Rattle.tables.specs.Reading.{faults, table_of}
-use Rattle.tables.specs.Tables.{TableRow}
-use Rattle.tables.specs.Writing.{InColumns}
-use Rattle.tables.proofs.Ranges.{back_none, front_none, table_in_columns}
-use Rattle.event_tables.specs.Cells.{number_in}
-use Rattle.event_tables.proofs.CellFacts.{in_column}
-use Rattle.tables.specs.RowsOfTables.{ReadsAs, records_by}
-use Rattle.propagation.specs.declared.step.Activity.{Activity}
-use Rattle.propagation.specs.Problems.{DelayProblem, IsForward}
-use Rattle.propagation.specs.Waiting.{chosen_changes}
-use Rattle.propagation.proofs.Rounds.{least_is_one, least_times_are_least}
+use Rattle.plan_num.proofs.Common.{◌≡◌, ◌∙◌, ℕ, ℤ, negsuc, zero, suc, ◌+◌, ◌<◌, ◌≤◌, ◌==◌, ◌≤ℤ◌}
+use Rattle.plan_num.proofs.Common.{not, cond, pos, Bool, true, false, List, [], ◌∷◌, ◌++◌, length}
+use Rattle.plan_num.proofs.Common.{map, drop, take, get_or, slice_get, Option, Some, None, IfSome}
+use Rattle.plan_num.proofs.Common.{IfNone, IfOk, Result, Ok, Err, All, refl, ap, sym, subst, arith}
+use Rattle.plan_num.proofs.Common.{position, unsigned_abs, unwrap_or, zip, list_all}
+use Rattle.plan_num.proofs.Common.{IsStrictlyIncreasing, int_eq, and_from, and_parts, both_ways}
+use Rattle.plan_num.proofs.Common.{eqb-true, eq-eqb, leb-true, le-leb, not-false, ints}
+use Rattle.plan_num.proofs.Common.{take-append_seam, get_or-map, length-append, length-map}
+use Rattle.plan_num.proofs.Common.{length-take-le, take-append-drop, All-nil, position-Some}
+use Rattle.tables.proofs.Common.{faults, table_of, TableRow, InColumns, back_none, front_none}
+use Rattle.tables.proofs.Common.{table_in_columns, ReadsAs, records_by}
+use Rattle.event_tables.proofs.Common.{number_in, in_column}
+use Rattle.propagation.proofs.Common.{Activity, DelayProblem, IsForward, chosen_changes}
+use Rattle.propagation.proofs.Common.{least_is_one, least_times_are_least}
 use Rattle.waiting_decisions.specs.declared.node.WaitNode.{WaitNode}
 use Rattle.waiting_decisions.specs.declared.node.WaitNode.TheVariants as node
 use Rattle.wait_choice.specs.declared.row.WaitRow.{WaitRow}

@@ -1,13 +1,8 @@
 -- Rows that are printed are read back.
-use Rattle.std.proofs.Common.{◌≡◌, ◌∙◌, ℕ, suc, List, [], ◌∷◌, map, All, Result, Ok, Err, IfOk, refl, ap, sym, arith}
-use Rattle.std.proofs.lemmas.Int.{ints}
-use Rattle.std.proofs.lemmas.List.Elements.{All-map}
-use Rattle.std.proofs.lemmas.Simd.{map-map}
-use Rattle.tables.specs.Reading.{table_of}
-use Rattle.tables.specs.Tables.{TableRow}
-use Rattle.tables.specs.Writing.{CanWrite, InColumns, ReadsBack}
-use Rattle.tables.specs.RowsOfTables.{ReadsAs, records_by, rows_by}
-use Rattle.tables.proofs.WrittenColumns.{columns_written}
+use Rattle.plan_num.proofs.Common.{◌≡◌, ◌∙◌, ℕ, suc, List, [], ◌∷◌, map, All, Result, Ok, Err, IfOk}
+use Rattle.plan_num.proofs.Common.{refl, ap, sym, arith, ints, All-map, map-map}
+use Rattle.tables.proofs.Common.{table_of, TableRow, CanWrite, InColumns, ReadsBack, ReadsAs}
+use Rattle.tables.proofs.Common.{records_by, rows_by, columns_written}
 use Rattle.wait_choice.specs.declared.row.WaitRow.{WaitRow}
 use Rattle.wait_choice.specs.declared.row.WaitRow.TheVariants as row
 use Rattle.wait_choice.specs.PrintedRows.{RowFits}

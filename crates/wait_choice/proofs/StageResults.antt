@@ -1,15 +1,11 @@
 -- What the choice of a waiting decision gives, exit by exit.
-use Rattle.std.proofs.Common.{◌≡◌, ◌∙◌, ℕ, ◌+◌, ◌≤◌, List, [], ◌∷◌, slice_get, Option, Some, None}
-use Rattle.std.proofs.Common.{Err, ap, sym, subst, arith}
-use Rattle.std.specs.Prelude.{IsSome}
-use Rattle.tables.specs.declared.refusal.Refusal.{Refusal}
-use Rattle.tables.specs.declared.refusal.StageFault.{StageFault}
+use Rattle.plan_num.proofs.Common.{◌≡◌, ◌∙◌, ℕ, ◌+◌, ◌≤◌, List, [], ◌∷◌, slice_get, Option, Some}
+use Rattle.plan_num.proofs.Common.{None, Err, ap, sym, subst, arith, IsSome}
+use Rattle.tables.proofs.Common.{Refusal, StageFault, Refuses, UnlessFault, or_else}
 use Rattle.tables.specs.declared.refusal.StageFault.TheVariants as fault
-use Rattle.tables.specs.Inputs.{Refuses, UnlessFault, or_else}
-use Rattle.giv_files.specs.Settings.{BundleParts}
-use Rattle.giv_files.specs.StageCalls.{TakesSteps}
+use Rattle.giv_files.proofs.Common.{BundleParts, TakesSteps}
 use Rattle.delay_management.specs.DispositionStage.{disposition_faults, problem_in}
-use Rattle.propagation.specs.Problems.{DelayProblem}
+use Rattle.propagation.proofs.Common.{DelayProblem}
 use Rattle.waiting_decisions.specs.declared.waits.Waits.{Waits}
 use Rattle.waiting_decisions.specs.Budgets.{FindsSome, IsEnough, entries_listed, waits_within}
 use Rattle.wait_choice.specs.ChoiceStage.{IsUnspent, IsWhole, listing_in, outcome_of, spent_by, waits_in}

@@ -1,19 +1,14 @@
 -- No fault of an input is a spent budget.
-use Rattle.std.proofs.Common.{arith, ◌≡◌, ℕ, Bool, true, false, cond, List, [], ◌∷◌, ◌++◌, map}
-use Rattle.std.proofs.Common.{nat_lt, slice_get, Option, Some, None, Err, subst}
-use Rattle.std.specs.Prelude.{⊤}
-use Rattle.std.specs.List.{flat_map}
-use Rattle.tables.specs.declared.file_id.FileId.{FileId}
-use Rattle.tables.specs.declared.row_why.RowWhy.{RowWhy}
-use Rattle.tables.specs.declared.refusal.Refusal.{Refusal}
+use Rattle.plan_num.proofs.Common.{arith, ◌≡◌, ℕ, Bool, true, false, cond, List, [], ◌∷◌, ◌++◌, map}
+use Rattle.plan_num.proofs.Common.{nat_lt, slice_get, Option, Some, None, Err, subst, ⊤, flat_map}
+use Rattle.tables.proofs.Common.{FileId, RowWhy, Refusal, StageFault, faults, table_of, Input}
+use Rattle.tables.proofs.Common.{Numbered, RowRule, TableRule, Refuses, broken_whys, cell_faults}
+use Rattle.tables.proofs.Common.{fault_at, limit_faults, numbered, or_else, records}
+use Rattle.tables.proofs.Common.{table_row_faults, whole_faults}
 use Rattle.tables.specs.declared.refusal.Refusal.TheVariants as refusal
-use Rattle.tables.specs.declared.refusal.StageFault.{StageFault}
 use Rattle.tables.specs.declared.refusal.StageFault.TheVariants as fault
-use Rattle.tables.specs.Reading.{faults, table_of}
-use Rattle.tables.specs.Inputs.{Input, Numbered, RowRule, TableRule, Refuses, broken_whys, cell_faults, fault_at}
-use Rattle.tables.specs.Inputs.{input_faults, limit_faults, numbered, or_else, records, row_faults, table_row_faults}
-use Rattle.tables.specs.Inputs.{whole_faults}
-use Rattle.giv_files.specs.Settings.{BundleParts}
+use Rattle.tables.specs.Inputs.{input_faults, row_faults}
+use Rattle.giv_files.proofs.Common.{BundleParts}
 use Rattle.delay_management.specs.DispositionStage.{disposition_faults}
 use Rattle.wait_choice.specs.ChoiceStage.{IsUnspent, IsWhole}
 

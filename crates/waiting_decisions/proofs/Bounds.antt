@@ -1,25 +1,19 @@
 -- The bound of a region holds: no set of changes in it, with any feasible times, comes to less.
-use Rattle.std.proofs.Common.{◌≡◌, ℕ, ℤ, zero, suc, ◌<◌, ◌≤◌, ◌+◌, ◌*◌, ◌&&◌, ◌+ℤ◌, ◌≤ℤ◌, cond}
-use Rattle.std.proofs.Common.{nat_lt, not, Bool, true, false, List, [], ◌∷◌, ◌++◌, length, map, pos}
-use Rattle.std.proofs.Common.{Some, None, sym, ◌∙◌, refl, arith, ◌⊎◌, inl, inr, mul-le-mul_left}
-use Rattle.std.specs.Prelude.{All, Contains, filter, zip, position, replicate}
-use Rattle.std.specs.List.{fold, items_where_true, list_all, prefix_len}
-use Rattle.std.proofs.lemmas.Bool.{both_ways, ltb-false, and_parts as both, cases_Bool}
-use Rattle.std.proofs.lemmas.Bool.Decides.{Decides-eqb}
-use Rattle.std.specs.Cmp.Derive.{both_true}
-use Rattle.std.proofs.lemmas.Int.{ints}
-use Rattle.std.proofs.lemmas.List.{length-map, length-replicate, length-set}
-use Rattle.std.proofs.lemmas.List.Elements.{All-append, All-cons, All-contains_itself, All-map, All-tail as behind}
+use Rattle.plan_num.proofs.Common.{◌≡◌, ℕ, ℤ, zero, suc, ◌<◌, ◌≤◌, ◌+◌, ◌*◌, ◌&&◌, ◌+ℤ◌, ◌≤ℤ◌, cond}
+use Rattle.plan_num.proofs.Common.{nat_lt, not, Bool, true, false, List, [], ◌∷◌, ◌++◌, length, map}
+use Rattle.plan_num.proofs.Common.{pos, Some, None, sym, ◌∙◌, refl, arith, ◌⊎◌, inl, inr}
+use Rattle.plan_num.proofs.Common.{mul-le-mul_left, All, Contains, filter, zip, position, replicate}
+use Rattle.plan_num.proofs.Common.{fold, items_where_true, list_all, prefix_len, both_ways}
+use Rattle.plan_num.proofs.Common.{ltb-false, cases_Bool, Decides-eqb, both_true, ints, length-map}
+use Rattle.plan_num.proofs.Common.{length-replicate, length-set, All-append, All-cons}
+use Rattle.plan_num.proofs.Common.{All-contains_itself, All-map, sum_by-cons}
+use Rattle.std.proofs.lemmas.Bool.{and_parts as both}
+use Rattle.std.proofs.lemmas.List.Elements.{All-tail as behind}
 use Rattle.std.proofs.lemmas.List.Elements.{All-head as head_of}
-use Rattle.std.proofs.lemmas.List.Sums.{sum_by-cons}
-use Rattle.propagation.specs.declared.day_event.DayEvent.{DayEvent}
-use Rattle.propagation.specs.declared.step.Activity.{Activity}
-use Rattle.propagation.specs.declared.step.Step.{Step}
-use Rattle.propagation.specs.LeastTimes.{IsFeasible, IsLeast, asked, time_at}
-use Rattle.propagation.specs.Lateness.{arrives, delay_at, is_broken, lateness}
-use Rattle.propagation.specs.Problems.{AreChanges, DelayProblem, IsForward, steps_with}
-use Rattle.propagation.specs.Waiting.{chosen_changes}
-use Rattle.propagation.proofs.Rounds.{least_times_are_least}
+use Rattle.propagation.proofs.Common.{DayEvent, Activity, Step, IsFeasible, IsLeast, asked, time_at}
+use Rattle.propagation.proofs.Common.{arrives, delay_at, is_broken, lateness, AreChanges}
+use Rattle.propagation.proofs.Common.{DelayProblem, IsForward, steps_with, chosen_changes}
+use Rattle.propagation.proofs.Common.{least_times_are_least}
 use Rattle.waiting_decisions.specs.declared.decision.Decision.{Decision}
 use Rattle.waiting_decisions.specs.declared.decision.Decision.TheVariants as decision
 use Rattle.waiting_decisions.specs.declared.node.WaitNode.{WaitNode}

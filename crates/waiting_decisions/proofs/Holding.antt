@@ -1,10 +1,8 @@
 -- What each entry of a listing says holds, and no entries are left out however deep a region is split.
-use Rattle.std.proofs.Common.{◌≡◌, ◌∙◌, ℕ, ℤ, suc, cond, Bool, true, false, List, ◌∷◌, ◌++◌, length}
-use Rattle.std.proofs.Common.{Option, Some, None, IfSome, refl, ap, subst, sym, arith}
-use Rattle.std.specs.Prelude.{count_by}
-use Rattle.std.proofs.lemmas.Bool.{both_ways}
-use Rattle.std.proofs.lemmas.Int.{ints}
-use Rattle.propagation.specs.Problems.{DelayProblem, IsForward}
+use Rattle.plan_num.proofs.Common.{◌≡◌, ◌∙◌, ℕ, ℤ, suc, cond, Bool, true, false, List, ◌∷◌, ◌++◌}
+use Rattle.plan_num.proofs.Common.{length, Option, Some, None, IfSome, refl, ap, subst, sym, arith}
+use Rattle.plan_num.proofs.Common.{count_by, both_ways, ints}
+use Rattle.propagation.proofs.Common.{DelayProblem, IsForward}
 use Rattle.waiting_decisions.specs.declared.decision.Decision.{Decision}
 use Rattle.waiting_decisions.specs.declared.decision.Decision.TheVariants as decision
 use Rattle.waiting_decisions.specs.declared.waits.Waits.{Waits}

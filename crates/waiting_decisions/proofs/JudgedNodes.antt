@@ -1,9 +1,8 @@
 -- The walk over nodes from any hand comes to their first fault.
-use Rattle.std.proofs.Common.{◌≡◌, ◌∙◌, ℕ, ℤ, ◌+◌, ◌<◌, ◌≤◌, ◌||◌, cond, Bool, true, false, List}
-use Rattle.std.proofs.Common.{[], ◌∷◌, length, drop, get_or, Option, Some, None, IfNone, refl, ap}
-use Rattle.std.proofs.Common.{sym, subst, arith}
-use Rattle.std.proofs.lemmas.List.{drop_all, drop_more}
-use Rattle.propagation.specs.Problems.{DelayProblem, IsForward}
+use Rattle.plan_num.proofs.Common.{◌≡◌, ◌∙◌, ℕ, ℤ, ◌+◌, ◌<◌, ◌≤◌, ◌||◌, cond, Bool, true, false}
+use Rattle.plan_num.proofs.Common.{List, [], ◌∷◌, length, drop, get_or, Option, Some, None, IfNone}
+use Rattle.plan_num.proofs.Common.{refl, ap, sym, subst, arith, drop_all, drop_more}
+use Rattle.propagation.proofs.Common.{DelayProblem, IsForward}
 use Rattle.waiting_decisions.specs.declared.fault.TreeFault.{TreeFault}
 use Rattle.waiting_decisions.specs.declared.fault.TreeFault.TheVariants as fault
 use Rattle.waiting_decisions.specs.declared.node.WaitNode.{WaitNode}

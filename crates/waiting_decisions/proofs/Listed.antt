@@ -1,15 +1,10 @@
 -- What a whole listing comes to, how long it is, and within how many entries it finds something.
-use Rattle.std.proofs.Common.{◌≡◌, ℕ, zero, suc, ◌≤◌, ◌+◌, ◌*◌, ◌^◌, cond, Bool, true, false, List}
-use Rattle.std.proofs.Common.{[], ◌∷◌, ◌++◌, length, Option, Some, None, ap, sym, ◌∙◌, refl, arith}
-use Rattle.std.proofs.Common.{subst, append_assoc}
-use Rattle.std.specs.Prelude.{IsSome, count_by, filter_map, replicate, take, ◌-◌}
-use Rattle.std.proofs.lemmas.List.Sums.{sum_by-cons}
-use Rattle.std.specs.List.{last_or}
-use Rattle.std.proofs.Math.Nat.{pow-succ'}
-use Rattle.std.proofs.Math.Seq.{take-append-add}
-use Rattle.std.proofs.lemmas.Int.{ints}
-use Rattle.std.proofs.lemmas.List.{length-append, length-replicate}
-use Rattle.propagation.specs.Problems.{DelayProblem, IsForward}
+use Rattle.plan_num.proofs.Common.{◌≡◌, ℕ, zero, suc, ◌≤◌, ◌+◌, ◌*◌, ◌^◌, cond, Bool, true, false}
+use Rattle.plan_num.proofs.Common.{List, [], ◌∷◌, ◌++◌, length, Option, Some, None, ap, sym, ◌∙◌}
+use Rattle.plan_num.proofs.Common.{refl, arith, subst, append_assoc, IsSome, count_by, filter_map}
+use Rattle.plan_num.proofs.Common.{replicate, take, ◌-◌, sum_by-cons, last_or, pow-succ'}
+use Rattle.plan_num.proofs.Common.{take-append-add, ints, length-append, length-replicate}
+use Rattle.propagation.proofs.Common.{DelayProblem, IsForward}
 use Rattle.waiting_decisions.specs.declared.decision.Decision.{Decision}
 use Rattle.waiting_decisions.specs.declared.decision.Decision.TheVariants as decision
 use Rattle.waiting_decisions.specs.Certified.{Certifies}

@@ -1,24 +1,19 @@
 -- The region of a path, change by change.
-use Rattle.std.proofs.Math.Seq.{take-append_seam}
-use Rattle.std.proofs.Common.{Option, take, ◌-◌, OnOk, OnErr, Result, Ok, Err, slice_get}
-use Rattle.std.proofs.Common.{mul-le-mul_left, ◌≤ℤ◌, ◌≡◌, ◌∙◌, ℕ, ℤ, zero, suc, ◌+◌, ◌*◌, ◌<◌, ◌≤◌}
-use Rattle.std.proofs.Common.{◌&&◌, ◌||◌, not, cond, eqb, nat_eq, nat_lt, Bool, true, false, List}
-use Rattle.std.proofs.Common.{[], ◌∷◌, ◌++◌, length, map, get_or, slice_set, pos, ◌+ℤ◌, Some, None}
-use Rattle.std.proofs.Common.{refl, ap, sym, subst, arith, inl, inr}
-use Rattle.std.specs.Prelude.{drop, position, replicate, zip}
-use Rattle.std.specs.List.{enumerate_from, list_any, prefix_len, range_with_len}
-use Rattle.std.proofs.lemmas.Bool.{both_ways, eqb-false, eqb-true, eq-eqb, ne_eqb, not-true, cases_Bool, cases_lt}
-use Rattle.std.proofs.lemmas.Int.{ints}
-use Rattle.std.proofs.lemmas.List.{ext_get_or, get_or-map, get_or-set_other, get_or-set_same, length-map}
-use Rattle.std.proofs.lemmas.List.{length-replicate, length-set, length_push}
-use Rattle.std.proofs.lemmas.List.FromFn.{get_or-map-range_with_len, length-map-range_with_len}
-use Rattle.std.proofs.lemmas.List.Folds.{list_any-append}
-use Rattle.std.proofs.lemmas.List.Sums.{sum_by-cons}
+use Rattle.plan_num.proofs.Common.{take-append_seam, Option, take, ◌-◌, OnOk, OnErr, Result, Ok}
+use Rattle.plan_num.proofs.Common.{Err, slice_get, mul-le-mul_left, ◌≤ℤ◌, ◌≡◌, ◌∙◌, ℕ, ℤ, zero, suc}
+use Rattle.plan_num.proofs.Common.{◌+◌, ◌*◌, ◌<◌, ◌≤◌, ◌&&◌, ◌||◌, not, cond, eqb, nat_eq, nat_lt}
+use Rattle.plan_num.proofs.Common.{Bool, true, false, List, [], ◌∷◌, ◌++◌, length, map, get_or}
+use Rattle.plan_num.proofs.Common.{slice_set, pos, ◌+ℤ◌, Some, None, refl, ap, sym, subst, arith}
+use Rattle.plan_num.proofs.Common.{inl, inr, drop, position, replicate, zip, enumerate_from}
+use Rattle.plan_num.proofs.Common.{list_any, prefix_len, range_with_len, both_ways, eqb-false}
+use Rattle.plan_num.proofs.Common.{eqb-true, eq-eqb, ne_eqb, not-true, cases_Bool, cases_lt, ints}
+use Rattle.plan_num.proofs.Common.{ext_get_or, get_or-map, get_or-set_other, get_or-set_same}
+use Rattle.plan_num.proofs.Common.{length-map, length-replicate, length-set, length_push}
+use Rattle.plan_num.proofs.Common.{get_or-map-range_with_len, length-map-range_with_len}
+use Rattle.plan_num.proofs.Common.{list_any-append, sum_by-cons}
 use Rattle.std.proofs.Math.Bool.{or-false}
 use Rattle.delay_trials.specs.declared.decided.Decided.{Decided}
-use Rattle.propagation.specs.declared.step.Activity.{Activity}
-use Rattle.propagation.specs.Lateness.{delay_at, is_broken}
-use Rattle.propagation.specs.Problems.{DelayProblem}
+use Rattle.propagation.proofs.Common.{Activity, delay_at, is_broken, DelayProblem}
 use Rattle.delay_trials.specs.Trials.{TrialParts, is_decided}
 use Rattle.delay_trials.specs.Trials.{first_broken as trial_broken, is_kept as kept_in, times_of as trial_times}
 use Rattle.waiting_decisions.specs.declared.decision.Decision.{Decision}

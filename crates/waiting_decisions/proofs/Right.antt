@@ -1,13 +1,11 @@
 -- A waiting decision that a listing gives within a budget is right.
-use Rattle.std.proofs.Common.{◌≡◌, ◌∙◌, ℕ, ℤ, zero, suc, ◌+◌, ◌*◌, ◌^◌, ◌<◌, ◌≤◌, cond, nat_le}
-use Rattle.std.proofs.Common.{Bool, true, false, List, [], ◌∷◌, ◌++◌, length, take, All, Option}
-use Rattle.std.proofs.Common.{Some, None, IfSome, ap, sym, subst, refl, arith}
-use Rattle.std.specs.Prelude.{⊤, IsSome, option_map}
-use Rattle.std.proofs.Math.Nat.{pow-succ'}
-use Rattle.std.proofs.lemmas.Bool.{both_ways, le-leb, leb-true}
-use Rattle.std.proofs.lemmas.List.{length-set, length-replicate, take_all}
-use Rattle.std.proofs.lemmas.List.Elements.{All-append, All-cons, All-nil}
-use Rattle.propagation.specs.Problems.{DelayProblem, IsForward}
+use Rattle.plan_num.proofs.Common.{◌≡◌, ◌∙◌, ℕ, ℤ, zero, suc, ◌+◌, ◌*◌, ◌^◌, ◌<◌, ◌≤◌, cond, nat_le}
+use Rattle.plan_num.proofs.Common.{Bool, true, false, List, [], ◌∷◌, ◌++◌, length, take, All}
+use Rattle.plan_num.proofs.Common.{Option, Some, None, IfSome, ap, sym, subst, refl, arith, ⊤}
+use Rattle.plan_num.proofs.Common.{IsSome, option_map, pow-succ', both_ways, le-leb, leb-true}
+use Rattle.plan_num.proofs.Common.{length-set, length-replicate, take_all, All-append, All-cons}
+use Rattle.plan_num.proofs.Common.{All-nil}
+use Rattle.propagation.proofs.Common.{DelayProblem, IsForward}
 use Rattle.waiting_decisions.specs.declared.decision.Decision.{Decision}
 use Rattle.waiting_decisions.specs.declared.decision.Decision.TheVariants as decision
 use Rattle.waiting_decisions.specs.declared.node.WaitNode.{WaitNode}

@@ -1,7 +1,7 @@
 -- What is told of what a search found, where that is what its budget comes to.
 use Rattle.std.proofs.Common.{◌≡◌, ◌∙◌, ℕ, List, Option, IfOk, IfSome, IsSome, subst, sym}
 use Rattle.std.specs.Prelude.{Result, option_map}
-use Rattle.propagation.specs.Problems.{DelayProblem, IsForward}
+use Rattle.propagation.proofs.Common.{DelayProblem, IsForward}
 use Rattle.waiting_decisions.specs.declared.node.WaitNode.{WaitNode}
 use Rattle.waiting_decisions.specs.declared.waits.Waits.{Waits}
 use Rattle.waiting_decisions.specs.Budgets.{FindsSome, IsEnough, IsMarked, waits_within, with_tree}

@@ -1,10 +1,8 @@
 -- Nodes that are a whole tree without a low leaf certify a cost, and conversely.
-use Rattle.std.proofs.Common.{◌≡◌, ◌∙◌, ℕ, ℤ, ◌≤ℤ◌, true, false, List, [], ◌∷◌, ◌++◌, refl, ap, sym}
-use Rattle.std.proofs.Common.{subst, append_assoc, append-nil, arith}
-use Rattle.std.specs.Prelude.{int_lt}
-use Rattle.std.proofs.lemmas.Bool.{and_parts, both_ways, or_parts}
-use Rattle.std.proofs.lemmas.Int.{ints}
-use Rattle.propagation.specs.Problems.{DelayProblem}
+use Rattle.plan_num.proofs.Common.{◌≡◌, ◌∙◌, ℕ, ℤ, ◌≤ℤ◌, true, false, List, [], ◌∷◌, ◌++◌, refl, ap}
+use Rattle.plan_num.proofs.Common.{sym, subst, append_assoc, append-nil, arith, int_lt, and_parts}
+use Rattle.plan_num.proofs.Common.{both_ways, or_parts, ints}
+use Rattle.propagation.proofs.Common.{DelayProblem}
 use Rattle.waiting_decisions.specs.declared.decision.Decision.{Decision}
 use Rattle.waiting_decisions.specs.declared.decision.Decision.TheVariants as decision
 use Rattle.waiting_decisions.specs.declared.node.WaitNode.{WaitNode}

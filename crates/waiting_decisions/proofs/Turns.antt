@@ -5,7 +5,7 @@ use Rattle.std.proofs.Common.{Option, Some, None, ap, sym, subst, refl, arith, a
 use Rattle.std.specs.Prelude.{count_by, min, option_map, MatchBool, OnErr, OnOk}
 use Rattle.waiting_decisions.specs.Budgets.{waits_within, with_tree}
 use Rattle.std.proofs.lemmas.List.{length-append, length-drop, map-append, take_all}
-use Rattle.propagation.specs.Problems.{DelayProblem}
+use Rattle.propagation.proofs.Common.{DelayProblem}
 use Rattle.delay_trials.specs.Trials.{TrialParts}
 use Rattle.waiting_decisions.specs.declared.best.Best.{Best}
 use Rattle.waiting_decisions.specs.declared.decision.Decision.{Decision}

@@ -1,20 +1,13 @@
 -- What the entries of a region come to: a tree that certifies each cost up to that of the best
 -- choice.
-use Rattle.std.proofs.Common.{◌≡◌, ℕ, ℤ, zero, suc, ◌≤◌, ◌+◌, ◌&&◌, ◌≤ℤ◌, cond, Bool, true, false}
-use Rattle.std.proofs.Common.{List, [], ◌∷◌, ◌++◌, length, get_or, Option, Some, None, ap, sym, ◌∙◌}
-use Rattle.std.proofs.Common.{refl, arith, subst}
-use Rattle.std.specs.Prelude.{IsSome, int_le, zip, count_by, ⊤}
-use Rattle.std.specs.List.{last_or}
-use Rattle.std.proofs.lemmas.Bool.{both_ways, and_parts as both}
-use Rattle.std.proofs.lemmas.Int.{ints}
-use Rattle.std.proofs.lemmas.List.{length-set, map-append}
-use Rattle.std.proofs.lemmas.List.Elements.{filter_map-append}
-use Rattle.std.proofs.lemmas.List.Quantifiers.{position-Some}
-use Rattle.std.proofs.lemmas.List.Sums.{sum_by-cons}
-use Rattle.std.proofs.lemmas.Slice.Zip.{get_or-zip, length-zip}
-use Rattle.propagation.specs.declared.step.Activity.{Activity}
-use Rattle.propagation.specs.Lateness.{is_broken}
-use Rattle.propagation.specs.Problems.{DelayProblem, IsForward}
+use Rattle.plan_num.proofs.Common.{◌≡◌, ℕ, ℤ, zero, suc, ◌≤◌, ◌+◌, ◌&&◌, ◌≤ℤ◌, cond, Bool, true}
+use Rattle.plan_num.proofs.Common.{false, List, [], ◌∷◌, ◌++◌, length, get_or, Option, Some, None}
+use Rattle.plan_num.proofs.Common.{ap, sym, ◌∙◌, refl, arith, subst, IsSome, int_le, zip, count_by}
+use Rattle.plan_num.proofs.Common.{⊤, last_or, both_ways, ints, length-set, map-append}
+use Rattle.plan_num.proofs.Common.{filter_map-append, position-Some, sum_by-cons, get_or-zip}
+use Rattle.plan_num.proofs.Common.{length-zip}
+use Rattle.std.proofs.lemmas.Bool.{and_parts as both}
+use Rattle.propagation.proofs.Common.{Activity, is_broken, DelayProblem, IsForward}
 use Rattle.waiting_decisions.specs.declared.decision.Decision.{Decision}
 use Rattle.waiting_decisions.specs.declared.decision.Decision.TheVariants as decision
 use Rattle.waiting_decisions.specs.declared.node.WaitNode.TheVariants as node

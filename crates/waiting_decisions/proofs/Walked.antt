@@ -1,7 +1,6 @@
 -- A node more of a walk.
-use Rattle.std.proofs.Common.{arith, ◌≡◌, ℕ, ℤ, ◌||◌, cond, true, false, List, [], ◌∷◌, ap, sym}
-use Rattle.std.proofs.Common.{subst}
-use Rattle.std.specs.Prelude.{int_lt}
+use Rattle.plan_num.proofs.Common.{arith, ◌≡◌, ℕ, ℤ, ◌||◌, cond, true, false, List, [], ◌∷◌, ap}
+use Rattle.plan_num.proofs.Common.{sym, subst, int_lt}
 use Rattle.waiting_decisions.specs.declared.node.WaitNode.{WaitNode}
 use Rattle.waiting_decisions.specs.declared.node.WaitNode.TheVariants as node
 use Rattle.waiting_decisions.specs.Certified.{are_trees, leaves_of}

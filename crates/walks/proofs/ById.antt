@@ -1,16 +1,15 @@
 -- Entries and ids in the order of their ids.
-use Rattle.std.proofs.Common.{◌≡◌, ℤ, pos, ◌+◌, Bool, true, false, ◌&&◌, cond, T, List, [], ◌∷◌}
-use Rattle.std.proofs.Common.{map, get_or, refl, ap, subst, sym, ◌∙◌, arith, Some, None}
-use Rattle.std.specs.List.{list_any, AllByRecursion, IsDistinct}
-use Rattle.std.specs.List.Sorted.{IsSorted, IsStrictlySortedBy}
-use Rattle.std.specs.Map.{keys_of, lookup}
-use Rattle.std.specs.Ordering.{int_eq, int_cmp, is_lt, eq_by_cmp}
+use Rattle.plan_num.proofs.Common.{◌≡◌, ℤ, pos, ◌+◌, Bool, true, false, ◌&&◌, cond, T, List, []}
+use Rattle.plan_num.proofs.Common.{◌∷◌, map, get_or, refl, ap, subst, sym, ◌∙◌, arith, Some, None}
+use Rattle.plan_num.proofs.Common.{list_any, AllByRecursion, IsDistinct, IsSorted, keys_of, lookup}
+use Rattle.plan_num.proofs.Common.{int_eq, int_cmp, is_lt, eq_by_cmp, put, is_sorted}
+use Rattle.plan_num.proofs.Common.{int_cmp-IsAntisymmetric, by_order, below_all, find-put}
+use Rattle.plan_num.proofs.Common.{same_entries, int_cmp_total, apart_from_distinct, exact_signed}
+use Rattle.std.specs.List.Sorted.{IsStrictlySortedBy}
 use Rattle.std.specs.declared.cmp.Ordering.TheVariants.{Less, Equal, Greater}
-use Rattle.std.specs.FinMap.{find, put, is_sorted, int_cmp-IsAntisymmetric}
-use Rattle.std.specs.FinMap.Entries.{by_order, below_all, is_sorted-put, find-put, same_entries}
-use Rattle.std.proofs.lemmas.Cmp.{int_cmp_total}
-use Rattle.std.proofs.lemmas.Map.Keys.{sorted_from_all_adjacent, apart_from_distinct}
-use Rattle.std.proofs.lemmas.Map.Lookups.{exact_signed}
+use Rattle.std.specs.FinMap.{find}
+use Rattle.std.specs.FinMap.Entries.{is_sorted-put}
+use Rattle.std.proofs.lemmas.Map.Keys.{sorted_from_all_adjacent}
 use Rattle.walks.specs.declared.edge.Edge.{Edge}
 use Rattle.walks.specs.Networks.{AreKeyed}
 use Rattle.walks.specs.RisingIds.{by_id, rising}

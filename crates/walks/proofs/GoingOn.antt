@@ -1,11 +1,9 @@
 -- The walks that go on beside the labels of stops: what reaching a stop and settling one keep.
-use Rattle.std.proofs.Common.{◌≡◌, ◌≢◌, ℕ, ◌<◌, ◌≤◌, true, false, List, [], ◌∷◌, length, replicate}
-use Rattle.std.proofs.Common.{set, refl, ap, sym, subst, ◌∙◌, All, Contains, arith}
-use Rattle.std.specs.List.Sorted.{IsPermutation}
-use Rattle.std.proofs.lemmas.Bool.{cases_lt, eq-eqb}
-use Rattle.std.proofs.lemmas.List.{length-set, length-replicate, get_or-replicate, get_or_past}
-use Rattle.std.proofs.lemmas.List.Elements.{All-cons, All-head, All-tail, All-nil, All-weaker}
-use Rattle.std.proofs.lemmas.List.Sorted.{All-permutation, Contains-permutation}
+use Rattle.plan_num.proofs.Common.{◌≡◌, ◌≢◌, ℕ, ◌<◌, ◌≤◌, true, false, List, [], ◌∷◌, length}
+use Rattle.plan_num.proofs.Common.{replicate, set, refl, ap, sym, subst, ◌∙◌, All, Contains, arith}
+use Rattle.plan_num.proofs.Common.{IsPermutation, cases_lt, eq-eqb, length-set, length-replicate}
+use Rattle.plan_num.proofs.Common.{get_or-replicate, get_or_past, All-cons, All-head, All-tail}
+use Rattle.plan_num.proofs.Common.{All-nil, All-weaker, All-permutation, Contains-permutation}
 use Rattle.walks.specs.declared.label.Label.{Label}
 use Rattle.walks.specs.declared.label.Label.TheVariants.{Unseen, Reached, Settled}
 use Rattle.walks.specs.Labels.{label_at, is_reached_with, GoesOn, IsNearest}

@@ -1,14 +1,11 @@
 -- The last edges of paths, edge by edge.
-use Rattle.std.proofs.Common.{◌≡◌, ◌≢◌, ℕ, ◌+◌, ◌<◌, ◌≤◌, Bool, true, false, cond, eqb, ltb, List}
-use Rattle.std.proofs.Common.{[], ◌∷◌, ◌++◌, length, get_or, set, slice_get, take, refl, ap, sym}
-use Rattle.std.proofs.Common.{◌∙◌, arith, position, Option, Some, None, inl, inr, ◌⊎◌, subst}
-use Rattle.std.proofs.Common.{add-zero, get_or-set_other, get_or-set_same}
-use Rattle.std.specs.Option.{option_or}
-use Rattle.std.proofs.lemmas.Bool.{lt-ltb, le-ltb, ne_eqb}
-use Rattle.std.proofs.lemmas.List.{take_more, length-append, length-take-le, length-set}
+use Rattle.plan_num.proofs.Common.{◌≡◌, ◌≢◌, ℕ, ◌+◌, ◌<◌, ◌≤◌, Bool, true, false, cond, eqb, ltb}
+use Rattle.plan_num.proofs.Common.{List, [], ◌∷◌, ◌++◌, length, get_or, set, slice_get, take, refl}
+use Rattle.plan_num.proofs.Common.{ap, sym, ◌∙◌, arith, position, Option, Some, None, inl, inr, ◌⊎◌}
+use Rattle.plan_num.proofs.Common.{subst, add-zero, get_or-set_other, get_or-set_same, option_or}
+use Rattle.plan_num.proofs.Common.{lt-ltb, le-ltb, ne_eqb, take_more, length-append, length-take-le}
+use Rattle.plan_num.proofs.Common.{length-set, prefix_len-le-length, get_or_from_slice_get}
 use Rattle.std.proofs.lemmas.List.Folds.{position_or_len_push}
-use Rattle.std.proofs.lemmas.List.Sums.{prefix_len-le-length}
-use Rattle.std.proofs.lemmas.Option.{get_or_from_slice_get}
 use Rattle.walks.specs.declared.edge.Edge.{Edge}
 use Rattle.walks.specs.Networks.{IsEdge}
 use Rattle.walks.specs.Paths.{are_equal, ends_least, last_edge, last_with}

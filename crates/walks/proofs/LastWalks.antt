@@ -1,12 +1,11 @@
 -- The last edges of least walks, by walks and by what the code tests.
-use Rattle.std.proofs.Common.{◌≡◌, ◌≢◌, ℕ, zero, suc, ◌+◌, ◌<◌, ◌≤◌, true, List, [], ◌∷◌, ◌++◌}
-use Rattle.std.proofs.Common.{length, get_or, refl, ap, subst, sym, ◌∙◌, arith, Option, Some, None}
-use Rattle.std.proofs.Common.{option_map, option_and_then, inl, inr, All, Contains}
-use Rattle.std.proofs.lemmas.Bool.{eq-eqb, cases_eq, false≢true}
-use Rattle.std.proofs.lemmas.List.{length_push, get_or_default, same_from_push}
-use Rattle.std.proofs.lemmas.List.Elements.{All-contains, All-get_or}
-use Rattle.std.proofs.lemmas.List.Quantifiers.{position-Some}
-use Rattle.std.proofs.lemmas.Option.{slice_get-get_or, get_or_from_slice_get}
+use Rattle.plan_num.proofs.Common.{◌≡◌, ◌≢◌, ℕ, zero, suc, ◌+◌, ◌<◌, ◌≤◌, true, List, [], ◌∷◌, ◌++◌}
+use Rattle.plan_num.proofs.Common.{length, get_or, refl, ap, subst, sym, ◌∙◌, arith, Option, Some}
+use Rattle.plan_num.proofs.Common.{None, option_map, option_and_then, inl, inr, All, Contains}
+use Rattle.plan_num.proofs.Common.{eq-eqb, cases_eq, false≢true, length_push, get_or_default}
+use Rattle.plan_num.proofs.Common.{All-contains, All-get_or, position-Some, slice_get-get_or}
+use Rattle.plan_num.proofs.Common.{get_or_from_slice_get}
+use Rattle.std.proofs.lemmas.List.{same_from_push}
 use Rattle.walks.specs.declared.edge.Edge.{Edge}
 use Rattle.walks.specs.Networks.{NetworkParts, IsEdge, IsNetwork}
 use Rattle.walks.specs.Walks.{across, edge_length, walk_sum, least_sums, IsWalk, IsLeastSum, AreLeastSums}

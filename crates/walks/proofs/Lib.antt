@@ -1,3 +1,4 @@
+pub mod Common
 pub mod ById
 pub mod GoingOn
 pub mod LastEdges

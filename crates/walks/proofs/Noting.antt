@@ -1,11 +1,10 @@
 -- The edges at each stop, noted edge by edge.
-use Rattle.std.proofs.Common.{◌≡◌, ◌≢◌, ℕ, ◌+◌, ◌<◌, ◌≤◌, List, [], ◌∷◌, ◌++◌, length, get_or}
-use Rattle.std.proofs.Common.{slice_get, refl, ap, sym, subst, ◌∙◌, Some, Contains, ◌⊎◌, inl, inr}
-use Rattle.std.proofs.Common.{arith}
-use Rattle.std.proofs.lemmas.Bool.{cases_eq, cases_lt, eq-eqb, ne_eqb}
-use Rattle.std.proofs.lemmas.List.{length-set, get_or-set_same, get_or-set_other}
-use Rattle.std.proofs.lemmas.List.Elements.{Contains-push, Contains-append_left, Contains-push_cases}
-use Rattle.std.proofs.lemmas.Option.{slice_get_within, same_Some}
+use Rattle.plan_num.proofs.Common.{◌≡◌, ◌≢◌, ℕ, ◌+◌, ◌<◌, ◌≤◌, List, [], ◌∷◌, ◌++◌, length, get_or}
+use Rattle.plan_num.proofs.Common.{slice_get, refl, ap, sym, subst, ◌∙◌, Some, Contains, ◌⊎◌, inl}
+use Rattle.plan_num.proofs.Common.{inr, arith, cases_eq, cases_lt, eq-eqb, ne_eqb, length-set}
+use Rattle.plan_num.proofs.Common.{get_or-set_same, get_or-set_other, Contains-push}
+use Rattle.plan_num.proofs.Common.{Contains-append_left, Contains-push_cases, slice_get_within}
+use Rattle.plan_num.proofs.Common.{same_Some}
 use Rattle.walks.specs.declared.edge.Edge.{Edge}
 use Rattle.walks.specs.Networks.{IsEdge}
 use Rattle.walks.specs.Walks.{across}

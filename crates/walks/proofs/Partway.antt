@@ -1,12 +1,10 @@
 -- What holds of the labels of a network while the nearest stop is settled again and again.
-use Rattle.std.proofs.Common.{◌≡◌, ℕ, ◌+◌, ◌-◌, ◌*◌, ◌<◌, ◌≤◌, Bool, true, false, cond, eqb, List}
-use Rattle.std.proofs.Common.{[], ◌∷◌, ◌++◌, length, map, sum, fold, set, refl, ap, sym, subst, ◌∙◌}
-use Rattle.std.proofs.Common.{Option, Some, None, IfSome, All, Contains, inl, inr, arith}
-use Rattle.std.proofs.lemmas.Bool.{cases_lt}
-use Rattle.std.proofs.lemmas.Int.{ints}
-use Rattle.std.proofs.lemmas.List.{length-set, length_push, get_or_past}
-use Rattle.std.proofs.lemmas.List.Elements.{All-map, All-weaker, All-contains, All-from_get_or}
-use Rattle.std.proofs.lemmas.List.Sums.{sum_by-set, count_by-le-length}
+use Rattle.plan_num.proofs.Common.{◌≡◌, ℕ, ◌+◌, ◌-◌, ◌*◌, ◌<◌, ◌≤◌, Bool, true, false, cond, eqb}
+use Rattle.plan_num.proofs.Common.{List, [], ◌∷◌, ◌++◌, length, map, sum, fold, set, refl, ap, sym}
+use Rattle.plan_num.proofs.Common.{subst, ◌∙◌, Option, Some, None, IfSome, All, Contains, inl, inr}
+use Rattle.plan_num.proofs.Common.{arith, cases_lt, ints, length-set, length_push, get_or_past}
+use Rattle.plan_num.proofs.Common.{All-map, All-weaker, All-contains, All-from_get_or, sum_by-set}
+use Rattle.plan_num.proofs.Common.{count_by-le-length}
 use Rattle.walks.specs.declared.edge.Edge.{Edge}
 use Rattle.walks.specs.declared.label.Label.{Label}
 use Rattle.walks.specs.declared.label.Label.TheVariants.{Unseen, Reached, Settled}

@@ -1,17 +1,12 @@
 -- A path has each edge once: the further from its end, the nearer to its start.
-use Rattle.std.proofs.Common.{◌≡◌, ℕ, pos, zero, suc, ◌+◌, ◌<◌, ◌≤◌, ◌≤ℤ◌, Bool, true, false, ◌||◌}
-use Rattle.std.proofs.Common.{nat_eq, List, [], ◌∷◌, length, get_or, refl, ap, subst, sym, ◌∙◌}
-use Rattle.std.proofs.Common.{arith, Option, Some, None, option_map, option_and_then, unwrap_or}
-use Rattle.std.proofs.Common.{inl, inr, ◌⊎◌}
-use Rattle.std.specs.List.{All, IsDistinct, list_any}
-use Rattle.std.proofs.lemmas.Bool.{eqb-true, cases_Bool, cases_eq, or_cases}
-use Rattle.std.proofs.lemmas.Cmp.{nat_eq_equiv}
-use Rattle.std.proofs.lemmas.Int.{ints}
-use Rattle.std.proofs.lemmas.List.Elements.{All-get_or, All-nil, All-push}
-use Rattle.std.proofs.lemmas.List.Folds.{list_any-append}
-use Rattle.std.proofs.lemmas.List.Quantifiers.{position-Some}
-use Rattle.std.proofs.lemmas.Map.Keys.{IsDistinct-push}
-use Rattle.std.proofs.lemmas.Option.{slice_get-get_or, same_Some}
+use Rattle.plan_num.proofs.Common.{◌≡◌, ℕ, pos, zero, suc, ◌+◌, ◌<◌, ◌≤◌, ◌≤ℤ◌, Bool, true, false}
+use Rattle.plan_num.proofs.Common.{◌||◌, nat_eq, List, [], ◌∷◌, length, get_or, refl, ap, subst}
+use Rattle.plan_num.proofs.Common.{sym, ◌∙◌, arith, Option, Some, None, option_map, option_and_then}
+use Rattle.plan_num.proofs.Common.{unwrap_or, inl, inr, ◌⊎◌, All, list_any, eqb-true, cases_Bool}
+use Rattle.plan_num.proofs.Common.{cases_eq, or_cases, nat_eq_equiv, ints, All-get_or, All-nil}
+use Rattle.plan_num.proofs.Common.{All-push, list_any-append, position-Some, IsDistinct-push}
+use Rattle.plan_num.proofs.Common.{slice_get-get_or, same_Some}
+use Rattle.std.specs.List.{IsDistinct}
 use Rattle.walks.specs.declared.edge.Edge.{Edge}
 use Rattle.walks.specs.Networks.{NetworkParts, IsEdge, IsNetwork}
 use Rattle.walks.specs.Walks.{across, edge_length, least_sums}

@@ -1,15 +1,10 @@
 -- A path, step by step from its end.
-use Rattle.std.proofs.Common.{◌≡◌, ◌≢◌, ℕ, pos, zero, suc, ◌+◌, ◌-◌, ◌<◌, ◌≤◌, Bool, true, false}
-use Rattle.std.proofs.Common.{cond, eqb, List, [], ◌∷◌, ◌++◌, length, get_or, reverse, refl, ap}
-use Rattle.std.proofs.Common.{subst, sym, ◌∙◌, arith, append_assoc, Option, Some, None, option_map}
-use Rattle.std.proofs.Common.{option_and_then, unwrap_or}
-use Rattle.std.specs.List.{All}
-use Rattle.std.proofs.lemmas.Bool.{eq-eqb}
-use Rattle.std.proofs.lemmas.List.{reverse-append}
-use Rattle.std.proofs.lemmas.List.Elements.{All-get_or}
-use Rattle.std.proofs.lemmas.List.FromFn.{get_or-map-range_with_len, length-map-range_with_len}
-use Rattle.std.proofs.lemmas.List.Quantifiers.{position-Some}
-use Rattle.std.proofs.lemmas.Option.{slice_get-get_or}
+use Rattle.plan_num.proofs.Common.{◌≡◌, ◌≢◌, ℕ, pos, zero, suc, ◌+◌, ◌-◌, ◌<◌, ◌≤◌, Bool, true}
+use Rattle.plan_num.proofs.Common.{false, cond, eqb, List, [], ◌∷◌, ◌++◌, length, get_or, reverse}
+use Rattle.plan_num.proofs.Common.{refl, ap, subst, sym, ◌∙◌, arith, append_assoc, Option, Some}
+use Rattle.plan_num.proofs.Common.{None, option_map, option_and_then, unwrap_or, All, eq-eqb}
+use Rattle.plan_num.proofs.Common.{reverse-append, All-get_or, get_or-map-range_with_len}
+use Rattle.plan_num.proofs.Common.{length-map-range_with_len, position-Some, slice_get-get_or}
 use Rattle.walks.specs.declared.edge.Edge.{Edge}
 use Rattle.walks.specs.Networks.{NetworkParts, IsEdge}
 use Rattle.walks.specs.Walks.{across, edge_length, least_sums}

@@ -1,17 +1,11 @@
 -- What holds of ids that were sorted, and of entries by their ids.
-use Rattle.std.proofs.Common.{◌≡◌, ℤ, ◌+◌, ◌≤◌, Bool, true, false, ◌&&◌, T, List, [], ◌∷◌, length, map}
-use Rattle.std.proofs.Common.{refl, arith}
-use Rattle.std.specs.List.{All, AllByRecursion}
+use Rattle.plan_num.proofs.Common.{◌≡◌, ℤ, ◌+◌, ◌≤◌, Bool, true, false, ◌&&◌, T, List, [], ◌∷◌}
+use Rattle.plan_num.proofs.Common.{length, map, refl, arith, All, AllByRecursion, keys_of}
+use Rattle.plan_num.proofs.Common.{values_of, int_cmp, is_lt, put, is_sorted, by_order, below_all}
+use Rattle.plan_num.proofs.Common.{length-map, All-cons, All-head, All-tail, length-keys_of}
 use Rattle.std.specs.List.Sorted.{IsStrictlySortedBy}
-use Rattle.std.specs.Map.{keys_of, values_of}
-use Rattle.std.specs.Ordering.{int_cmp, is_lt}
 use Rattle.std.specs.declared.cmp.Ordering.{Ordering}
 use Rattle.std.specs.declared.cmp.Ordering.TheVariants.{Less, Equal, Greater}
-use Rattle.std.specs.FinMap.{put, is_sorted}
-use Rattle.std.specs.FinMap.Entries.{by_order, below_all}
-use Rattle.std.proofs.lemmas.List.{length-map}
-use Rattle.std.proofs.lemmas.List.Elements.{All-cons, All-head, All-tail}
-use Rattle.std.proofs.lemmas.Map.Entries.{length-keys_of}
 use Rattle.walks.specs.RisingIds.{by_id, rising}
 use Rattle.walks.proofs.ById.{by_id_sorted}
 

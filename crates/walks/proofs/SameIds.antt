@@ -1,15 +1,13 @@
 -- Ids that rise, and the ids that they are.
-use Rattle.std.proofs.Common.{◌≡◌, ℤ, false, ◌&&◌, not, List, [], ◌∷◌, map, inl, inr, arith}
-use Rattle.std.proofs.Common.{is_some, Option, Some, None, refl, ap, sym, ◌∙◌}
-use Rattle.std.specs.List.{list_any}
-use Rattle.std.specs.Map.{keys_of}
-use Rattle.std.specs.Ordering.{int_cmp, int_eq, is_eq, is_lt, ordering_reverse}
+use Rattle.plan_num.proofs.Common.{◌≡◌, ℤ, false, ◌&&◌, not, List, [], ◌∷◌, map, inl, inr, arith}
+use Rattle.plan_num.proofs.Common.{is_some, Option, Some, None, refl, ap, sym, ◌∙◌, list_any}
+use Rattle.plan_num.proofs.Common.{keys_of, int_cmp, int_eq, is_lt, ordering_reverse}
+use Rattle.plan_num.proofs.Common.{int_cmp-IsAntisymmetric, find-put, same_entries, int_cmp_total}
+use Rattle.plan_num.proofs.Common.{cases_Bool}
+use Rattle.std.specs.Ordering.{is_eq}
 use Rattle.std.specs.declared.cmp.Ordering.{Ordering}
 use Rattle.std.specs.declared.cmp.Ordering.TheVariants.{Less, Equal, Greater}
-use Rattle.std.specs.FinMap.{find, int_cmp-IsAntisymmetric}
-use Rattle.std.specs.FinMap.Entries.{find-put, same_entries}
-use Rattle.std.proofs.lemmas.Cmp.{int_cmp_total}
-use Rattle.std.proofs.lemmas.Bool.{cases_Bool}
+use Rattle.std.specs.FinMap.{find}
 use Rattle.walks.specs.RisingIds.{by_id, rising}
 use Rattle.walks.proofs.ById.{by_id_sorted}
 

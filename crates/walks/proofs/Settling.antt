@@ -1,14 +1,13 @@
 -- Labels of stops: what settling the nearest stop keeps.
-use Rattle.std.proofs.Common.{◌≡◌, ◌≢◌, ℕ, ◌+◌, ◌<◌, ◌≤◌, min, Bool, true, false, eqb, List, []}
-use Rattle.std.proofs.Common.{◌∷◌, ◌++◌, length, map, take, fold, set, get_or, slice_get, refl, ap}
-use Rattle.std.proofs.Common.{sym, subst, ◌∙◌, Option, Some, None, Contains, ◌⊎◌, inl, inr, arith}
-use Rattle.std.specs.List.{count_by}
-use Rattle.std.proofs.lemmas.Bool.{cases_lt}
-use Rattle.std.proofs.lemmas.Bool.Decides.{nat_tests}
-use Rattle.std.proofs.lemmas.List.{length-set, get_or-set_same, get_or-set_other, set_past, take_more, map-append, get_or_default}
-use Rattle.std.proofs.lemmas.List.Sums.{fold_push, sum_by-set}
-use Rattle.std.proofs.lemmas.Option.{get_or_from_slice_get, slice_get-get_or, slice_get_within}
-use Rattle.std.proofs.lemmas.List.Elements.{All-contains, All-contains_itself, All-map, All-weaker}
+use Rattle.plan_num.proofs.Common.{◌≡◌, ◌≢◌, ℕ, ◌+◌, ◌<◌, ◌≤◌, min, Bool, true, false, eqb, List}
+use Rattle.plan_num.proofs.Common.{[], ◌∷◌, ◌++◌, length, map, take, fold, set, get_or, slice_get}
+use Rattle.plan_num.proofs.Common.{refl, ap, sym, subst, ◌∙◌, Option, Some, None, Contains, ◌⊎◌}
+use Rattle.plan_num.proofs.Common.{inl, inr, arith, count_by, cases_lt, nat_tests, length-set}
+use Rattle.plan_num.proofs.Common.{get_or-set_same, get_or-set_other, take_more, map-append}
+use Rattle.plan_num.proofs.Common.{get_or_default, fold_push, sum_by-set, get_or_from_slice_get}
+use Rattle.plan_num.proofs.Common.{slice_get-get_or, slice_get_within, All-contains}
+use Rattle.plan_num.proofs.Common.{All-contains_itself, All-map, All-weaker}
+use Rattle.std.proofs.lemmas.List.{set_past}
 use Rattle.walks.specs.declared.edge.Edge.{Edge}
 use Rattle.walks.specs.declared.label.Label.{Label}
 use Rattle.walks.specs.declared.label.Label.TheVariants.{Unseen, Reached, Settled}

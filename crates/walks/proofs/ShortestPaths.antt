@@ -1,17 +1,13 @@
 -- A path goes to its end, and no walk there is shorter.
-use Rattle.std.proofs.Common.{◌≡◌, ◌≢◌, ℕ, ℤ, unsigned_abs, zero, suc, ◌+◌, ◌<◌, ◌≤◌, Bool, true}
-use Rattle.std.proofs.Common.{false, ◌||◌, nat_eq, List, [], ◌∷◌, ◌++◌, length, get_or, slice_get}
-use Rattle.std.proofs.Common.{refl, ap, subst, sym, ◌∙◌, arith, Option, Some, None, option_map}
-use Rattle.std.proofs.Common.{is_some, inl, inr, ◌⊎◌, All, Contains}
-use Rattle.std.specs.List.{IsDistinct, list_any, cons_option}
-use Rattle.std.proofs.lemmas.Bool.{eqb-true, cases_eq}
-use Rattle.std.proofs.lemmas.Cmp.{nat_eq_equiv}
-use Rattle.std.proofs.lemmas.List.{length_push, get_or_default}
-use Rattle.std.proofs.lemmas.List.Elements.{All-get_or, filter_map-append}
-use Rattle.std.proofs.lemmas.List.Folds.{list_any_at, list_any-append}
-use Rattle.std.proofs.lemmas.Map.Keys.{IsDistinct-push}
-use Rattle.std.proofs.lemmas.Map.Steps.{length-le_from_distinct_below}
-use Rattle.std.proofs.lemmas.Option.{slice_get-get_or, same_Some}
+use Rattle.plan_num.proofs.Common.{◌≡◌, ◌≢◌, ℕ, ℤ, unsigned_abs, zero, suc, ◌+◌, ◌<◌, ◌≤◌, Bool}
+use Rattle.plan_num.proofs.Common.{true, false, ◌||◌, nat_eq, List, [], ◌∷◌, ◌++◌, length, get_or}
+use Rattle.plan_num.proofs.Common.{slice_get, refl, ap, subst, sym, ◌∙◌, arith, Option, Some, None}
+use Rattle.plan_num.proofs.Common.{option_map, is_some, inl, inr, ◌⊎◌, All, Contains, list_any}
+use Rattle.plan_num.proofs.Common.{cons_option, eqb-true, cases_eq, nat_eq_equiv, length_push}
+use Rattle.plan_num.proofs.Common.{get_or_default, All-get_or, filter_map-append, list_any_at}
+use Rattle.plan_num.proofs.Common.{list_any-append, IsDistinct-push, length-le_from_distinct_below}
+use Rattle.plan_num.proofs.Common.{slice_get-get_or, same_Some}
+use Rattle.std.specs.List.{IsDistinct}
 use Rattle.walks.specs.declared.edge.Edge.{Edge}
 use Rattle.walks.specs.Networks.{NetworkParts, IsEdge, IsNetwork}
 use Rattle.walks.specs.Walks.{edge_length, walk_sum, least_sums, IsWalk, IsLeastSum, AreLeastSums}

@@ -1,10 +1,8 @@
 -- The sums of labels that have the least sums of walks.
-use Rattle.std.proofs.Common.{◌≡◌, ℕ, ℤ, pos, ◌<◌, List, length, map, get_or, refl, ap, sym, subst}
-use Rattle.std.proofs.Common.{◌∙◌, Option, Some, None, IfSome, ◌≤◌, option_map, unsigned_abs, arith}
-use Rattle.std.proofs.lemmas.List.{length-map, get_or-map}
-use Rattle.std.proofs.lemmas.List.FromFn.{fill_by_all}
-use Rattle.std.proofs.lemmas.List.Elements.{All-map, All-weaker}
-use Rattle.std.proofs.lemmas.Int.{ints}
+use Rattle.plan_num.proofs.Common.{◌≡◌, ℕ, ℤ, pos, ◌<◌, List, length, map, get_or, refl, ap, sym}
+use Rattle.plan_num.proofs.Common.{subst, ◌∙◌, Option, Some, None, IfSome, ◌≤◌, option_map}
+use Rattle.plan_num.proofs.Common.{unsigned_abs, arith, length-map, get_or-map, fill_by_all}
+use Rattle.plan_num.proofs.Common.{All-map, All-weaker, ints}
 use Rattle.walks.specs.declared.label.Label.{Label}
 use Rattle.walks.specs.declared.label.Label.TheVariants.{Unseen}
 use Rattle.walks.specs.Networks.{NetworkParts}

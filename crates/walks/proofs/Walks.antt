@@ -1,13 +1,11 @@
 -- Walks: how they begin and go on, their sums, and the list of all walks of so many edges.
-use Rattle.std.proofs.Common.{◌≡◌, ℕ, zero, suc, ◌+◌, ◌*◌, ◌≤◌, min, Bool, true, false, cond, eqb}
-use Rattle.std.proofs.Common.{List, [], ◌∷◌, ◌++◌, length, map, sum, fold, refl, ap, sym, subst}
-use Rattle.std.proofs.Common.{◌∙◌, Option, Some, None, ◌⊎◌, option_map, option_and_then, All}
-use Rattle.std.proofs.Common.{Contains, arith}
-use Rattle.std.specs.List.{flat_map}
-use Rattle.std.proofs.lemmas.Bool.Decides.{nat_tests}
-use Rattle.std.proofs.lemmas.List.{map-append}
-use Rattle.std.proofs.lemmas.List.Elements.{All-nil, All-cons, All-head, All-tail, All-append, All-push, All-map, All-contains, All-contains_itself, All-weaker, Contains-append_right}
-use Rattle.std.proofs.lemmas.List.Sums.{sum_by-cons, sum_by-append, fold_push}
+use Rattle.plan_num.proofs.Common.{◌≡◌, ℕ, zero, suc, ◌+◌, ◌*◌, ◌≤◌, min, Bool, true, false, cond}
+use Rattle.plan_num.proofs.Common.{eqb, List, [], ◌∷◌, ◌++◌, length, map, sum, fold, refl, ap, sym}
+use Rattle.plan_num.proofs.Common.{subst, ◌∙◌, Option, Some, None, ◌⊎◌, option_map, option_and_then}
+use Rattle.plan_num.proofs.Common.{All, Contains, arith, flat_map, nat_tests, map-append, All-nil}
+use Rattle.plan_num.proofs.Common.{All-cons, All-head, All-tail, All-append, All-push, All-map}
+use Rattle.plan_num.proofs.Common.{All-contains, All-contains_itself, All-weaker}
+use Rattle.plan_num.proofs.Common.{Contains-append_right, sum_by-cons, sum_by-append, fold_push}
 use Rattle.plan_num.proofs.Members.{Contains-head, Contains-cons, Contains-map, Contains-flat_map, All-flat_map}
 use Rattle.walks.specs.declared.edge.Edge.{Edge}
 use Rattle.walks.specs.Walks.{across, IsWalk, walk_sum, staying, behind, walks_within, or_less, least_of}

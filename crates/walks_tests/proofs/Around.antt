@@ -1,10 +1,8 @@
 -- Four stops and four edges around are a network.
-use Rattle.std.proofs.Common.{ℕ, ℤ, pos, List, [], ◌∷◌, refl, arith, All}
+use Rattle.plan_num.proofs.Common.{ℕ, ℤ, pos, List, [], ◌∷◌, refl, arith, All, ints, All-cons}
+use Rattle.plan_num.proofs.Common.{All-nil}
 use Rattle.std.specs.List.Sorted.{IsStrictlySortedBy}
-use Rattle.std.proofs.lemmas.Int.{ints}
-use Rattle.std.proofs.lemmas.List.Elements.{All-cons, All-nil}
-use Rattle.walks.specs.declared.edge.Edge.{Edge}
-use Rattle.walks.specs.Networks.{IsEdge, IsNetwork}
+use Rattle.walks.proofs.Common.{Edge, IsEdge, IsNetwork}
 
 abbrev pub edge : ℤ → ℕ → ℕ → ℤ → Edge
 edge id left right length =

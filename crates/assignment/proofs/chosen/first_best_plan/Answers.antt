@@ -1,5 +1,5 @@
 use Rattle.std.proofs.Common.{◌+◌, [], replicate, None, length, refl, ap, sym, ◌∙◌, subst, arith}
-use Rattle.link_plans.specs.Links.{links_in}
+use Rattle.link_plans.proofs.Common.{links_in}
 use Rattle.plan_search.specs.Claims.{claim_at}
 use Rattle.assignment.proofs.Claimables.{claimable_first}
 use Rattle.plan_search.proofs.ClaimLists.{none_at}

@@ -1,6 +1,6 @@
 -- The trips so far have their places for good.
 use Rattle.std.proofs.Common.{◌≡◌, ◌+◌, [], None, length, replicate}
-use Rattle.link_plans.specs.Links.{links_in}
+use Rattle.link_plans.proofs.Common.{links_in}
 use Rattle.assignment.specs.ClaimablePlaces.{AreClaimable}
 use Rattle.assignment.proofs.Settling.{IsDeciding}
 use Rattle.assignment.proofs.chosen.first_best_plan.Given as goal

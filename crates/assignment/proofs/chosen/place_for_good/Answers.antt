@@ -1,5 +1,5 @@
 use Rattle.std.proofs.Common.{ap, subst, sym, ◌∙◌}
-use Rattle.link_plans.specs.Plans.{next}
+use Rattle.link_plans.proofs.Common.{next}
 use Rattle.assignment.specs.ClaimablePlaces.{IsTakenOut}
 use Rattle.plan_search.specs.Claims.{claim_at}
 use Rattle.assignment.proofs.Claimables.{claimable_next}

@@ -1,5 +1,5 @@
 use Rattle.std.proofs.Common.{subst, arith}
-use Rattle.link_plans.specs.Links.{links_in}
+use Rattle.link_plans.proofs.Common.{links_in}
 use Rattle.plan_search.specs.Parting.{AreMet}
 use Rattle.plan_search.proofs.Judged.{met_best, met_valid}
 use Rattle.assignment.proofs.judging.is_proved.Goals as goal

@@ -1,5 +1,4 @@
-use Rattle.std.proofs.Common.{◌≡◌, ◌<◌, ◌∙◌, ap, is_some, sym, arith}
-use Rattle.std.proofs.lemmas.Bool.{false≢true}
+use Rattle.plan_num.proofs.Common.{◌≡◌, ◌<◌, ◌∙◌, ap, is_some, sym, arith, false≢true}
 use Rattle.assignment.proofs.ClaimingAll.{still_claimed}
 use Rattle.assignment.proofs.Expanding.{last_kept, last_left, last_more, no_next}
 use Rattle.assignment.proofs.seek.expand_last.Goals as goal

@@ -1,5 +1,4 @@
-use Rattle.link_plans.specs.Links.{links_in}
-use Rattle.link_plans.proofs.Certified.{valid_for_best}
+use Rattle.link_plans.proofs.Common.{links_in, valid_for_best}
 use Rattle.assignment.proofs.solution.solve.Goals as goal
 
 pub canonical_potentials-requires-clause-plan : goal.canonical_potentials-requires-clause-plan

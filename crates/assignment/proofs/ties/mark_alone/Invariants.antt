@@ -1,6 +1,6 @@
 -- The places so far that need no trip are marked.
 use Rattle.std.proofs.Common.{None, length}
-use Rattle.link_plans.specs.Links.{links_in}
+use Rattle.link_plans.proofs.Common.{links_in}
 use Rattle.assignment.specs.ClaimablePlaces.{IsInRow, IsRowOf}
 use Rattle.plan_search.specs.Searches.{IsTightBy}
 use Rattle.assignment.proofs.ties.mark_alone.Given as goal

@@ -1,10 +1,7 @@
 use Rattle.std.proofs.Common.{◌≡◌, get_or, arith, subst, MatchBool, nat_eq, true}
-use Rattle.link_plans.specs.Links.{links_in}
-use Rattle.link_plans.specs.LinkRows.{link_to}
+use Rattle.link_plans.proofs.Common.{links_in, link_to, item, link_covered}
 use Rattle.assignment.specs.ClaimablePlaces.{IsPut}
 use Rattle.assignment.proofs.BitsOfPlaces.{row_more, row_same}
-use Rattle.link_plans.proofs.LinkRows.{item}
-use Rattle.link_plans.proofs.LinkSlacks.{link_covered}
 use Rattle.assignment.proofs.LinkTies.{ties_last, ties_more, ties_start}
 use Rattle.assignment.proofs.ties.mark_trip.Goals as goal
 

@@ -1,8 +1,7 @@
 -- The places so far at which the trip is tight are marked.
 use Rattle.std.proofs.Common.{Some, length}
-use Rattle.link_plans.specs.Links.{links_in}
+use Rattle.link_plans.proofs.Common.{links_in, reached}
 use Rattle.assignment.specs.ClaimablePlaces.{IsInRow, IsRowOf}
-use Rattle.link_plans.specs.LinkRows.{reached}
 use Rattle.plan_search.specs.Searches.{IsTightBy}
 use Rattle.assignment.proofs.ties.mark_trip.Given as goal
 

@@ -1,5 +1,5 @@
 -- The ties of the trips so far.
-use Rattle.link_plans.specs.Links.{links_in}
+use Rattle.link_plans.proofs.Common.{links_in}
 use Rattle.assignment.proofs.LinkTies.{AreTiesSo}
 use Rattle.assignment.proofs.ties.ties_of.Given as goal
 

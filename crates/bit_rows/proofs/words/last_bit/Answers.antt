@@ -1,5 +1,4 @@
-use Rattle.std.proofs.Common.{◌-◌, refl, w64}
-use Rattle.std.specs.Int.{leading_zeros}
+use Rattle.plan_num.proofs.Common.{◌-◌, refl, w64, leading_zeros}
 use Rattle.bit_rows.proofs.words.last_bit.Goals as goal
 use Rattle.bit_rows.proofs.WordBits.{last_is, no_last}
 

@@ -1,13 +1,8 @@
-use Rattle.std.proofs.Common.{◌≡◌, ◌∷◌, ◌++◌, ◌∙◌, [], List, Ok, ap, map, subst, sym, append-nil, slice_index_or}
-use Rattle.std.specs.List.{flat_map}
-use Rattle.std.proofs.lemmas.Result.{err_from_is_err_and}
-use Rattle.tables.specs.Columns.{tree_columns}
-use Rattle.tables.specs.Reading.{row_faults, table_of, table_row}
-use Rattle.tables.specs.Tables.{TableRow, no_row}
-use Rattle.tables.specs.Writing.{InColumns, line_text}
-use Rattle.tables.proofs.Ranges.{row_in_columns}
-use Rattle.tables.proofs.FirstFaults.{no_mark}
-use Rattle.tables.proofs.FirstFaults.{row_ends, mark_first, table_is}
+use Rattle.plan_num.proofs.Common.{◌≡◌, ◌∷◌, ◌++◌, ◌∙◌, [], List, Ok, ap, map, subst, sym}
+use Rattle.plan_num.proofs.Common.{append-nil, slice_index_or, flat_map, err_from_is_err_and}
+use Rattle.tables.proofs.Common.{tree_columns, table_of, table_row, TableRow, no_row, InColumns}
+use Rattle.tables.proofs.Common.{line_text, row_in_columns, no_mark, row_ends, mark_first, table_is}
+use Rattle.tables.specs.Reading.{row_faults}
 use Rattle.branch_certificate.proofs.RowsKept.{lines_first, lines_next, trees_copied}
 use Rattle.branch_certificate.proofs.copy.copy_tree.Goals as goal
 

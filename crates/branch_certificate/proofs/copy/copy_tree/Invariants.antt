@@ -1,9 +1,7 @@
 -- The lines that are written, with those of the rows that are left, make the text of all.
-use Rattle.std.proofs.Common.{◌≡◌, ◌++◌, length, map}
-use Rattle.std.specs.List.{flat_map}
-use Rattle.tables.specs.Columns.{tree_columns}
-use Rattle.tables.specs.Reading.{faults, row_faults, table_of, table_row}
-use Rattle.tables.specs.Writing.{line_text, table_text}
+use Rattle.plan_num.proofs.Common.{◌≡◌, ◌++◌, length, map, flat_map}
+use Rattle.tables.proofs.Common.{tree_columns, faults, table_of, table_row, line_text, table_text}
+use Rattle.tables.specs.Reading.{row_faults}
 use Rattle.branch_certificate.specs.TreeTexts.{tree_header}
 use Rattle.branch_certificate.proofs.copy.copy_tree.Given as goal
 

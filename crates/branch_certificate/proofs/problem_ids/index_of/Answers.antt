@@ -1,5 +1,4 @@
-use Rattle.std.proofs.Common.{position, ap, sym, ◌∙◌, w64}
-use Rattle.std.specs.Ordering.{int_eq}
+use Rattle.plan_num.proofs.Common.{position, ap, sym, ◌∙◌, w64, int_eq}
 use Rattle.std.proofs.lemmas.Int.{to_z-of_z}
 use Rattle.plan_num.proofs.SortedIds.{found, missed}
 use Rattle.branch_certificate.proofs.problem_ids.index_of.Goals as goal

@@ -1,15 +1,9 @@
-use Rattle.std.proofs.Common.{◌≡◌, ◌∷◌, ◌++◌, ◌+◌, ◌∙◌, List, [], ap, map, refl, subst, sym, get_or, slice_get, Some}
-use Rattle.std.specs.List.{flat_map}
-use Rattle.std.proofs.lemmas.Result.{err_from_is_err_and}
-use Rattle.tables.specs.declared.read_fault.RowFault.{RowFault}
-use Rattle.tables.specs.declared.refusal.Refusal.{Refusal}
-use Rattle.tables.specs.Columns.{tree_columns}
-use Rattle.tables.specs.Inputs.{or_else, table_row_faults}
-use Rattle.tables.specs.Reading.{row_faults, table_of, table_row}
-use Rattle.tables.specs.Tables.{TableRow, no_row}
-use Rattle.tables.proofs.Inputs.{records_all, rows_met}
-use Rattle.tables.proofs.FirstFaults.{no_mark}
-use Rattle.tables.proofs.FirstFaults.{row_ends, mark_first, table_is}
+use Rattle.plan_num.proofs.Common.{◌≡◌, ◌∷◌, ◌++◌, ◌+◌, ◌∙◌, List, [], ap, map, refl, subst, sym}
+use Rattle.plan_num.proofs.Common.{get_or, slice_get, Some, flat_map, err_from_is_err_and}
+use Rattle.tables.proofs.Common.{RowFault, Refusal, tree_columns, or_else, table_row_faults}
+use Rattle.tables.proofs.Common.{table_of, table_row, TableRow, no_row, records_all, rows_met}
+use Rattle.tables.proofs.Common.{no_mark, row_ends, mark_first, table_is}
+use Rattle.tables.specs.Reading.{row_faults}
 use Rattle.branch_certificate.specs.ReadRows.{IsReadSoFar, IsReadUpTo}
 use Rattle.branch_certificate.specs.TreeFiles.{tree_input}
 use Rattle.branch_certificate.proofs.ReadLines.{by_cell, cell_refused, in_order, no_cells, nothing_read}

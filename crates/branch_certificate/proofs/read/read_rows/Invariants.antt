@@ -1,8 +1,7 @@
 -- The rows that are left make the rest of a table, and what is known is known up to their place.
-use Rattle.std.proofs.Common.{◌≡◌, ℕ, drop, length, map}
-use Rattle.std.specs.List.{flat_map}
-use Rattle.tables.specs.Columns.{tree_columns}
-use Rattle.tables.specs.Reading.{faults, row_faults, table_of, table_row}
+use Rattle.plan_num.proofs.Common.{◌≡◌, ℕ, drop, length, map, flat_map}
+use Rattle.tables.proofs.Common.{tree_columns, faults, table_of, table_row}
+use Rattle.tables.specs.Reading.{row_faults}
 use Rattle.branch_certificate.specs.ReadRows.{IsReadUpTo}
 use Rattle.branch_certificate.proofs.read.read_rows.Given as goal
 

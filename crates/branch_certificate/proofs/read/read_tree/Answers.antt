@@ -1,7 +1,5 @@
-use Rattle.std.proofs.Common.{refl}
-use Rattle.std.proofs.lemmas.Result.{err_from_is_err_and}
-use Rattle.tables.specs.Columns.{tree_columns}
-use Rattle.tables.specs.Reading.{table_of}
+use Rattle.plan_num.proofs.Common.{refl, err_from_is_err_and}
+use Rattle.tables.proofs.Common.{tree_columns, table_of}
 use Rattle.branch_certificate.proofs.ReadLines.{one_of_both}
 use Rattle.branch_certificate.proofs.ReadTexts.{IsRead, cells_refuse, rows_refuse, due_refuses}
 use Rattle.branch_certificate.proofs.ReadTexts.{tree_read}

@@ -1,5 +1,5 @@
 use Rattle.std.proofs.Common.{◌≡◌, ◌∙◌, ap, None, rules, subst, sym}
-use Rattle.tables.specs.Tables.{TableRow}
+use Rattle.tables.proofs.Common.{TableRow}
 use Rattle.branch_certificate.specs.ReadRows.{IsReadUpTo}
 use Rattle.branch_certificate.specs.TreeFiles.{tree_row}
 use Rattle.branch_certificate.proofs.ReadWhole.{always_refused, misplaced, next_row}

@@ -1,11 +1,8 @@
-use Rattle.std.proofs.Common.{◌≤◌, ◌++◌, ◌∷◌, ◌∙◌, List, map, pos, length, ap, refl, subst, sym, arith, take, w64}
-use Rattle.std.specs.List.{flat_map}
+use Rattle.plan_num.proofs.Common.{◌≤◌, ◌++◌, ◌∷◌, ◌∙◌, List, map, pos, length, ap, refl, subst}
+use Rattle.plan_num.proofs.Common.{sym, arith, take, w64, flat_map, take_all}
 use Rattle.std.proofs.lemmas.Int.{to_z-of_z}
-use Rattle.std.proofs.lemmas.List.{take_all}
-use Rattle.tables.specs.Columns.{tree_columns}
-use Rattle.tables.specs.Tables.{TableRow}
-use Rattle.tables.specs.Writing.{InColumns, line_text}
-use Rattle.line_cost_model.specs.declared.multipliers.Multiplier.{Multiplier}
+use Rattle.tables.proofs.Common.{tree_columns, TableRow, InColumns, line_text}
+use Rattle.line_cost_model.proofs.Common.{Multiplier}
 use Rattle.branch_certificate.specs.TreeTexts.{cells_row, edge_id, row_with}
 use Rattle.plan_num.proofs.SortedIds.{kept_more}
 use Rattle.line_concepts.proofs.FewMultipliers.{few_multipliers}

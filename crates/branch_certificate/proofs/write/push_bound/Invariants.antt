@@ -1,8 +1,6 @@
 -- Behind the line of the bound stand those of the multipliers so far.
-use Rattle.std.proofs.Common.{◌≡◌, ◌++◌, ◌∷◌, length, map, pos, take}
-use Rattle.std.specs.List.{flat_map}
-use Rattle.tables.specs.Columns.{tree_columns}
-use Rattle.tables.specs.Writing.{line_text}
+use Rattle.plan_num.proofs.Common.{◌≡◌, ◌++◌, ◌∷◌, length, map, pos, take, flat_map}
+use Rattle.tables.proofs.Common.{tree_columns, line_text}
 use Rattle.branch_certificate.specs.TreeTexts.{edge_id, row_with}
 use Rattle.branch_certificate.proofs.write.push_bound.Given as goal
 

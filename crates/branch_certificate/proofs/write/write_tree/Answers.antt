@@ -1,12 +1,9 @@
-use Rattle.std.proofs.Common.{subst, ◌∙◌, arith, All}
-use Rattle.std.proofs.lemmas.List.{take_all}
-use Rattle.std.proofs.lemmas.List.Elements.{All-nil}
-use Rattle.tables.specs.Columns.{tree_columns}
-use Rattle.tables.specs.Writing.{line_text}
+use Rattle.plan_num.proofs.Common.{subst, ◌∙◌, arith, All, take_all, All-nil}
+use Rattle.tables.proofs.Common.{tree_columns, line_text}
 use Rattle.branch_certificate.specs.TreeTexts.{CanBeWritten, IsSmallSplit, node_rows, tree_header}
 use Rattle.line_concepts.specs.Nodes.{NamesWhatIs}
 use Rattle.branch_certificate.proofs.WriteLines.{all_lines, items_more, lines_more, text_back}
-use Rattle.line_cost_model.proofs.Proving.{holds_at}
+use Rattle.line_cost_model.proofs.Common.{holds_at}
 use Rattle.branch_certificate.proofs.write.write_tree.Goals as goal
 
 pub loop-i-init : goal.loop-i-init

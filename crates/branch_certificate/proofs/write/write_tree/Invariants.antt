@@ -1,8 +1,6 @@
 -- The lines of the nodes so far, each of which can be written.
-use Rattle.std.proofs.Common.{◌≡◌, ◌++◌, ◌∷◌, All, take}
-use Rattle.std.specs.List.{flat_map}
-use Rattle.tables.specs.Columns.{tree_columns}
-use Rattle.tables.specs.Writing.{line_text}
+use Rattle.plan_num.proofs.Common.{◌≡◌, ◌++◌, ◌∷◌, All, take, flat_map}
+use Rattle.tables.proofs.Common.{tree_columns, line_text}
 use Rattle.branch_certificate.specs.TreeTexts.{CanBeWritten, node_rows, tree_header}
 use Rattle.branch_certificate.proofs.write.write_tree.Given as goal
 

@@ -1,5 +1,4 @@
-use Rattle.std.proofs.Common.{arith}
-use Rattle.std.proofs.lemmas.Int.{ints}
+use Rattle.plan_num.proofs.Common.{arith, ints}
 use Rattle.canonical_potentials.proofs.Walking.{waits_more}
 use Rattle.canonical_potentials.proofs.walk.all_nodes.Goals as goal
 

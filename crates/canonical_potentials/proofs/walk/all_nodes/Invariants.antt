@@ -1,6 +1,5 @@
 -- The root waits, and the trips so far.
-use Rattle.std.proofs.Common.{◌≡◌, ◌∷◌, map}
-use Rattle.std.specs.List.{range_with_len}
+use Rattle.plan_num.proofs.Common.{◌≡◌, ◌∷◌, map, range_with_len}
 use Rattle.canonical_potentials.specs.Walks.{root_waits, trip_waits}
 use Rattle.canonical_potentials.proofs.walk.all_nodes.Given as goal
 

@@ -1,8 +1,6 @@
-use Rattle.std.proofs.Common.{ap, ◌∙◌, Err, refl}
+use Rattle.plan_num.proofs.Common.{ap, ◌∙◌, Err, refl, the_row, err_from_is_err_and}
 use Rattle.std.specs.Rc.{rc_value}
-use Rattle.std.specs.contracts.alloc.Global.{the_row}
-use Rattle.std.proofs.lemmas.Result.{err_from_is_err_and}
-use Rattle.plan_files.proofs.Reading.{nothing_read, both_read}
+use Rattle.plan_files.proofs.Common.{nothing_read, both_read}
 use Rattle.config_keys.proofs.Expanding.{row_refused, row_unfound, row_read}
 use Rattle.config_keys.proofs.Expanding.{leads_first, leads_more, leads_refused, leads_last}
 use Rattle.config_keys.proofs.expand.+expand.Goals as goal

@@ -1,7 +1,5 @@
-use Rattle.std.proofs.Common.{ap, ◌∙◌, Err}
+use Rattle.plan_num.proofs.Common.{ap, ◌∙◌, Err, the_row, err_from_is_err_and}
 use Rattle.std.specs.Rc.{rc_value}
-use Rattle.std.specs.contracts.alloc.Global.{the_row}
-use Rattle.std.proofs.lemmas.Result.{err_from_is_err_and}
 use Rattle.config_keys.proofs.Expanding.{config_refused, config_absent, config_read}
 use Rattle.config_keys.proofs.KeptFacts.{none_kept}
 use Rattle.config_keys.proofs.expand.read_all.Goals as goal

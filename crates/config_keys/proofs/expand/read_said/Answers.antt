@@ -1,5 +1,4 @@
-use Rattle.std.proofs.Common.{refl}
-use Rattle.std.proofs.lemmas.Result.{on_ok_weaker}
+use Rattle.plan_num.proofs.Common.{refl, on_ok_weaker}
 use Rattle.config_keys.proofs.SaidItems.{read_said}
 use Rattle.config_keys.proofs.expand.read_said.Goals as goal
 

@@ -1,5 +1,4 @@
-use Rattle.std.proofs.Common.{ap, ◌∙◌, Err}
-use Rattle.std.proofs.lemmas.Result.{err_from_is_err_and}
+use Rattle.plan_num.proofs.Common.{ap, ◌∙◌, Err, err_from_is_err_and}
 use Rattle.config_keys.proofs.Whole.{refused, settled_over}
 use Rattle.config_keys.proofs.read.read_config.Goals as goal
 

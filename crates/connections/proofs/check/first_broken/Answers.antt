@@ -1,5 +1,4 @@
-use Rattle.std.proofs.Common.{◌∙◌, ap, sym}
-use Rattle.std.specs.Bool.{then_some}
+use Rattle.plan_num.proofs.Common.{◌∙◌, ap, sym, then_some}
 use Rattle.connections.specs.declared.rule.JourneyRule.TheVariants as rule
 use Rattle.connections.proofs.FirstRules.{is_journey_first, is_last, is_start_first, is_step_first}
 use Rattle.connections.proofs.Passing.{proves_by}

@@ -1,6 +1,5 @@
 -- The set holds those of the events so far.
-use Rattle.std.proofs.Common.{◌≡◌, ◌&&◌, filter}
-use Rattle.std.specs.List.{range_with_len}
+use Rattle.plan_num.proofs.Common.{◌≡◌, ◌&&◌, filter, range_with_len}
 use Rattle.connections.specs.Ends.{is_before_end}
 use Rattle.connections.specs.Ways.{is_reached, way_at}
 use Rattle.connections.proofs.earliest.reached_before.Given as goal

@@ -1,5 +1,4 @@
-use Rattle.std.proofs.Common.{rules}
-use Rattle.std.proofs.lemmas.List.Sorted.{IsNonDecreasingBy-from_sort_by_key}
+use Rattle.plan_num.proofs.Common.{rules, IsNonDecreasingBy-from_sort_by_key}
 use Rattle.connections.proofs.links.links_in_order.Goals as goal
 
 pub returns-clause-in_order : goal.returns-clause-in_order

@@ -1,5 +1,4 @@
-use Rattle.std.proofs.Common.{◌≡◌, ◌∙◌, length, map, ap, sym, subst}
-use Rattle.std.proofs.lemmas.List.{length-map, with_items_is}
+use Rattle.plan_num.proofs.Common.{◌≡◌, ◌∙◌, length, map, ap, sym, subst, length-map, with_items_is}
 use Rattle.connections.specs.Ways.{AreWays, first_way, ways_along}
 use Rattle.connections.proofs.WaysAlong.{links_join, long, ways_found}
 use Rattle.connections.proofs.ways.ways_from.Goals as goal

@@ -1,5 +1,4 @@
-use Rattle.std.proofs.Common.{◌∙◌}
-use Rattle.std.proofs.lemmas.Result.{err_from_is_err_and}
+use Rattle.plan_num.proofs.Common.{◌∙◌, err_from_is_err_and}
 use Rattle.delay_management.proofs.RefusedInputs.{activities_refuse, activity_delays_refuse, event_delays_refuse}
 use Rattle.delay_management.proofs.RefusedInputs.{events_refuse, no_faults, problem_is, schedule_refuses}
 use Rattle.delay_management.proofs.bundle_problem.problem_of_bundle.Goals as goal

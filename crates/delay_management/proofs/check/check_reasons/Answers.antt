@@ -2,7 +2,7 @@ use Rattle.std.proofs.Common.{◌∙◌, ap}
 use Rattle.std.proofs.lemmas.Int.{to_z-of_z}
 use mir.Syntax.{w64}
 use Rattle.delay_management.specs.Judged.{first_broken_rule}
-use Rattle.propagation.specs.Waiting.{chosen_changes, kept_changes}
+use Rattle.propagation.proofs.Common.{chosen_changes, kept_changes}
 use Rattle.delay_management.specs.WaitSettings.{wait_of}
 use Rattle.delay_management.proofs.JudgedFaults.{passes_by, passes_only}
 use Rattle.delay_management.proofs.check.check_reasons.Goals as goal

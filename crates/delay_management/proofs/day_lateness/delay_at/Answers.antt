@@ -1,10 +1,8 @@
 use Rattle.std.proofs.Common.{◌≡◌, ◌∙◌, ◌<◌, ◌+◌, ◌+ℤ◌, length, drop, zip, get_or, ap, arith, to_z, of_z}
 use Rattle.std.proofs.lemmas.Int.{ints, to_z-of_z}
 use mir.Syntax.{w128}
-use Rattle.event_tables.specs.Kinds.{is_arrival}
-use Rattle.event_tables.specs.declared.expanded_event.ExpandedEvent.{ExpandedEvent}
-use Rattle.propagation.specs.Lateness.{more_delay}
-use Rattle.propagation.proofs.Late.{late_in, late_more}
+use Rattle.event_tables.proofs.Common.{is_arrival, ExpandedEvent}
+use Rattle.propagation.proofs.Common.{more_delay, late_in, late_more}
 use Rattle.delay_management.proofs.day_lateness.delay_at.Goals as goal
 
 pub loop-index-preserved : goal.loop-index-preserved

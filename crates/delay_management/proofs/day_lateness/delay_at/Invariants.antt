@@ -1,9 +1,8 @@
 -- The sum so far goes on as the first one does, and is no greater than so many events can make it.
-use Rattle.std.proofs.Common.{◌≡◌, ◌*◌, ◌+ℤ◌, ◌≤ℤ◌, neg_ℤ, pos, drop, filter, zip}
-use Rattle.std.specs.List.{fold}
+use Rattle.plan_num.proofs.Common.{◌≡◌, ◌*◌, ◌+ℤ◌, ◌≤ℤ◌, neg_ℤ, pos, drop, filter, zip, fold}
 use Rattle.delay_management.specs.DayLateness.{arrives, delay_at, lateness}
 use Rattle.delay_management.proofs.day_lateness.delay_at.Given as goal
-use Rattle.propagation.specs.declared.times.TheConstants.{LATEST}
+use Rattle.propagation.proofs.Common.{LATEST}
 
 abbrev pub invariant-loop-index : goal.invariant-loop-index
 invariant-loop-index l = record {

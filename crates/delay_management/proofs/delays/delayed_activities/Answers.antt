@@ -1,6 +1,6 @@
 use Rattle.std.proofs.Common.{◌∙◌, ◌++◌, not, true, false, ap, sym}
 use Rattle.delay_management.proofs.DelaysByPlace.{activity_left_out, activity_more}
-use Rattle.propagation.proofs.Places.{moved}
+use Rattle.propagation.proofs.Common.{moved}
 use Rattle.delay_management.proofs.delays.delayed_activities.Goals.{then-is_change+in_ok-push}
 use Rattle.delay_management.proofs.delays.delayed_activities.Goals.{else-is_change+in_ok-push-2}
 use Rattle.delay_management.proofs.delays.delayed_activities.Goals as goal

@@ -1,7 +1,7 @@
 use Rattle.std.proofs.Common.{◌≡◌, ◌∷◌, ◌∙◌, ◌+◌, ◌-◌, length, drop, ap, sym, arith, slice_index_or, slice_set}
 use Rattle.std.proofs.lemmas.List.{drop_all, drop_more}
 use Rattle.std.proofs.lemmas.List.FromFn.{length-map-range_with_len}
-use Rattle.event_tables.specs.Places.{IsOneOf}
+use Rattle.event_tables.proofs.Common.{IsOneOf}
 use Rattle.delay_management.specs.InputProblems.{delay_of}
 use Rattle.delay_management.proofs.DelaysByPlace.{by_place, more_placed, none_placed}
 use Rattle.delay_management.proofs.delays.delays_by_place.Goals as goal

@@ -1,6 +1,5 @@
 -- The delays are those of the rows that were taken.
-use Rattle.std.proofs.Common.{◌≡◌, ◌≤◌, drop, length, map}
-use Rattle.std.specs.List.{range_with_len}
+use Rattle.plan_num.proofs.Common.{◌≡◌, ◌≤◌, drop, length, map, range_with_len}
 use Rattle.delay_management.specs.InputProblems.{delay_of}
 use Rattle.delay_management.proofs.delays.delays_by_place.Given as goal
 

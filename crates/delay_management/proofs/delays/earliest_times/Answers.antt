@@ -1,7 +1,6 @@
-use Rattle.std.proofs.Common.{◌≤◌, sym, subst, All}
-use Rattle.std.proofs.lemmas.List.Elements.{All-push}
+use Rattle.plan_num.proofs.Common.{◌≤◌, sym, subst, All, All-push}
 use Rattle.delay_management.proofs.DelaysByPlace.{event_more}
-use Rattle.propagation.proofs.Places.{moved}
+use Rattle.propagation.proofs.Common.{moved}
 use Rattle.delay_management.proofs.delays.earliest_times.Goals as goal
 
 pub loop-index-preserved : goal.loop-index-preserved

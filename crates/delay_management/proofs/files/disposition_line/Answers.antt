@@ -1,5 +1,4 @@
-use Rattle.std.proofs.Common.{◌∙◌, ◌++◌, ◌∷◌, [], codes, ap}
-use Rattle.std.specs.Fmt.{signed_decimal}
+use Rattle.plan_num.proofs.Common.{◌∙◌, ◌++◌, ◌∷◌, [], codes, ap, signed_decimal}
 use Rattle.std.proofs.lemmas.Int.{to_z-of_z}
 use mir.Syntax.{w128}
 use Rattle.delay_management.proofs.ReportLine.{line_told}

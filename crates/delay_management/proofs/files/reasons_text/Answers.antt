@@ -1,13 +1,8 @@
-use Rattle.std.proofs.Common.{◌≡◌, ◌∙◌, ◌+◌, ◌++◌, ◌∷◌, [], ℕ, ℤ, List, All, IfOk, get_or, take, ap, refl, sym, subst}
-use Rattle.std.proofs.Common.{arith}
-use Rattle.std.proofs.lemmas.List.{map_push}
-use Rattle.tables.specs.Columns.{reasons_columns}
-use Rattle.tables.specs.Tables.{TableRow}
-use Rattle.tables.specs.Writing.{InColumns, table_text}
-use Rattle.tables.proofs.Headers.{plain_header}
-use Rattle.tables.specs.RowsOfTables.{rows_by}
-use Rattle.tables.proofs.WrittenColumns.{columns_written}
-use Rattle.propagation.specs.declared.reason.Reason.{Reason}
+use Rattle.plan_num.proofs.Common.{◌≡◌, ◌∙◌, ◌+◌, ◌++◌, ◌∷◌, [], ℕ, ℤ, List, All, IfOk, get_or}
+use Rattle.plan_num.proofs.Common.{take, ap, refl, sym, subst, arith, map_push}
+use Rattle.tables.proofs.Common.{reasons_columns, TableRow, InColumns, table_text, plain_header}
+use Rattle.tables.proofs.Common.{rows_by, columns_written}
+use Rattle.propagation.proofs.Common.{Reason}
 use Rattle.propagation.specs.declared.reason.Reason.TheVariants as reasons
 use Rattle.delay_management.specs.DispositionStage.{ReasonRow, reason_cells, reason_rows, reasons_header}
 use Rattle.delay_management.proofs.WrittenRows.{reason_table_fits, reasons_fit, row_more, rows_whole}

@@ -1,5 +1,5 @@
 use Rattle.std.proofs.Common.{ap}
-use Rattle.event_tables.specs.ExpandedFiles.{expanded_activity_input}
+use Rattle.event_tables.proofs.Common.{expanded_activity_input}
 use Rattle.delay_management.specs.DispositionStage.{activities_in}
 use Rattle.delay_management.proofs.RefusedInputs.{reads_as}
 use Rattle.delay_management.proofs.inputs.activities_of.Goals as goal

@@ -1,6 +1,5 @@
 use Rattle.std.proofs.Common.{ap}
-use Rattle.event_tables.specs.Delays.{activity_delay_input}
-use Rattle.event_tables.specs.ExpandedFiles.{expanded_activity_ids}
+use Rattle.event_tables.proofs.Common.{activity_delay_input, expanded_activity_ids}
 use Rattle.delay_management.specs.DispositionStage.{activity_delays_in}
 use Rattle.delay_management.proofs.RefusedInputs.{reads_as}
 use Rattle.delay_management.proofs.inputs.activity_delays_of.Goals as goal

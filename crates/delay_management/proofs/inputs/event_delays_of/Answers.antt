@@ -1,6 +1,5 @@
 use Rattle.std.proofs.Common.{ap}
-use Rattle.event_tables.specs.Delays.{event_delay_input}
-use Rattle.event_tables.specs.ExpandedFiles.{expanded_event_ids}
+use Rattle.event_tables.proofs.Common.{event_delay_input, expanded_event_ids}
 use Rattle.delay_management.specs.DispositionStage.{event_delays_in}
 use Rattle.delay_management.proofs.RefusedInputs.{reads_as}
 use Rattle.delay_management.proofs.inputs.event_delays_of.Goals as goal

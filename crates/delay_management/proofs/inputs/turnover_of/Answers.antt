@@ -1,6 +1,6 @@
 use Rattle.std.proofs.Common.{◌≤◌, ◌∙◌, ap, sym, subst}
 use Rattle.giv_files.specs.declared.key.Key.TheVariants as key
-use Rattle.giv_files.specs.Settings.{amount}
+use Rattle.giv_files.proofs.Common.{amount}
 use Rattle.delay_management.proofs.InputsSound.{turnover_few}
 use Rattle.delay_management.proofs.inputs.turnover_of.Goals as goal
 

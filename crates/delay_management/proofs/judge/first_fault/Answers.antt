@@ -1,5 +1,5 @@
 use Rattle.std.proofs.Common.{sym, ◌∙◌}
-use Rattle.propagation.specs.Waiting.{chosen_changes}
+use Rattle.propagation.proofs.Common.{chosen_changes}
 use Rattle.delay_management.proofs.JudgedFaults.{as_rows_told, not_table}
 use Rattle.delay_management.proofs.judge.first_fault.Goals as goal
 

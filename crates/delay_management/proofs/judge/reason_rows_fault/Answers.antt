@@ -1,5 +1,5 @@
 use Rattle.std.proofs.Common.{◌∙◌, ap, sym, option_map}
-use Rattle.tables.specs.RowsOfTables.{records_by}
+use Rattle.tables.proofs.Common.{records_by}
 use Rattle.delay_management.specs.declared.fault.ReasonFault.TheVariants as fault
 use Rattle.delay_management.specs.Judged.{reason_row}
 use Rattle.delay_management.proofs.JudgedFaults.{found_wrong}

@@ -1,7 +1,6 @@
 -- What is left of the rows tells whether all of them are in order.
-use Rattle.std.proofs.Common.{◌≡◌, ◌+◌, drop, map, nat_eq}
-use Rattle.std.specs.List.{enumerate_from, list_all}
-use Rattle.tables.specs.RowsOfTables.{records_by}
+use Rattle.plan_num.proofs.Common.{◌≡◌, ◌+◌, drop, map, nat_eq, enumerate_from, list_all}
+use Rattle.tables.proofs.Common.{records_by}
 use Rattle.delay_management.specs.Judged.{reason_row}
 use Rattle.delay_management.proofs.rows.are_all_reasons.Given as goal
 

@@ -1,8 +1,7 @@
 -- What is left of the rows tells whether all of them are in order.
-use Rattle.std.proofs.Common.{◌≡◌, ◌+◌, drop, map, nat_eq}
-use Rattle.std.specs.List.{enumerate_from, list_all}
-use Rattle.tables.specs.RowsOfTables.{records_by}
-use Rattle.event_tables.specs.Cells.{disposed_time}
+use Rattle.plan_num.proofs.Common.{◌≡◌, ◌+◌, drop, map, nat_eq, enumerate_from, list_all}
+use Rattle.tables.proofs.Common.{records_by}
+use Rattle.event_tables.proofs.Common.{disposed_time}
 use Rattle.delay_management.proofs.rows.are_all_times.Given as goal
 
 abbrev pub invariant-loop-row : goal.invariant-loop-row

@@ -1,9 +1,9 @@
 -- The times so far are those of the first rows.
 use Rattle.std.proofs.Common.{◌≡◌, ◌≤◌, All, map, take}
-use Rattle.event_tables.specs.Cells.{disposed_time}
-use Rattle.tables.specs.RowsOfTables.{records_by}
+use Rattle.event_tables.proofs.Common.{disposed_time}
+use Rattle.tables.proofs.Common.{records_by}
 use Rattle.delay_management.proofs.rows.times_of.Given as goal
-use Rattle.propagation.specs.declared.times.TheConstants.{LATEST}
+use Rattle.propagation.proofs.Common.{LATEST}
 
 abbrev pub invariant-loop-row : goal.invariant-loop-row
 invariant-loop-row l = record {

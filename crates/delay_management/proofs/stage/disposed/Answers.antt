@@ -1,11 +1,8 @@
-use Rattle.std.proofs.Common.{◌∙◌, ap, to_z, of_z}
+use Rattle.plan_num.proofs.Common.{◌∙◌, ap, to_z, of_z, err_from_is_err_and}
 use Rattle.std.proofs.lemmas.Int.{to_z-of_z}
-use Rattle.std.proofs.lemmas.Result.{err_from_is_err_and}
 use mir.Syntax.{w64}
 use Rattle.delay_management.specs.DispositionStage.{disposition_made}
-use Rattle.propagation.specs.LeastTimes.{least_times}
-use Rattle.propagation.specs.Reasons.{canonical_reasons}
-use Rattle.propagation.specs.Waiting.{chosen_changes}
+use Rattle.propagation.proofs.Common.{least_times, canonical_reasons, chosen_changes}
 use Rattle.delay_management.proofs.StageResults.{stage_made, stage_refused}
 use Rattle.delay_management.proofs.stage.disposed.Goals as goal
 

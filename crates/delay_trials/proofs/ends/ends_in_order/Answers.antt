@@ -1,5 +1,4 @@
-use Rattle.std.proofs.Common.{rules}
-use Rattle.std.proofs.lemmas.List.Sorted.{IsNonDecreasingBy-from_sort_by_key}
+use Rattle.plan_num.proofs.Common.{rules, IsNonDecreasingBy-from_sort_by_key}
 use Rattle.delay_trials.proofs.EndsOfChanges.{ends_moved}
 use Rattle.delay_trials.proofs.ends.ends_in_order.Goals as goal
 

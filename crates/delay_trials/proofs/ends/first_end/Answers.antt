@@ -1,5 +1,4 @@
-use Rattle.std.proofs.Common.{ltb, rules}
-use Rattle.std.proofs.lemmas.List.Sorted.{IsPartitionPoint-from_clause, IsPartitionedBy-ltb}
+use Rattle.plan_num.proofs.Common.{ltb, rules, IsPartitionPoint-from_clause, IsPartitionedBy-ltb}
 use Rattle.delay_trials.proofs.EndsOfChanges.{first_is}
 use Rattle.delay_trials.proofs.ends.first_end.Goals as goal
 

@@ -1,5 +1,5 @@
 use Rattle.std.proofs.Common.{subst}
-use Rattle.propagation.specs.DayEvents.{forward_rank}
+use Rattle.propagation.proofs.Common.{forward_rank}
 use Rattle.delay_trials.specs.ChangeEnds.{IsFirst}
 use Rattle.delay_trials.proofs.FirstPlaces.{no_first, one_first}
 use Rattle.delay_trials.proofs.link_places.first_links.Goals as goal

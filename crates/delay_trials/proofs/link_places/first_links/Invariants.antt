@@ -1,5 +1,5 @@
 -- The places so far are those of the first events.
-use Rattle.propagation.specs.DayEvents.{forward_rank}
+use Rattle.propagation.proofs.Common.{forward_rank}
 use Rattle.delay_trials.specs.ChangeEnds.{AreFirst}
 use Rattle.delay_trials.proofs.link_places.first_links.Given as goal
 

@@ -1,14 +1,10 @@
-use Rattle.std.proofs.Common.{◌≡◌, ◌+◌, ◌≤◌, ◌≤ℤ◌, pos, [], ◌∷◌, ◌++◌, Some, length, get_or, slice_get, take, unsigned_abs, ap, subst, sym, ◌∙◌, arith}
-use Rattle.std.proofs.lemmas.List.Elements.{All-get_or}
-use Rattle.std.proofs.lemmas.List.FromFn.{fill_by_all}
-use Rattle.std.proofs.lemmas.List.Sums.{sum_by_push}
+use Rattle.plan_num.proofs.Common.{◌≡◌, ◌+◌, ◌≤◌, ◌≤ℤ◌, pos, [], ◌∷◌, ◌++◌, Some, length, get_or}
+use Rattle.plan_num.proofs.Common.{slice_get, take, unsigned_abs, ap, subst, sym, ◌∙◌, arith}
+use Rattle.plan_num.proofs.Common.{All-get_or, fill_by_all, sum_by_push}
 use Rattle.tables.specs.declared.file_id.FileId.TheVariants as file
 use Rattle.tables.specs.declared.refusal.Refusal.TheVariants as refusal
-use Rattle.tables.specs.Columns.{od_columns}
-use Rattle.tables.specs.Inputs.{records, broken_whys}
-use Rattle.tables.specs.Tables.{no_row}
-use Rattle.tables.specs.Writing.{InColumns}
-use Rattle.tables.proofs.Inputs.{row_met, row_refused, rows_met, records_all, records_more}
+use Rattle.tables.proofs.Common.{od_columns, records, broken_whys, no_row, InColumns, row_met}
+use Rattle.tables.proofs.Common.{row_refused, rows_met, records_all, records_more}
 use Rattle.demand_load.specs.Demand.{demand_input, load_of, row_load}
 use Rattle.demand_load.proofs.SmallLoads.{customers_in}
 use Rattle.demand_load.proofs.demand.loads_of_rows.Goals as goal

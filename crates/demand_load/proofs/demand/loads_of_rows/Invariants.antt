@@ -1,7 +1,6 @@
 -- The customers of the rows so far want to go, and none of these rows breaks a rule.
 use Rattle.std.proofs.Common.{◌≡◌, ◌≤◌, ◌*◌, ℕ, take}
-use Rattle.tables.specs.Inputs.{records}
-use Rattle.tables.proofs.Inputs.{SoundBefore}
+use Rattle.tables.proofs.Common.{records, SoundBefore}
 use Rattle.demand_load.specs.Demand.{demand_input, load_of}
 use Rattle.demand_paths.specs.Known.{AreKnown}
 use Rattle.demand_paths.specs.Wanted.{everyone, goes_over, sum_between, AreWanted}

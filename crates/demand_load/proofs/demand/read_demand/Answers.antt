@@ -1,11 +1,6 @@
-use Rattle.std.proofs.Common.{◌≡◌, ap, subst, sym, ◌∙◌}
-use Rattle.std.specs.List.{All}
-use Rattle.std.proofs.lemmas.Result.{err_from_is_err_and}
-use Rattle.tables.specs.Columns.{od_columns}
-use Rattle.tables.specs.Inputs.{records, records_of}
-use Rattle.tables.specs.Writing.{InColumns}
-use Rattle.tables.proofs.Inputs.{refused_cells, faults_of_table, UnlessFault-weaker}
-use Rattle.tables.proofs.Ranges.{table_in_columns}
+use Rattle.plan_num.proofs.Common.{◌≡◌, ap, subst, sym, ◌∙◌, All, err_from_is_err_and}
+use Rattle.tables.proofs.Common.{od_columns, records, records_of, InColumns, refused_cells}
+use Rattle.tables.proofs.Common.{faults_of_table, UnlessFault-weaker, table_in_columns}
 use Rattle.demand_load.specs.Demand.{demand_input, demand_loads}
 use Rattle.demand_load.proofs.demand.read_demand.Goals as goal
 use Rattle.plan_num.proofs.Lists.{unmapped}

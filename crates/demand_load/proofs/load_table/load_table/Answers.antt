@@ -1,6 +1,5 @@
-use Rattle.std.proofs.Common.{◌∷◌, ◌++◌, [], ap, sym, get_or, ◌∙◌, arith}
-use Rattle.std.proofs.lemmas.List.{get_or_default}
-use Rattle.std.proofs.lemmas.Option.{get_or_from_slice_get}
+use Rattle.plan_num.proofs.Common.{◌∷◌, ◌++◌, [], ap, sym, get_or, ◌∙◌, arith, get_or_default}
+use Rattle.plan_num.proofs.Common.{get_or_from_slice_get}
 use Rattle.ptn_network.specs.Loads.{no_load}
 use Rattle.demand_load.specs.LoadTables.{load_row}
 use Rattle.demand_load.proofs.LoadRows.{rows_more, rows_all}

@@ -1,10 +1,7 @@
 use Rattle.std.proofs.Common.{refl, arith, subst, sym, All}
-use Rattle.tables.specs.Columns.{load_columns}
-use Rattle.tables.specs.Writing.{InColumns}
+use Rattle.tables.proofs.Common.{load_columns, InColumns, plain_header, columns_written}
 use Rattle.demand_load.specs.LoadTables.{load_header}
-use Rattle.tables.proofs.Headers.{plain_header}
 use Rattle.demand_load.proofs.LoadRows.{rows_in_columns}
-use Rattle.tables.proofs.WrittenColumns.{columns_written}
 use Rattle.demand_load.proofs.load_table.loads_made.Goals as goal
 
 pub write_table-requires : goal.write_table-requires

@@ -1,6 +1,4 @@
-use Rattle.std.proofs.Common.{◌≤ℤ◌, pos, length, ap, subst, sym, ◌∙◌}
-use Rattle.std.specs.List.{All}
-use Rattle.std.proofs.lemmas.Result.{err_from_is_err_and}
+use Rattle.plan_num.proofs.Common.{◌≤ℤ◌, pos, length, ap, subst, sym, ◌∙◌, All, err_from_is_err_and}
 use Rattle.ptn_network.specs.Loads.{IsBounded}
 use Rattle.demand_load.specs.LoadTables.{HasSpread, HasId}
 use Rattle.demand_load.proofs.LoadCalls.{settings_fit, loads_count, network_refused, text_refused, frequency_refused, stage_given}

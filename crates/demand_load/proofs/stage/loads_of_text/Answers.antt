@@ -1,8 +1,5 @@
-use Rattle.std.proofs.Common.{◌≡◌, ◌≤◌, ap, map, subst, sym, ◌∙◌}
-use Rattle.std.specs.List.{All}
-use Rattle.std.proofs.lemmas.Result.{err_from_is_err_and}
-use Rattle.tables.specs.Inputs.{Refuses}
-use Rattle.tables.proofs.Inputs.{UnlessFault-weaker}
+use Rattle.plan_num.proofs.Common.{◌≡◌, ◌≤◌, ap, map, subst, sym, ◌∙◌, All, err_from_is_err_and}
+use Rattle.tables.proofs.Common.{Refuses, UnlessFault-weaker}
 use Rattle.tables.specs.declared.file_id.FileId.TheVariants as file
 use Rattle.ptn_network.specs.Loads.{loads_of}
 use Rattle.demand_load.specs.LoadStage.{bounded, loads_by}

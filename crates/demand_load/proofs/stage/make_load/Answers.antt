@@ -1,4 +1,4 @@
-use Rattle.giv_files.proofs.StageCalls.{right_given}
+use Rattle.giv_files.proofs.Common.{right_given}
 use Rattle.demand_load.proofs.LoadReads.{loads_are_right}
 use Rattle.demand_load.proofs.stage.make_load.Goals as goal
 

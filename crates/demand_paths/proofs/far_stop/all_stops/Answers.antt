@@ -1,6 +1,5 @@
-use Rattle.std.proofs.Common.{◌≡◌, ◌++◌, ◌∷◌, [], map, ap, sym, ◌∙◌, arith, subst, Some, slice_get}
-use Rattle.std.specs.List.{range_with_len}
-use Rattle.std.proofs.lemmas.List.FromFn.{map-range_with_len_more}
+use Rattle.plan_num.proofs.Common.{◌≡◌, ◌++◌, ◌∷◌, [], map, ap, sym, ◌∙◌, arith, subst, Some}
+use Rattle.plan_num.proofs.Common.{slice_get, range_with_len, map-range_with_len_more}
 use Rattle.demand_paths.specs.Wanted.{far_stop}
 use Rattle.demand_paths.proofs.FarStops.{distance_told}
 use Rattle.demand_paths.proofs.far_stop.all_stops.Goals as goal

@@ -1,6 +1,5 @@
 -- The stops so far, with their distances.
-use Rattle.std.proofs.Common.{◌≡◌, map}
-use Rattle.std.specs.List.{range_with_len}
+use Rattle.plan_num.proofs.Common.{◌≡◌, map, range_with_len}
 use Rattle.demand_paths.specs.Wanted.{far_stop}
 use Rattle.demand_paths.proofs.far_stop.all_stops.Given as goal
 

@@ -1,5 +1,4 @@
-use Rattle.std.proofs.Common.{rules}
-use Rattle.std.proofs.lemmas.List.Sorted.{IsNonDecreasingBy-from_sort_by_key}
+use Rattle.plan_num.proofs.Common.{rules, IsNonDecreasingBy-from_sort_by_key}
 use Rattle.demand_paths.proofs.FarStops.{by_distance}
 use Rattle.demand_paths.proofs.far_stop.nearest_first.Goals as goal
 

@@ -1,6 +1,5 @@
-use Rattle.std.proofs.Common.{◌≡◌, ◌<◌, ◌≤◌, ◌-◌, length, get_or, ap, subst, sym, ◌∙◌, arith, inl, inr}
-use Rattle.std.proofs.lemmas.Bool.{cases_eq}
-use Rattle.std.proofs.lemmas.List.{get_or_default}
+use Rattle.plan_num.proofs.Common.{◌≡◌, ◌<◌, ◌≤◌, ◌-◌, length, get_or, ap, subst, sym, ◌∙◌, arith}
+use Rattle.plan_num.proofs.Common.{inl, inr, cases_eq, get_or_default}
 use Rattle.demand_paths.specs.Wanted.{distance, NobodyLeft}
 use Rattle.demand_paths.proofs.FarStops.{no_stop, no_nearer, all_gone}
 use Rattle.demand_paths.proofs.on_edges.bear_from.Goals as goal

@@ -1,5 +1,4 @@
-use Rattle.std.proofs.Common.{◌≡◌, ◌≤◌, [], get_or, ap, sym, ◌∙◌, arith}
-use Rattle.std.proofs.lemmas.Bool.{eqb-true}
+use Rattle.plan_num.proofs.Common.{◌≡◌, ◌≤◌, [], get_or, ap, sym, ◌∙◌, arith, eqb-true}
 use Rattle.std.proofs.lemmas.List.{nil_from_length as none_in}
 use Rattle.demand_paths.specs.Wanted.{everyone, goes_over, sum_where, sum_between}
 use Rattle.demand_paths.proofs.WantedSums.{sum_where-nil, sum_between-one, sum_between-le, sum_between-drop, sum_between-end}

@@ -1,5 +1,4 @@
-use Rattle.std.proofs.Common.{◌++◌, arith}
-use Rattle.std.specs.List.{flat_map}
+use Rattle.plan_num.proofs.Common.{◌++◌, arith, flat_map}
 use Rattle.demo_dataset.specs.Grid.{row_edges}
 use Rattle.demo_dataset.proofs.Counting.{appended, ended}
 use Rattle.demo_dataset.proofs.edge.push_rows.Goals as goal

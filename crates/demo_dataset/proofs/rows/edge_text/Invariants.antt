@@ -1,5 +1,4 @@
-use Rattle.std.proofs.Common.{◌≡◌, take}
-use Rattle.std.specs.List.{flat_map}
+use Rattle.plan_num.proofs.Common.{◌≡◌, take, flat_map}
 use Rattle.demo_dataset.specs.Rows.{edge_row}
 use Rattle.demo_dataset.proofs.rows.edge_text.Given as goal
 

@@ -1,5 +1,4 @@
-use Rattle.std.proofs.Common.{◌≡◌, ◌-◌, ◌++◌}
-use Rattle.std.specs.List.{flat_map}
+use Rattle.plan_num.proofs.Common.{◌≡◌, ◌-◌, ◌++◌, flat_map}
 use Rattle.demo_dataset.specs.Demo.{stops_in}
 use Rattle.demo_dataset.specs.Grid.{one_to}
 use Rattle.demo_dataset.proofs.rows.push_rows.Given as goal

@@ -1,5 +1,4 @@
-use Rattle.std.proofs.Common.{◌++◌, arith}
-use Rattle.std.specs.List.{flat_map}
+use Rattle.plan_num.proofs.Common.{◌++◌, arith, flat_map}
 use Rattle.demo_dataset.specs.Grid.{stop_id}
 use Rattle.demo_dataset.specs.Rows.{stop_row}
 use Rattle.demo_dataset.proofs.Counting.{appended, ended}

@@ -1,5 +1,4 @@
-use Rattle.std.proofs.Common.{◌≡◌, ◌-◌, ◌++◌}
-use Rattle.std.specs.List.{flat_map}
+use Rattle.plan_num.proofs.Common.{◌≡◌, ◌-◌, ◌++◌, flat_map}
 use Rattle.demo_dataset.specs.Grid.{one_to, stop_id}
 use Rattle.demo_dataset.specs.Rows.{stop_row}
 use Rattle.demo_dataset.proofs.rows.push_stops.Given as goal

@@ -1,5 +1,4 @@
-use Rattle.std.proofs.Common.{◌≡◌, ◌++◌, take}
-use Rattle.std.specs.List.{flat_map, enumerate_from}
+use Rattle.plan_num.proofs.Common.{◌≡◌, ◌++◌, take, flat_map, enumerate_from}
 use Rattle.demo_dataset.specs.Rows.{placed_row}
 use Rattle.demo_dataset.proofs.rows.push_walk.Given as goal
 

@@ -1,7 +1,5 @@
-use Rattle.std.proofs.Common.{◌≤◌, [], length, map, ap, ◌∙◌, arith, refl}
-use Rattle.std.proofs.lemmas.Result.{err_from_is_err_and}
-use Rattle.tables.specs.Inputs.{records}
-use Rattle.tables.proofs.Inputs.{limit_kept, no_faults, refused_rows}
+use Rattle.plan_num.proofs.Common.{◌≤◌, [], length, map, ap, ◌∙◌, arith, refl, err_from_is_err_and}
+use Rattle.tables.proofs.Common.{records, limit_kept, no_faults, refused_rows}
 use Rattle.evaluators.specs.CostedLines.{costed}
 use Rattle.evaluators.specs.StatisticInputs.{concept_input, line_limit, lines_of}
 use Rattle.evaluators.proofs.concept.lines_of_table.Goals as goal

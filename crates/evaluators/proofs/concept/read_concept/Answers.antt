@@ -1,7 +1,6 @@
-use Rattle.std.proofs.Common.{◌≡◌, map, ap, ◌∙◌}
-use Rattle.std.proofs.lemmas.Result.{err_from_is_err_and}
-use Rattle.tables.specs.Inputs.{records, records_of}
-use Rattle.tables.proofs.Inputs.{refused_cells, faults_of_table, UnlessFault-weaker}
+use Rattle.plan_num.proofs.Common.{◌≡◌, map, ap, ◌∙◌, err_from_is_err_and}
+use Rattle.tables.proofs.Common.{records, records_of, refused_cells, faults_of_table}
+use Rattle.tables.proofs.Common.{UnlessFault-weaker}
 use Rattle.evaluators.specs.CostedLines.{costed}
 use Rattle.evaluators.specs.StatisticInputs.{concept_input, lines_of}
 use Rattle.evaluators.proofs.concept.read_concept.Goals as goal

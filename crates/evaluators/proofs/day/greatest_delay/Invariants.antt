@@ -1,6 +1,6 @@
 -- The greatest delay so far goes on as the first one does.
 use Rattle.std.proofs.Common.{◌≡◌, drop, map, zip}
-use Rattle.propagation.specs.LeastTimes.{latest}
+use Rattle.propagation.proofs.Common.{latest}
 use Rattle.evaluators.specs.Statistic.{greatest_delay, minutes_late}
 use Rattle.evaluators.proofs.day.greatest_delay.Given as goal
 

@@ -1,6 +1,6 @@
 -- The count so far and the missed changes that are left are all of them.
 use Rattle.std.proofs.Common.{◌≡◌, ◌≤◌, ◌+◌, [], true, drop}
-use Rattle.propagation.specs.Lateness.{missed_at}
+use Rattle.propagation.proofs.Common.{missed_at}
 use Rattle.delay_management.specs.InputProblems.{activities_of}
 use Rattle.evaluators.proofs.day.missed_changes.Given as goal
 

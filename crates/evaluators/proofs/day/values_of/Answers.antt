@@ -1,14 +1,13 @@
 use Rattle.std.proofs.Common.{◌≤◌, true, [], All, ap, subst, sym, ◌∙◌}
 use Rattle.std.proofs.lemmas.Int.{to_z-of_z}
 use mir.Syntax.{w128}
-use Rattle.propagation.specs.Lateness.{missed_at}
+use Rattle.propagation.proofs.Common.{missed_at, LATEST}
 use Rattle.delay_management.specs.DayLateness.{delay_at}
 use Rattle.delay_management.specs.InputProblems.{activities_of}
 use Rattle.evaluators.specs.Statistic.{greatest_delay}
 use Rattle.evaluators.proofs.Bounded.{rows_few, times_below}
 use Rattle.evaluators.proofs.ValuesOfParts.{day_are}
 use Rattle.evaluators.proofs.day.values_of.Goals as goal
-use Rattle.propagation.specs.declared.times.TheConstants.{LATEST}
 
 pub empty_minutes-requires : goal.empty_minutes-requires
 empty_minutes-requires c = rows_few c.args.events.now c.args.schedule.now c.requires.schedule

@@ -1,9 +1,7 @@
-use Rattle.std.proofs.Common.{◌≡◌, ◌<◌, ◌||◌, length, ℤ, not, Vec, Global, ap, sym, ◌∙◌, arith, w64}
-use Rattle.std.specs.HashSet.{contains}
-use Rattle.std.specs.List.{list_any}
-use Rattle.std.specs.Ordering.{int_eq}
+use Rattle.plan_num.proofs.Common.{◌≡◌, ◌<◌, ◌||◌, length, ℤ, not, Vec, Global, ap, sym, ◌∙◌, arith}
+use Rattle.plan_num.proofs.Common.{w64, contains, list_any, int_eq}
 use Rattle.std.proofs.lemmas.Int.{to_z-of_z}
-use Rattle.tables.specs.Tables.{TableRow, no_row}
+use Rattle.tables.proofs.Common.{TableRow, no_row}
 use Rattle.evaluators.specs.declared.rows.LineRow.{LineRow}
 use Rattle.evaluators.specs.StatisticInputs.{line_row}
 use Rattle.evaluators.proofs.FirstRowFacts.{no_firsts}

@@ -1,8 +1,5 @@
 -- The lines of the rows so far are known, and there is the first row of each.
-use Rattle.std.proofs.Common.{◌≡◌, ℤ, map, take}
-use Rattle.std.specs.HashSet.{contains}
-use Rattle.std.specs.List.{list_any}
-use Rattle.std.specs.Ordering.{int_eq}
+use Rattle.plan_num.proofs.Common.{◌≡◌, ℤ, map, take, contains, list_any, int_eq}
 use Rattle.evaluators.specs.StatisticInputs.{line_row, lines_of}
 use Rattle.evaluators.proofs.first_rows.first_rows.Given as goal
 

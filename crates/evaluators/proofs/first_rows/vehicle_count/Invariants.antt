@@ -1,8 +1,5 @@
 -- The vehicles of the rows so far are known, and they are counted.
-use Rattle.std.proofs.Common.{◌≡◌, ◌≤◌, ℤ, length, pos, take}
-use Rattle.std.specs.HashSet.{contains}
-use Rattle.std.specs.List.{list_any}
-use Rattle.std.specs.Ordering.{int_eq}
+use Rattle.plan_num.proofs.Common.{◌≡◌, ◌≤◌, ℤ, length, pos, take, contains, list_any, int_eq}
 use Rattle.evaluators.specs.FirstRows.{firsts}
 use Rattle.evaluators.proofs.first_rows.vehicle_count.Given as goal
 

@@ -1,6 +1,5 @@
 -- The sum is that of the lines so far.
-use Rattle.std.proofs.Common.{◌≡◌, ◌≤◌, ◌*◌, take}
-use Rattle.std.specs.List.{sum_by}
+use Rattle.plan_num.proofs.Common.{◌≡◌, ◌≤◌, ◌*◌, take, sum_by}
 use Rattle.evaluators.specs.CostedLines.{runs_cost}
 use Rattle.evaluators.proofs.lines.cost_of_lines.Given as goal
 

@@ -1,8 +1,6 @@
-use Rattle.std.proofs.Common.{◌≡◌, ◌≤◌, [], length, All, ap, subst, sym, ◌∙◌, arith, filter, ltb}
-use Rattle.std.specs.List.{sum_by}
-use Rattle.std.proofs.lemmas.List.{length-map}
-use Rattle.std.proofs.lemmas.List.Elements.{All-map}
-use Rattle.tables.specs.Inputs.{input_faults, records_of}
+use Rattle.plan_num.proofs.Common.{◌≡◌, ◌≤◌, [], length, All, ap, subst, sym, ◌∙◌, arith, filter}
+use Rattle.plan_num.proofs.Common.{ltb, sum_by, length-map, All-map}
+use Rattle.tables.proofs.Common.{input_faults, records_of}
 use Rattle.evaluators.specs.declared.costed_line.CostedLine.{CostedLine}
 use Rattle.evaluators.specs.declared.rows.CostRow.{CostRow}
 use Rattle.evaluators.specs.CostedLines.{costed, runs_cost}

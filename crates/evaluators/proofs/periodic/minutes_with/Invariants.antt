@@ -1,7 +1,6 @@
 -- The sum is that of the activities of the kind so far.
-use Rattle.std.proofs.Common.{◌≡◌, ◌≤◌, ◌*◌, filter, take}
-use Rattle.std.specs.List.{sum_by}
-use Rattle.event_tables.specs.RunRules.{same_kind}
+use Rattle.plan_num.proofs.Common.{◌≡◌, ◌≤◌, ◌*◌, filter, take, sum_by}
+use Rattle.event_tables.proofs.Common.{same_kind}
 use Rattle.evaluators.specs.Statistic.{minutes_of}
 use Rattle.evaluators.proofs.periodic.minutes_with.Given as goal
 

@@ -1,7 +1,6 @@
 -- The sum is that of the empty rides so far.
-use Rattle.std.proofs.Common.{◌≡◌, ◌≤◌, ◌*◌, filter, take}
-use Rattle.std.specs.List.{sum_by}
-use Rattle.event_tables.specs.Schedules.{is_empty_row}
+use Rattle.plan_num.proofs.Common.{◌≡◌, ◌≤◌, ◌*◌, filter, take, sum_by}
+use Rattle.event_tables.proofs.Common.{is_empty_row}
 use Rattle.evaluators.specs.Statistic.{minutes_of_row}
 use Rattle.evaluators.proofs.schedule.empty_minutes.Given as goal
 

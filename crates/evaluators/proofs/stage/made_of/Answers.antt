@@ -1,5 +1,4 @@
-use Rattle.std.proofs.Common.{sym, subst}
-use Rattle.std.proofs.lemmas.Result.{err_from_is_err_and}
+use Rattle.plan_num.proofs.Common.{sym, subst, err_from_is_err_and}
 use Rattle.evaluators.specs.Bounds.{IsSmall}
 use Rattle.evaluators.proofs.PrintableStatistic.{statistic_small}
 use Rattle.evaluators.proofs.StageParts.{stage_made, stage_refused}

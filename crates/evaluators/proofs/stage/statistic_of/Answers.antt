@@ -1,7 +1,6 @@
-use Rattle.std.proofs.Common.{◌≡◌, [], ap, subst, sym, ◌∙◌, length, None}
-use Rattle.std.proofs.lemmas.Result.{err_from_is_err_and}
-use Rattle.tables.specs.Inputs.{Refuses, input_faults, records_of}
-use Rattle.event_tables.specs.Trips.{trip_input}
+use Rattle.plan_num.proofs.Common.{◌≡◌, [], ap, subst, sym, ◌∙◌, length, None, err_from_is_err_and}
+use Rattle.tables.proofs.Common.{Refuses, input_faults, records_of}
+use Rattle.event_tables.proofs.Common.{trip_input}
 use Rattle.evaluators.specs.StatisticStage.{day_faults, day_in, day_part, line_faults, line_part, lines_in}
 use Rattle.evaluators.specs.StatisticStage.{periodic_faults, periodic_in, periodic_part, trip_part}
 use Rattle.evaluators.proofs.StageParts.{all_none, day_refuses, lines_refuse, periodic_refuses, statistic_is}

@@ -1,6 +1,5 @@
 -- The text has the lines of the measures so far.
-use Rattle.std.proofs.Common.{◌≡◌, ◌++◌, codes, take}
-use Rattle.std.specs.List.{flat_map}
+use Rattle.plan_num.proofs.Common.{◌≡◌, ◌++◌, codes, take, flat_map}
 use Rattle.evaluators.specs.Statistic.{measures}
 use Rattle.evaluators.specs.StatisticStage.{value_line}
 use Rattle.evaluators.proofs.text.statistic_text.Given as goal

@@ -1,6 +1,5 @@
 -- The count of the activities of the joinings so far.
-use Rattle.std.proofs.Common.{◌≡◌, ◌*◌, ◌≤◌, length, take}
-use Rattle.std.specs.List.{flat_map}
+use Rattle.plan_num.proofs.Common.{◌≡◌, ◌*◌, ◌≤◌, length, take, flat_map}
 use Rattle.event_activity.specs.Activities.{joined_events}
 use Rattle.event_activity.proofs.activities.activity_count.Given as goal
 

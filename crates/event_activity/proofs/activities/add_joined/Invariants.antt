@@ -1,6 +1,5 @@
 -- The activities from the events so far are added.
-use Rattle.std.proofs.Common.{◌≡◌, ◌++◌, take}
-use Rattle.std.specs.List.{flat_map}
+use Rattle.plan_num.proofs.Common.{◌≡◌, ◌++◌, take, flat_map}
 use Rattle.event_activity.specs.Activities.{from_event}
 use Rattle.event_activity.proofs.activities.add_joined.Given as goal
 

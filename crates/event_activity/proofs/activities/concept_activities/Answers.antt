@@ -1,5 +1,4 @@
-use Rattle.std.proofs.Common.{◌≡◌, ◌∙◌, ap, arith, length}
-use Rattle.std.proofs.lemmas.Result.{IfOk-weaker}
+use Rattle.plan_num.proofs.Common.{◌≡◌, ◌∙◌, ap, arith, length, IfOk-weaker}
 use Rattle.event_activity.specs.Activities.{with_numbers, concept_activities}
 use Rattle.event_activity.proofs.Joined.{activities_few, activities_told}
 use Rattle.event_activity.proofs.activities.concept_activities.Goals as goal

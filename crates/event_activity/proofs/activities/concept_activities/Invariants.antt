@@ -1,6 +1,5 @@
 -- The activities of the joinings so far are added.
-use Rattle.std.proofs.Common.{◌≡◌, take}
-use Rattle.std.specs.List.{flat_map}
+use Rattle.plan_num.proofs.Common.{◌≡◌, take, flat_map}
 use Rattle.event_activity.specs.Activities.{joined_events}
 use Rattle.event_activity.proofs.activities.concept_activities.Given as goal
 

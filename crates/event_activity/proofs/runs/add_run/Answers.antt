@@ -1,5 +1,4 @@
-use Rattle.std.proofs.Common.{◌++◌, map, length, ap, arith, ◌∙◌}
-use Rattle.std.specs.List.{range_with_len}
+use Rattle.plan_num.proofs.Common.{◌++◌, map, length, ap, arith, ◌∙◌, range_with_len}
 use Rattle.event_activity.specs.Runs.{line_at, run_event}
 use Rattle.plan_num.proofs.Added.{added_one}
 use Rattle.event_activity.proofs.LineEvents.{told_of}

@@ -1,6 +1,5 @@
 -- The events of the run so far are added.
-use Rattle.std.proofs.Common.{◌≡◌, ◌++◌, map}
-use Rattle.std.specs.List.{range_with_len}
+use Rattle.plan_num.proofs.Common.{◌≡◌, ◌++◌, map, range_with_len}
 use Rattle.event_activity.specs.Runs.{line_at, run_event}
 use Rattle.event_activity.proofs.runs.add_run.Given as goal
 

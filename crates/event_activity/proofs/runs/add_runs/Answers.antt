@@ -1,5 +1,4 @@
-use Rattle.std.proofs.Common.{◌+◌, ◌++◌, ap, arith, ◌∙◌}
-use Rattle.std.specs.List.{flat_map, range_with_len}
+use Rattle.plan_num.proofs.Common.{◌+◌, ◌++◌, ap, arith, ◌∙◌, flat_map, range_with_len}
 use Rattle.event_activity.specs.Runs.{line_at, run}
 use Rattle.plan_num.proofs.Added.{added_part}
 use Rattle.event_activity.proofs.LineEvents.{told_of}

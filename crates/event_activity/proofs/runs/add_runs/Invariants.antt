@@ -1,6 +1,5 @@
 -- The runs so far are added.
-use Rattle.std.proofs.Common.{◌≡◌, ◌++◌}
-use Rattle.std.specs.List.{flat_map, range_with_len}
+use Rattle.plan_num.proofs.Common.{◌≡◌, ◌++◌, flat_map, range_with_len}
 use Rattle.event_activity.specs.Runs.{line_at, run}
 use Rattle.event_activity.proofs.runs.add_runs.Given as goal
 

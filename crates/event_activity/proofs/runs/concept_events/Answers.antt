@@ -1,6 +1,4 @@
-use Rattle.std.proofs.Common.{◌≡◌, ◌∙◌, ap, arith, length, map}
-use Rattle.std.specs.List.{enumerate_from}
-use Rattle.std.proofs.lemmas.Result.{IfOk-weaker}
+use Rattle.plan_num.proofs.Common.{◌≡◌, ◌∙◌, ap, arith, length, map, enumerate_from, IfOk-weaker}
 use Rattle.event_activity.specs.Runs.{with_id, concept_events}
 use Rattle.event_activity.proofs.LineEvents.{events_few, events_told}
 use Rattle.event_activity.proofs.runs.concept_events.Goals as goal

@@ -1,6 +1,5 @@
 -- The events of the lines so far.
-use Rattle.std.proofs.Common.{◌≡◌, take}
-use Rattle.std.specs.List.{flat_map}
+use Rattle.plan_num.proofs.Common.{◌≡◌, take, flat_map}
 use Rattle.event_activity.specs.Runs.{line_events}
 use Rattle.event_activity.proofs.runs.concept_events.Given as goal
 

@@ -1,6 +1,5 @@
 -- The count of the events of the lines so far, which is no greater than the limits allow.
-use Rattle.std.proofs.Common.{◌≡◌, ◌*◌, ◌≤◌, length, take}
-use Rattle.std.specs.List.{flat_map}
+use Rattle.plan_num.proofs.Common.{◌≡◌, ◌*◌, ◌≤◌, length, take, flat_map}
 use Rattle.event_activity.specs.Runs.{line_events}
 use Rattle.event_activity.proofs.runs.event_count.Given as goal
 

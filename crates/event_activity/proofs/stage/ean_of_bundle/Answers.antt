@@ -1,5 +1,4 @@
-use Rattle.std.proofs.Common.{◌≤◌, length, ap, arith, subst, sym, ◌∙◌}
-use Rattle.std.proofs.lemmas.Result.{err_from_is_err_and}
+use Rattle.plan_num.proofs.Common.{◌≤◌, length, ap, arith, subst, sym, ◌∙◌, err_from_is_err_and}
 use Rattle.event_activity.specs.Fitting.{AreTimely}
 use Rattle.event_activity.proofs.DrivenEvents.{events_given}
 use Rattle.event_activity.proofs.EanCalls.{network_refused, concept_refused, events_refused, ean_given}

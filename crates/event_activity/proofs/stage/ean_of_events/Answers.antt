@@ -1,9 +1,8 @@
 use Rattle.std.proofs.Common.{◌≤◌, All, arith, length, refl, ap, subst, sym, slice_get, ◌∙◌}
 use Rattle.tables.specs.declared.counted.Counted.TheVariants as counted
-use Rattle.tables.specs.Columns.{events_p_columns, activities_p_columns}
-use Rattle.tables.specs.Writing.{InColumns}
-use Rattle.tables.proofs.InTurn.{over_limit, under_limit}
-use Rattle.event_tables.specs.Cells.{periodic_event_cells, periodic_activity_cells}
+use Rattle.tables.proofs.Common.{events_p_columns, activities_p_columns, InColumns, over_limit}
+use Rattle.tables.proofs.Common.{under_limit}
+use Rattle.event_tables.proofs.Common.{periodic_event_cells, periodic_activity_cells}
 use Rattle.event_activity.specs.Activities.{concept_activities}
 use Rattle.event_activity.specs.EanStage.{ean_made}
 use Rattle.event_activity.proofs.DrivenEvents.{numbered_driven}

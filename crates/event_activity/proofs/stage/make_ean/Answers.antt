@@ -1,4 +1,4 @@
-use Rattle.giv_files.proofs.StageCalls.{right_given}
+use Rattle.giv_files.proofs.Common.{right_given}
 use Rattle.event_activity.proofs.EanReads.{ean_is_right}
 use Rattle.event_activity.proofs.stage.make_ean.Goals as goal
 

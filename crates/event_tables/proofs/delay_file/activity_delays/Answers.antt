@@ -1,6 +1,6 @@
 use Rattle.std.proofs.Common.{ℕ, List, subst, sym}
 use Rattle.event_tables.specs.Delays.{activity_delay_input}
-use Rattle.tables.specs.RowsOfTables.{ReadsFile}
+use Rattle.tables.proofs.Common.{ReadsFile}
 use Rattle.event_tables.proofs.delay_file.activity_delays.Goals as goal
 
 pub returns-clause-read : goal.returns-clause-read

@@ -1,5 +1,5 @@
 use Rattle.std.specs.List.{range_with_len}
-use Rattle.tables.specs.Inputs.{input_faults, records_of}
+use Rattle.tables.proofs.Common.{input_faults, records_of}
 use Rattle.event_tables.specs.Delays.{delay_input, AreDelays}
 use Rattle.event_tables.proofs.SoundFiles.{sound_read}
 use Rattle.event_tables.proofs.SoundTrips.{delays_sound}

@@ -1,13 +1,10 @@
-use Rattle.std.proofs.Common.{List, ℕ, length, refl, subst, sym}
-use Rattle.std.specs.List.{range_with_len}
-use Rattle.std.proofs.lemmas.Result.{err_from_is_err_and}
-use Rattle.tables.specs.Inputs.{input_faults, records_of, Refuses}
+use Rattle.plan_num.proofs.Common.{List, ℕ, length, refl, subst, sym, range_with_len}
+use Rattle.plan_num.proofs.Common.{err_from_is_err_and}
+use Rattle.tables.proofs.Common.{input_faults, records_of, Refuses, ReadsFile, refused_without}
 use Rattle.event_tables.specs.DisposedTimes.{disposed_time_input, AreDisposedTimes}
-use Rattle.tables.specs.RowsOfTables.{ReadsFile}
 use Rattle.event_tables.proofs.SoundFiles.{sound_read}
 use Rattle.event_tables.proofs.SoundTimes.{disposed_times_sound}
 use Rattle.event_tables.proofs.WholeFiles.{read_whole}
-use Rattle.tables.proofs.WholeRules.{refused_without}
 use Rattle.event_tables.proofs.disposed_time_file.disposed_times.Goals as goal
 
 pub returns-in_err-rows-clause-read : goal.returns-in_err-rows-clause-read

@@ -1,4 +1,4 @@
-use Rattle.tables.specs.Inputs.{input_faults, records_of}
+use Rattle.tables.proofs.Common.{input_faults, records_of}
 use Rattle.event_tables.specs.ExpandedFiles.{expanded_activity_input, AreExpandedActivities}
 use Rattle.event_tables.proofs.SoundFiles.{sound_read, expanded_activities_sound}
 use Rattle.event_tables.proofs.expanded_activity_file.expanded_activities.Goals as goal

@@ -1,4 +1,4 @@
-use Rattle.tables.specs.Inputs.{input_faults, records_of}
+use Rattle.tables.proofs.Common.{input_faults, records_of}
 use Rattle.event_tables.specs.ExpandedFiles.{expanded_event_input, AreExpandedEvents}
 use Rattle.event_tables.proofs.SoundFiles.{sound_read, expanded_events_sound}
 use Rattle.event_tables.proofs.expanded_event_file.expanded_events.Goals as goal

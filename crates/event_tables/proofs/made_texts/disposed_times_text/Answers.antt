@@ -1,8 +1,6 @@
 use Rattle.std.proofs.Common.{refl, arith}
-use Rattle.tables.specs.Columns.{disposed_columns}
-use Rattle.tables.proofs.Headers.{plain_header}
+use Rattle.tables.proofs.Common.{disposed_columns, plain_header, columns_written}
 use Rattle.event_tables.specs.Headers.{disposed_time_header}
-use Rattle.tables.proofs.WrittenColumns.{columns_written}
 use Rattle.event_tables.proofs.CellsBack.{disposed_time_same}
 use Rattle.event_tables.proofs.made_texts.disposed_times_text.Goals as goal
 

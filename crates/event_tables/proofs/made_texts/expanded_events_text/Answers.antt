@@ -1,8 +1,6 @@
 use Rattle.std.proofs.Common.{refl, arith}
-use Rattle.tables.specs.Columns.{events_x_columns}
-use Rattle.tables.proofs.Headers.{plain_header}
+use Rattle.tables.proofs.Common.{events_x_columns, plain_header, columns_written}
 use Rattle.event_tables.specs.Headers.{expanded_event_header}
-use Rattle.tables.proofs.WrittenColumns.{columns_written}
 use Rattle.event_tables.proofs.CellFacts.{small_cells}
 use Rattle.event_tables.proofs.CellsBack.{expanded_event_same}
 use Rattle.event_tables.proofs.made_texts.expanded_events_text.Goals as goal

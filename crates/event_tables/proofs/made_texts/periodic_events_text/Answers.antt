@@ -1,8 +1,6 @@
 use Rattle.std.proofs.Common.{refl, arith}
-use Rattle.tables.specs.Columns.{events_p_columns}
-use Rattle.tables.proofs.Headers.{plain_header}
+use Rattle.tables.proofs.Common.{events_p_columns, plain_header, columns_written}
 use Rattle.event_tables.specs.Headers.{periodic_event_header}
-use Rattle.tables.proofs.WrittenColumns.{columns_written}
 use Rattle.event_tables.proofs.CellFacts.{small_cells}
 use Rattle.event_tables.proofs.CellsBack.{periodic_event_same}
 use Rattle.event_tables.proofs.made_texts.periodic_events_text.Goals as goal

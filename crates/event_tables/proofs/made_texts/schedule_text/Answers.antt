@@ -1,8 +1,6 @@
 use Rattle.std.proofs.Common.{refl, arith}
-use Rattle.tables.specs.Columns.{schedule_columns}
-use Rattle.tables.proofs.Headers.{plain_header}
+use Rattle.tables.proofs.Common.{schedule_columns, plain_header, columns_written}
 use Rattle.event_tables.specs.Headers.{schedule_header}
-use Rattle.tables.proofs.WrittenColumns.{columns_written}
 use Rattle.event_tables.proofs.CellFacts.{small_cells}
 use Rattle.event_tables.proofs.CellsBack.{schedule_row_same}
 use Rattle.event_tables.proofs.made_texts.schedule_text.Goals as goal

@@ -1,8 +1,6 @@
 use Rattle.std.proofs.Common.{refl, arith}
-use Rattle.tables.specs.Columns.{trips_columns}
-use Rattle.tables.proofs.Headers.{plain_header}
+use Rattle.tables.proofs.Common.{trips_columns, plain_header, columns_written}
 use Rattle.event_tables.specs.Headers.{trip_header}
-use Rattle.tables.proofs.WrittenColumns.{columns_written}
 use Rattle.event_tables.proofs.CellFacts.{small_cells}
 use Rattle.event_tables.proofs.CellsBack.{trip_same}
 use Rattle.event_tables.proofs.made_texts.trips_text.Goals as goal

@@ -1,8 +1,6 @@
-use Rattle.std.proofs.Common.{ℕ, List, length, subst, sym}
-use Rattle.std.specs.List.{range_with_len}
-use Rattle.tables.specs.Inputs.{input_faults, records_of}
+use Rattle.plan_num.proofs.Common.{ℕ, List, length, subst, sym, range_with_len}
+use Rattle.tables.proofs.Common.{input_faults, records_of, ReadsFile}
 use Rattle.event_tables.specs.PeriodicFiles.{periodic_activity_input, ArePeriodicActivities}
-use Rattle.tables.specs.RowsOfTables.{ReadsFile}
 use Rattle.event_tables.proofs.SoundFiles.{sound_read, periodic_activities_sound}
 use Rattle.event_tables.proofs.periodic_activity_file.periodic_activities.Goals as goal
 

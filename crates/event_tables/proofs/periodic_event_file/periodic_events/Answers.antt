@@ -1,4 +1,4 @@
-use Rattle.tables.specs.Inputs.{input_faults, records_of}
+use Rattle.tables.proofs.Common.{input_faults, records_of}
 use Rattle.event_tables.specs.PeriodicFiles.{periodic_event_input, ArePeriodicEvents}
 use Rattle.event_tables.proofs.SoundFiles.{sound_read, periodic_events_sound}
 use Rattle.event_tables.proofs.periodic_event_file.periodic_events.Goals as goal

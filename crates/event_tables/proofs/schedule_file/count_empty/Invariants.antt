@@ -1,7 +1,7 @@
 -- The empty rides among the rows so far.
 use Rattle.std.proofs.Common.{◌≡◌, ◌≤◌, filter, length, take}
 use Rattle.event_tables.specs.Cells.{schedule_row}
-use Rattle.tables.specs.RowsOfTables.{records_by}
+use Rattle.tables.proofs.Common.{records_by}
 use Rattle.event_tables.specs.Schedules.{is_empty_row}
 use Rattle.event_tables.proofs.schedule_file.count_empty.Given as goal
 

@@ -1,12 +1,7 @@
-use Rattle.std.proofs.Common.{◌≡◌, refl, sym, ◌∙◌, arith}
-use Rattle.std.proofs.lemmas.Result.{err_from_is_err_and}
-use Rattle.std.proofs.lemmas.List.Elements.{All-weaker}
+use Rattle.plan_num.proofs.Common.{◌≡◌, refl, sym, ◌∙◌, arith, err_from_is_err_and, All-weaker}
 use Rattle.tables.specs.declared.refusal.StageFault.TheVariants as stage
-use Rattle.tables.specs.Columns.{schedule_columns}
-use Rattle.tables.specs.Inputs.{input_faults, records_of}
-use Rattle.tables.specs.Writing.{InColumns}
-use Rattle.tables.proofs.FileFaults.{limits_refuse, rows_read}
-use Rattle.tables.proofs.Inputs.{refused_cells}
+use Rattle.tables.proofs.Common.{schedule_columns, input_faults, records_of, InColumns}
+use Rattle.tables.proofs.Common.{limits_refuse, rows_read, refused_cells}
 use Rattle.event_tables.specs.Cells.{AreSmall}
 use Rattle.event_tables.specs.Schedules.{schedule_input, AreScheduleRows}
 use Rattle.event_tables.proofs.CellFacts.{small_cells}

@@ -1,9 +1,8 @@
 use Rattle.std.proofs.Common.{◌≡◌, ◌-◌, arith, ap, ◌∙◌, length, filter, Option, Some, slice_get}
 use Rattle.std.specs.Option.{option_or}
 use Rattle.tables.specs.declared.counted.Counted.TheVariants as counted
-use Rattle.tables.specs.declared.row_limit.RowLimit.{RowLimit}
+use Rattle.tables.proofs.Common.{RowLimit, records_by, too_many_rows}
 use Rattle.event_tables.specs.Cells.{schedule_row}
-use Rattle.tables.specs.RowsOfTables.{records_by, too_many_rows}
 use Rattle.event_tables.specs.Schedules.{is_trip_row, is_empty_row}
 use Rattle.event_tables.proofs.ScheduleRows.{both_kinds, first_of_two}
 use Rattle.event_tables.proofs.schedule_file.too_many_of_a_kind.Goals as goal

@@ -1,7 +1,5 @@
-use Rattle.std.proofs.Common.{rules, refl, arith}
-use Rattle.std.specs.Option.{option_map}
-use Rattle.tables.specs.Columns.{trips_columns}
-use Rattle.tables.specs.Inputs.{input_faults, records_of}
+use Rattle.plan_num.proofs.Common.{rules, refl, arith, option_map}
+use Rattle.tables.proofs.Common.{trips_columns, input_faults, records_of}
 use Rattle.event_tables.specs.Trips.{trip_input, AreTrips}
 use Rattle.event_tables.proofs.CellFacts.{small_cells}
 use Rattle.event_tables.proofs.SoundFiles.{sound_read}

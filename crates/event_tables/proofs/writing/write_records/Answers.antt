@@ -1,7 +1,5 @@
-use Rattle.std.proofs.Common.{ap, subst, sym, ◌∙◌, arith, All}
-use Rattle.std.proofs.lemmas.List.{take_all}
-use Rattle.tables.specs.Writing.{InColumns}
-use Rattle.tables.specs.RowsOfTables.{rows_by}
+use Rattle.plan_num.proofs.Common.{ap, subst, sym, ◌∙◌, arith, All, take_all}
+use Rattle.tables.proofs.Common.{InColumns, rows_by}
 use Rattle.event_tables.proofs.WrittenRecords.{rows_inside, reads_as}
 use Rattle.event_tables.proofs.writing.write_records.Goals as goal
 

@@ -1,6 +1,6 @@
 -- The table has the rows of the records so far.
 use Rattle.std.proofs.Common.{◌≡◌, take}
-use Rattle.tables.specs.RowsOfTables.{rows_by}
+use Rattle.tables.proofs.Common.{rows_by}
 use Rattle.event_tables.proofs.writing.write_records.Given as goal
 
 abbrev pub invariant-loop-row : goal.invariant-loop-row

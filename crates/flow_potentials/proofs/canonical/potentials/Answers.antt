@@ -1,7 +1,6 @@
 use Rattle.std.proofs.Common.{ap, sym, ◌∙◌, subst}
 use Rattle.canonical_potentials.specs.Canonical.{AreCanonical}
-use Rattle.link_plans.specs.Plans.{IsPlan}
-use Rattle.link_plans.specs.Potentials.{AreValid}
+use Rattle.link_plans.proofs.Common.{IsPlan, AreValid}
 use Rattle.canonical_potentials.specs.Rounds.{canonical}
 use Rattle.canonical_potentials.proofs.Rounds.{canonical_is}
 use Rattle.assignment.proofs.Worthwhile.{canonical_same, plan_down, valid_down, valid_up}

@@ -1,6 +1,5 @@
 -- No trip so far is the first one of a short pair.
-use Rattle.std.proofs.Common.{◌≡◌, ◌-◌, length}
-use Rattle.std.specs.List.{flat_map, range_with_len}
+use Rattle.plan_num.proofs.Common.{◌≡◌, ◌-◌, length, flat_map, range_with_len}
 use Rattle.vehicle_model.specs.Trips.{links_of}
 use Rattle.flow_potentials.specs.PotentialFaults.{pair_faults, trip_faults}
 use Rattle.flow_potentials.proofs.checking.check_potentials.Given as goal

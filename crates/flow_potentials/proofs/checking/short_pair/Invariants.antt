@@ -1,6 +1,5 @@
 -- No pair so far is short.
-use Rattle.std.proofs.Common.{◌≡◌, ◌-◌, filter, length}
-use Rattle.std.specs.List.{range_with_len}
+use Rattle.plan_num.proofs.Common.{◌≡◌, ◌-◌, filter, length, range_with_len}
 use Rattle.vehicle_model.specs.Trips.{links_of}
 use Rattle.flow_potentials.specs.PotentialFaults.{is_short_pair}
 use Rattle.flow_potentials.proofs.checking.short_pair.Given as goal

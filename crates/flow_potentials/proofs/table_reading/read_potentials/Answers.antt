@@ -1,6 +1,5 @@
 use Rattle.std.proofs.lemmas.Result.{err_from_is_err_and}
-use Rattle.tables.specs.Columns.{potential_columns}
-use Rattle.tables.specs.Reading.{table_of}
+use Rattle.tables.proofs.Common.{potential_columns, table_of}
 use Rattle.flow_potentials.proofs.TablesBack.{no_table, rows_read, table_fits}
 use Rattle.flow_potentials.proofs.table_reading.read_potentials.Goals as goal
 

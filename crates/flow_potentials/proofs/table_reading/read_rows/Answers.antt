@@ -2,8 +2,8 @@ use Rattle.std.proofs.Common.{◌<◌, ◌≤◌, ◌==◌, ◌+◌, nat_lt, tru
 use Rattle.std.proofs.Common.{slice_get, unsigned_abs, ap, sym, ◌∙◌, subst, Some, Err, arith}
 use Rattle.std.proofs.lemmas.Bool.{and_parts, ltb-true, lt-ltb, le-ltb}
 use Rattle.tables.specs.declared.row_why.RowWhy.TheVariants as why
-use Rattle.tables.specs.Tables.{no_row}
-use Rattle.link_plans.specs.Potentials.{PotentialParts, AreOver}
+use Rattle.tables.proofs.Common.{no_row}
+use Rattle.link_plans.proofs.Common.{PotentialParts, AreOver}
 use Rattle.flow_potentials.specs.PotentialTables.{gaps_from, column_of, potentials_in, PotentialsGive}
 use Rattle.flow_potentials.proofs.Tables.{gap_found, no_gap, gap_end, column_more, column_all}
 use Rattle.flow_potentials.proofs.Tables.{table_potentials, table_over}

@@ -1,7 +1,5 @@
 use Rattle.std.proofs.Common.{◌≡◌, All, IfOk, sym, subst, refl, arith}
-use Rattle.tables.specs.Columns.{potential_columns}
-use Rattle.tables.specs.Writing.{table_text}
-use Rattle.tables.proofs.Headers.{plain_header}
+use Rattle.tables.proofs.Common.{potential_columns, table_text, plain_header}
 use Rattle.flow_potentials.specs.PotentialTables.{potential_header, potentials_text, FitsColumns}
 use Rattle.flow_potentials.proofs.TablesBack.{columns_written, rows_fit, written}
 use Rattle.flow_potentials.proofs.table_writing.write_potentials.Goals as goal

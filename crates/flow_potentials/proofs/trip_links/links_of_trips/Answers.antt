@@ -1,9 +1,6 @@
 use Rattle.std.proofs.Common.{ℕ, ◌≡◌, List, length, map, ap, ◌∙◌, arith}
-use Rattle.link_plans.specs.Links.{links_in}
-use Rattle.link_plans.specs.declared.link_table.Link.{Link}
-use Rattle.link_plans.specs.LinkRows.{AreRows, IsRow}
-use Rattle.link_plans.proofs.LinkLists.{lists_are, lists_sound}
-use Rattle.link_plans.proofs.LinkRows.{lists_more}
+use Rattle.link_plans.proofs.Common.{links_in, Link, AreRows, IsRow, lists_are, lists_sound}
+use Rattle.link_plans.proofs.Common.{lists_more}
 use Rattle.vehicle_model.specs.Trips.{links_of}
 use Rattle.vehicle_model.proofs.TripLinks.{trips_links}
 use Rattle.flow_potentials.proofs.trip_links.links_of_trips.Goals as goal

@@ -1,5 +1,5 @@
 use Rattle.vehicle_model.specs.Trips.{links_of}
-use Rattle.link_plans.proofs.LinkRows.{row_more}
+use Rattle.link_plans.proofs.Common.{row_more}
 use Rattle.flow_potentials.proofs.trip_links.row_of.Goals as goal
 
 pub loop-to-preserved : goal.loop-to-preserved

@@ -1,7 +1,4 @@
-use Rattle.std.proofs.Common.{map, sym, ◌∙◌, ap, arith}
-use Rattle.std.specs.List.{filter}
-use Rattle.std.proofs.lemmas.List.{length-map}
-use Rattle.std.proofs.lemmas.Option.{slice_get_within}
+use Rattle.plan_num.proofs.Common.{map, sym, ◌∙◌, ap, arith, filter, length-map, slice_get_within}
 use Rattle.giv_files.specs.declared.key.Key.TheVariants.{LastStage}
 use Rattle.giv_files.specs.Keys.{has_key, stage_keys}
 use Rattle.giv_files.proofs.StageKeys.{one_more, stands, passed_over, at_end}

@@ -1,6 +1,5 @@
 -- The settings so far have the keys of the stage so far.
-use Rattle.std.proofs.Common.{◌≡◌, ◌≤◌, length, map, take}
-use Rattle.std.specs.List.{filter}
+use Rattle.plan_num.proofs.Common.{◌≡◌, ◌≤◌, length, map, take, filter}
 use Rattle.giv_files.specs.Keys.{has_key}
 use Rattle.giv_files.proofs.settings_fit.has_keys.Given as goal
 

@@ -1,6 +1,5 @@
-use Rattle.std.proofs.Common.{◌∙◌, ◌++◌, [], ◌∷◌, arith, sym}
-use Rattle.std.proofs.lemmas.List.FromFn.{map-range_with_len_more}
-use Rattle.event_tables.specs.ForwardRanks.{forward_rank}
+use Rattle.plan_num.proofs.Common.{◌∙◌, ◌++◌, [], ◌∷◌, arith, sym, map-range_with_len_more}
+use Rattle.event_tables.proofs.Common.{forward_rank}
 use Rattle.journeys.proofs.day.ranks_of.Goals as goal
 
 pub loop-event-preserved : goal.loop-event-preserved

@@ -1,7 +1,6 @@
 -- The ranks so far are those of the first events.
-use Rattle.std.proofs.Common.{◌≡◌, map}
-use Rattle.std.specs.List.{range_with_len}
-use Rattle.event_tables.specs.ForwardRanks.{forward_rank}
+use Rattle.plan_num.proofs.Common.{◌≡◌, map, range_with_len}
+use Rattle.event_tables.proofs.Common.{forward_rank}
 use Rattle.journeys.proofs.day.ranks_of.Given as goal
 
 abbrev pub invariant-loop-event : goal.invariant-loop-event

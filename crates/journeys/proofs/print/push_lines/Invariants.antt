@@ -1,6 +1,5 @@
 -- The text so far and the lines of the events that are left are all of it.
-use Rattle.std.proofs.Common.{◌≡◌, ◌++◌, drop}
-use Rattle.std.specs.List.{flat_map}
+use Rattle.plan_num.proofs.Common.{◌≡◌, ◌++◌, drop, flat_map}
 use Rattle.journeys.specs.JourneyTexts.{event_line}
 use Rattle.journeys.proofs.print.push_lines.Given as goal
 

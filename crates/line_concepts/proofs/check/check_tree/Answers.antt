@@ -1,6 +1,5 @@
-use Rattle.std.proofs.Common.{◌∙◌, to_z, of_z, sym}
+use Rattle.plan_num.proofs.Common.{◌∙◌, to_z, of_z, sym, w128}
 use Rattle.std.proofs.lemmas.Int.{to_z-of_z}
-use Rattle.std.specs.Int.{w128}
 use Rattle.line_concepts.proofs.Certifying.{none_certifies}
 use Rattle.line_concepts.proofs.FirstOfAll.{answer_exact, answer_first, answer_least, shape_first}
 use Rattle.line_concepts.proofs.check.check_tree.Goals as goal

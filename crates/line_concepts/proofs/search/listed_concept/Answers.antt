@@ -1,5 +1,5 @@
 use Rattle.std.proofs.Common.{◌≡◌, ◌∙◌, Bool, arith, subst, sym}
-use Rattle.line_cost_model.specs.Problems.{ProblemParts}
+use Rattle.line_cost_model.proofs.Common.{ProblemParts}
 use Rattle.line_concepts.specs.declared.search.Search.{Search}
 use Rattle.line_concepts.specs.Searches.{ArePriced, IsResult, IsSearched, IsVisited, TakesEntry}
 use Rattle.line_concepts.proofs.SearchTurns.{last_taken, next_taken, on_error, one_within}

@@ -1,6 +1,5 @@
-use Rattle.std.proofs.Common.{◌+◌, ◌∙◌, ap, refl, get_or, arith, sum_by}
-use Rattle.std.specs.List.{range_with_len}
-use Rattle.std.proofs.lemmas.List.Sums.{sum_by_push}
+use Rattle.plan_num.proofs.Common.{◌+◌, ◌∙◌, ap, refl, get_or, arith, sum_by, range_with_len}
+use Rattle.plan_num.proofs.Common.{sum_by_push}
 use Rattle.line_cost_model.specs.RunningSums.{at_edge, under}
 use Rattle.line_cost_model.proofs.EdgeCounts.{range_more, told_here, zero_plus}
 use Rattle.line_cost_model.proofs.edge_sums.under_count.Goals as goal

@@ -1,6 +1,5 @@
 -- How many of the edges so far are below their minimal frequency.
-use Rattle.std.proofs.Common.{◌≡◌, ◌≤◌, sum_by}
-use Rattle.std.specs.List.{range_with_len}
+use Rattle.plan_num.proofs.Common.{◌≡◌, ◌≤◌, sum_by, range_with_len}
 use Rattle.line_cost_model.specs.RunningSums.{at_edge, under}
 use Rattle.line_cost_model.proofs.edge_sums.under_count.Given as goal
 

@@ -1,5 +1,4 @@
-use Rattle.std.proofs.Common.{◌+◌, ◌∙◌, ◌&&◌, get_or, drop, ap, sym, refl}
-use Rattle.std.proofs.lemmas.List.{drop_all}
+use Rattle.plan_num.proofs.Common.{◌+◌, ◌∙◌, ◌&&◌, get_or, drop, ap, sym, refl, drop_all}
 use Rattle.line_cost_model.proofs.Paying.{have_left, paying_more, paying_whole}
 use Rattle.line_cost_model.proofs.pass.can_pay.Goals as goal
 

@@ -1,5 +1,4 @@
-use Rattle.std.proofs.Common.{◌≡◌, filter_map, min, take}
-use Rattle.std.specs.List.{reduce}
+use Rattle.plan_num.proofs.Common.{◌≡◌, filter_map, min, take, reduce}
 use Rattle.line_cost_model.proofs.LeastLeft.{left_at}
 use Rattle.line_cost_model.proofs.pass.least_left.Given as goal
 

@@ -1,6 +1,5 @@
-use Rattle.std.proofs.Common.{◌<◌, ◌∙◌, ℕ, List, nat_eq, get_or, set, length, ap, sym, subst, arith}
-use Rattle.std.specs.List.{IsDistinct}
-use Rattle.std.proofs.lemmas.List.{length-set}
+use Rattle.plan_num.proofs.Common.{◌<◌, ◌∙◌, ℕ, List, nat_eq, get_or, set, length, ap, sym, subst}
+use Rattle.plan_num.proofs.Common.{arith, IsDistinct, length-set}
 use Rattle.line_cost_model.proofs.Lowered.{line_lowered, over_distinct}
 use Rattle.line_cost_model.proofs.pass.take_off.Goals as goal
 

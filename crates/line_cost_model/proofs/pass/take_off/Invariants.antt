@@ -1,5 +1,4 @@
-use Rattle.std.proofs.Common.{◌≡◌, ℕ, ◌-◌, ◌<◌, cond, nat_eq, length, get_or, take}
-use Rattle.std.specs.List.{list_any}
+use Rattle.plan_num.proofs.Common.{◌≡◌, ℕ, ◌-◌, ◌<◌, cond, nat_eq, length, get_or, take, list_any}
 use Rattle.line_cost_model.proofs.pass.take_off.Given as goal
 
 -- the amount is off the lines so far

@@ -1,7 +1,5 @@
-use Rattle.std.proofs.Common.{◌++◌, ◌∷◌, ◌<◌, [], map, get_or, length, ap, subst, sym, ◌∙◌}
-use Rattle.std.proofs.lemmas.List.{map_push, take_more}
-use Rattle.std.proofs.lemmas.List.Elements.{All-get_or}
-use Rattle.std.proofs.lemmas.List.{get_or_default}
+use Rattle.plan_num.proofs.Common.{◌++◌, ◌∷◌, ◌<◌, [], map, get_or, length, ap, subst, sym, ◌∙◌}
+use Rattle.plan_num.proofs.Common.{map_push, take_more, All-get_or, get_or_default}
 use Rattle.line_cost_model.specs.declared.problem.Longer.{Longer}
 use Rattle.line_cost_model.specs.Crossings.{CrossedEdge, no_edge, AreLonger}
 use Rattle.line_cost_model.proofs.WholeProblems.{longer_more}

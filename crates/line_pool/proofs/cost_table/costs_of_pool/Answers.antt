@@ -1,10 +1,7 @@
 use Rattle.std.proofs.Common.{refl, arith, subst, sym, All}
-use Rattle.tables.specs.Columns.{pool_cost_columns}
-use Rattle.tables.specs.Writing.{InColumns}
+use Rattle.tables.proofs.Common.{pool_cost_columns, InColumns, plain_header, columns_written}
 use Rattle.line_pool.specs.CostStage.{cost_header}
-use Rattle.tables.proofs.Headers.{plain_header}
 use Rattle.line_pool.proofs.CostRows.{rows_in_columns}
-use Rattle.tables.proofs.WrittenColumns.{columns_written}
 use Rattle.line_pool.proofs.cost_table.costs_of_pool.Goals as goal
 
 pub write_table-requires : goal.write_table-requires

@@ -1,6 +1,5 @@
-use Rattle.std.proofs.Common.{subst, sym}
-use Rattle.std.proofs.lemmas.Result.{err_from_is_err_and}
-use Rattle.walks.specs.Networks.{IsNetwork}
+use Rattle.plan_num.proofs.Common.{subst, sym, err_from_is_err_and}
+use Rattle.walks.proofs.Common.{IsNetwork}
 use Rattle.ptn_network.proofs.Sound.{network_sound}
 use Rattle.line_walks.specs.declared.line_file.LineFile.TheVariants as kind
 use Rattle.line_pool.specs.LineCosts.{AreModest}

@@ -1,4 +1,4 @@
-use Rattle.giv_files.proofs.StageCalls.{right_given}
+use Rattle.giv_files.proofs.Common.{right_given}
 use Rattle.line_pool.proofs.CostReads.{costs_are_right}
 use Rattle.line_pool.proofs.stage.make_cost.Goals as goal
 

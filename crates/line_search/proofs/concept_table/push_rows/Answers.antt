@@ -1,7 +1,6 @@
-use Rattle.std.proofs.Common.{append_assoc, ◌+◌, ◌<◌, ◌++◌, ◌∷◌, [], length, slice_index_or, ap}
-use Rattle.std.proofs.Common.{sym, ◌∙◌, arith, to_z, of_z, w64}
-use Rattle.std.proofs.lemmas.Int.{ints, to_z-of_z}
-use Rattle.std.proofs.lemmas.List.Elements.{All-get_or}
+use Rattle.plan_num.proofs.Common.{append_assoc, ◌+◌, ◌<◌, ◌++◌, ◌∷◌, [], length, slice_index_or}
+use Rattle.plan_num.proofs.Common.{ap, sym, ◌∙◌, arith, to_z, of_z, w64, ints, All-get_or}
+use Rattle.std.proofs.lemmas.Int.{to_z-of_z}
 use Rattle.line_search.specs.ConceptTables.{row_at}
 use Rattle.line_search.proofs.ConceptRows.{edges_there, id_within, line_is, rows_more, rows_to, rows_whole}
 use Rattle.line_search.proofs.concept_table.push_rows.Goals as goal

@@ -1,12 +1,10 @@
-use Rattle.std.proofs.Common.{[], take, get_or, Some, ap, sym, ◌∙◌, arith, w64}
+use Rattle.plan_num.proofs.Common.{[], take, get_or, Some, ap, sym, ◌∙◌, arith, w64, int_eq, get}
 use Rattle.std.proofs.lemmas.Int.{to_z-of_z}
-use Rattle.std.specs.Ordering.{int_eq}
-use Rattle.std.specs.HashMap.{get}
 use Rattle.tables.specs.declared.file_id.FileId.TheVariants as file
 use Rattle.tables.specs.declared.refusal.Refusal.TheVariants as refusal
 use Rattle.tables.specs.declared.row_why.RowWhy.TheVariants as why
-use Rattle.tables.specs.Tables.{TableRow, no_row}
-use Rattle.tables.proofs.Inputs.{row_met, row_refused, rows_met, rule_broken, rule_kept}
+use Rattle.tables.proofs.Common.{TableRow, no_row, row_met, row_refused, rows_met, rule_broken}
+use Rattle.tables.proofs.Common.{rule_kept}
 use Rattle.line_search.specs.PinnedConcepts.{pinned_input, same_frequency}
 use Rattle.line_search.specs.PoolPlaces.{plain_rows}
 use Rattle.line_search.proofs.FirstKnown.{is_other, known_more}

@@ -1,10 +1,8 @@
 -- No row so far has another frequency than its line's first row, and of each line with a row so far
 -- that frequency is known.
-use Rattle.std.proofs.Common.{◌≡◌, ℤ, take}
-use Rattle.std.specs.Ordering.{int_eq}
-use Rattle.std.specs.HashMap.{get}
-use Rattle.tables.proofs.Inputs.{SoundBefore}
-use Rattle.line_cost_model.specs.Problems.{ProblemParts}
+use Rattle.plan_num.proofs.Common.{◌≡◌, ℤ, take, int_eq, get}
+use Rattle.tables.proofs.Common.{SoundBefore}
+use Rattle.line_cost_model.proofs.Common.{ProblemParts}
 use Rattle.line_search.specs.PinnedConcepts.{first_of_line, pinned_input, rows_with}
 use Rattle.line_search.specs.PoolPlaces.{plain_rows}
 use Rattle.line_search.proofs.first_frequencies.test_frequencies.Given as goal

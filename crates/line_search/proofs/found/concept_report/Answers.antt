@@ -1,7 +1,7 @@
 use Rattle.std.proofs.Common.{◌≡◌, ◌∷◌, ◌++◌, [], List, ℕ, append-nil, append_assoc, codes, subst}
 use Rattle.std.specs.Result.{IfOk}
 use Rattle.giv_files.specs.declared.stage.Stage.TheVariants as stage
-use Rattle.giv_files.specs.ReportLines.{report_line}
+use Rattle.giv_files.proofs.Common.{report_line}
 use Rattle.line_search.specs.ConceptStage.{concept_made}
 use Rattle.line_search.specs.ConceptResults.{concept_of}
 use Rattle.line_search.proofs.found.concept_report.Goals as goal

@@ -1,10 +1,7 @@
 use Rattle.std.proofs.Common.{All, arith, ap, refl, sym, subst, ◌∙◌}
-use Rattle.tables.specs.Columns.{concept_columns}
-use Rattle.tables.specs.Writing.{InColumns}
-use Rattle.tables.proofs.Headers.{plain_header}
+use Rattle.tables.proofs.Common.{concept_columns, InColumns, plain_header, columns_written}
 use Rattle.line_search.specs.ConceptTables.{concept_header, concept_rows}
 use Rattle.line_search.proofs.ConceptWritten.{concept_inside, concept_told}
-use Rattle.tables.proofs.WrittenColumns.{columns_written}
 use Rattle.line_search.proofs.found.concept_text.Goals as goal
 
 pub write_table-requires : goal.write_table-requires

@@ -1,4 +1,4 @@
-use Rattle.line_cost_model.specs.Concepts.{cost_of}
+use Rattle.line_cost_model.proofs.Common.{cost_of}
 use Rattle.line_search.proofs.ConceptWritten.{cost_handed, modest_cost}
 use Rattle.line_search.proofs.found.cost_text.Goals as goal
 

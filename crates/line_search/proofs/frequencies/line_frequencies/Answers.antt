@@ -1,8 +1,7 @@
-use Rattle.std.proofs.Common.{◌≤◌, ◌∷◌, ◌++◌, [], ap, sym, ◌∙◌, arith, subst, w64}
-use Rattle.std.specs.List.{All}
-use Rattle.std.proofs.lemmas.Int.{ints, to_z-of_z}
-use Rattle.std.proofs.lemmas.List.Elements.{All-push}
-use Rattle.line_cost_model.proofs.Mapped.{map_more, map_whole}
+use Rattle.plan_num.proofs.Common.{◌≤◌, ◌∷◌, ◌++◌, [], ap, sym, ◌∙◌, arith, subst, w64, All, ints}
+use Rattle.plan_num.proofs.Common.{All-push}
+use Rattle.std.proofs.lemmas.Int.{to_z-of_z}
+use Rattle.line_cost_model.proofs.Common.{map_more, map_whole}
 use Rattle.line_search.specs.ConceptTables.{frequency_in}
 use Rattle.line_search.proofs.ConceptRows.{id_within}
 use Rattle.line_search.proofs.FirstRows.{frequency_at}

@@ -1,6 +1,5 @@
 -- The frequencies are those of the lines so far, and none is too great.
-use Rattle.std.proofs.Common.{◌≡◌, ◌≤◌, take}
-use Rattle.std.specs.List.{All}
+use Rattle.plan_num.proofs.Common.{◌≡◌, ◌≤◌, take, All}
 use Rattle.line_search.specs.ConceptTables.{frequencies_in}
 use Rattle.line_search.proofs.frequencies.line_frequencies.Given as goal
 

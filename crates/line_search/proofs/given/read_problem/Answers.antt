@@ -1,10 +1,8 @@
-use Rattle.std.proofs.Common.{length, ap, subst, sym, ◌∙◌}
-use Rattle.std.specs.List.{All}
-use Rattle.std.proofs.lemmas.Result.{err_from_is_err_and}
+use Rattle.plan_num.proofs.Common.{length, ap, subst, sym, ◌∙◌, All, err_from_is_err_and}
 use Rattle.tables.specs.declared.file_id.FileId.TheVariants as file
-use Rattle.walks.specs.Networks.{NetworkParts}
+use Rattle.walks.proofs.Common.{NetworkParts}
 use Rattle.ptn_network.proofs.LoadRows.{loads_count}
-use Rattle.line_cost_model.specs.Problems.{IsId}
+use Rattle.line_cost_model.proofs.Common.{IsId}
 use Rattle.line_walks.proofs.SoundCosts.{costs_count}
 use Rattle.line_search.proofs.EdgesOfTexts.{edge_ids}
 use Rattle.line_search.proofs.Refusals.{network_refused, pool_refused, loads_refused, costs_refused, given}

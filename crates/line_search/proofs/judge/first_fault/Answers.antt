@@ -1,8 +1,6 @@
-use Rattle.std.proofs.Common.{length, nat_eq, refl, ◌≡◌, Some, IfNone, IfSome, ap, sym, ◌∙◌, subst}
-use Rattle.std.proofs.Common.{option_copied}
-use Rattle.std.proofs.lemmas.List.{length-map}
-use Rattle.std.proofs.lemmas.Result.{IfOk-weaker}
-use Rattle.line_cost_model.specs.Concepts.{IsFeasible, is_feasible, cost_of}
+use Rattle.plan_num.proofs.Common.{length, nat_eq, refl, ◌≡◌, Some, IfNone, IfSome, ap, sym, ◌∙◌}
+use Rattle.plan_num.proofs.Common.{subst, option_copied, length-map, IfOk-weaker}
+use Rattle.line_cost_model.proofs.Common.{IsFeasible, is_feasible, cost_of}
 use Rattle.line_search.specs.ConceptTables.{concept_rows, frequencies_in, frequency_in, row_count}
 use Rattle.line_search.specs.Judged.{Marks, Passes, first_broken, tree_rule}
 use Rattle.line_search.proofs.Judging.{not_read, other_lines, out_of_bounds, by_tree, passes}

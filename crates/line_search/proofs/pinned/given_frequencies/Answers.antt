@@ -1,10 +1,6 @@
-use Rattle.std.proofs.Common.{◌≡◌, subst, sym, ap, ◌∙◌}
-use Rattle.std.specs.List.{All}
-use Rattle.std.proofs.lemmas.Result.{err_from_is_err_and}
-use Rattle.tables.specs.Columns.{concept_columns}
-use Rattle.tables.specs.Writing.{InColumns}
-use Rattle.tables.proofs.Inputs.{UnlessFault-weaker, faults_of_table, refused_cells}
-use Rattle.tables.proofs.Ranges.{table_in_columns}
+use Rattle.plan_num.proofs.Common.{◌≡◌, subst, sym, ap, ◌∙◌, All, err_from_is_err_and}
+use Rattle.tables.proofs.Common.{concept_columns, InColumns, UnlessFault-weaker, faults_of_table}
+use Rattle.tables.proofs.Common.{refused_cells, table_in_columns}
 use Rattle.line_search.specs.ConceptTables.{frequencies_in}
 use Rattle.line_search.specs.Judged.{frequencies_of}
 use Rattle.line_search.specs.PinnedConcepts.{pinned_input}

@@ -1,7 +1,7 @@
 use Rattle.std.proofs.Common.{◌∙◌, ap, cond, sym, subst, is_some, option_map, Err, None, Some}
 use Rattle.branch_certificate.specs.TreeFiles.{tree_of}
 use Rattle.branch_certificate.specs.TreeTexts.{CopiesTrees, tree_text}
-use Rattle.line_cost_model.specs.Concepts.{cost_of}
+use Rattle.line_cost_model.proofs.Common.{cost_of}
 use Rattle.line_search.proofs.PinnedReads.{no_fault, no_rule}
 use Rattle.line_search.proofs.pinned.marking_text.Goals as goal
 

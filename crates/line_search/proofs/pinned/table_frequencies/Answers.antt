@@ -1,7 +1,6 @@
-use Rattle.std.proofs.Common.{ap, nat_eq, refl, sym, ◌∙◌, Some}
-use Rattle.std.proofs.lemmas.Result.{err_from_is_err_and}
-use Rattle.tables.proofs.Inputs.{refused_rows}
-use Rattle.line_cost_model.specs.Concepts.{is_feasible}
+use Rattle.plan_num.proofs.Common.{ap, nat_eq, refl, sym, ◌∙◌, Some, err_from_is_err_and}
+use Rattle.tables.proofs.Common.{refused_rows}
+use Rattle.line_cost_model.proofs.Common.{is_feasible}
 use Rattle.line_search.specs.ConceptTables.{frequencies_in, row_count}
 use Rattle.line_search.specs.PinnedConcepts.{pinned_input}
 use Rattle.line_search.proofs.PinnedCalls.{none_at_fault, other_bounds, other_count, other_rows}

@@ -1,4 +1,4 @@
-use Rattle.giv_files.proofs.StageCalls.{right_given}
+use Rattle.giv_files.proofs.Common.{right_given}
 use Rattle.line_search.proofs.PinnedReads.{pinned_right}
 use Rattle.line_search.proofs.pinned.take_concept.Goals as goal
 

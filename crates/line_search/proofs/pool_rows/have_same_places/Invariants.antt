@@ -1,7 +1,5 @@
 -- The rows from here on tell whether the places are the same, and there are as many of each.
-use Rattle.std.proofs.Common.{◌≡◌, drop, length, map}
-use Rattle.std.specs.Ordering.{int_eq}
-use lib.Pointwise.{pointwise}
+use Rattle.plan_num.proofs.Common.{◌≡◌, drop, length, map, int_eq, pointwise}
 use Rattle.line_search.specs.PinnedConcepts.{places_of}
 use Rattle.line_search.specs.PoolPlaces.{cells_of}
 use Rattle.line_search.proofs.pool_rows.have_same_places.Given as goal

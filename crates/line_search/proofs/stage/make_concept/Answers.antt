@@ -1,5 +1,5 @@
 use Rattle.line_search.specs.GivenProblems.{problem_of}
-use Rattle.giv_files.proofs.StageCalls.{right_given}
+use Rattle.giv_files.proofs.Common.{right_given}
 use Rattle.line_search.proofs.ConceptReads.{concept_is_right}
 use Rattle.line_search.proofs.NoConcepts.{none_told}
 use Rattle.line_search.proofs.SearchRight.{search_right}

@@ -1,7 +1,6 @@
-use Rattle.std.proofs.Common.{◌≡◌, ◌∙◌, ap, arith}
-use Rattle.std.proofs.lemmas.Result.{err_from_is_err_and}
+use Rattle.plan_num.proofs.Common.{◌≡◌, ◌∙◌, ap, arith, err_from_is_err_and}
 use Rattle.giv_files.specs.declared.key.Key.TheVariants as key
-use Rattle.giv_files.specs.Settings.{amount}
+use Rattle.giv_files.proofs.Common.{amount}
 use Rattle.line_search.specs.ConceptStage.{budget_of}
 use Rattle.line_search.proofs.StageResults.{stage_found, stage_refused, steps_listed, steps_refused}
 use Rattle.line_search.proofs.StageResults.{steps_stopped}

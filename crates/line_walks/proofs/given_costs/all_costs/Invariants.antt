@@ -1,6 +1,5 @@
 -- Each of the lines so far has a cost.
-use Rattle.std.proofs.Common.{◌≡◌, false, take}
-use Rattle.std.specs.List.{list_any}
+use Rattle.plan_num.proofs.Common.{◌≡◌, false, take, list_any}
 use Rattle.line_walks.specs.GivenCosts.{costs_over}
 use Rattle.line_walks.proofs.CostRules.{lacks}
 use Rattle.line_walks.proofs.given_costs.all_costs.Given as goal

@@ -1,6 +1,4 @@
-use Rattle.std.proofs.Common.{Some, ap, sym, ◌∙◌, arith, to_z, of_z, w64}
-use Rattle.std.specs.List.{list_any}
-use Rattle.std.specs.Ordering.{int_eq}
+use Rattle.plan_num.proofs.Common.{Some, ap, sym, ◌∙◌, arith, to_z, of_z, w64, list_any, int_eq}
 use Rattle.std.proofs.lemmas.Int.{to_z-of_z}
 use Rattle.line_walks.proofs.LineIds.{is_there, not_yet}
 use Rattle.line_walks.proofs.given_costs.has_line.Goals as goal

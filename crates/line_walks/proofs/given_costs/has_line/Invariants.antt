@@ -1,7 +1,5 @@
 -- None of the lines so far has the id.
-use Rattle.std.proofs.Common.{◌≡◌, false, take}
-use Rattle.std.specs.List.{list_any}
-use Rattle.std.specs.Ordering.{int_eq}
+use Rattle.plan_num.proofs.Common.{◌≡◌, false, take, list_any, int_eq}
 use Rattle.line_walks.proofs.given_costs.has_line.Given as goal
 
 abbrev pub invariant-loop-line : goal.invariant-loop-line

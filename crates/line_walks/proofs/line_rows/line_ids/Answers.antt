@@ -1,9 +1,6 @@
-use Rattle.std.proofs.Common.{ap, ◌∙◌, arith, w64}
+use Rattle.plan_num.proofs.Common.{ap, ◌∙◌, arith, w64, take_all, list_any, int_eq}
 use Rattle.std.proofs.lemmas.Int.{to_z-of_z}
-use Rattle.std.proofs.lemmas.List.{take_all}
-use Rattle.std.specs.List.{list_any}
-use Rattle.std.specs.Ordering.{int_eq}
-use Rattle.walks.proofs.ById.{sorted_ids}
+use Rattle.walks.proofs.Common.{sorted_ids}
 use Rattle.line_walks.specs.LinesSoFar.{lines_in}
 use Rattle.line_walks.proofs.RowsOfLines.{ids_more}
 use Rattle.line_walks.proofs.line_rows.line_ids.Goals as goal

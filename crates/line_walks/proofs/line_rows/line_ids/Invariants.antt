@@ -1,7 +1,5 @@
 -- The ids are those of the lines of the rows so far.
-use Rattle.std.proofs.Common.{◌≡◌, ℤ, take}
-use Rattle.std.specs.List.{list_any}
-use Rattle.std.specs.Ordering.{int_eq}
+use Rattle.plan_num.proofs.Common.{◌≡◌, ℤ, take, list_any, int_eq}
 use Rattle.line_walks.specs.LinesSoFar.{lines_in}
 use Rattle.line_walks.proofs.line_rows.line_ids.Given as goal
 

@@ -1,13 +1,11 @@
-use Rattle.std.proofs.Common.{◌≡◌, ◌+◌, ◌&&◌, ◌++◌, ◌∷◌, cond, true, to_z, of_z, [], Some, ap, subst, sym, ◌∙◌, arith, w64, length, map, take, set, get_or, position, slice_get, pos}
-use Rattle.std.specs.List.{list_any}
-use Rattle.std.specs.HashSet.{contains}
-use Rattle.std.specs.Ordering.{int_eq}
+use Rattle.plan_num.proofs.Common.{◌≡◌, ◌+◌, ◌&&◌, ◌++◌, ◌∷◌, cond, true, to_z, of_z, [], Some, ap}
+use Rattle.plan_num.proofs.Common.{subst, sym, ◌∙◌, arith, w64, length, map, take, set, get_or}
+use Rattle.plan_num.proofs.Common.{position, slice_get, pos, list_any, contains, int_eq, length-map}
+use Rattle.plan_num.proofs.Common.{position-Some}
 use Rattle.std.proofs.lemmas.Int.{to_z-of_z}
-use Rattle.std.proofs.lemmas.List.{length-map}
-use Rattle.std.proofs.lemmas.List.Quantifiers.{position-Some}
 use Rattle.tables.specs.declared.refusal.Refusal.TheVariants as refusal
-use Rattle.tables.specs.Inputs.{records, broken_whys}
-use Rattle.tables.proofs.Inputs.{row_met, row_refused, rows_met, records_all, records_more}
+use Rattle.tables.proofs.Common.{records, broken_whys, row_met, row_refused, rows_met, records_all}
+use Rattle.tables.proofs.Common.{records_more}
 use Rattle.line_walks.specs.Pools.{file_of, line_input, rows_of}
 use Rattle.line_walks.specs.LinesSoFar.{line_so_far, with_edge, no_line}
 use Rattle.line_walks.proofs.RowsOfLines.{line_listed, line_at, new_told, lines_more, pair_noted}

@@ -1,10 +1,6 @@
 -- The lines and the pairs are those of the rows so far, and none of these rows breaks a rule.
-use Rattle.std.proofs.Common.{◌≡◌, ℤ, ◌&&◌, map, take}
-use Rattle.std.specs.List.{list_any}
-use Rattle.std.specs.HashSet.{contains}
-use Rattle.std.specs.Ordering.{int_eq}
-use Rattle.tables.specs.Inputs.{records}
-use Rattle.tables.proofs.Inputs.{SoundBefore}
+use Rattle.plan_num.proofs.Common.{◌≡◌, ℤ, ◌&&◌, map, take, list_any, contains, int_eq}
+use Rattle.tables.proofs.Common.{records, SoundBefore}
 use Rattle.line_walks.specs.Pools.{line_input, rows_of}
 use Rattle.line_walks.specs.LinesSoFar.{line_so_far}
 use Rattle.line_walks.proofs.line_rows.lines_of_rows.Given as goal

@@ -1,6 +1,5 @@
-use Rattle.std.proofs.Common.{◌∙◌, ap, sym, position, map, w64, arith}
-use Rattle.std.specs.Ordering.{int_eq}
-use Rattle.std.proofs.lemmas.Bool.{not-true, not-false}
+use Rattle.plan_num.proofs.Common.{◌∙◌, ap, sym, position, map, w64, arith, int_eq, not-true}
+use Rattle.plan_num.proofs.Common.{not-false}
 use Rattle.std.proofs.lemmas.Int.{to_z-of_z}
 use Rattle.line_walks.proofs.RowsOfLines.{unknown, order_gap, repeated_edge, broken_line, frequency_differs, row_fits, next_told, walk_told, frequency_told}
 use Rattle.ptn_network.proofs.EdgeIds.{edge_at, stands_at, is_known, none_with}

@@ -1,7 +1,5 @@
-use Rattle.std.proofs.Common.{◌≡◌, ◌∙◌, ap, sym, position, true, is_some, w64}
-use Rattle.std.specs.List.{list_any}
-use Rattle.std.specs.Ordering.{int_eq}
-use Rattle.std.proofs.lemmas.Bool.{false≢true}
+use Rattle.plan_num.proofs.Common.{◌≡◌, ◌∙◌, ap, sym, position, true, is_some, w64, list_any}
+use Rattle.plan_num.proofs.Common.{int_eq, false≢true}
 use Rattle.std.proofs.lemmas.Int.{to_z-of_z}
 use Rattle.line_walks.proofs.line_rows.place_of.Goals as goal
 

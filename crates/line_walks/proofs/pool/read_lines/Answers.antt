@@ -1,5 +1,4 @@
-use Rattle.std.proofs.Common.{subst, sym}
-use Rattle.std.proofs.lemmas.Result.{err_from_is_err_and}
+use Rattle.plan_num.proofs.Common.{subst, sym, err_from_is_err_and}
 use Rattle.line_walks.specs.Pools.{AreLines}
 use Rattle.line_walks.proofs.PoolTables.{refused_text, refused_table, lines_read, served_lines}
 use Rattle.line_walks.proofs.WholeLines.{whole_lines}

@@ -1,6 +1,5 @@
 -- The stops so far and the walk over the edges that are left make the whole walk.
-use Rattle.std.proofs.Common.{◌≡◌, ◌++◌, drop}
-use Rattle.std.specs.Option.{option_map}
+use Rattle.plan_num.proofs.Common.{◌≡◌, ◌++◌, drop, option_map}
 use Rattle.line_walks.specs.Pools.{walk_from}
 use Rattle.line_walks.proofs.walk.stops_from.Given as goal
 

@@ -1,5 +1,4 @@
-use Rattle.std.proofs.Common.{◌+◌, ◌&&◌, drop, map, refl, ap, sym, ◌∙◌}
-use Rattle.std.specs.List.{list_all}
+use Rattle.plan_num.proofs.Common.{◌+◌, ◌&&◌, drop, map, refl, ap, sym, ◌∙◌, list_all}
 use Rattle.link_plans.specs.CheckedLists.{is_list}
 use Rattle.link_plans.proofs.CheckedRows.{lists_step, lists_end}
 use Rattle.link_plans.proofs.checked_lists.all_lists.Goals as goal

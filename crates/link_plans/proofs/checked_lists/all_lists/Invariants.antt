@@ -1,6 +1,5 @@
 -- The rest of the lists decides.
-use Rattle.std.proofs.Common.{◌≡◌, drop, map}
-use Rattle.std.specs.List.{list_all}
+use Rattle.plan_num.proofs.Common.{◌≡◌, drop, map, list_all}
 use Rattle.link_plans.specs.CheckedLists.{is_list}
 use Rattle.link_plans.proofs.checked_lists.all_lists.Given as goal
 

@@ -1,5 +1,4 @@
-use Rattle.std.proofs.Common.{arith}
-use Rattle.std.proofs.lemmas.List.{get_or_default}
+use Rattle.plan_num.proofs.Common.{arith, get_or_default}
 use Rattle.link_plans.specs.LinkRows.{link_to}
 use Rattle.link_plans.proofs.LinkLists.{looked, looked_end}
 use Rattle.link_plans.proofs.link_table.gain_in.Goals as goal

@@ -1,6 +1,4 @@
-use Rattle.std.proofs.Common.{refl, sym, ◌∙◌, arith}
-use Rattle.std.proofs.lemmas.Bool.{false≢true}
-use Rattle.std.proofs.lemmas.List.Elements.{All-from_get_or}
+use Rattle.plan_num.proofs.Common.{refl, sym, ◌∙◌, arith, false≢true, All-from_get_or}
 use Rattle.pesp.specs.Timetables.{IsActivity}
 use Rattle.pesp.proofs.FirstBroken.{no_activity}
 use Rattle.pesp.proofs.Sound.{sound_more}

@@ -1,6 +1,5 @@
 -- The first broken activity is the first one among those that are left.
-use Rattle.std.proofs.Common.{◌≡◌, position, drop, not}
-use Rattle.std.specs.List.{position_from}
+use Rattle.plan_num.proofs.Common.{◌≡◌, position, drop, not, position_from}
 use Rattle.pesp.specs.Timetables.{keeps_in}
 use Rattle.pesp.proofs.problem.first_broken.Given as goal
 

@@ -1,10 +1,9 @@
-use Rattle.std.proofs.Common.{◌∙◌, subst, sym}
+use Rattle.plan_num.proofs.Common.{◌∙◌, subst, sym, MatchBool-at_false, MatchBool-at_true}
 use Rattle.pesp.specs.Marks.{AreMarks}
 use Rattle.pesp.specs.Revising.{Dies, Sweeps}
 use Rattle.pesp.proofs.GreatestSets.{stands_dead, stands_greatest, stands_loses_none}
 use Rattle.pesp.proofs.ReducedSets.{bound_stands, dead_stands}
 use Rattle.pesp.proofs.Sweeping.{all_bound, both_propagate, reducing_begun, reducing_turn}
-use Rattle.std.proofs.lemmas.Bool.{MatchBool-at_false, MatchBool-at_true}
 use Rattle.pesp.proofs.reduce.reduce.Goals as goal
 
 pub loop-sets-init : goal.loop-sets-init

@@ -1,7 +1,6 @@
-use Rattle.std.proofs.Common.{◌∙◌, sym}
+use Rattle.plan_num.proofs.Common.{◌∙◌, sym, MatchBool-at_false, MatchBool-at_true}
 use Rattle.pesp.specs.Revising.{Dies, Visits}
 use Rattle.pesp.proofs.Sweeping.{sweep_begun, sweep_died, sweep_ended, sweep_turn}
-use Rattle.std.proofs.lemmas.Bool.{MatchBool-at_false, MatchBool-at_true}
 use Rattle.pesp.proofs.reduce.sweep.Goals as goal
 
 pub loop-event-init : goal.loop-event-init

@@ -1,5 +1,4 @@
-use Rattle.std.proofs.Common.{◌∙◌, sym}
-use Rattle.std.proofs.lemmas.Bool.{eqb-true}
+use Rattle.plan_num.proofs.Common.{◌∙◌, sym, eqb-true}
 use Rattle.pesp.proofs.EmptySets.{none_at}
 use Rattle.pesp.proofs.revise.is_emptied.Goals as goal
 

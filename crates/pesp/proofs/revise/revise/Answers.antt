@@ -1,5 +1,4 @@
-use Rattle.std.proofs.Common.{◌∙◌, inl, inr, sym}
-use Rattle.std.proofs.lemmas.Bool.{or_cases, or_parts}
+use Rattle.plan_num.proofs.Common.{◌∙◌, inl, inr, sym, or_cases, or_parts}
 use Rattle.pesp.proofs.EmptySets.{empty_marks}
 use Rattle.pesp.proofs.Revised.{both_revised}
 use Rattle.pesp.proofs.revise.revise.Goals as goal

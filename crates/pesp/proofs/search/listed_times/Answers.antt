@@ -1,5 +1,4 @@
-use Rattle.std.proofs.lemmas.Result.{err_from_is_err_and}
-use Rattle.std.proofs.Common.{◌∙◌, ◌≡◌, None, Some, arith, subst}
+use Rattle.plan_num.proofs.Common.{err_from_is_err_and, ◌∙◌, ◌≡◌, None, Some, arith, subst}
 use Rattle.pesp.specs.Searches.{IsSearched, TakesEntry}
 use Rattle.pesp.proofs.EmptySets.{first_full}
 use Rattle.pesp.proofs.Entries.{search_begun, search_ended, search_spent, search_turn, step_within}

@@ -1,5 +1,4 @@
-use Rattle.std.proofs.Common.{arith}
-use Rattle.std.proofs.lemmas.Bool.{le-ltb, lt-ltb}
+use Rattle.plan_num.proofs.Common.{arith, le-ltb, lt-ltb}
 use Rattle.pesp.proofs.NextSets.{none_open, open_here, settled_more}
 use Rattle.pesp.proofs.standing.first_open.Goals as goal
 

@@ -1,6 +1,5 @@
 -- The times so far.
-use Rattle.std.proofs.Common.{◌≡◌, map, slice_index_or}
-use Rattle.std.specs.List.{range_with_len}
+use Rattle.plan_num.proofs.Common.{◌≡◌, map, slice_index_or, range_with_len}
 use Rattle.pesp.specs.Marks.{times_from}
 use Rattle.pesp.proofs.standing.first_times.Given as goal
 

@@ -1,5 +1,4 @@
-use Rattle.std.proofs.Common.{arith, unsigned_abs, subst, sym}
-use Rattle.std.proofs.lemmas.Grind.{common_steps}
+use Rattle.plan_num.proofs.Common.{arith, unsigned_abs, subst, sym, common_steps}
 use Rattle.pesp.specs.Timetables.{IsTension}
 use Rattle.pesp.proofs.LeastTensions.{tension_least}
 use Rattle.pesp.proofs.tensions.tension.Goals as goal

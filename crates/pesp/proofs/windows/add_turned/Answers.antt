@@ -1,5 +1,4 @@
-use Rattle.std.proofs.Common.{◌∙◌, arith}
-use Rattle.std.proofs.lemmas.List.{length-set}
+use Rattle.plan_num.proofs.Common.{◌∙◌, arith, length-set}
 use Rattle.pesp.proofs.WordTurns.{all_added, and_under, none_added, one_added}
 use Rattle.pesp.proofs.windows.add_turned.Goals as goal
 

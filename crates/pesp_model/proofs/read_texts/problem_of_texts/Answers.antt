@@ -1,6 +1,5 @@
-use Rattle.std.proofs.Common.{◌≤◌, map, length, ap, sym, subst, ◌∙◌}
-use Rattle.std.proofs.lemmas.Result.{err_from_is_err_and}
-use Rattle.tables.specs.Inputs.{Refuses}
+use Rattle.plan_num.proofs.Common.{◌≤◌, map, length, ap, sym, subst, ◌∙◌, err_from_is_err_and}
+use Rattle.tables.proofs.Common.{Refuses}
 use Rattle.pesp_model.specs.PespTexts.{activity_of}
 use Rattle.pesp_model.proofs.Texts.{refused_events, activity_faults, problem_is, problem_sound}
 use Rattle.pesp_model.proofs.read_texts.problem_of_texts.Goals as goal

@@ -1,8 +1,7 @@
 -- What is left of the rows tells whether all of them are in order.
-use Rattle.std.proofs.Common.{◌≡◌, ◌+◌, drop}
-use Rattle.std.specs.List.{enumerate_from, list_all}
-use Rattle.event_tables.specs.Cells.{periodic_time}
-use Rattle.tables.specs.RowsOfTables.{records_by}
+use Rattle.plan_num.proofs.Common.{◌≡◌, ◌+◌, drop, enumerate_from, list_all}
+use Rattle.event_tables.proofs.Common.{periodic_time}
+use Rattle.tables.proofs.Common.{records_by}
 use Rattle.pesp_search.specs.Judged.{is_time_of}
 use Rattle.pesp_search.proofs.judge.are_in_order.Given as goal
 

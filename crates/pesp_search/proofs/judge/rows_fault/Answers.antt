@@ -1,6 +1,6 @@
 use Rattle.std.proofs.Common.{◌<◌, All, sym, subst, ◌∙◌}
-use Rattle.event_tables.specs.Cells.{periodic_time}
-use Rattle.tables.specs.RowsOfTables.{records_by}
+use Rattle.event_tables.proofs.Common.{periodic_time}
+use Rattle.tables.proofs.Common.{records_by}
 use Rattle.pesp_search.proofs.JudgedTimes.{in_order}
 use Rattle.pesp_search.proofs.judge.rows_fault.Goals as goal
 

@@ -1,8 +1,5 @@
-use Rattle.std.proofs.Common.{sym, subst}
-use Rattle.std.specs.List.{All}
-use Rattle.tables.specs.Columns.{times_p_columns}
-use Rattle.tables.specs.Writing.{InColumns}
-use Rattle.tables.proofs.Ranges.{table_in_columns}
+use Rattle.plan_num.proofs.Common.{sym, subst, All}
+use Rattle.tables.proofs.Common.{times_p_columns, InColumns, table_in_columns}
 use Rattle.pesp_search.proofs.judge.time_table.Goals as goal
 
 pub returns-in-Ok-clause-cells : goal.returns-in-Ok-clause-cells

@@ -1,6 +1,6 @@
 use Rattle.std.proofs.Common.{◌++◌, ◌∷◌, [], ap, map, take, sym, ◌∙◌, arith}
-use Rattle.event_tables.specs.Cells.{periodic_time}
-use Rattle.tables.specs.RowsOfTables.{records_by}
+use Rattle.event_tables.proofs.Common.{periodic_time}
+use Rattle.tables.proofs.Common.{records_by}
 use Rattle.pesp_search.proofs.RowsOfTimes.{time_more}
 use Rattle.pesp_search.proofs.judge.times_of.Goals as goal
 

@@ -1,7 +1,7 @@
 -- The times so far are those of the first rows.
 use Rattle.std.proofs.Common.{◌≡◌, map, take}
-use Rattle.event_tables.specs.Cells.{periodic_time}
-use Rattle.tables.specs.RowsOfTables.{records_by}
+use Rattle.event_tables.proofs.Common.{periodic_time}
+use Rattle.tables.proofs.Common.{records_by}
 use Rattle.pesp_search.proofs.judge.times_of.Given as goal
 
 abbrev pub invariant-loop-row : goal.invariant-loop-row

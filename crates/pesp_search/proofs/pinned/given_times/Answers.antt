@@ -1,6 +1,5 @@
-use Rattle.std.proofs.Common.{map, ap, sym, subst, ◌∙◌}
-use Rattle.std.proofs.lemmas.Result.{err_from_is_err_and}
-use Rattle.tables.specs.Inputs.{Refuses}
+use Rattle.plan_num.proofs.Common.{map, ap, sym, subst, ◌∙◌, err_from_is_err_and}
+use Rattle.tables.proofs.Common.{Refuses}
 use Rattle.pesp_search.specs.Judged.{times_in}
 use Rattle.pesp_search.proofs.PinnedResults.{events_fine, same_faults}
 use Rattle.pesp_search.proofs.pinned.given_times.Goals as goal

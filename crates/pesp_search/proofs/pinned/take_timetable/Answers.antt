@@ -1,4 +1,4 @@
-use Rattle.giv_files.proofs.StageCalls.{right_given}
+use Rattle.giv_files.proofs.Common.{right_given}
 use Rattle.pesp_search.proofs.PinnedLaws.{pinned_timetable_right}
 use Rattle.pesp_search.proofs.pinned.take_timetable.Goals as goal
 

@@ -1,9 +1,7 @@
-use Rattle.std.proofs.Common.{◌<◌, All, length, ap, sym, subst, ◌∙◌}
-use Rattle.std.proofs.lemmas.Result.{err_from_is_err_and}
-use Rattle.tables.specs.Columns.{times_p_columns}
-use Rattle.tables.specs.Writing.{InColumns}
-use Rattle.event_tables.specs.Cells.{periodic_time_cells}
-use Rattle.giv_files.specs.StageCalls.{input_text}
+use Rattle.plan_num.proofs.Common.{◌<◌, All, length, ap, sym, subst, ◌∙◌, err_from_is_err_and}
+use Rattle.tables.proofs.Common.{times_p_columns, InColumns}
+use Rattle.event_tables.proofs.Common.{periodic_time_cells}
+use Rattle.giv_files.proofs.Common.{input_text}
 use Rattle.pesp_search.specs.Judged.{times_in}
 use Rattle.pesp_search.specs.TimetableStage.{time_rows}
 use Rattle.pesp_search.proofs.PinnedLaws.{pinned_within}

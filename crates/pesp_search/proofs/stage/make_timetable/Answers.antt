@@ -1,6 +1,6 @@
 use Rattle.pesp.proofs.ListingRight.{listing_whole}
 use Rattle.pesp_search.proofs.TimetableEnds.{none_told, right_listing, spent_never}
-use Rattle.giv_files.proofs.StageCalls.{right_given}
+use Rattle.giv_files.proofs.Common.{right_given}
 use Rattle.pesp_search.proofs.TimetableReads.{timetable_is_right}
 use Rattle.pesp_search.specs.TimetableStage.{problem_in}
 use Rattle.pesp_search.proofs.stage.make_timetable.Goals as goal

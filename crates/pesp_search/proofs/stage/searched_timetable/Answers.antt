@@ -1,5 +1,4 @@
-use Rattle.std.proofs.Common.{sym, subst}
-use Rattle.std.proofs.lemmas.Result.{err_from_is_err_and}
+use Rattle.plan_num.proofs.Common.{sym, subst, err_from_is_err_and}
 use Rattle.pesp.specs.Timetables.{IsProblem}
 use Rattle.pesp_search.proofs.StageResults.{found_made, search_ended, stage_refused, steps_ended}
 use Rattle.pesp_search.proofs.StageResults.{steps_found, steps_made, steps_refused, times_known}

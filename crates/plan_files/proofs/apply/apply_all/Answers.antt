@@ -1,5 +1,4 @@
-use Rattle.std.proofs.Common.{◌∙◌, refl}
-use Rattle.std.proofs.lemmas.Result.{err_from_is_err_and}
+use Rattle.plan_num.proofs.Common.{◌∙◌, refl, err_from_is_err_and}
 use Rattle.plan_files.proofs.Applying.{none_applied, more_applied, cut_short, all_applied}
 use Rattle.plan_files.proofs.apply.apply_all.Goals as goal
 

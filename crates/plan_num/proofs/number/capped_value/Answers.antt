@@ -1,5 +1,4 @@
-use Rattle.std.proofs.Common.{◌≡◌, ◌+◌, ◌*◌, ◌-◌, take, get_or, arith, ap, ◌∙◌}
-use Rattle.std.proofs.lemmas.List.{take_more}
+use Rattle.plan_num.proofs.Common.{◌≡◌, ◌+◌, ◌*◌, ◌-◌, take, get_or, arith, ap, ◌∙◌, take_more}
 use Rattle.plan_num.specs.Number.{value_of}
 use Rattle.plan_num.proofs.Digits.{value_of-push, value_of-none}
 use Rattle.plan_num.proofs.number.capped_value.Goals as goal

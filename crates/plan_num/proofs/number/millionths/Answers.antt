@@ -1,6 +1,5 @@
-use Rattle.std.proofs.Common.{length, arith}
+use Rattle.plan_num.proofs.Common.{length, arith, length_push}
 use Rattle.std.proofs.lemmas.Slice.Zip.{zip_turn, zip_end}
-use Rattle.std.proofs.lemmas.List.{length_push}
 use Rattle.plan_num.specs.Print.{places}
 use Rattle.plan_num.proofs.Digits.{value_at-turn, value_at-end, value_at-small, value_at-zero}
 use Rattle.plan_num.proofs.number.millionths.Goals as goal

@@ -1,9 +1,6 @@
 use Rattle.std.proofs.Common.{get_or, arith}
-use Rattle.link_plans.specs.Links.{links_in}
-use Rattle.link_plans.specs.LinkRows.{link_to}
+use Rattle.link_plans.proofs.Common.{links_in, link_to, none_past, item}
 use Rattle.plan_search.proofs.Bidding.{offer_all, offer_more}
-use Rattle.link_plans.proofs.Covering.{none_past}
-use Rattle.link_plans.proofs.LinkRows.{item}
 use Rattle.plan_search.proofs.bid.best_offer.Goals as goal
 
 pub link_rest-rest-requires : goal.link_rest-rest-requires

@@ -1,5 +1,5 @@
 use Rattle.std.proofs.Common.{◌-◌, slice_set, ap, ◌∙◌}
-use Rattle.link_plans.specs.Links.{links_in}
+use Rattle.link_plans.proofs.Common.{links_in}
 use Rattle.plan_search.proofs.Bidding.{engaged}
 use Rattle.plan_search.proofs.bid.engage.Goals as goal
 

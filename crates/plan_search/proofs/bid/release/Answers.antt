@@ -1,4 +1,4 @@
-use Rattle.link_plans.specs.Links.{links_in}
+use Rattle.link_plans.proofs.Common.{links_in}
 use Rattle.plan_search.proofs.Bidding.{released, released_free, released_waits, taken_but}
 use Rattle.plan_search.proofs.bid.release.Goals as goal
 

@@ -1,8 +1,5 @@
 use Rattle.std.proofs.Common.{sym, subst}
-use Rattle.link_plans.proofs.Certified.{certified_best}
-use Rattle.link_plans.specs.Plans.{IsPlan}
-use Rattle.link_plans.specs.Links.{links_in}
-use Rattle.link_plans.specs.Potentials.{AreValid}
+use Rattle.link_plans.proofs.Common.{certified_best, IsPlan, links_in, AreValid}
 use Rattle.plan_search.proofs.TakenIn.{none_taken_in, all_plan, all_valid}
 use Rattle.plan_search.proofs.cheapest.best_plan.Goals as goal
 

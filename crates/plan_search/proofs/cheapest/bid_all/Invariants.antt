@@ -1,5 +1,5 @@
 -- The trips that have places are taken in.
-use Rattle.link_plans.specs.Links.{links_in}
+use Rattle.link_plans.proofs.Common.{links_in}
 use Rattle.plan_search.specs.Growing.{IsTaken}
 use Rattle.plan_search.proofs.cheapest.bid_all.Given as goal
 

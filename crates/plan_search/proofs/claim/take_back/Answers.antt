@@ -1,5 +1,4 @@
-use Rattle.std.proofs.Common.{get_or, length}
-use Rattle.std.proofs.lemmas.Option.{slice_get-get_or}
+use Rattle.plan_num.proofs.Common.{get_or, length, slice_get-get_or}
 use Rattle.plan_search.proofs.Flags.{left_more, left_none}
 use Rattle.plan_search.proofs.claim.take_back.Goals as goal
 

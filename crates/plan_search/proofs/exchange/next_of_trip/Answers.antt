@@ -1,5 +1,5 @@
 use Rattle.std.proofs.Common.{arith}
-use Rattle.link_plans.proofs.LinkRows.{item}
+use Rattle.link_plans.proofs.Common.{item}
 use Rattle.plan_search.proofs.exchange.next_of_trip.Goals as goal
 
 pub natural_v-requires : goal.natural_v-requires

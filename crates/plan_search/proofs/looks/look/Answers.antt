@@ -1,11 +1,8 @@
 use Rattle.std.proofs.Common.{Some, None, get_or, length, ap, ◌∙◌, arith}
-use Rattle.link_plans.specs.Links.{links_in}
+use Rattle.link_plans.proofs.Common.{links_in, link_to, item, link_covered, link_slack}
 use Rattle.plan_search.specs.Claims.{claim_at}
 use Rattle.plan_search.specs.Growing.{looked}
-use Rattle.link_plans.specs.LinkRows.{link_to}
 use Rattle.plan_search.proofs.LinkLooks.{looked_all, looked_more, looked_start, looked_to, near_links}
-use Rattle.link_plans.proofs.LinkRows.{item}
-use Rattle.link_plans.proofs.LinkSlacks.{link_covered, link_slack}
 use Rattle.plan_search.proofs.looks.look.Goals as goal
 
 pub next_nearer-step-requires-clause-links : goal.next_nearer-step-requires-clause-links

@@ -2,9 +2,7 @@
 use Rattle.std.proofs.Common.{◌≤◌, ◌-◌, get_or, length, None}
 use Rattle.plan_search.specs.Claims.{claim_at}
 use Rattle.plan_search.specs.Growing.{looked}
-use Rattle.link_plans.specs.LinkRows.{reached}
-use Rattle.link_plans.specs.Links.{links_in}
-use Rattle.link_plans.specs.Slacks.{slack_to}
+use Rattle.link_plans.proofs.Common.{reached, links_in, slack_to}
 use Rattle.plan_search.proofs.WrittenLists.{IsTold}
 use Rattle.plan_search.proofs.looks.look.Given as goal
 

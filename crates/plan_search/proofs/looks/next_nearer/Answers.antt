@@ -1,10 +1,6 @@
-use Rattle.std.proofs.Common.{◌≡◌, ◌+◌, ◌-◌, false, None, get_or, slice_get, subst, sym, ap, ◌∙◌}
-use Rattle.std.proofs.Common.{arith}
-use Rattle.std.proofs.lemmas.Option.{same_Some}
-use Rattle.link_plans.proofs.Linking.{by_number}
-use Rattle.link_plans.specs.LinkRows.{link_to}
-use Rattle.link_plans.specs.Potentials.{at}
-use Rattle.link_plans.proofs.LinkRows.{item}
+use Rattle.plan_num.proofs.Common.{◌≡◌, ◌+◌, ◌-◌, false, None, get_or, slice_get, subst, sym, ap}
+use Rattle.plan_num.proofs.Common.{◌∙◌, arith, same_Some}
+use Rattle.link_plans.proofs.Common.{by_number, link_to, at, item}
 use Rattle.plan_search.specs.Growing.{is_nearer}
 use Rattle.plan_search.proofs.looks.next_nearer.Goals as goal
 

@@ -1,6 +1,5 @@
 use Rattle.std.proofs.Common.{subst, sym, arith}
-use Rattle.link_plans.specs.Links.{links_in}
-use Rattle.link_plans.proofs.Linking.{by_number}
+use Rattle.link_plans.proofs.Common.{links_in, by_number}
 use Rattle.plan_search.specs.Parting.{IsMet}
 use Rattle.plan_search.proofs.parting.are_met.Goals as goal
 

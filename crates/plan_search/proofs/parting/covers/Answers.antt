@@ -1,9 +1,6 @@
 use Rattle.std.proofs.Common.{get_or, arith}
-use Rattle.link_plans.specs.Links.{links_in}
-use Rattle.link_plans.specs.LinkRows.{link_to}
-use Rattle.link_plans.proofs.Covering.{none_past}
+use Rattle.link_plans.proofs.Common.{links_in, link_to, none_past, item}
 use Rattle.plan_search.proofs.Parted.{covered_more, row_covers}
-use Rattle.link_plans.proofs.LinkRows.{item}
 use Rattle.plan_search.proofs.parting.covers.Goals as goal
 
 pub natural_v-requires : goal.natural_v-requires

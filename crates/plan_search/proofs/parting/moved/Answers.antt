@@ -1,6 +1,6 @@
 use Rattle.std.proofs.Common.{◌≡◌, length, slice_set, get_or, ap, ◌∙◌, arith}
 use Rattle.std.proofs.lemmas.List.{length-set, length-replicate}
-use Rattle.link_plans.specs.Potentials.{PotentialParts}
+use Rattle.link_plans.proofs.Common.{PotentialParts}
 use Rattle.plan_search.proofs.MovedOne.{between_is, moved_more, moved_none}
 use Rattle.plan_search.proofs.parting.moved.Goals as goal
 

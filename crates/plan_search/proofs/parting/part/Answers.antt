@@ -1,4 +1,4 @@
-use Rattle.link_plans.specs.Links.{links_in}
+use Rattle.link_plans.proofs.Common.{links_in}
 use Rattle.plan_search.proofs.Parted.{met_taken}
 use Rattle.plan_search.proofs.parting.part.Goals as goal
 

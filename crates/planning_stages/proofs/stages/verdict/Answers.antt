@@ -1,6 +1,6 @@
 use Rattle.std.proofs.Common.{sym, ◌∙◌}
 use Rattle.giv_files.specs.declared.stage.Stage.TheVariants as stage
-use Rattle.giv_files.specs.MadeLists.{ids_of}
+use Rattle.giv_files.proofs.Common.{ids_of}
 use Rattle.planning_stages.specs.Planning.{planning, stage_model}
 use Rattle.planning_stages.proofs.Laws.{passes_at}
 use Rattle.planning_stages.proofs.PinnedPlaces.{concept_list, times_list}

@@ -1,6 +1,6 @@
 use Rattle.std.proofs.Common.{cond, IfNone, IfOk, subst, sym, ◌∙◌}
 use Rattle.giv_files.specs.declared.stage.Stage.TheVariants as stage
-use Rattle.giv_files.specs.MadeLists.{MakesAs, ids_of}
+use Rattle.giv_files.proofs.Common.{MakesAs, ids_of}
 use Rattle.planning_stages.specs.Planning.{schedule_judged}
 use Rattle.planning_stages.proofs.verdicts.judge_vehicles.Goals as goal
 

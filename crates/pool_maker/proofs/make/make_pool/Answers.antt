@@ -1,6 +1,5 @@
-use Rattle.std.proofs.Common.{subst, sym, ◌∙◌}
-use Rattle.std.proofs.lemmas.Result.{err_from_is_err_and}
-use Rattle.walks.specs.Networks.{IsNetwork}
+use Rattle.plan_num.proofs.Common.{subst, sym, ◌∙◌, err_from_is_err_and}
+use Rattle.walks.proofs.Common.{IsNetwork}
 use Rattle.ptn_network.proofs.Sound.{network_sound}
 use Rattle.pool_maker.proofs.MadePools.{no_faults, pool_of_text, stops_of_terminals}
 use Rattle.pool_maker.proofs.MadePools.{tellable_lines, text_faults, unknown_faults}

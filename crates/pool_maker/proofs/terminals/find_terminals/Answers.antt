@@ -1,5 +1,4 @@
-use Rattle.std.proofs.Common.{◌++◌, ◌∷◌, [], ap, get_or, map, pos, sym, ◌∙◌}
-use Rattle.std.proofs.lemmas.List.{take_all}
+use Rattle.plan_num.proofs.Common.{◌++◌, ◌∷◌, [], ap, get_or, map, pos, sym, ◌∙◌, take_all}
 use Rattle.terminal_lines.specs.Terminals.{terminal_of}
 use Rattle.pool_maker.proofs.SortedIds.{all_known, found_at, found_nowhere, known_more}
 use Rattle.pool_maker.proofs.SortedIds.{terminal_more, unknown_here}

@@ -1,7 +1,5 @@
 -- The terminals are those of the ids so far, each of which is a stop.
-use Rattle.std.proofs.Common.{◌≡◌, true, map, take}
-use Rattle.std.specs.List.{list_all, list_any}
-use Rattle.std.specs.Ordering.{int_eq}
+use Rattle.plan_num.proofs.Common.{◌≡◌, true, map, take, list_all, list_any, int_eq}
 use Rattle.terminal_lines.specs.Terminals.{terminal_of}
 use Rattle.pool_maker.proofs.terminals.find_terminals.Given as goal
 

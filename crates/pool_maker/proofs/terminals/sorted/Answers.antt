@@ -1,7 +1,5 @@
-use Rattle.std.proofs.Common.{sym, ◌∙◌, ap, subst}
-use Rattle.std.specs.List.{list_any}
-use Rattle.std.specs.List.Sorted.{IsPermutation}
-use Rattle.std.proofs.lemmas.List.Sorted.{list_any-IsPermutation}
+use Rattle.plan_num.proofs.Common.{sym, ◌∙◌, ap, subst, list_any, IsPermutation}
+use Rattle.plan_num.proofs.Common.{list_any-IsPermutation}
 use Rattle.pool_maker.proofs.SortedIds.{sorted_rise}
 use Rattle.pool_maker.proofs.terminals.sorted.Goals as goal
 

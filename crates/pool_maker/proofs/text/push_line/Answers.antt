@@ -1,6 +1,5 @@
-use Rattle.std.proofs.Common.{◌+◌, ◌++◌, refl, ap, ◌∙◌, arith, get_or, map, take}
-use Rattle.std.specs.List.{enumerate_from}
-use Rattle.std.proofs.lemmas.List.{map-append}
+use Rattle.plan_num.proofs.Common.{◌+◌, ◌++◌, refl, ap, ◌∙◌, arith, get_or, map, take}
+use Rattle.plan_num.proofs.Common.{enumerate_from, map-append}
 use Rattle.pool_maker.specs.PoolTexts.{line_rows, row_at}
 use Rattle.terminal_lines.proofs.OneMore.{made_more, numbered_all, numbered_more}
 use Rattle.pool_maker.proofs.text.push_line.Goals as goal

@@ -1,6 +1,5 @@
 -- The table has the rows of the edges so far.
-use Rattle.std.proofs.Common.{◌≡◌, ◌++◌, map, take}
-use Rattle.std.specs.List.{enumerate_from}
+use Rattle.plan_num.proofs.Common.{◌≡◌, ◌++◌, map, take, enumerate_from}
 use Rattle.pool_maker.specs.PoolTexts.{row_at}
 use Rattle.pool_maker.proofs.text.push_line.Given as goal
 

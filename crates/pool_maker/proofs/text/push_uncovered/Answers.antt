@@ -1,5 +1,4 @@
-use Rattle.std.proofs.Common.{◌+◌}
-use Rattle.std.specs.List.{flat_map, range_with_len}
+use Rattle.plan_num.proofs.Common.{◌+◌, flat_map, range_with_len}
 use Rattle.pool_maker.specs.PoolTexts.{uncovered_line}
 use Rattle.terminal_lines.specs.TerminalPaths.{uncovered_among}
 use Rattle.terminal_lines.proofs.OneMore.{made_more}

@@ -1,6 +1,5 @@
 -- There is a comment for each of the edges so far that no line has.
-use Rattle.std.proofs.Common.{◌≡◌, ◌++◌}
-use Rattle.std.specs.List.{flat_map, range_with_len}
+use Rattle.plan_num.proofs.Common.{◌≡◌, ◌++◌, flat_map, range_with_len}
 use Rattle.pool_maker.specs.PoolTexts.{uncovered_line}
 use Rattle.terminal_lines.specs.TerminalPaths.{uncovered_among}
 use Rattle.pool_maker.proofs.text.push_uncovered.Given as goal

@@ -1,6 +1,5 @@
-use Rattle.std.proofs.Common.{◌+◌, ◌++◌, [], ap, sym, ◌∙◌, append-nil, arith, take}
-use Rattle.std.specs.List.{enumerate_from, flat_map}
-use Rattle.std.proofs.lemmas.Grind.{flat_map-append}
+use Rattle.plan_num.proofs.Common.{◌+◌, ◌++◌, [], ap, sym, ◌∙◌, append-nil, arith, take}
+use Rattle.plan_num.proofs.Common.{enumerate_from, flat_map, flat_map-append}
 use Rattle.pool_maker.specs.PoolTexts.{line_rows}
 use Rattle.terminal_lines.proofs.OneMore.{made_more, numbered_all, numbered_more}
 use Rattle.pool_maker.proofs.text.table_of_lines.Goals as goal

@@ -1,6 +1,5 @@
 -- The table has the rows of the lines so far.
-use Rattle.std.proofs.Common.{◌≡◌, take}
-use Rattle.std.specs.List.{enumerate_from, flat_map}
+use Rattle.plan_num.proofs.Common.{◌≡◌, take, enumerate_from, flat_map}
 use Rattle.pool_maker.specs.PoolTexts.{line_rows}
 use Rattle.pool_maker.proofs.text.table_of_lines.Given as goal
 

@@ -1,8 +1,6 @@
 use Rattle.std.proofs.Common.{All, arith, refl, subst, sym}
-use Rattle.tables.specs.Columns.{pool_columns}
-use Rattle.tables.specs.Writing.{InColumns}
+use Rattle.tables.proofs.Common.{pool_columns, InColumns, columns_written}
 use Rattle.pool_maker.proofs.RowsInside.{header_plain, rows_inside}
-use Rattle.tables.proofs.WrittenColumns.{columns_written}
 use Rattle.pool_maker.proofs.text.text_of_lines.Goals as goal
 
 pub write_table-requires : goal.write_table-requires

@@ -1,5 +1,4 @@
-use Rattle.std.proofs.Common.{◌∙◌, length, nat_lt, ap}
-use Rattle.std.proofs.lemmas.List.FromFn.{length-map-range_with_len}
+use Rattle.plan_num.proofs.Common.{◌∙◌, length, nat_lt, ap, length-map-range_with_len}
 use Rattle.propagation.specs.declared.step.Activity.{Activity}
 use Rattle.propagation.specs.EarlyEvents.{is_before}
 use Rattle.propagation.specs.LeastTimes.{time_at}

@@ -1,6 +1,5 @@
 -- The sum so far goes on as the first one does, and is no greater than so many events can make it.
-use Rattle.std.proofs.Common.{◌≡◌, ◌*◌, ◌+ℤ◌, ◌≤ℤ◌, neg_ℤ, pos, drop, filter, zip}
-use Rattle.std.specs.List.{fold}
+use Rattle.plan_num.proofs.Common.{◌≡◌, ◌*◌, ◌+ℤ◌, ◌≤ℤ◌, neg_ℤ, pos, drop, filter, zip, fold}
 use Rattle.propagation.specs.Lateness.{arrives, delay_at, lateness}
 use Rattle.propagation.proofs.lateness.delay_at.Given as goal
 use Rattle.propagation.specs.declared.times.TheConstants.{LATEST}

@@ -1,6 +1,5 @@
 -- The ranks so far are those of the first events.
-use Rattle.std.proofs.Common.{◌≡◌, map}
-use Rattle.std.specs.List.{range_with_len}
+use Rattle.plan_num.proofs.Common.{◌≡◌, map, range_with_len}
 use Rattle.propagation.specs.DayEvents.{forward_rank}
 use Rattle.propagation.proofs.links.ranks_in_order.Given as goal
 

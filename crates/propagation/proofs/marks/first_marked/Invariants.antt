@@ -1,6 +1,5 @@
 -- The first of the events that are left is the first of all.
-use Rattle.std.proofs.Common.{◌≡◌, ◌-◌, false, filter, get_or, length}
-use Rattle.std.specs.List.{range_with_len}
+use Rattle.plan_num.proofs.Common.{◌≡◌, ◌-◌, false, filter, get_or, length, range_with_len}
 use Rattle.propagation.proofs.marks.first_marked.Given as goal
 
 abbrev pub invariant-loop-event : goal.invariant-loop-event

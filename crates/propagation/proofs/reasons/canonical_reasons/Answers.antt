@@ -1,6 +1,5 @@
-use Rattle.std.proofs.Common.{◌≡◌, ◌≤◌, ◌++◌, All, length, sym, subst, arith}
-use Rattle.std.specs.List.{items_where_true}
-use Rattle.std.proofs.lemmas.List.Elements.{All-append}
+use Rattle.plan_num.proofs.Common.{◌≡◌, ◌≤◌, ◌++◌, All, length, sym, subst, arith, items_where_true}
+use Rattle.plan_num.proofs.Common.{All-append}
 use Rattle.propagation.specs.declared.step.Activity.{Activity}
 use Rattle.propagation.specs.Problems.{Joins}
 use Rattle.propagation.specs.Waiting.{chosen_changes}

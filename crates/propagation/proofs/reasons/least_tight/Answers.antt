@@ -1,8 +1,6 @@
-use Rattle.std.proofs.Common.{◌∙◌, ◌++◌, ℕ, List, length, map, take, get_or, slice_set, Some, None}
-use Rattle.std.proofs.Common.{ap, sym, arith, Vec, Option}
-use Rattle.std.specs.List.{items_where_true, range_with_len, reduce}
-use Rattle.std.proofs.lemmas.List.{take_more}
-use Rattle.std.proofs.lemmas.List.FromFn.{length-map-range_with_len}
+use Rattle.plan_num.proofs.Common.{◌∙◌, ◌++◌, ℕ, List, length, map, take, get_or, slice_set, Some}
+use Rattle.plan_num.proofs.Common.{None, ap, sym, arith, Vec, Option, items_where_true}
+use Rattle.plan_num.proofs.Common.{range_with_len, reduce, take_more, length-map-range_with_len}
 use Rattle.propagation.specs.declared.step.Activity.{Activity}
 use Rattle.propagation.specs.Reasons.{lesser, tight_among}
 use Rattle.propagation.specs.TightIds.{with_id}

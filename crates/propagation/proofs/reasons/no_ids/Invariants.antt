@@ -1,6 +1,5 @@
 -- So far there is no id.
-use Rattle.std.proofs.Common.{◌≡◌, None, map}
-use Rattle.std.specs.List.{range_with_len}
+use Rattle.plan_num.proofs.Common.{◌≡◌, None, map, range_with_len}
 use Rattle.propagation.proofs.reasons.no_ids.Given as goal
 
 abbrev pub invariant-loop-event : goal.invariant-loop-event

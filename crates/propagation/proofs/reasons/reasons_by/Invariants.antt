@@ -1,6 +1,5 @@
 -- The reasons so far are those of the first events.
-use Rattle.std.proofs.Common.{◌≡◌, None, get_or, map}
-use Rattle.std.specs.List.{range_with_len}
+use Rattle.plan_num.proofs.Common.{◌≡◌, None, get_or, map, range_with_len}
 use Rattle.propagation.specs.TightIds.{reason_by}
 use Rattle.propagation.proofs.reasons.reasons_by.Given as goal
 

@@ -1,6 +1,5 @@
-use Rattle.std.proofs.Common.{◌∙◌, ◌++◌, length, ap}
-use Rattle.std.specs.List.{items_where_true, reduce}
-use Rattle.std.proofs.lemmas.List.FromFn.{length-map-range_with_len}
+use Rattle.plan_num.proofs.Common.{◌∙◌, ◌++◌, length, ap, items_where_true, reduce}
+use Rattle.plan_num.proofs.Common.{length-map-range_with_len}
 use Rattle.propagation.specs.Reasons.{lesser, tight_among}
 use Rattle.propagation.proofs.WrittenBy.{told_by_ids}
 use Rattle.propagation.proofs.reasons.written_reasons.Goals as goal

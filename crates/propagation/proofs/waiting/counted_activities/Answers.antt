@@ -1,5 +1,4 @@
-use Rattle.std.proofs.Common.{◌∙◌, ◌++◌, ap, sym, refl, arith}
-use Rattle.std.proofs.lemmas.List.{append-nil}
+use Rattle.plan_num.proofs.Common.{◌∙◌, ◌++◌, ap, sym, refl, arith, append-nil}
 use Rattle.propagation.proofs.ChosenChanges.{chosen_done, chosen_more, chosen_passed}
 use Rattle.propagation.proofs.Places.{moved}
 use Rattle.propagation.proofs.waiting.counted_activities.Goals.{then-is_chosen+in_ok-push, else-is_chosen}

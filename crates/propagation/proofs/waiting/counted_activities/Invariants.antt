@@ -1,6 +1,5 @@
 -- The activities so far and the chosen changes that are left are all of them.
-use Rattle.std.proofs.Common.{◌≡◌, ◌++◌, drop}
-use Rattle.std.specs.List.{items_where_true}
+use Rattle.plan_num.proofs.Common.{◌≡◌, ◌++◌, drop, items_where_true}
 use Rattle.propagation.proofs.waiting.counted_activities.Given as goal
 
 abbrev pub invariant-loop-index : goal.invariant-loop-index

@@ -1,6 +1,5 @@
 -- The marks so far are those of the first events.
-use Rattle.std.proofs.Common.{◌≡◌, ◌&&◌, map, nat_eq}
-use Rattle.std.specs.List.{range_with_len}
+use Rattle.plan_num.proofs.Common.{◌≡◌, ◌&&◌, map, nat_eq, range_with_len}
 use Rattle.propagation.specs.LeastTimes.{time_at}
 use Rattle.propagation.specs.Marks.{is_source}
 use Rattle.propagation.specs.Reasons.{reason_for}

@@ -1,6 +1,5 @@
 use Rattle.std.proofs.Common.{ap, ◌∙◌}
-use Rattle.walks.specs.RisingIds.{by_id}
-use Rattle.walks.proofs.ById.{sorted_entries}
+use Rattle.walks.proofs.Common.{by_id, sorted_entries}
 use Rattle.ptn_network.proofs.edges.read_edges.Goals as goal
 
 pub returns : goal.returns

@@ -1,6 +1,5 @@
 -- So far each load is given.
-use Rattle.std.proofs.Common.{◌≡◌, false, not, is_some, unwrap_or, map, take}
-use Rattle.std.specs.List.{list_any}
+use Rattle.plan_num.proofs.Common.{◌≡◌, false, not, is_some, unwrap_or, map, take, list_any}
 use Rattle.ptn_network.specs.Loads.{no_load}
 use Rattle.ptn_network.proofs.loads.all_given.Given as goal
 

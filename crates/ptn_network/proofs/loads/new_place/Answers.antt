@@ -1,5 +1,4 @@
-use Rattle.std.proofs.Common.{map, position, ap, sym, ◌∙◌, arith, w64}
-use Rattle.std.specs.Ordering.{int_eq}
+use Rattle.plan_num.proofs.Common.{map, position, ap, sym, ◌∙◌, arith, w64, int_eq}
 use Rattle.std.proofs.lemmas.Int.{to_z-of_z}
 use Rattle.ptn_network.proofs.EdgeIds.{stands_at, stands_within, is_known, none_with}
 use Rattle.ptn_network.proofs.LoadRows.{unknown, repeated, crossed, fits, is_given}

@@ -1,7 +1,7 @@
 use Rattle.std.proofs.Common.{◌∷◌, ◌++◌, [], None, map, ap, sym, ◌∙◌, arith}
 use Rattle.std.proofs.lemmas.List.{map_more, take_all}
 use Rattle.ptn_network.specs.Loads.{given_for}
-use Rattle.walks.proofs.PathSteps.{no_edge}
+use Rattle.walks.proofs.Common.{no_edge}
 use Rattle.ptn_network.proofs.loads.none_given.Goals as goal
 
 pub loop-edge-preserved : goal.loop-edge-preserved

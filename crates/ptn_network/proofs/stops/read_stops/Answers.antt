@@ -1,7 +1,6 @@
 use Rattle.std.proofs.Common.{ap, ◌∙◌}
 use Rattle.ptn_network.specs.Networks.{stops_of}
-use Rattle.walks.specs.RisingIds.{rising}
-use Rattle.walks.proofs.ById.{sorted_ids}
+use Rattle.walks.proofs.Common.{rising, sorted_ids}
 use Rattle.ptn_network.proofs.stops.read_stops.Goals as goal
 
 pub returns : goal.returns

@@ -1,6 +1,5 @@
-use Rattle.std.proofs.Common.{◌++◌, ap, sym, arith, ◌∙◌}
-use Rattle.std.specs.List.{flat_map, range_with_len}
-use Rattle.std.specs.Option.{option_to_list}
+use Rattle.plan_num.proofs.Common.{◌++◌, ap, sym, arith, ◌∙◌, flat_map, range_with_len}
+use Rattle.plan_num.proofs.Common.{option_to_list}
 use Rattle.roll_out.specs.Plans.{changes_at}
 use Rattle.roll_out.proofs.Added.{added_part, range_more}
 use Rattle.roll_out.proofs.ChangesAt.{change_is}

@@ -1,6 +1,5 @@
 -- What holds before each turn.
-use Rattle.std.proofs.Common.{◌≡◌, ◌++◌}
-use Rattle.std.specs.List.{flat_map, range_with_len}
+use Rattle.plan_num.proofs.Common.{◌≡◌, ◌++◌, flat_map, range_with_len}
 use Rattle.roll_out.specs.Plans.{changes_at}
 use Rattle.roll_out.proofs.changes.add_copies.Given as goal
 

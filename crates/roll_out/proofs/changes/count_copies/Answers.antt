@@ -1,5 +1,4 @@
-use Rattle.std.proofs.Common.{arith, ◌∙◌}
-use Rattle.std.specs.Option.{option_to_list}
+use Rattle.plan_num.proofs.Common.{arith, ◌∙◌, option_to_list}
 use Rattle.roll_out.specs.Plans.{changes_at}
 use Rattle.roll_out.proofs.ChangesAt.{change_size, parts_counted}
 use Rattle.roll_out.proofs.changes.count_copies.Goals as goal

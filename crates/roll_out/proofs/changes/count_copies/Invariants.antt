@@ -1,6 +1,5 @@
 -- What holds before each turn.
-use Rattle.std.proofs.Common.{◌≡◌, ◌≤◌, length}
-use Rattle.std.specs.List.{flat_map, range_with_len}
+use Rattle.plan_num.proofs.Common.{◌≡◌, ◌≤◌, length, flat_map, range_with_len}
 use Rattle.roll_out.specs.Plans.{changes_at}
 use Rattle.roll_out.proofs.changes.count_copies.Given as goal
 

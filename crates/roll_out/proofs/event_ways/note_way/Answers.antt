@@ -1,8 +1,6 @@
-use Rattle.std.proofs.Common.{List, [], ◌∷◌, ◌++◌, ◌-◌, ◌≡◌, map, set, ap, sym, ◌∙◌, arith, cond}
-use Rattle.std.proofs.Common.{get_or, true}
-use Rattle.std.proofs.Common.{Vec, Global}
-use Rattle.std.proofs.lemmas.List.{map-set, get_or-map}
-use Rattle.event_tables.specs.declared.periodic_activity.PeriodicActivity.{PeriodicActivity}
+use Rattle.plan_num.proofs.Common.{List, [], ◌∷◌, ◌++◌, ◌-◌, ◌≡◌, map, set, ap, sym, ◌∙◌, arith}
+use Rattle.plan_num.proofs.Common.{cond, get_or, true, Vec, Global, map-set, get_or-map}
+use Rattle.event_tables.proofs.Common.{PeriodicActivity}
 use Rattle.roll_out.specs.Plans.{is_way}
 use Rattle.roll_out.proofs.event_ways.note_way.Goals as goal
 

@@ -1,6 +1,5 @@
 use Rattle.std.proofs.Common.{IfSome, ◌∙◌, ap, find, subst, sym}
-use Rattle.event_tables.specs.declared.periodic_event.PeriodicEvent.{PeriodicEvent}
-use Rattle.event_tables.specs.RunRules.{leads}
+use Rattle.event_tables.proofs.Common.{PeriodicEvent, leads}
 use Rattle.roll_out.specs.Plans.{IsBetween}
 use Rattle.plan_num.proofs.Found.{found_has}
 use Rattle.roll_out.proofs.NotedWays.{leads_as, way_found}

@@ -1,5 +1,5 @@
 use Rattle.std.proofs.Common.{◌≡◌, ◌+◌, ◌++◌, length, take, get_or, sym, ap, arith, ◌∙◌}
-use Rattle.event_tables.specs.RunRules.{breaks}
+use Rattle.event_tables.proofs.Common.{breaks}
 use Rattle.roll_out.proofs.Added.{added_test, enumerated_more, ids_where, enumerated_all}
 use Rattle.roll_out.specs.TimedRuns.{no_event}
 use Rattle.std.specs.List.{enumerate_from}

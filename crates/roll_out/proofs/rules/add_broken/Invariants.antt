@@ -1,7 +1,6 @@
 -- What holds before each turn.
-use Rattle.std.proofs.Common.{◌≡◌, ◌++◌, length, take}
-use Rattle.std.specs.List.{enumerate_from}
-use Rattle.event_tables.specs.RunRules.{breaks}
+use Rattle.plan_num.proofs.Common.{◌≡◌, ◌++◌, length, take, enumerate_from}
+use Rattle.event_tables.proofs.Common.{breaks}
 use Rattle.roll_out.proofs.Added.{ids_where}
 use Rattle.roll_out.proofs.rules.add_broken.Given as goal
 

@@ -1,6 +1,5 @@
 use Rattle.std.proofs.Common.{◌++◌, ◌-◌, take, get_or, ap, sym, arith, ◌∙◌}
-use Rattle.event_tables.specs.PeriodicRuns.{neighbours}
-use Rattle.event_tables.specs.RunRules.{lacks_way}
+use Rattle.event_tables.proofs.Common.{neighbours, lacks_way}
 use Rattle.roll_out.specs.TimedRuns.{no_event}
 use Rattle.roll_out.proofs.Added.{added_test, ids_where}
 use Rattle.roll_out.proofs.Neighbours.{neighbours_more, neighbours_all}

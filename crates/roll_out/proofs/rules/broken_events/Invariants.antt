@@ -1,8 +1,6 @@
 -- What holds before each turn.
-use Rattle.std.proofs.Common.{◌≡◌, map, take}
-use Rattle.std.specs.List.{flat_map}
-use Rattle.event_tables.specs.declared.periodic_event.PeriodicEvent.{PeriodicEvent}
-use Rattle.event_tables.specs.RunRules.{broken_in}
+use Rattle.plan_num.proofs.Common.{◌≡◌, map, take, flat_map}
+use Rattle.event_tables.proofs.Common.{PeriodicEvent, broken_in}
 use Rattle.roll_out.proofs.rules.broken_events.Given as goal
 
 abbrev pub invariant-loop-run : goal.invariant-loop-run

@@ -1,5 +1,4 @@
-use Rattle.std.proofs.Common.{◌∙◌}
-use Rattle.std.proofs.lemmas.Bool.{MatchBool-at_true, MatchBool-at_false}
+use Rattle.plan_num.proofs.Common.{◌∙◌, MatchBool-at_true, MatchBool-at_false}
 use Rattle.roll_out.specs.TimedRuns.{no_event}
 use Rattle.roll_out.proofs.PlacedEvents.{unknown_from, unknown_to, known_ends_is}
 use Rattle.roll_out.proofs.rules.is_placed.Goals as goal

@@ -1,7 +1,6 @@
 -- What holds before each turn.
-use Rattle.std.proofs.Common.{◌≡◌, ◌≤◌, take}
-use Rattle.std.specs.List.{count_by}
-use Rattle.event_tables.specs.RunRules.{leads}
+use Rattle.plan_num.proofs.Common.{◌≡◌, ◌≤◌, take, count_by}
+use Rattle.event_tables.proofs.Common.{leads}
 use Rattle.roll_out.proofs.rules.lacks_way.Given as goal
 
 abbrev pub invariant-loop-activity : goal.invariant-loop-activity

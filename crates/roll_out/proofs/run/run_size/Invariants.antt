@@ -1,6 +1,6 @@
 -- What holds before each turn.
 use Rattle.std.proofs.Common.{◌≡◌, ◌-◌, take, drop, get_or}
-use Rattle.event_tables.specs.PeriodicRuns.{runs_of}
+use Rattle.event_tables.proofs.Common.{runs_of}
 use Rattle.roll_out.specs.TimedRuns.{no_event}
 use Rattle.roll_out.proofs.RunsInTurn.{onto}
 use Rattle.roll_out.proofs.run.run_size.Given as goal

@@ -1,5 +1,4 @@
-use Rattle.std.proofs.Common.{◌++◌, ap, sym, ◌∙◌}
-use Rattle.std.proofs.lemmas.List.{append-nil}
+use Rattle.plan_num.proofs.Common.{◌++◌, ap, sym, ◌∙◌, append-nil}
 use Rattle.roll_out.proofs.RunsInTurn.{no_runs}
 use Rattle.roll_out.proofs.run.runs_of.Goals as goal
 

@@ -1,6 +1,6 @@
 -- What holds before each turn.
 use Rattle.std.proofs.Common.{◌≡◌, ◌++◌, length}
-use Rattle.event_tables.specs.PeriodicRuns.{runs_of}
+use Rattle.event_tables.proofs.Common.{runs_of}
 use Rattle.roll_out.proofs.run.runs_of.Given as goal
 
 abbrev pub invariant-loop-rest : goal.invariant-loop-rest

@@ -1,9 +1,8 @@
-use Rattle.std.proofs.Common.{All, length, map, ap, subst, sym, ◌∙◌}
-use Rattle.std.specs.List.{flat_map}
-use Rattle.std.proofs.lemmas.Result.{err_from_is_err_and}
-use Rattle.giv_files.specs.StageCalls.{input_text}
-use Rattle.event_tables.specs.Places.{IsOneOf}
-use Rattle.event_tables.specs.RunRules.{broken_events, broken_in, stray_activities, unjoined_events, unjoined_in}
+use Rattle.plan_num.proofs.Common.{All, length, map, ap, subst, sym, ◌∙◌, flat_map}
+use Rattle.plan_num.proofs.Common.{err_from_is_err_and}
+use Rattle.giv_files.proofs.Common.{input_text}
+use Rattle.event_tables.proofs.Common.{IsOneOf, broken_events, broken_in, stray_activities}
+use Rattle.event_tables.proofs.Common.{unjoined_events, unjoined_in}
 use Rattle.pesp_model.specs.PespTexts.{activities_of, events_of}
 use Rattle.roll_out.proofs.FilesRead.{activities_fine, events_fine}
 use Rattle.roll_out.proofs.RuleRows.{activities_told, activity_id, broken_ids, event_id, event_refused, run_refused, stray_ids, unjoined_ids}

@@ -1,6 +1,4 @@
-use Rattle.std.proofs.Common.{◌≡◌, ◌++◌, ap, ◌∙◌}
-use Rattle.std.specs.List.{flat_map}
-use Rattle.std.proofs.lemmas.Result.{IfOk-weaker}
+use Rattle.plan_num.proofs.Common.{◌≡◌, ◌++◌, ap, ◌∙◌, flat_map, IfOk-weaker}
 use Rattle.roll_out.specs.DayActivities.{day_activities, day_ways, with_numbers}
 use Rattle.roll_out.specs.Plans.{changes_if}
 use Rattle.roll_out.proofs.Rolled.{activities_are, plain_few}

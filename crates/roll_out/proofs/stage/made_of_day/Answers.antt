@@ -1,7 +1,6 @@
 use Rattle.std.proofs.Common.{All, arith, subst, sym, ◌∙◌}
-use Rattle.tables.specs.Columns.{trips_columns}
-use Rattle.tables.specs.Writing.{InColumns}
-use Rattle.event_tables.specs.Cells.{trip_cells}
+use Rattle.tables.proofs.Common.{trips_columns, InColumns}
+use Rattle.event_tables.proofs.Common.{trip_cells}
 use Rattle.roll_out.specs.RolloutStage.{rollout_made}
 use Rattle.roll_out.proofs.DayCells.{ActivityFits, EventFits, activities_fit, events_fit, trips_fit}
 use Rattle.roll_out.proofs.RolloutCalls.{activities_long, none_long}

@@ -1,4 +1,4 @@
-use Rattle.giv_files.proofs.StageCalls.{right_given}
+use Rattle.giv_files.proofs.Common.{right_given}
 use Rattle.roll_out.proofs.RolloutReads.{rollout_is_right}
 use Rattle.roll_out.proofs.stage.make_rollout.Goals as goal
 

@@ -1,5 +1,5 @@
 use Rattle.std.proofs.Common.{◌≡◌, ap, subst, ◌∙◌}
-use Rattle.tables.specs.Inputs.{UnlessFault}
+use Rattle.tables.proofs.Common.{UnlessFault}
 use Rattle.roll_out.specs.Plans.{trips_by}
 use Rattle.roll_out.specs.RolloutStage.{long_lists, made_of}
 use Rattle.roll_out.proofs.Rolled.{events_refused, small_day, trips_refused}

@@ -1,6 +1,5 @@
-use Rattle.std.proofs.Common.{All, ◌≤◌, length, map, ap, subst, sym, ◌∙◌}
-use Rattle.std.proofs.lemmas.Result.{err_from_is_err_and}
-use Rattle.event_tables.specs.PeriodicRuns.{runs_of}
+use Rattle.plan_num.proofs.Common.{All, ◌≤◌, length, map, ap, subst, sym, ◌∙◌, err_from_is_err_and}
+use Rattle.event_tables.proofs.Common.{runs_of}
 use Rattle.roll_out.specs.DayTrips.{trips_of}
 use Rattle.roll_out.specs.Plans.{ArePlans, plan_of, trips_by}
 use Rattle.roll_out.specs.RolloutStage.{day_in}

@@ -1,6 +1,5 @@
 -- What holds before each turn.
-use Rattle.std.proofs.Common.{◌≡◌, ◌++◌, map, take}
-use Rattle.std.specs.List.{enumerate_from}
+use Rattle.plan_num.proofs.Common.{◌≡◌, ◌++◌, map, take, enumerate_from}
 use Rattle.roll_out.specs.DayTrips.{day_event}
 use Rattle.roll_out.proofs.trip.add_events.Given as goal
 

@@ -1,5 +1,4 @@
-use Rattle.std.proofs.Common.{◌++◌, length, map, ap, sym, arith, ◌∙◌}
-use Rattle.std.specs.List.{range_with_len}
+use Rattle.plan_num.proofs.Common.{◌++◌, length, map, ap, sym, arith, ◌∙◌, range_with_len}
 use Rattle.roll_out.specs.Plans.{trip_after}
 use Rattle.roll_out.proofs.Added.{added_one, range_more}
 use Rattle.roll_out.proofs.Growing.{trip_is}

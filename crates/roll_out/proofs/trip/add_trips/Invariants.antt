@@ -1,6 +1,5 @@
 -- What holds before each turn.
-use Rattle.std.proofs.Common.{◌≡◌, ◌++◌, map}
-use Rattle.std.specs.List.{range_with_len}
+use Rattle.plan_num.proofs.Common.{◌≡◌, ◌++◌, map, range_with_len}
 use Rattle.roll_out.specs.Plans.{trip_after}
 use Rattle.roll_out.proofs.trip.add_trips.Given as goal
 

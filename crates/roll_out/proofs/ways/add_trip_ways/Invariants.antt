@@ -1,6 +1,5 @@
 -- What holds before each turn.
-use Rattle.std.proofs.Common.{◌≡◌, ◌++◌, take}
-use Rattle.std.specs.List.{flat_map, enumerate_from}
+use Rattle.plan_num.proofs.Common.{◌≡◌, ◌++◌, take, flat_map, enumerate_from}
 use Rattle.roll_out.specs.DayActivities.{way_from}
 use Rattle.roll_out.proofs.ways.add_trip_ways.Given as goal
 

@@ -1,6 +1,5 @@
 -- What holds before each turn.
-use Rattle.std.proofs.Common.{◌≡◌, ◌++◌, take}
-use Rattle.std.specs.List.{flat_map}
+use Rattle.plan_num.proofs.Common.{◌≡◌, ◌++◌, take, flat_map}
 use Rattle.roll_out.specs.DayActivities.{trip_ways}
 use Rattle.roll_out.proofs.ways.add_ways.Given as goal
 

@@ -1,6 +1,4 @@
-use Rattle.std.proofs.Common.{length, arith, ap, sym, ◌∙◌}
-use Rattle.std.specs.List.{sum_by}
-use Rattle.std.proofs.lemmas.List.{take_all}
+use Rattle.plan_num.proofs.Common.{length, arith, ap, sym, ◌∙◌, sum_by, take_all}
 use Rattle.roll_out.proofs.WaysCounted.{way_size, ways_counted}
 use Rattle.roll_out.proofs.ways.trip_way_count.Goals as goal
 

@@ -1,6 +1,5 @@
 -- What holds before each turn.
-use Rattle.std.proofs.Common.{◌≡◌, ◌≤◌, take}
-use Rattle.std.specs.List.{sum_by}
+use Rattle.plan_num.proofs.Common.{◌≡◌, ◌≤◌, take, sum_by}
 use Rattle.roll_out.proofs.WaysCounted.{way_size}
 use Rattle.roll_out.proofs.ways.trip_way_count.Given as goal
 

@@ -1,7 +1,6 @@
-use Rattle.std.proofs.Common.{◌∙◌, length, ap, arith}
+use Rattle.plan_num.proofs.Common.{◌∙◌, length, ap, arith, w64}
 use Rattle.std.proofs.lemmas.Int.{to_z-of_z}
-use Rattle.std.specs.Int.{w64}
-use Rattle.line_cost_model.specs.Problems.{ProblemParts}
+use Rattle.line_cost_model.proofs.Common.{ProblemParts}
 use Rattle.sample_problems.proofs.LinesOfProblems.{ids_rise, line_over}
 use Rattle.sample_problems.proofs.problems.one_edge.Goals as goal
 

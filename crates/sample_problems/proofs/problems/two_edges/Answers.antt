@@ -1,8 +1,6 @@
-use Rattle.std.proofs.Common.{◌<◌, ℕ, zero, suc, length, nat_eq, List, [], ◌∷◌, pos, refl, arith, ap}
-use Rattle.std.proofs.lemmas.Int.{ints}
-use Rattle.std.proofs.lemmas.List.{length_push}
-use Rattle.std.specs.List.{All, IsDistinct}
-use Rattle.line_cost_model.specs.Problems.{ProblemParts}
+use Rattle.plan_num.proofs.Common.{◌<◌, ℕ, zero, suc, length, nat_eq, List, [], ◌∷◌, pos, refl}
+use Rattle.plan_num.proofs.Common.{arith, ap, ints, length_push, All, IsDistinct}
+use Rattle.line_cost_model.proofs.Common.{ProblemParts}
 use Rattle.sample_problems.proofs.LinesOfProblems.{one_apart, one_there, two_apart, two_there}
 use Rattle.sample_problems.proofs.problems.two_edges.Goals as goal
 

@@ -1,5 +1,4 @@
-use Rattle.std.proofs.Common.{Err, ap, ◌∙◌}
-use Rattle.std.proofs.lemmas.Result.{err_from_is_err_and}
+use Rattle.plan_num.proofs.Common.{Err, ap, ◌∙◌, err_from_is_err_and}
 use Rattle.stage_chain.proofs.Starting.{refused, settled}
 use Rattle.stage_chain.proofs.chain.run_built.Goals as goal
 

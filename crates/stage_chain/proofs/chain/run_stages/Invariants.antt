@@ -1,5 +1,5 @@
 use Rattle.std.proofs.Common.{false, ◌≤◌, [], IfSome, drop}
-use Rattle.plan_files.specs.Reads.{OnlyReads}
+use Rattle.plan_files.proofs.Common.{OnlyReads}
 use Rattle.stage_chain.specs.Kept.{solve_over}
 use Rattle.stage_chain.specs.Progress.{NamesNoHand}
 use Rattle.stage_chain.proofs.Rests.{IsRest}

@@ -1,5 +1,4 @@
-use Rattle.std.proofs.Common.{Err, ap, ◌∙◌}
-use Rattle.std.proofs.lemmas.Result.{err_from_is_err_and}
+use Rattle.plan_num.proofs.Common.{Err, ap, ◌∙◌, err_from_is_err_and}
 use Rattle.stage_chain.proofs.HandKept.{kept_no_more}
 use Rattle.stage_chain.proofs.Visiting.{not_given, is_kept, is_making}
 use Rattle.stage_chain.proofs.chain.visit.Goals as goal

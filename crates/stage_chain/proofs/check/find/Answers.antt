@@ -1,5 +1,5 @@
 use Rattle.std.proofs.Common.{subst}
-use Rattle.plan_files.specs.Reads.{OnlyReads}
+use Rattle.plan_files.proofs.Common.{OnlyReads}
 use Rattle.stage_chain.proofs.Passed.{told_passes, unsettled_passes}
 use Rattle.stage_chain.proofs.Judging.{told_settled, told_unsettled, unsettled_failed}
 use Rattle.stage_chain.proofs.check.find.Goals as goal

@@ -1,8 +1,8 @@
 use Rattle.std.proofs.Common.{◌≡◌, Err, ap, ◌∙◌, ◌∷◌, [], ◌+◌, length, length-append}
-use Rattle.plan_files.proofs.Reading.{both_read}
+use Rattle.plan_files.proofs.Common.{both_read}
 use Rattle.std.proofs.lemmas.Result.{err_from_is_err_and}
-use Rattle.tables.specs.declared.file_id.FileId.TheVariants.{Stop}
-use Rattle.giv_files.specs.Settings.{BundleParts}
+use Rattle.tables.proofs.Common.{Stop}
+use Rattle.giv_files.proofs.Common.{BundleParts}
 use Rattle.stage_chain.specs.Chain.{bundle_for}
 use Rattle.stage_chain.specs.Looks.{look_over}
 use Rattle.stage_chain.proofs.Gathering.{told_more, told_all, told_ended}

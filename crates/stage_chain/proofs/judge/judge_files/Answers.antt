@@ -1,5 +1,5 @@
 use Rattle.std.proofs.Common.{IfNone, refl, ap, subst, ◌∙◌, option_map}
-use Rattle.giv_files.specs.MadeLists.{MakesAs, ids_of}
+use Rattle.giv_files.proofs.Common.{MakesAs, ids_of}
 use Rattle.stage_chain.proofs.Judging.{judged_there}
 use Rattle.stage_chain.proofs.Passed.{told_there}
 use Rattle.stage_chain.proofs.judge.judge_files.Goals as goal

@@ -1,5 +1,4 @@
-use Rattle.std.proofs.Common.{ap, ◌∙◌}
-use Rattle.std.specs.List.{flat_map}
+use Rattle.plan_num.proofs.Common.{ap, ◌∙◌, flat_map}
 use Rattle.stage_keep.specs.Entries.{keep_name}
 use Rattle.stage_chain.proofs.Unkept.{part_found}
 use Rattle.stage_chain.proofs.keep.last_part.Goals as goal

@@ -1,5 +1,5 @@
 use Rattle.std.proofs.Common.{◌++◌, codes, ap, sym, ◌∙◌, append_assoc}
-use Rattle.giv_files.specs.Stages.{stage_name}
+use Rattle.giv_files.proofs.Common.{stage_name}
 use Rattle.stage_chain.proofs.report.push_broken.Goals as goal
 
 pub returns : goal.returns

@@ -1,6 +1,5 @@
-use Rattle.std.proofs.Common.{◌++◌, codes, ap, sym, ◌∙◌, append_assoc}
-use Rattle.std.specs.Fmt.{decimal}
-use Rattle.tables.specs.CountedTexts.{counted_text}
+use Rattle.plan_num.proofs.Common.{◌++◌, codes, ap, sym, ◌∙◌, append_assoc, decimal}
+use Rattle.tables.proofs.Common.{counted_text}
 use Rattle.stage_chain.proofs.report.push_refusal.Goals as goal
 
 pub returns-in_ok-extend_from_slice-in-TooMany : goal.returns-in_ok-extend_from_slice-in-TooMany

@@ -1,5 +1,4 @@
-use Rattle.std.proofs.Common.{Err, ap, refl, ◌∙◌}
-use Rattle.std.proofs.lemmas.Result.{err_from_is_err_and}
+use Rattle.plan_num.proofs.Common.{Err, ap, refl, ◌∙◌, err_from_is_err_and}
 use Rattle.stage_chain.proofs.ChainLaws.{chain_laws}
 use Rattle.stage_chain.proofs.RunSays.{both_says, cut_says}
 use Rattle.stage_chain.proofs.run.run_chain.Goals as goal

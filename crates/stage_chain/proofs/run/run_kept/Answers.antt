@@ -1,5 +1,4 @@
-use Rattle.std.proofs.Common.{Err, Option, ap, ◌∙◌}
-use Rattle.std.proofs.lemmas.Result.{err_from_is_err_and}
+use Rattle.plan_num.proofs.Common.{Err, Option, ap, ◌∙◌, err_from_is_err_and}
 use Rattle.stage_chain.specs.declared.cause.Cause.{Cause}
 use Rattle.stage_chain.proofs.KeptRuns.{made_says, read_says}
 use Rattle.stage_chain.proofs.run.run_kept.Goals as goal

@@ -1,5 +1,5 @@
 use Rattle.std.proofs.Common.{◌≡◌, [], arith}
-use Rattle.plan_files.proofs.Reading.{both_read}
+use Rattle.plan_files.proofs.Common.{both_read}
 use Rattle.stage_chain.proofs.Settling.{nothing_left, outside_wish, outside_wishes, told_wish}
 use Rattle.stage_chain.proofs.settle.unmet.Goals as goal
 

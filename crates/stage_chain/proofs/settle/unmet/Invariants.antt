@@ -1,6 +1,5 @@
 use Rattle.std.proofs.Common.{◌≡◌, ◌++◌, ℕ, Bool, false, List, IfSome}
-use Rattle.plan_files.specs.Others.{AreOutside}
-use Rattle.plan_files.specs.Reads.{OnlyReads}
+use Rattle.plan_files.proofs.Common.{AreOutside, OnlyReads}
 use Rattle.stage_chain.specs.Runs.{unmet}
 use Rattle.stage_chain.proofs.settle.unmet.Given as goal
 

@@ -1,5 +1,5 @@
 use Rattle.std.proofs.Common.{subst}
-use Rattle.plan_files.specs.Reads.{OnlyReads}
+use Rattle.plan_files.proofs.Common.{OnlyReads}
 use Rattle.stage_chain.proofs.Stating.{settled_states, unsettled_states, untold_failed}
 use Rattle.stage_chain.proofs.states.stage_states.Goals as goal
 

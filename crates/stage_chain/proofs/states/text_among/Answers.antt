@@ -1,5 +1,4 @@
-use Rattle.std.proofs.Common.{Some, ap, cond, drop, sym, ◌∙◌, ◌+◌}
-use Rattle.std.specs.Str.{bytes_eq}
+use Rattle.plan_num.proofs.Common.{Some, ap, cond, drop, sym, ◌∙◌, ◌+◌, bytes_eq}
 use Rattle.stage_chain.specs.States.{text_among}
 use Rattle.stage_chain.proofs.Stating.{text_next}
 use Rattle.stage_chain.proofs.states.text_among.Goals as goal

@@ -1,5 +1,5 @@
 use Rattle.std.proofs.Common.{false, IfSome, drop}
-use Rattle.plan_files.specs.Reads.{OnlyReads}
+use Rattle.plan_files.proofs.Common.{OnlyReads}
 use Rattle.stage_chain.proofs.Stating.{LinesLeft}
 use Rattle.stage_chain.proofs.states.told.Given as goal
 

@@ -1,6 +1,6 @@
 use Rattle.std.proofs.Common.{◌≡◌, ◌++◌, map, take}
-use Rattle.plan_files.specs.declared.write.Write.TheVariants.{Removal}
-use Rattle.tables.specs.FileNames.{file_name}
+use Rattle.plan_files.proofs.Common.{Removal}
+use Rattle.tables.proofs.Common.{file_name}
 use Rattle.stage_chain.specs.Runs.{names_besides}
 use Rattle.stage_chain.proofs.writes.add_removals.Given as goal
 

@@ -1,5 +1,5 @@
 use Rattle.std.proofs.Common.{◌≡◌, drop, map}
-use Rattle.tables.specs.FileNames.{file_name}
+use Rattle.tables.proofs.Common.{file_name}
 use Rattle.stage_chain.specs.Hand.{is_among}
 use Rattle.stage_chain.specs.Runs.{name_of}
 use Rattle.stage_chain.proofs.writes.is_among.Given as goal

@@ -1,6 +1,4 @@
-use Rattle.std.proofs.Common.{ap, sym, ◌∙◌, arith, List, ℕ, ◌++◌}
-use Rattle.std.specs.Prelude.{option_and_then}
-use Rattle.std.proofs.lemmas.Option.{same_Some}
+use Rattle.plan_num.proofs.Common.{ap, sym, ◌∙◌, arith, List, ℕ, ◌++◌, option_and_then, same_Some}
 use Rattle.stage_keep.specs.Entries.{opening}
 use Rattle.stage_keep.specs.EntryReading.{behind, cut}
 use Rattle.stage_keep.proofs.Blocks.{block_is, block_none}

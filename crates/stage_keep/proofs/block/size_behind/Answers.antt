@@ -1,5 +1,4 @@
-use Rattle.std.proofs.Common.{ap, ◌∙◌, decimal}
-use Rattle.std.proofs.lemmas.Option.{same_Some}
+use Rattle.plan_num.proofs.Common.{ap, ◌∙◌, decimal, same_Some}
 use Rattle.stage_keep.specs.InnerReading.{line_behind}
 use Rattle.stage_keep.proofs.Blocks.{opening_line}
 use Rattle.stage_keep.proofs.block.size_behind.Goals as goal

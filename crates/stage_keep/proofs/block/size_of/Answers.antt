@@ -1,6 +1,4 @@
-use Rattle.std.proofs.Common.{ap, subst, sym, ◌∙◌}
-use Rattle.std.specs.Result.{result_ok}
-use Rattle.std.specs.Str.{IsUtf8}
+use Rattle.plan_num.proofs.Common.{ap, subst, sym, ◌∙◌, result_ok, IsUtf8}
 use Rattle.std.proofs.lemmas.Fmt.{parse-decimal}
 use Rattle.stage_keep.proofs.Blocks.{decimal_utf8}
 use Rattle.stage_keep.proofs.block.size_of.Goals as goal

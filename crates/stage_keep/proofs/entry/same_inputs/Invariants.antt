@@ -1,7 +1,5 @@
 -- What is left of both lists of texts is the same where all of them are.
-use Rattle.std.proofs.Common.{◌≡◌, drop, length, map}
-use Rattle.std.specs.Cmp.Lexicographic.{pointwise}
-use Rattle.std.specs.Str.{bytes_eq}
+use Rattle.plan_num.proofs.Common.{◌≡◌, drop, length, map, pointwise, bytes_eq}
 use Rattle.stage_keep.proofs.entry.same_inputs.Given as goal
 
 abbrev pub invariant-loop-index : goal.invariant-loop-index

@@ -1,6 +1,5 @@
 -- The files so far, followed by those that are left with their texts, are all of them.
-use Rattle.std.proofs.Common.{◌≡◌, ◌++◌, drop, map}
-use Rattle.std.specs.List.{zip}
+use Rattle.plan_num.proofs.Common.{◌≡◌, ◌++◌, drop, map, zip}
 use Rattle.stage_keep.specs.EntryReading.{made_file}
 use Rattle.stage_keep.specs.Places.{part_of}
 use Rattle.stage_keep.proofs.last_part.add_copies.Given as goal

@@ -1,5 +1,4 @@
-use Rattle.std.proofs.Common.{Ok, Some, ap, map, ◌∙◌, ◌∷◌, []}
-use Rattle.std.specs.Bool.{⊤}
+use Rattle.plan_num.proofs.Common.{Ok, Some, ap, map, ◌∙◌, ◌∷◌, [], ⊤}
 use Rattle.stage_keep.specs.EntryReading.{made_of}
 use Rattle.stage_keep.specs.Places.{part_of}
 use Rattle.stage_keep.proofs.LastParts.{makes_told}

@@ -1,5 +1,4 @@
-use Rattle.std.proofs.Common.{ap, sym, ◌∷◌, [], map}
-use Rattle.std.specs.Option.{option_to_list}
+use Rattle.plan_num.proofs.Common.{ap, sym, ◌∷◌, [], map, option_to_list}
 use Rattle.stage_keep.proofs.last_part.shorter_list.Goals as goal
 
 pub returns : goal.returns

@@ -1,7 +1,6 @@
-use Rattle.std.proofs.Common.{◌≡◌, IfOk, ap, ◌∙◌, subst, sym, List, [], ◌∷◌, map, slice_get}
-use Rattle.std.specs.List.{filter_map}
-use Rattle.std.specs.Option.{option_to_list}
-use Rattle.tables.specs.declared.file_id.FileId.{FileId}
+use Rattle.plan_num.proofs.Common.{◌≡◌, IfOk, ap, ◌∙◌, subst, sym, List, [], ◌∷◌, map, slice_get}
+use Rattle.plan_num.proofs.Common.{filter_map, option_to_list}
+use Rattle.tables.proofs.Common.{FileId}
 use Rattle.stage_keep.specs.EntryReading.{entry_with}
 use Rattle.stage_keep.proofs.Reading.{one_left}
 use Rattle.stage_keep.proofs.read.shorter_entry.Goals as goal

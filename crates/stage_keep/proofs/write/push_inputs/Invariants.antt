@@ -1,6 +1,5 @@
 -- The blocks of the inputs so far, followed by those of the rest, are those of all inputs.
-use Rattle.std.proofs.Common.{◌≡◌, ◌++◌, drop, map}
-use Rattle.std.specs.List.{flat_map}
+use Rattle.plan_num.proofs.Common.{◌≡◌, ◌++◌, drop, map, flat_map}
 use Rattle.stage_keep.specs.Entries.{block_bytes, input_block}
 use Rattle.stage_keep.proofs.write.push_inputs.Given as goal
 

@@ -1,5 +1,4 @@
-use Rattle.std.proofs.Common.{ap, arith, length, List, ℕ}
-use Rattle.std.proofs.lemmas.Grind.{common_steps}
+use Rattle.plan_num.proofs.Common.{ap, arith, length, List, ℕ, common_steps}
 use Rattle.stage_keep.specs.Entries.{entry_bytes}
 use Rattle.stage_keep.proofs.EntriesRead.{back_of, entry_of_text}
 use Rattle.stage_keep.proofs.write.write_keep.Goals as goal

@@ -1,6 +1,4 @@
-use Rattle.std.proofs.Common.{List, ℕ, ◌∙◌, sym, ap}
-use Rattle.std.specs.List.{position}
-use Rattle.std.specs.Str.{bytes_eq}
+use Rattle.plan_num.proofs.Common.{List, ℕ, ◌∙◌, sym, ap, position, bytes_eq}
 use Rattle.tables.proofs.CellFacts.{position-map}
 use Rattle.tables.proofs.cells.place_of.Goals as goal
 

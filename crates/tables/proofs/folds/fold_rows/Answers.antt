@@ -1,5 +1,4 @@
-use Rattle.std.proofs.Common.{take, get_or, slice_get, ap, subst, sym, ◌∙◌, arith}
-use Rattle.std.proofs.lemmas.List.{take_all}
+use Rattle.plan_num.proofs.Common.{take, get_or, slice_get, ap, subst, sym, ◌∙◌, arith, take_all}
 use Rattle.tables.specs.Inputs.{broken_whys}
 use Rattle.tables.specs.RowsOfTables.{records_by}
 use Rattle.tables.specs.Tables.{TableRow, no_row}

@@ -1,6 +1,5 @@
 -- The rows that are left make the rest of the faults and of the table.
-use Rattle.std.proofs.Common.{◌≡◌, ◌++◌, length, map}
-use Rattle.std.specs.List.{flat_map}
+use Rattle.plan_num.proofs.Common.{◌≡◌, ◌++◌, length, map, flat_map}
 use Rattle.tables.specs.Reading.{row_faults, table_row, faults, table_of}
 use Rattle.tables.proofs.read.read_table.Given as goal
 

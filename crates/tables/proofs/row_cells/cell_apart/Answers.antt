@@ -1,5 +1,4 @@
-use Rattle.std.proofs.Common.{◌≡◌, ◌∙◌, [], List, ℕ, Ok, ap, get_or, refl, subst, sym}
-use Rattle.std.specs.Option.{IfSome}
+use Rattle.plan_num.proofs.Common.{◌≡◌, ◌∙◌, [], List, ℕ, Ok, ap, get_or, refl, subst, sym, IfSome}
 use Rattle.csv.specs.Records.{fields_of}
 use Rattle.tables.specs.Reading.{cell_of}
 use Rattle.text_fields.specs.Rows.{without_blanks, without_quotes}

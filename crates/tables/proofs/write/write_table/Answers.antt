@@ -1,6 +1,5 @@
-use Rattle.std.proofs.Common.{◌≡◌, ◌<◌, ◌≤◌, ◌∙◌, ◌++◌, ◌∷◌, List, length, ap, arith}
-use Rattle.std.specs.List.{flat_map}
-use Rattle.std.proofs.lemmas.List.{take_all}
+use Rattle.plan_num.proofs.Common.{◌≡◌, ◌<◌, ◌≤◌, ◌∙◌, ◌++◌, ◌∷◌, List, length, ap, arith, flat_map}
+use Rattle.plan_num.proofs.Common.{take_all}
 use Rattle.tables.specs.Tables.{TableRow}
 use Rattle.tables.specs.Writing.{line_text, table_text}
 use Rattle.tables.proofs.WrittenBack.{written_back}

@@ -1,6 +1,5 @@
 -- The lines so far.
-use Rattle.std.proofs.Common.{◌≡◌, ◌++◌, ◌∷◌, take}
-use Rattle.std.specs.List.{flat_map}
+use Rattle.plan_num.proofs.Common.{◌≡◌, ◌++◌, ◌∷◌, take, flat_map}
 use Rattle.tables.specs.Writing.{line_text}
 use Rattle.tables.proofs.write.write_table.Given as goal
 

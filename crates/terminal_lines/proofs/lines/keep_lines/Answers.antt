@@ -1,5 +1,4 @@
-use Rattle.std.proofs.Common.{◌+◌, [], ap, ◌∙◌, arith, take}
-use Rattle.std.specs.List.{enumerate_from}
+use Rattle.plan_num.proofs.Common.{◌+◌, [], ap, ◌∙◌, arith, take, enumerate_from}
 use Rattle.terminal_lines.specs.TerminalPaths.{lines_among}
 use Rattle.terminal_lines.proofs.LinesOfPaths.{lines_both}
 use Rattle.terminal_lines.proofs.OneMore.{made_more, numbered_all, numbered_more}

@@ -1,6 +1,5 @@
 -- The lines are those among the paths so far.
-use Rattle.std.proofs.Common.{◌≡◌, take}
-use Rattle.std.specs.List.{enumerate_from}
+use Rattle.plan_num.proofs.Common.{◌≡◌, take, enumerate_from}
 use Rattle.terminal_lines.specs.TerminalPaths.{lines_among}
 use Rattle.terminal_lines.proofs.lines.keep_lines.Given as goal
 

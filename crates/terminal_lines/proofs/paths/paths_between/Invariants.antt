@@ -1,6 +1,5 @@
 -- The paths are those from the terminals so far.
-use Rattle.std.proofs.Common.{◌≡◌, filter_map, take}
-use Rattle.std.specs.List.{flat_map}
+use Rattle.plan_num.proofs.Common.{◌≡◌, filter_map, take, flat_map}
 use Rattle.terminal_lines.specs.Terminals.{way_between}
 use Rattle.terminal_lines.proofs.paths.paths_between.Given as goal
 

@@ -1,6 +1,4 @@
-use Rattle.std.proofs.Common.{◌+◌, filter_map, get_or, take}
-use Rattle.std.proofs.lemmas.List.{take_more}
-use Rattle.std.proofs.lemmas.List.Elements.{filter_map-append}
+use Rattle.plan_num.proofs.Common.{◌+◌, filter_map, get_or, take, take_more, filter_map-append}
 use Rattle.terminal_lines.specs.Terminals.{way_between}
 use Rattle.terminal_lines.proofs.OneMore.{made_more}
 use Rattle.terminal_lines.proofs.Ways.{listed, no_terminal}

@@ -1,6 +1,5 @@
 -- The answer for the bytes so far.
-use Rattle.std.proofs.Common.{◌≡◌, take, eqb}
-use Rattle.std.specs.List.{list_any}
+use Rattle.plan_num.proofs.Common.{◌≡◌, take, eqb, list_any}
 use Rattle.text_fields.proofs.find.has_byte.Given as goal
 
 abbrev pub invariant-loop-other : goal.invariant-loop-other

@@ -1,6 +1,5 @@
 -- The byte stands in the rest where it stands in the text.
-use Rattle.std.proofs.Common.{◌≡◌, ◌≤◌, ◌+◌, ◌-◌, length, eqb}
-use Rattle.std.specs.List.{position_or_len}
+use Rattle.plan_num.proofs.Common.{◌≡◌, ◌≤◌, ◌+◌, ◌-◌, length, eqb, position_or_len}
 use Rattle.text_fields.proofs.find.place_of_byte.Given as goal
 
 abbrev pub invariant-pieces : goal.invariant-pieces

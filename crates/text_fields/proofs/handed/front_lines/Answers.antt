@@ -1,5 +1,4 @@
-use Rattle.std.proofs.Common.{◌∙◌, length, sym}
-use Rattle.std.proofs.lemmas.List.{take_rest}
+use Rattle.plan_num.proofs.Common.{◌∙◌, length, sym, take_rest}
 use Rattle.text_fields.proofs.FedFacts.{bare_fed, feed_fed}
 use Rattle.text_fields.proofs.HandedLines.{some_told}
 use Rattle.text_fields.proofs.handed.front_lines.Goals as goal

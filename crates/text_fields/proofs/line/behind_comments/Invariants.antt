@@ -1,6 +1,5 @@
 -- The lines so far are passed over.
-use Rattle.std.proofs.Common.{◌+◌, ◌≤◌}
-use Rattle.std.specs.Option.{option_copied}
+use Rattle.plan_num.proofs.Common.{◌+◌, ◌≤◌, option_copied}
 use Rattle.text_fields.specs.Rows.{parts_left}
 use Rattle.text_fields.specs.Told.{left_size}
 use Rattle.text_fields.proofs.GivenFacts.{Passed}

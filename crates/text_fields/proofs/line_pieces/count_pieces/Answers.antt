@@ -1,5 +1,4 @@
-use Rattle.std.proofs.Common.{rules, eqb}
-use Rattle.std.proofs.lemmas.Iterator.{YieldsList-from_slice}
+use Rattle.plan_num.proofs.Common.{rules, eqb, YieldsList-from_slice}
 use Rattle.std.proofs.lemmas.Iterator.Consumers.{YieldsList-from_filter, count_from_yields_List}
 use borrow.Author.Tests.{tests}
 use Rattle.text_fields.proofs.LinePieces.{pieces_counted}

@@ -1,5 +1,4 @@
-use Rattle.std.proofs.Common.{◌∙◌, List, ℕ, Some, inr, refl, ap, [], ◌∷◌, false}
-use Rattle.std.specs.Option.{option_map}
+use Rattle.plan_num.proofs.Common.{◌∙◌, List, ℕ, Some, inr, refl, ap, [], ◌∷◌, false, option_map}
 use Rattle.csv.specs.Reading.{strip_bom}
 use Rattle.text_fields.specs.Rows.{parts_of}
 use Rattle.text_fields.specs.Told.{given}

@@ -1,6 +1,4 @@
-use Rattle.std.proofs.Common.{◌∙◌, [], ap, sym}
-use Rattle.std.specs.Option.{unwrap_or}
-use Rattle.std.specs.Str.Lines.{strip_carriage_return}
+use Rattle.plan_num.proofs.Common.{◌∙◌, [], ap, sym, unwrap_or, strip_carriage_return}
 use Rattle.csv.specs.Records.{fields_of}
 use Rattle.text_fields.proofs.FieldFacts.{field_or_nothing}
 use Rattle.text_fields.proofs.PlainRows.{last_unreturned, none_unreturned, other_unreturned}

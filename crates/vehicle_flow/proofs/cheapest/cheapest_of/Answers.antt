@@ -1,6 +1,5 @@
 use Rattle.std.proofs.Common.{subst}
-use Rattle.link_plans.specs.Plans.{IsPlan}
-use Rattle.link_plans.specs.Potentials.{AreValid}
+use Rattle.link_plans.proofs.Common.{IsPlan, AreValid}
 use Rattle.assignment.proofs.Worthwhile.{plan_up, valid_up}
 use Rattle.vehicle_model.specs.Trips.{links_of}
 use Rattle.flow_potentials.proofs.CheapestPlans.{certified_cheapest}

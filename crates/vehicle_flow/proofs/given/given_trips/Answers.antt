@@ -1,6 +1,6 @@
 use Rattle.std.proofs.Common.{◌∙◌, ap}
 use Rattle.giv_files.specs.declared.key.Key.TheVariants as key
-use Rattle.giv_files.specs.Settings.{amount}
+use Rattle.giv_files.proofs.Common.{amount}
 use Rattle.vehicle_flow.proofs.GivenTrips.{trips_given}
 use Rattle.vehicle_flow.proofs.given.given_trips.Goals as goal
 

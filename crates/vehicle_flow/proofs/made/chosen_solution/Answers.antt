@@ -1,6 +1,5 @@
 use Rattle.std.proofs.Common.{ap, sym, ◌∙◌, subst}
-use Rattle.link_plans.specs.Plans.{IsPlan}
-use Rattle.link_plans.specs.Potentials.{AreValid}
+use Rattle.link_plans.proofs.Common.{IsPlan, AreValid}
 use Rattle.canonical_potentials.specs.Rounds.{canonical}
 use Rattle.assignment.proofs.Worthwhile.{canonical_same, plan_down, valid_down, valid_up}
 use Rattle.vehicle_model.specs.Trips.{links_of}

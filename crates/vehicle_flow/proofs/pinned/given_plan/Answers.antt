@@ -1,5 +1,5 @@
 use Rattle.std.proofs.Common.{sym, subst, map}
-use Rattle.tables.specs.Inputs.{Refuses}
+use Rattle.tables.proofs.Common.{Refuses}
 use Rattle.vehicle_model.specs.ReadSchedules.{plan_faults, plan_of}
 use Rattle.vehicle_flow.specs.PinnedSchedules.{plan_refusal}
 use Rattle.vehicle_flow.proofs.PinnedGives.{plan_refused}

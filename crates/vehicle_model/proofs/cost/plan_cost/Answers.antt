@@ -1,7 +1,6 @@
-use Rattle.std.proofs.Common.{◌<◌, ◌≤◌, ◌-◌, length, arith, sym, ap, ◌∙◌, pos}
-use Rattle.std.specs.Int.{w128}
+use Rattle.plan_num.proofs.Common.{◌<◌, ◌≤◌, ◌-◌, length, arith, sym, ap, ◌∙◌, pos, w128, ints}
 use Rattle.std.proofs.Math.Nat.{mul-le-mul}
-use Rattle.std.proofs.lemmas.Int.{ints, to_z-of_z}
+use Rattle.std.proofs.lemmas.Int.{to_z-of_z}
 use Rattle.vehicle_model.proofs.Costs.{over_link, over_last, all_cost, cost_by_gain}
 use Rattle.vehicle_model.proofs.cost.plan_cost.Goals as goal
 use Rattle.vehicle_model.proofs.cost.plan_cost.Goals.{in-Some, in_default}

@@ -1,5 +1,4 @@
-use Rattle.std.proofs.Common.{nat_eq, get_or, None, subst, eq-eqb, refl, arith}
-use Rattle.std.proofs.lemmas.List.Folds.{list_any_at}
+use Rattle.plan_num.proofs.Common.{nat_eq, get_or, None, subst, eq-eqb, refl, arith, list_any_at}
 use Rattle.vehicle_model.specs.DeadTables.{HasWanted}
 use Rattle.vehicle_model.proofs.dead_times.times_from.Goals as goal
 

@@ -1,6 +1,5 @@
 -- There are times from each stop so far that is wanted.
-use Rattle.std.proofs.Common.{◌≡◌, ◌<◌, ℕ, length, nat_eq, get_or, None}
-use Rattle.std.specs.List.{list_any}
+use Rattle.plan_num.proofs.Common.{◌≡◌, ◌<◌, ℕ, length, nat_eq, get_or, None, list_any}
 use Rattle.vehicle_model.specs.DeadTables.{HasWanted}
 use Rattle.vehicle_model.proofs.dead_times.times_from.Given as goal
 

@@ -1,7 +1,5 @@
-use Rattle.std.proofs.Common.{Err}
-use Rattle.std.proofs.lemmas.Result.{err_from_is_err_and}
-use Rattle.tables.specs.Columns.{schedule_columns}
-use Rattle.tables.specs.Reading.{table_of}
+use Rattle.plan_num.proofs.Common.{Err, err_from_is_err_and}
+use Rattle.tables.proofs.Common.{schedule_columns, table_of}
 use Rattle.vehicle_model.specs.PlanFaults.{fault_of}
 use Rattle.vehicle_model.proofs.Driven.{reads_driven}
 use Rattle.vehicle_model.proofs.PlanTexts.{no_table, small_table, rows_read}

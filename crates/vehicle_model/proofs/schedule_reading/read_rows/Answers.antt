@@ -1,6 +1,6 @@
 use Rattle.std.proofs.Common.{◌<◌, ◌≤◌, length, arith, sym, ◌∙◌, subst}
-use Rattle.event_tables.specs.Cells.{schedule_row}
-use Rattle.tables.specs.RowsOfTables.{numbered_by}
+use Rattle.event_tables.proofs.Common.{schedule_row}
+use Rattle.tables.proofs.Common.{numbered_by}
 use Rattle.vehicle_model.specs.Readers.{IsBehind}
 use Rattle.vehicle_model.proofs.BehindRows.{table_refused, table_can, table_taken, table_ends, table_plans}
 use Rattle.vehicle_model.proofs.schedule_reading.read_rows.Goals as goal

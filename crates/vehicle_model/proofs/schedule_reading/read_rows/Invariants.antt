@@ -1,6 +1,6 @@
 -- The reader stands behind the rows so far.
-use Rattle.event_tables.specs.Cells.{schedule_row}
-use Rattle.tables.specs.RowsOfTables.{numbered_by}
+use Rattle.event_tables.proofs.Common.{schedule_row}
+use Rattle.tables.proofs.Common.{numbered_by}
 use Rattle.vehicle_model.specs.Readers.{IsBehind}
 use Rattle.vehicle_model.proofs.schedule_reading.read_rows.Given as goal
 

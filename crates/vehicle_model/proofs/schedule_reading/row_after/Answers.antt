@@ -1,7 +1,7 @@
 use Rattle.std.proofs.Common.{◌+◌, ◌<◌, ◌≤◌, length, Some, option_map, ap, sym, ◌∙◌, arith}
 use Rattle.std.proofs.lemmas.Option.{slice_get-get_or, slice_get_past}
-use Rattle.event_tables.specs.Cells.{schedule_row}
-use Rattle.tables.specs.Tables.{TableRow, no_row}
+use Rattle.event_tables.proofs.Common.{schedule_row}
+use Rattle.tables.proofs.Common.{TableRow, no_row}
 use Rattle.vehicle_model.proofs.schedule_reading.row_after.Goals as goal
 
 pub returns-then-i-count : goal.returns-then-i-count

@@ -1,7 +1,6 @@
 use Rattle.std.proofs.Common.{◌≡◌, ◌<◌, ◌≤◌, not, length, get_or, ap, sym, ◌∙◌, subst, arith, rules}
 use Rattle.vehicle_model.specs.Plans.{starts}
-use Rattle.link_plans.specs.Plans.{is_next}
-use Rattle.link_plans.proofs.Counting.{count_most}
+use Rattle.link_plans.proofs.Common.{is_next, count_most}
 use Rattle.vehicle_model.proofs.VehicleRows.{starts_within, vehicles_more, vehicles_end}
 use Rattle.vehicle_model.proofs.schedule_writing.plan_rows.Goals as goal
 

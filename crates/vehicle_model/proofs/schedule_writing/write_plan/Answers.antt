@@ -1,8 +1,6 @@
 use Rattle.std.proofs.Common.{◌≡◌, All, IfOk, ap, sym, ◌∙◌, subst}
-use Rattle.event_tables.specs.Cells.{schedule_cells}
-use Rattle.event_tables.specs.Headers.{schedule_header}
-use Rattle.tables.specs.RowsOfTables.{file_text}
-use Rattle.tables.specs.Columns.{schedule_columns}
+use Rattle.event_tables.proofs.Common.{schedule_cells, schedule_header}
+use Rattle.tables.proofs.Common.{file_text, schedule_columns}
 use Rattle.vehicle_model.specs.Schedules.{plan_text}
 use Rattle.vehicle_model.proofs.RowsFit.{Fits, plan_fits}
 use Rattle.vehicle_model.proofs.VehicleRows.{written}

@@ -1,7 +1,6 @@
-use Rattle.std.proofs.Common.{◌≡◌, ◌∙◌, ◌+◌, Some, ap, sym, subst, arith}
-use Rattle.std.proofs.lemmas.Result.{err_from_is_err_and}
-use Rattle.tables.specs.Inputs.{UnlessFault}
-use Rattle.giv_files.specs.StageCalls.{TakesSteps}
+use Rattle.plan_num.proofs.Common.{◌≡◌, ◌∙◌, ◌+◌, Some, ap, sym, subst, arith, err_from_is_err_and}
+use Rattle.tables.proofs.Common.{UnlessFault}
+use Rattle.giv_files.proofs.Common.{TakesSteps}
 use Rattle.waiting_decisions.specs.Budgets.{entries_listed}
 use Rattle.wait_choice.specs.ChoiceStage.{IsUnspent, IsWhole, waits_in, waits_refusals, waits_work}
 use Rattle.waiting_decisions.specs.Listings.{listing}

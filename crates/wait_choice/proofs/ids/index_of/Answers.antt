@@ -1,5 +1,4 @@
-use Rattle.std.proofs.Common.{◌≡◌, ◌<◌, ◌≤◌, ℕ, length, get_or, MatchResult, subst}
-use Rattle.std.proofs.lemmas.List.Sorted.{searched}
+use Rattle.plan_num.proofs.Common.{◌≡◌, ◌<◌, ◌≤◌, ℕ, length, get_or, MatchResult, subst, searched}
 use Rattle.wait_choice.proofs.ListItems.{found_at, never_falls, not_there}
 use Rattle.wait_choice.proofs.ids.index_of.Goals as goal
 

@@ -1,5 +1,4 @@
-use Rattle.std.proofs.Common.{◌∙◌, map, pos, ap, sym}
-use Rattle.std.specs.Prelude.{option_map}
+use Rattle.plan_num.proofs.Common.{◌∙◌, map, pos, ap, sym, option_map}
 use Rattle.waiting_decisions.specs.TreeFaults.{first_fault}
 use Rattle.wait_choice.specs.Judged.{node_said, rule_of}
 use Rattle.wait_choice.proofs.Judging.{fault_rule, some_items}

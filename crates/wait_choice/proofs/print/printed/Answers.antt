@@ -1,5 +1,5 @@
 use Rattle.std.proofs.Common.{◌≡◌, ◌∙◌, IfOk, subst}
-use Rattle.tables.specs.RowsOfTables.{ReadsAs, file_text}
+use Rattle.tables.proofs.Common.{ReadsAs, file_text}
 use Rattle.wait_choice.specs.WaitTexts.{wait_cells, wait_row, waits_columns, waits_header, waits_text}
 use Rattle.wait_choice.proofs.Passing.{printed_passes}
 use Rattle.wait_choice.proofs.print.printed.Goals as goal

@@ -1,6 +1,5 @@
 -- The rows of the first changes stand behind those that were there.
-use Rattle.std.proofs.Common.{◌≡◌, ◌++◌, map, take, All}
-use Rattle.std.specs.Prelude.{zip}
+use Rattle.plan_num.proofs.Common.{◌≡◌, ◌++◌, map, take, All, zip}
 use Rattle.wait_choice.specs.PrintedRows.{RowFits}
 use Rattle.wait_choice.specs.WaitTexts.{choice_row}
 use Rattle.wait_choice.proofs.print.push_choices.Given as goal

@@ -1,5 +1,5 @@
 use Rattle.std.proofs.Common.{arith}
-use Rattle.tables.specs.Tables.{TableRow, no_row}
+use Rattle.tables.proofs.Common.{TableRow, no_row}
 use Rattle.wait_choice.specs.WaitTexts.{wait_row}
 use Rattle.wait_choice.proofs.ListItems.{one_pushed}
 use Rattle.wait_choice.proofs.rows.rows_of.Goals as goal

@@ -1,6 +1,6 @@
 -- The rows so far are the first ones.
 use Rattle.std.proofs.Common.{◌≡◌, take}
-use Rattle.tables.specs.RowsOfTables.{records_by}
+use Rattle.tables.proofs.Common.{records_by}
 use Rattle.wait_choice.specs.WaitTexts.{wait_row}
 use Rattle.wait_choice.proofs.rows.rows_of.Given as goal
 

@@ -1,8 +1,5 @@
-use Rattle.std.proofs.Common.{◌∙◌, ap, sym, subst}
-use Rattle.std.specs.List.{All}
-use Rattle.tables.specs.Writing.{InColumns}
-use Rattle.tables.specs.Reading.{faults, table_of}
-use Rattle.tables.proofs.Ranges.{table_in_columns}
+use Rattle.plan_num.proofs.Common.{◌∙◌, ap, sym, subst, All}
+use Rattle.tables.proofs.Common.{InColumns, faults, table_of, table_in_columns}
 use Rattle.wait_choice.specs.WaitTexts.{waits_columns}
 use Rattle.wait_choice.proofs.rows.wait_table.Goals as goal
 

@@ -1,7 +1,5 @@
 -- Whether the rows that are left fit is whether all do.
-use Rattle.std.proofs.Common.{◌≡◌, drop}
-use Rattle.std.specs.Prelude.{zip}
-use Rattle.std.specs.List.{list_all}
+use Rattle.plan_num.proofs.Common.{◌≡◌, drop, zip, list_all}
 use Rattle.wait_choice.specs.Judged.{is_choice}
 use Rattle.wait_choice.proofs.shape.are_choices.Given as goal
 

@@ -1,5 +1,5 @@
 use Rattle.std.proofs.Common.{ℤ, List, ap}
-use Rattle.tables.specs.Tables.{TableRow}
+use Rattle.tables.proofs.Common.{TableRow}
 use Rattle.wait_choice.specs.declared.row.WaitRow.{WaitRow}
 use Rattle.wait_choice.specs.declared.row.WaitRow.TheVariants as row
 use Rattle.wait_choice.specs.WaitTexts.{wait_cells}

@@ -1,6 +1,6 @@
 -- The table has the first rows.
 use Rattle.std.proofs.Common.{◌≡◌, take}
-use Rattle.tables.specs.RowsOfTables.{rows_by}
+use Rattle.tables.proofs.Common.{rows_by}
 use Rattle.wait_choice.specs.WaitTexts.{wait_cells}
 use Rattle.wait_choice.proofs.text.rows_table.Given as goal
 

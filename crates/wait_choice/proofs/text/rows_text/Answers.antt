@@ -1,8 +1,5 @@
 use Rattle.std.proofs.Common.{All, IfOk, arith, refl, sym, subst}
-use Rattle.tables.specs.Tables.{TableRow}
-use Rattle.tables.specs.Writing.{CanWrite, InColumns, ReadsBack}
-use Rattle.tables.proofs.Headers.{plain_header}
-use Rattle.tables.specs.RowsOfTables.{rows_by}
+use Rattle.tables.proofs.Common.{TableRow, CanWrite, InColumns, ReadsBack, plain_header, rows_by}
 use Rattle.wait_choice.specs.WaitTexts.{wait_cells, waits_columns, waits_header}
 use Rattle.wait_choice.proofs.Printed.{columns_can, reads_again, table_fits}
 use Rattle.wait_choice.proofs.text.rows_text.Goals as goal

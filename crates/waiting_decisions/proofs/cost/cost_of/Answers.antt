@@ -1,7 +1,7 @@
 use Rattle.std.proofs.Common.{◌∙◌, ◌≤ℤ◌, pos, sym, subst}
 use Rattle.std.proofs.lemmas.Int.{to_z-of_z}
 use mir.Syntax.{w128}
-use Rattle.propagation.specs.Waiting.{chosen_changes}
+use Rattle.propagation.proofs.Common.{chosen_changes}
 use Rattle.delay_trials.proofs.TrialDelay.{delay_least, delay_most}
 use Rattle.waiting_decisions.proofs.cost.cost_of.Goals as goal
 

@@ -1,6 +1,4 @@
-use Rattle.std.proofs.Common.{length, ap, ◌∙◌, arith, None}
-use Rattle.std.proofs.lemmas.List.{length-set, take_all}
-use Rattle.std.proofs.lemmas.List.FromFn.{fill_by_all}
+use Rattle.plan_num.proofs.Common.{length, ap, ◌∙◌, arith, None, length-set, take_all, fill_by_all}
 use Rattle.walks.specs.Paths.{last_edge, length_to}
 use Rattle.walks.proofs.LastEdges.{edge_noted}
 use Rattle.walks.proofs.paths.last_edges.Goals as goal

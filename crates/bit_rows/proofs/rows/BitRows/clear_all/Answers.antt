@@ -1,5 +1,4 @@
-use Rattle.std.proofs.Common.{◌∙◌, ◌≡◌, All, subst, sym, arith}
-use Rattle.std.proofs.lemmas.List.{with_items_is}
+use Rattle.plan_num.proofs.Common.{◌∙◌, ◌≡◌, All, subst, sym, arith, with_items_is}
 use Rattle.bit_rows.proofs.rows.BitRows.clear_all.Goals as goal
 use Rattle.bit_rows.proofs.RowBits.{are_none, has_none}
 

@@ -1,6 +1,5 @@
 -- The common columns in the words so far.
-use Rattle.std.proofs.Common.{◌≡◌, ◌++◌, ◌*◌, ◌&&◌, filter}
-use Rattle.std.specs.List.{range_with_len}
+use Rattle.plan_num.proofs.Common.{◌≡◌, ◌++◌, ◌*◌, ◌&&◌, filter, range_with_len}
 use Rattle.bit_rows.proofs.rows.BitRows.push_common.Given as goal
 use Rattle.bit_rows.specs.Bits.{has}
 

@@ -1,5 +1,4 @@
-use Rattle.std.proofs.Common.{position, ap, ◌∙◌, w64}
-use Rattle.std.specs.Ordering.{int_eq}
+use Rattle.plan_num.proofs.Common.{position, ap, ◌∙◌, w64, int_eq}
 use Rattle.std.proofs.lemmas.Int.{to_z-of_z}
 use Rattle.branch_certificate.proofs.problem_ids.ProblemIds.edge_index.Goals as goal
 

@@ -1,5 +1,4 @@
-use Rattle.std.proofs.Common.{position, ap, ◌∙◌, arith, w64}
-use Rattle.std.specs.Ordering.{int_eq}
+use Rattle.plan_num.proofs.Common.{position, ap, ◌∙◌, arith, w64, int_eq}
 use Rattle.std.proofs.lemmas.Int.{to_z-of_z}
 use Rattle.branch_certificate.proofs.tree_row.TreeRow.edge.Goals as goal
 

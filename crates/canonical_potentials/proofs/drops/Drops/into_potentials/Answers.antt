@@ -1,8 +1,7 @@
 use Rattle.std.proofs.Common.{◌-◌, map, ap, sym, ◌∙◌, subst}
-use Rattle.link_plans.specs.Links.{links_in}
+use Rattle.link_plans.proofs.Common.{links_in, ArePotentials, AreValid}
 use Rattle.canonical_potentials.specs.Canonical.{AreCanonical}
 use Rattle.canonical_potentials.specs.Drops.{DropParts, IsSearched, ArePassed}
-use Rattle.link_plans.specs.Potentials.{ArePotentials, AreValid}
 use Rattle.canonical_potentials.proofs.PassedRows.{passed_valid, passed_canonical}
 use Rattle.canonical_potentials.proofs.Settled.{made_is, settled_small}
 use Rattle.canonical_potentials.proofs.drops.Drops.into_potentials.Goals as goal

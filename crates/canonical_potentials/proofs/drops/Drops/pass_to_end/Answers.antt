@@ -1,5 +1,5 @@
 use Rattle.std.proofs.Common.{sym, subst}
-use Rattle.link_plans.specs.Links.{links_in}
+use Rattle.link_plans.proofs.Common.{links_in}
 use Rattle.canonical_potentials.specs.Drops.{ArePassed, depth}
 use Rattle.canonical_potentials.proofs.Loops.{goes_down}
 use Rattle.canonical_potentials.proofs.Steps.{still_searched, depth_most}

@@ -1,5 +1,5 @@
 -- The arcs so far are one step.
-use Rattle.link_plans.specs.Links.{links_in}
+use Rattle.link_plans.proofs.Common.{links_in}
 use Rattle.canonical_potentials.proofs.Loops.{IsPassed, TripsKept}
 use Rattle.canonical_potentials.proofs.drops.Drops.relax_all.Given as goal
 

@@ -1,5 +1,5 @@
 use Rattle.std.proofs.Common.{arith}
-use Rattle.link_plans.specs.Links.{links_in}
+use Rattle.link_plans.proofs.Common.{links_in}
 use Rattle.canonical_potentials.proofs.Steps.{row_asks, row_step}
 use Rattle.canonical_potentials.proofs.drops.Drops.relax_link_of.Goals as goal
 

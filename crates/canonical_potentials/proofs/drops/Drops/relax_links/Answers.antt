@@ -1,4 +1,4 @@
-use Rattle.link_plans.proofs.LinkRows.{item}
+use Rattle.link_plans.proofs.Common.{item}
 use Rattle.canonical_potentials.proofs.drops.Drops.relax_links.Goals as goal
 
 pub relax_through-requires-clause-link : goal.relax_through-requires-clause-link

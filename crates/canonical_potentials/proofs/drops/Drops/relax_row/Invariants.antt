@@ -1,5 +1,5 @@
 -- The links so far are one step.
-use Rattle.link_plans.specs.Links.{links_in}
+use Rattle.link_plans.proofs.Common.{links_in}
 use Rattle.canonical_potentials.proofs.Loops.{IsPassed, LinksKept}
 use Rattle.canonical_potentials.proofs.drops.Drops.relax_row.Given as goal
 

@@ -1,4 +1,4 @@
-use Rattle.link_plans.specs.Links.{links_in}
+use Rattle.link_plans.proofs.Common.{links_in}
 use Rattle.canonical_potentials.proofs.Loops.{trip_step, trip_kept}
 use Rattle.canonical_potentials.proofs.drops.Drops.relax_trip.Goals as goal
 

@@ -1,5 +1,5 @@
 -- Walks that were found stay found.
-use Rattle.link_plans.specs.Links.{links_in}
+use Rattle.link_plans.proofs.Common.{links_in}
 use Rattle.canonical_potentials.specs.Drops.{IsSearched}
 use Rattle.canonical_potentials.proofs.drops.Drops.walk.Given as goal
 

@@ -1,6 +1,5 @@
 -- The first keys have good values, which are those so far.
-use Rattle.std.proofs.Common.{◌≡◌, take, map, None, not, is_some, unwrap_or, pos}
-use Rattle.std.specs.List.{find}
+use Rattle.plan_num.proofs.Common.{◌≡◌, take, map, None, not, is_some, unwrap_or, pos, find}
 use Rattle.config_keys.specs.ReadSoFar.{said_of}
 use Rattle.config_keys.specs.Values.{good_value}
 use Rattle.config_keys.proofs.config.Config.settle.Given as goal

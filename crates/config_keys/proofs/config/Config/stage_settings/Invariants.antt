@@ -1,7 +1,6 @@
 -- The keys of the stage among the first keys are there with their values.
-use Rattle.std.proofs.Common.{◌≡◌, take, map}
-use Rattle.std.specs.List.{filter}
-use Rattle.giv_files.specs.Keys.{has_key}
+use Rattle.plan_num.proofs.Common.{◌≡◌, take, map, filter}
+use Rattle.giv_files.proofs.Common.{has_key}
 use Rattle.config_keys.specs.Config.{setting_at}
 use Rattle.config_keys.proofs.config.Config.stage_settings.Given as goal
 

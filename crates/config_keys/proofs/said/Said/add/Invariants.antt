@@ -1,6 +1,5 @@
 -- What is said later of the first keys is said.
-use Rattle.std.proofs.Common.{take}
-use Rattle.std.specs.List.{flat_map}
+use Rattle.plan_num.proofs.Common.{take, flat_map}
 use Rattle.config_keys.specs.ReadSoFar.{said_item, SaysOn}
 use Rattle.config_keys.proofs.said.Said.add.Given as goal
 

@@ -1,4 +1,4 @@
-use Rattle.giv_files.specs.Keys.{key_place}
+use Rattle.giv_files.proofs.Common.{key_place}
 use Rattle.config_keys.proofs.SaidItems.{says_put}
 use Rattle.config_keys.proofs.said.Said.put.Goals as goal
 

@@ -1,5 +1,4 @@
-use Rattle.std.proofs.Common.{sym}
-use Rattle.std.proofs.lemmas.Result.{on_ok_weaker}
+use Rattle.plan_num.proofs.Common.{sym, on_ok_weaker}
 use Rattle.config_keys.proofs.SaidItems.{says_nothing, says_named}
 use Rattle.config_keys.proofs.said.Said.take.Goals as goal
 

@@ -1,5 +1,4 @@
-use Rattle.std.proofs.Common.{sym, refl, ◌∙◌}
-use Rattle.std.proofs.lemmas.Result.{IfOk-weaker}
+use Rattle.plan_num.proofs.Common.{sym, refl, ◌∙◌, IfOk-weaker}
 use Rattle.tables.specs.declared.row_why.RowWhy.TheVariants as why
 use Rattle.config_keys.specs.declared.settings_file.BadRow.TheVariants as bad
 use Rattle.config_keys.specs.SettingsFiles.{RowGives, IncludeTold}

@@ -1,6 +1,4 @@
-use Rattle.std.proofs.Common.{◌∙◌, ap}
-use Rattle.std.specs.Option.{unwrap_or}
-use Rattle.std.proofs.lemmas.Option.{unwrap_or-slice_get}
+use Rattle.plan_num.proofs.Common.{◌∙◌, ap, unwrap_or, unwrap_or-slice_get}
 use Rattle.connections.specs.declared.event_kind.EventKind.TheVariants as kind
 use Rattle.connections.specs.declared.timed_event.TimedEvent.{TimedEvent}
 use Rattle.connections.proofs.net.JourneyNet.event_or_none.Goals as goal

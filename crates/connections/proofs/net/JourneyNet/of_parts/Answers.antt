@@ -1,5 +1,4 @@
-use Rattle.std.proofs.Common.{◌≤◌, ◌<◌, List, All, length, subst, sym}
-use Rattle.std.specs.List.Sorted.{IsPermutation}
+use Rattle.plan_num.proofs.Common.{◌≤◌, ◌<◌, List, All, length, subst, sym, IsPermutation}
 use Rattle.connections.specs.declared.connection.Connection.{Connection}
 use Rattle.connections.specs.Links.{links_of}
 use Rattle.connections.specs.RankedNets.{parts_of}

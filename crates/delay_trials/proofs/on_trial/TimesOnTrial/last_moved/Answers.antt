@@ -1,5 +1,4 @@
-use Rattle.std.proofs.Common.{arith, subst, sym}
-use Rattle.std.specs.Prelude.{reverse}
+use Rattle.plan_num.proofs.Common.{arith, subst, sym, reverse}
 use Rattle.delay_trials.specs.OnTrial.{IsLastMoved}
 use Rattle.delay_trials.proofs.OnTrialFacts.{last_is, popped}
 use Rattle.delay_trials.proofs.on_trial.TimesOnTrial.last_moved.Goals as goal

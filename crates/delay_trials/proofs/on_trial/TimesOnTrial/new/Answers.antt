@@ -1,15 +1,11 @@
-use Rattle.std.proofs.Common.{◌+◌, ◌/◌, ◌≡◌, ◌⊎◌, ◌∙◌, [], ◌&&◌, All, ap, arith, false, get_or, length, subst, sym}
-use Rattle.std.proofs.Common.{true}
-use Rattle.std.specs.Prelude.{replicate, reverse}
+use Rattle.plan_num.proofs.Common.{◌+◌, ◌/◌, ◌≡◌, ◌⊎◌, ◌∙◌, [], ◌&&◌, All, ap, arith, false, get_or}
+use Rattle.plan_num.proofs.Common.{length, subst, sym, true, replicate, reverse, length-replicate}
+use Rattle.plan_num.proofs.Common.{All-nil}
 use Rattle.std.proofs.lemmas.Int.{to_z-of_z}
-use Rattle.std.proofs.lemmas.List.{length-replicate}
-use Rattle.std.proofs.lemmas.List.Elements.{All-nil}
 use mir.Syntax.{w128}
-use Rattle.propagation.specs.DayEvents.{forward_rank}
+use Rattle.propagation.proofs.Common.{forward_rank, Link, delay_at}
 use Rattle.delay_trials.specs.declared.ends.ChangeEnd.{ChangeEnd}
-use Rattle.propagation.specs.declared.links.Link.{Link}
 use Rattle.delay_trials.specs.ChangeEnds.{AreFirst, HasEnds}
-use Rattle.propagation.specs.Lateness.{delay_at}
 use Rattle.delay_trials.specs.OnTrial.{AreTested}
 use Rattle.delay_trials.specs.OpenChanges.{AreAllTested, OpenParts}
 use Rattle.delay_trials.proofs.OnTrialFacts.{IsSound, day_is}

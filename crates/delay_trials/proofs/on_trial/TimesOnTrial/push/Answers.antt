@@ -1,6 +1,5 @@
-use Rattle.std.proofs.Common.{◌∙◌, ap, arith, length}
-use Rattle.std.proofs.lemmas.List.{get_or_default}
-use Rattle.propagation.specs.LeastTimes.{asked, time_at}
+use Rattle.plan_num.proofs.Common.{◌∙◌, ap, arith, length, get_or_default}
+use Rattle.propagation.proofs.Common.{asked, time_at}
 use Rattle.delay_trials.specs.OnTrial.{TrialTimes}
 use Rattle.delay_trials.proofs.Settling.{pushed_later}
 use Rattle.delay_trials.proofs.on_trial.TimesOnTrial.push.Goals as goal

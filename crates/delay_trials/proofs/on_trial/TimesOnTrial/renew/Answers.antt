@@ -1,7 +1,7 @@
 use Rattle.std.proofs.Common.{◌∙◌, arith, subst}
 use Rattle.std.proofs.lemmas.Int.{to_z-of_z}
 use mir.Syntax.{w128}
-use Rattle.propagation.specs.Lateness.{delay_at}
+use Rattle.propagation.proofs.Common.{delay_at}
 use Rattle.delay_trials.specs.OpenChanges.{AreAllTested, OpenParts}
 use Rattle.delay_trials.proofs.OnTrialFacts.{day_is, renewed}
 use Rattle.delay_trials.proofs.on_trial.TimesOnTrial.renew.Goals as goal

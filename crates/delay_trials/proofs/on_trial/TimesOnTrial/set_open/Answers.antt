@@ -1,5 +1,5 @@
 use Rattle.std.proofs.Common.{◌∙◌, ◌&&◌, ap, arith, false, get_or, length, slice_set}
-use Rattle.propagation.specs.Lateness.{is_broken}
+use Rattle.propagation.proofs.Common.{is_broken}
 use Rattle.delay_trials.specs.OnTrial.{TrialTimes}
 use Rattle.delay_trials.proofs.OnTrialFacts.{day_is, opened}
 use Rattle.delay_trials.proofs.on_trial.TimesOnTrial.set_open.Goals as goal

@@ -1,6 +1,5 @@
-use Rattle.std.proofs.Common.{◌<◌, ◌∙◌, ◌+ℤ◌, ap, arith, length, subst}
+use Rattle.plan_num.proofs.Common.{◌<◌, ◌∙◌, ◌+ℤ◌, ap, arith, length, subst, get_or_default}
 use Rattle.std.proofs.lemmas.Int.{to_z-of_z}
-use Rattle.std.proofs.lemmas.List.{get_or_default}
 use mir.Syntax.{w128}
 use Rattle.delay_trials.specs.OnTrial.{TrialTimes}
 use Rattle.delay_trials.specs.OpenChanges.{AreAllTested, OpenParts}

@@ -1,5 +1,4 @@
-use Rattle.std.proofs.Common.{◌∙◌, ap, arith, length, subst, sym}
-use Rattle.std.specs.Prelude.{reverse}
+use Rattle.plan_num.proofs.Common.{◌∙◌, ap, arith, length, subst, sym, reverse}
 use Rattle.delay_trials.specs.OnTrial.{IsSettling, TrialTimes}
 use Rattle.delay_trials.proofs.Settling.{asks_little, link_joins, passed_over, pushed_on}
 use Rattle.delay_trials.proofs.on_trial.TimesOnTrial.take_link.Goals as goal

@@ -1,8 +1,6 @@
 use Rattle.std.proofs.Common.{◌∙◌, ◌<◌, IfSome, None, Some, ap, arith, length, subst}
-use Rattle.propagation.specs.LeastTimes.{least_times}
+use Rattle.propagation.proofs.Common.{least_times, DelayProblem, chosen_changes}
 use Rattle.bit_rows.specs.Markings.{IsNext}
-use Rattle.propagation.specs.Problems.{DelayProblem}
-use Rattle.propagation.specs.Waiting.{chosen_changes}
 use Rattle.delay_trials.proofs.Settling.{are_least, follows_on}
 use Rattle.delay_trials.proofs.on_trial.TimesOnTrial.take_waiting_links.Goals as goal
 

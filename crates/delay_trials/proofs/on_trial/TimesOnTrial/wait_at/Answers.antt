@@ -1,5 +1,5 @@
 use Rattle.std.proofs.Common.{◌≡◌, ◌∙◌, ap, subst}
-use Rattle.propagation.specs.DayEvents.{forward_rank}
+use Rattle.propagation.proofs.Common.{forward_rank}
 use Rattle.delay_trials.specs.OnTrial.{TrialTimes, WaitBy}
 use Rattle.delay_trials.proofs.on_trial.TimesOnTrial.wait_at.Goals as goal
 

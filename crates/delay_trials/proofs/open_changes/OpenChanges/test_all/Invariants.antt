@@ -1,7 +1,6 @@
 -- The changes so far are tested.
 use Rattle.std.proofs.Common.{◌≡◌, ◌<◌, ◌&&◌, ℕ, false, get_or, length}
-use Rattle.propagation.specs.declared.step.Activity.{Activity}
-use Rattle.propagation.specs.Lateness.{is_broken}
+use Rattle.propagation.proofs.Common.{Activity, is_broken}
 use Rattle.delay_trials.proofs.open_changes.OpenChanges.test_all.Given as goal
 
 abbrev pub invariant-loop-change : goal.invariant-loop-change

@@ -1,10 +1,8 @@
-use Rattle.std.proofs.Common.{◌∙◌, ◌≤◌, ◌≤ℤ◌, length, pos, sym, subst}
-use Rattle.std.specs.Prelude.{reverse}
+use Rattle.plan_num.proofs.Common.{◌∙◌, ◌≤◌, ◌≤ℤ◌, length, pos, sym, subst, reverse}
 use Rattle.std.proofs.lemmas.Int.{to_z-of_z}
 use mir.Syntax.{w128}
 use Rattle.delay_trials.specs.OnTrial.{decided_in}
-use Rattle.propagation.proofs.ForwardSteps.{changes_few}
-use Rattle.propagation.specs.Problems.{IsForward}
+use Rattle.propagation.proofs.Common.{changes_few, IsForward}
 use Rattle.delay_trials.specs.Trials.{TrialParts}
 use Rattle.delay_trials.proofs.TrialDelay.{delay_least, delay_most}
 use Rattle.delay_trials.proofs.TrialFacts.{trial_least}

@@ -1,5 +1,4 @@
-use Rattle.std.proofs.Common.{◌≡◌, subst}
-use Rattle.std.specs.Prelude.{reverse}
+use Rattle.plan_num.proofs.Common.{◌≡◌, subst, reverse}
 use Rattle.delay_trials.specs.OnTrial.{decided_in}
 use Rattle.delay_trials.specs.Trials.{first_broken}
 use Rattle.delay_trials.proofs.FirstOpen.{tells_first}

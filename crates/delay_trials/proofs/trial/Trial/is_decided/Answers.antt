@@ -1,5 +1,4 @@
-use Rattle.std.proofs.Common.{◌≡◌, ◌∙◌, ap, arith, length, not, subst}
-use Rattle.std.specs.Prelude.{reverse}
+use Rattle.plan_num.proofs.Common.{◌≡◌, ◌∙◌, ap, arith, length, not, subst, reverse}
 use Rattle.delay_trials.specs.OnTrial.{decided_in}
 use Rattle.delay_trials.specs.Trials.{TrialParts, is_decided}
 use Rattle.delay_trials.proofs.TrialFacts.{not_twice, open_flag}

@@ -1,13 +1,10 @@
-use Rattle.std.proofs.Common.{◌≡◌, ◌∙◌, ◌∷◌, ◌<◌, ◌-◌, [], false, length, slice_set, take, true, ap, sym, subst, arith}
-use Rattle.std.specs.Prelude.{reverse}
+use Rattle.plan_num.proofs.Common.{◌≡◌, ◌∙◌, ◌∷◌, ◌<◌, ◌-◌, [], false, length, slice_set, take}
+use Rattle.plan_num.proofs.Common.{true, ap, sym, subst, arith, reverse, take-append_seam}
+use Rattle.plan_num.proofs.Common.{length-set}
 use Rattle.std.specs.Vec.{vec_len}
-use Rattle.std.proofs.Math.Seq.{take-append_seam}
-use Rattle.std.proofs.lemmas.List.{length-set}
-use Rattle.propagation.specs.LeastTimes.{least_times}
+use Rattle.propagation.proofs.Common.{least_times, DelayProblem, chosen_changes}
 use Rattle.delay_trials.specs.OnTrial.{DropsNotes, IsTaken}
-use Rattle.propagation.specs.Problems.{DelayProblem}
 use Rattle.delay_trials.specs.Trials.{TrialParts, is_decided}
-use Rattle.propagation.specs.Waiting.{chosen_changes}
 use Rattle.delay_trials.proofs.DecisionsTakenBack.{kept_not, kept_taken, settles_from, taken_still}
 use Rattle.delay_trials.proofs.TrialFacts.{kept_size, reversed}
 use Rattle.delay_trials.proofs.trial.Trial.keep.Goals as goal

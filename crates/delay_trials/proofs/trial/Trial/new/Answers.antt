@@ -1,5 +1,4 @@
-use Rattle.std.proofs.Common.{◌∙◌, ap, false, replicate, subst, sym}
-use Rattle.std.specs.Prelude.{reverse}
+use Rattle.plan_num.proofs.Common.{◌∙◌, ap, false, replicate, subst, sym, reverse}
 use Rattle.delay_trials.specs.OnTrial.{IsTaken}
 use Rattle.delay_trials.proofs.DecisionsTakenBack.{none_taken}
 use Rattle.delay_trials.proofs.trial.Trial.new.Goals as goal

@@ -1,7 +1,6 @@
-use Rattle.std.proofs.Common.{◌∙◌, ap, arith, drop, length, subst, sym}
-use Rattle.std.specs.Prelude.{reverse}
+use Rattle.plan_num.proofs.Common.{◌∙◌, ap, arith, drop, length, subst, sym, reverse}
 use Rattle.delay_trials.specs.OnTrial.{GoesBack, IsTaken, TrialTimes, decided_in}
-use Rattle.propagation.specs.Problems.{DelayProblem}
+use Rattle.propagation.proofs.Common.{DelayProblem}
 use Rattle.delay_trials.specs.Trials.{TrialParts}
 use Rattle.delay_trials.proofs.DecisionsTakenBack.{last_there, taken_back, undone_problem}
 use Rattle.delay_trials.proofs.TrialFacts.{kept_size, reversed}

@@ -1,5 +1,5 @@
 use Rattle.std.proofs.Common.{IfSome, subst, ◌∙◌}
-use Rattle.walks.specs.Paths.{ArePaths}
+use Rattle.walks.proofs.Common.{ArePaths}
 use Rattle.demand_paths.proofs.KnownOnes.{is_reached}
 use Rattle.demand_paths.proofs.known_paths.KnownPaths.joins.Goals as goal
 

@@ -1,6 +1,6 @@
 use Rattle.std.proofs.Common.{◌+◌, length, get_or, Option, None, ap, subst, sym, ◌∙◌, arith, IfSome}
 use Rattle.std.proofs.lemmas.List.{length_push}
-use Rattle.walks.specs.Paths.{PathParts, ArePaths}
+use Rattle.walks.proofs.Common.{PathParts, ArePaths}
 use Rattle.demand_paths.proofs.KnownOnes.{none_more}
 use Rattle.demand_paths.proofs.known_paths.KnownPaths.new.Goals as goal
 

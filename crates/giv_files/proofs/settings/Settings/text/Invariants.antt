@@ -1,6 +1,5 @@
 -- The lines of the keys so far.
-use Rattle.std.proofs.Common.{◌≡◌, take}
-use Rattle.std.specs.List.{flat_map}
+use Rattle.plan_num.proofs.Common.{◌≡◌, take, flat_map}
 use Rattle.giv_files.specs.Settings.{value_of}
 use Rattle.giv_files.specs.SettingsText.{key_line}
 use Rattle.giv_files.proofs.settings.Settings.text.Given as goal

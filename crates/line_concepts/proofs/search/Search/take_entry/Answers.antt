@@ -1,6 +1,5 @@
 use Rattle.std.proofs.Common.{◌≡◌, List, false, ap, sym, subst, ◌∙◌}
-use Rattle.line_cost_model.specs.declared.range.LineRange.{LineRange}
-use Rattle.line_cost_model.specs.Problems.{ProblemParts}
+use Rattle.line_cost_model.proofs.Common.{LineRange, ProblemParts}
 use Rattle.line_concepts.specs.TreeFaults.{splits_outside}
 use Rattle.line_concepts.specs.Listings.{node_at}
 use Rattle.line_concepts.specs.Searches.{concept_in}

@@ -1,5 +1,4 @@
-use Rattle.std.proofs.Common.{◌∙◌, ◌+◌, ◌-◌, arith}
-use Rattle.std.proofs.lemmas.List.{get_or_default}
+use Rattle.plan_num.proofs.Common.{◌∙◌, ◌+◌, ◌-◌, arith, get_or_default}
 use Rattle.line_cost_model.specs.RunningSums.{under}
 use Rattle.line_cost_model.proofs.EdgeCounts.{edge_put, few_under, greatest_put}
 use Rattle.line_cost_model.proofs.edge_sums.GreatestSums.put.Goals as goal

@@ -1,6 +1,5 @@
-use Rattle.std.proofs.Common.{◌∙◌, ◌+◌, ◌-◌, ap, sym, subst, arith, nat_lt, slice_set, Bool, List}
-use Rattle.std.proofs.lemmas.List.{get_or_default}
-use Rattle.std.proofs.lemmas.Option.{get_or_from_slice_get}
+use Rattle.plan_num.proofs.Common.{◌∙◌, ◌+◌, ◌-◌, ap, sym, subst, arith, nat_lt, slice_set, Bool}
+use Rattle.plan_num.proofs.Common.{List, get_or_default, get_or_from_slice_get}
 use Rattle.line_cost_model.specs.RunningSums.{IsOfLeast, no_bounds, over}
 use Rattle.line_cost_model.proofs.EdgeCounts.{edge_put, few_over, least_put}
 use Rattle.line_cost_model.proofs.edge_sums.LeastSums.put.Goals as goal

@@ -1,9 +1,7 @@
-use Rattle.std.proofs.Common.{◌∙◌, ◌<◌, slice_set, nat_lt, get_or, false, replicate, length, ap}
-use Rattle.std.proofs.Common.{sym, arith, inl, inr, List}
-use Rattle.std.proofs.Common.{get_or-set_other, get_or-set_same, Bool}
-use Rattle.std.proofs.lemmas.Bool.{cases_eq}
-use Rattle.std.proofs.lemmas.List.{length-set}
-use Rattle.std.proofs.lemmas.Option.{get_or_from_slice_get}
+use Rattle.plan_num.proofs.Common.{◌∙◌, ◌<◌, slice_set, nat_lt, get_or, false, replicate, length}
+use Rattle.plan_num.proofs.Common.{ap, sym, arith, inl, inr, List, get_or-set_other}
+use Rattle.plan_num.proofs.Common.{get_or-set_same, Bool, cases_eq, length-set}
+use Rattle.plan_num.proofs.Common.{get_or_from_slice_get}
 use Rattle.line_cost_model.specs.declared.edge.BoundedEdge.{BoundedEdge}
 use Rattle.line_cost_model.specs.RunningSums.{no_bounds}
 use Rattle.line_cost_model.proofs.EdgeCounts.{zero_sums}

@@ -1,5 +1,4 @@
-use Rattle.std.proofs.Common.{◌≡◌, drop}
-use Rattle.std.specs.List.{list_all, enumerate_from}
+use Rattle.plan_num.proofs.Common.{◌≡◌, drop, list_all, enumerate_from}
 use Rattle.line_cost_model.specs.Concepts.{is_feasible, keeps_bounds}
 use Rattle.line_cost_model.proofs.problem.LineProblem.is_feasible.Given as goal
 

@@ -1,6 +1,5 @@
 -- The least of the maximal frequencies of the edges so far.
-use Rattle.std.proofs.Common.{◌≡◌, filter_map, min, take}
-use Rattle.std.specs.List.{reduce}
+use Rattle.plan_num.proofs.Common.{◌≡◌, filter_map, min, take, reduce}
 use Rattle.line_cost_model.specs.Regions.{most_on}
 use Rattle.line_cost_model.proofs.problem.LineProblem.least_most.Given as goal
 

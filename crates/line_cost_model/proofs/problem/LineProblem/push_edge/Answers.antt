@@ -1,6 +1,5 @@
-use Rattle.std.proofs.Common.{◌++◌, ◌∷◌, ◌<ℤ◌, [], w64, sym, subst, ap, ◌∙◌}
+use Rattle.plan_num.proofs.Common.{◌++◌, ◌∷◌, ◌<ℤ◌, [], w64, sym, subst, ap, ◌∙◌, All}
 use Rattle.std.proofs.lemmas.Int.{to_z-of_z}
-use Rattle.std.specs.List.{All}
 use Rattle.line_cost_model.specs.Problems.{ProblemParts}
 use Rattle.line_cost_model.proofs.WholeProblems.{edge_pushed}
 use Rattle.line_cost_model.proofs.problem.LineProblem.push_edge.Goals as goal

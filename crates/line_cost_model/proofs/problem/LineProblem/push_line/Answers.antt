@@ -1,6 +1,5 @@
-use Rattle.std.proofs.Common.{◌≡◌, ◌++◌, ◌∷◌, ◌<ℤ◌, [], ℕ, ℤ, List, length, unsigned_abs, w64}
-use Rattle.std.proofs.Common.{sym, subst, ap, ◌∙◌, arith}
-use Rattle.std.specs.List.{All}
+use Rattle.plan_num.proofs.Common.{◌≡◌, ◌++◌, ◌∷◌, ◌<ℤ◌, [], ℕ, ℤ, List, length, unsigned_abs, w64}
+use Rattle.plan_num.proofs.Common.{sym, subst, ap, ◌∙◌, arith, All}
 use Rattle.std.proofs.lemmas.Int.{to_z-of_z}
 use Rattle.line_cost_model.specs.Crossings.{AreLonger, AreTaken}
 use Rattle.line_cost_model.specs.Problems.{CostedLine, ProblemParts, IsCostedLine}

@@ -1,7 +1,5 @@
-use Rattle.std.proofs.Common.{subst, sym}
-use Rattle.std.specs.List.{All}
-use Rattle.std.proofs.lemmas.Result.{err_from_is_err_and}
-use Rattle.tables.proofs.WholeRules.{refused_without}
+use Rattle.plan_num.proofs.Common.{subst, sym, All, err_from_is_err_and}
+use Rattle.tables.proofs.Common.{refused_without}
 use Rattle.line_walks.specs.GivenCosts.{IsCost}
 use Rattle.line_walks.specs.PoolCosts.{pool_cost_input}
 use Rattle.line_walks.proofs.CostRules.{line_missing_of_text, costs_given}

@@ -1,6 +1,5 @@
-use Rattle.std.proofs.Common.{◌≡◌, ◌∙◌, ◌<◌, ◌∷◌, [], All, ap, arith, length, refl, subst, sym}
-use Rattle.std.proofs.lemmas.List.{length-append}
-use Rattle.std.proofs.lemmas.List.Elements.{All-push}
+use Rattle.plan_num.proofs.Common.{◌≡◌, ◌∙◌, ◌<◌, ◌∷◌, [], All, ap, arith, length, refl, subst, sym}
+use Rattle.plan_num.proofs.Common.{length-append, All-push}
 use Rattle.pesp.specs.declared.cycles.Place.{Place}
 use Rattle.pesp.specs.Cycles.{IsPlaced}
 use Rattle.pesp.proofs.Classed.{ArePlaced, all_alone, alone, placed_more}

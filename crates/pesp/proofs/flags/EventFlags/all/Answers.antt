@@ -1,5 +1,4 @@
-use Rattle.std.proofs.Common.{◌∙◌, ap, arith, length, true}
-use Rattle.std.proofs.lemmas.List.{length-set}
+use Rattle.plan_num.proofs.Common.{◌∙◌, ap, arith, length, true, length-set}
 use Rattle.pesp.specs.Flags.{Flags, has_changed}
 use Rattle.pesp.proofs.FlagBits.{one_more_set}
 use Rattle.pesp.proofs.flags.EventFlags.all.Goals as goal

@@ -1,6 +1,5 @@
-use Rattle.std.proofs.Common.{◌∙◌, sym}
+use Rattle.plan_num.proofs.Common.{◌∙◌, sym, refl}
 use Rattle.pesp.proofs.FlagBits.{flag_is, size_is}
-use Rattle.std.proofs.Common.{refl}
 use Rattle.pesp.proofs.flags.EventFlags.none.Goals as goal
 
 pub returns-clause-events : goal.returns-clause-events

@@ -1,5 +1,4 @@
-use Rattle.std.proofs.Common.{◌∙◌, arith, refl}
-use Rattle.std.proofs.lemmas.List.{length-set}
+use Rattle.plan_num.proofs.Common.{◌∙◌, arith, refl, length-set}
 use Rattle.bit_rows.proofs.RowBits.{bit_there}
 use Rattle.pesp.proofs.MarkCounts.{all_copied, no_first, one_copied}
 use Rattle.pesp.proofs.WordTurns.{no_bits}

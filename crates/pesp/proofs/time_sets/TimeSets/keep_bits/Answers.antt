@@ -1,5 +1,4 @@
-use Rattle.std.proofs.Common.{All, bit_and, false, reverse, subst, sym, true}
-use Rattle.std.proofs.lemmas.List.Elements.{All-push}
+use Rattle.plan_num.proofs.Common.{All, bit_and, false, reverse, subst, sym, true, All-push}
 use Rattle.pesp.specs.declared.time_sets.Change.TheVariants as change
 use Rattle.pesp.specs.Marks.{IsChange, KeepsBits, Marks, Tracked, saved_by}
 use Rattle.pesp.proofs.Changes.{replaced_view, tracked}

@@ -1,6 +1,4 @@
-use Rattle.std.proofs.Common.{sym, arith}
-use Rattle.std.specs.Cmp.Lexicographic.{slice_cmp}
-use Rattle.std.specs.Ordering.{nat_cmp}
+use Rattle.plan_num.proofs.Common.{sym, arith, slice_cmp, nat_cmp}
 use Rattle.std.specs.FinMap.{get-empty}
 use Rattle.plan_files.proofs.Writes.{get_next_write}
 use Rattle.plan_files.proofs.steady_files.SteadyFiles.file.Goals as goal

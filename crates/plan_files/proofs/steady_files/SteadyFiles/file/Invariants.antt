@@ -1,6 +1,5 @@
 -- Of the writes so far, what the newest one of the name leaves.
-use Rattle.std.proofs.Common.{◌≡◌, take}
-use Rattle.std.specs.Option.{option_copied}
+use Rattle.plan_num.proofs.Common.{◌≡◌, take, option_copied}
 use Rattle.std.specs.FinMap as map
 use Rattle.plan_files.specs.Changes.{folder_of}
 use Rattle.plan_files.proofs.steady_files.SteadyFiles.file.Given as goal

@@ -1,5 +1,5 @@
 use Rattle.std.proofs.Common.{◌≡◌, ◌<◌, None, length, ap, sym, subst, arith}
-use Rattle.link_plans.specs.Plans.{next}
+use Rattle.link_plans.proofs.Common.{next}
 use Rattle.plan_search.specs.Trees.{IsRooted}
 use Rattle.plan_search.proofs.TreeEnds.{is_planted, is_rooted}
 use Rattle.plan_search.proofs.tight_plan.TightPlan.tree_from.Goals as goal

@@ -1,5 +1,5 @@
 -- A place is handed on to the root.
-use Rattle.link_plans.specs.Links.{links_in}
+use Rattle.link_plans.proofs.Common.{links_in}
 use Rattle.plan_search.specs.Growing.{looking}
 use Rattle.plan_search.proofs.tree.Tree.augment.Given as goal
 

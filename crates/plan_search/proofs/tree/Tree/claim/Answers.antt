@@ -1,6 +1,5 @@
 use Rattle.std.proofs.Common.{◌≡◌, OnOk, length, ap, sym, subst, arith}
-use Rattle.link_plans.proofs.Linking.{followed}
-use Rattle.link_plans.specs.Plans.{is_next}
+use Rattle.link_plans.proofs.Common.{followed, is_next}
 use Rattle.plan_search.specs.Claims.{ClaimsParts, AreClaims}
 use Rattle.plan_search.specs.Trees.{TreeParts, IsReached, IsTree, with_claim}
 use Rattle.plan_search.proofs.TreeSteps.{room_left, tree_grown}

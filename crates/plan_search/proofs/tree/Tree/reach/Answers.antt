@@ -1,6 +1,5 @@
 use Rattle.std.proofs.Common.{◌≡◌, true, Some, sym, subst}
-use Rattle.link_plans.proofs.Linking.{next_found}
-use Rattle.link_plans.specs.Plans.{next, is_next}
+use Rattle.link_plans.proofs.Common.{next_found, next, is_next}
 use Rattle.plan_search.specs.Growing.{in_tree}
 use Rattle.plan_search.specs.Trees.{TreeParts, IsTree}
 use Rattle.plan_search.proofs.TreeSteps.{left_inside, looked_on, grown_more}

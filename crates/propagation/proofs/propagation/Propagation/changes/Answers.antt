@@ -1,5 +1,4 @@
-use Rattle.std.proofs.Common.{◌≤◌, All, length, map, subst}
-use Rattle.std.specs.List.Sorted.{IsStrictlyIncreasing}
+use Rattle.plan_num.proofs.Common.{◌≤◌, All, length, map, subst, IsStrictlyIncreasing}
 use Rattle.propagation.specs.Problems.{Joins}
 use Rattle.propagation.proofs.ForwardSteps.{changes_few, changes_join, change_ids}
 use Rattle.propagation.proofs.propagation.Propagation.changes.Goals as goal

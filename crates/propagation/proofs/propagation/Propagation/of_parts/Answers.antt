@@ -1,5 +1,4 @@
-use Rattle.std.proofs.Common.{◌++◌, ◌<◌, ◌≤◌, List, All, length, subst, sym}
-use Rattle.std.specs.List.Sorted.{IsPermutation}
+use Rattle.plan_num.proofs.Common.{◌++◌, ◌<◌, ◌≤◌, List, All, length, subst, sym, IsPermutation}
 use Rattle.propagation.specs.declared.day_event.DayEvent.{DayEvent}
 use Rattle.propagation.specs.declared.links.Link.{Link}
 use Rattle.propagation.specs.declared.step.Activity.{Activity}

@@ -1,8 +1,7 @@
 use Rattle.std.proofs.Common.{◌≡◌, [], Some, slice_get, take, subst, sym, ap, ◌∙◌, arith, w64}
 use Rattle.std.specs.Ordering.{int_eq}
 use Rattle.std.proofs.lemmas.Int.{to_z-of_z}
-use Rattle.tables.specs.Inputs.{broken_whys}
-use Rattle.tables.specs.RowsOfTables.{records_by}
+use Rattle.tables.proofs.Common.{broken_whys, records_by}
 use Rattle.indexmap.specs.IndexMap.{insert_entry}
 use Rattle.indexmap.proofs.CallerLemmas.{insert_entry-new}
 use Rattle.ptn_network.specs.Inputs.{edge_row, edge_rules}

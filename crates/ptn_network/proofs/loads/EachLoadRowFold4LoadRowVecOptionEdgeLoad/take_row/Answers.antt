@@ -1,5 +1,5 @@
 use Rattle.std.proofs.Common.{◌∷◌, ◌++◌, [], map, take, ap, ◌∙◌}
-use Rattle.tables.specs.RowsOfTables.{records_by}
+use Rattle.tables.proofs.Common.{records_by}
 use Rattle.ptn_network.specs.Loads.{load_row_of, given_for}
 use Rattle.ptn_network.proofs.LoadRows.{given_more, own_row}
 use Rattle.ptn_network.proofs.loads.EachLoadRowFold4LoadRowVecOptionEdgeLoad.take_row.Goals as goal

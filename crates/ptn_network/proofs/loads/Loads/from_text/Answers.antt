@@ -1,7 +1,5 @@
-use Rattle.std.proofs.Common.{subst, sym}
-use Rattle.std.specs.List.{All}
-use Rattle.std.proofs.lemmas.Result.{err_from_is_err_and}
-use Rattle.tables.proofs.WholeRules.{refused_without}
+use Rattle.plan_num.proofs.Common.{subst, sym, All, err_from_is_err_and}
+use Rattle.tables.proofs.Common.{refused_without}
 use Rattle.ptn_network.specs.Loads.{load_input, IsLoad}
 use Rattle.ptn_network.proofs.LoadRows.{edge_missing, loads_given, loads_sound}
 use Rattle.ptn_network.proofs.loads.Loads.from_text.Goals as goal

@@ -1,11 +1,8 @@
-use Rattle.std.proofs.Common.{sym, subst, ◌∙◌}
-use Rattle.std.proofs.lemmas.Result.{err_from_is_err_and}
-use Rattle.tables.specs.Inputs.{input_faults, Refuses}
-use Rattle.tables.proofs.Inputs.{refused_append}
+use Rattle.plan_num.proofs.Common.{sym, subst, ◌∙◌, err_from_is_err_and}
+use Rattle.tables.proofs.Common.{input_faults, Refuses, refused_append}
 use Rattle.ptn_network.specs.Inputs.{stop_input}
 use Rattle.ptn_network.specs.Networks.{network_faults}
-use Rattle.walks.specs.Networks.{AreKeyed, IsNetwork}
-use Rattle.walks.proofs.ById.{by_id_keyed}
+use Rattle.walks.proofs.Common.{AreKeyed, IsNetwork, by_id_keyed}
 use Rattle.ptn_network.proofs.Rows.{entries_keyed}
 use Rattle.ptn_network.proofs.Sound.{network_sound}
 use Rattle.ptn_network.proofs.Texts.{edge_faults, network_is}

@@ -1,8 +1,7 @@
-use Rattle.std.proofs.Common.{◌≡◌, [], ap, subst, sym, ◌∙◌}
-use Rattle.std.proofs.lemmas.Result.{err_from_is_err_and}
-use Rattle.tables.specs.Inputs.{input_faults, records_of}
-use Rattle.giv_files.specs.StageCalls.{input_text}
-use Rattle.event_tables.specs.PeriodicFiles.{periodic_activity_input, periodic_event_ids}
+use Rattle.plan_num.proofs.Common.{◌≡◌, [], ap, subst, sym, ◌∙◌, err_from_is_err_and}
+use Rattle.tables.proofs.Common.{input_faults, records_of}
+use Rattle.giv_files.proofs.Common.{input_text}
+use Rattle.event_tables.proofs.Common.{periodic_activity_input, periodic_event_ids}
 use Rattle.roll_out.proofs.FilesRead.{events_refused, activities_refused, times_refused, all_fine, network_is}
 use Rattle.roll_out.proofs.network.TimedNetwork.of_bundle.Goals as goal
 

@@ -1,5 +1,4 @@
-use Rattle.std.proofs.Common.{◌≡◌, drop}
-use Rattle.std.specs.List.{list_any}
+use Rattle.plan_num.proofs.Common.{◌≡◌, drop, list_any}
 use Rattle.stage_chain.specs.Chain.{chosen}
 use Rattle.stage_chain.specs.States.{is_one_of}
 use Rattle.stage_chain.proofs.known.Known.lacks_input.Given as goal

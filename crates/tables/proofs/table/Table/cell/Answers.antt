@@ -1,7 +1,6 @@
-use Rattle.std.proofs.Common.{◌≡◌, ◌∙◌, ◌<◌, ◌*◌, ◌+◌, arith, pos}
+use Rattle.plan_num.proofs.Common.{◌≡◌, ◌∙◌, ◌<◌, ◌*◌, ◌+◌, arith, pos, get_or_read}
 use Rattle.std.specs.Vec.{vec_len}
 use Rattle.std.proofs.lemmas.Int.{to_z-of_z}
-use Rattle.std.proofs.lemmas.List.{get_or_read}
 use Rattle.tables.specs.Tables.{cell_at}
 use Rattle.tables.proofs.TableRows.{cell_within, cell_is}
 use Rattle.tables.proofs.table.Table.cell.Goals as goal

@@ -1,5 +1,4 @@
-use Rattle.std.proofs.Common.{◌∙◌, arith}
-use Rattle.std.proofs.lemmas.List.{get_or_read}
+use Rattle.plan_num.proofs.Common.{◌∙◌, arith, get_or_read}
 use Rattle.tables.proofs.TableRows.{row_within, number_is}
 use Rattle.tables.proofs.table.Table.number.Goals as goal
 

@@ -1,6 +1,5 @@
 -- The set has the edges so far.
-use Rattle.std.proofs.Common.{◌≡◌, ℕ, false, get_or, length, nat_eq, take}
-use Rattle.std.specs.List.{list_any}
+use Rattle.plan_num.proofs.Common.{◌≡◌, ℕ, false, get_or, length, nat_eq, take, list_any}
 use Rattle.terminal_lines.proofs.path.Path.new.Given as goal
 
 abbrev pub invariant-loop-edge : goal.invariant-loop-edge

@@ -1,6 +1,5 @@
 -- The lines that are left are those that were left at first.
-use Rattle.std.proofs.Common.{◌≡◌, filter}
-use Rattle.std.specs.Option.{option_copied}
+use Rattle.plan_num.proofs.Common.{◌≡◌, filter, option_copied}
 use Rattle.text_fields.specs.Rows.{has_byte, parts_left}
 use Rattle.text_fields.specs.Told.{left_size}
 use Rattle.text_fields.proofs.text_lines.TextLines.next.Given as goal

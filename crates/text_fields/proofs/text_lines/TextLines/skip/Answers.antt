@@ -1,5 +1,4 @@
-use Rattle.std.proofs.Common.{◌≡◌, ◌+◌, ◌∙◌, ap, arith, drop}
-use Rattle.std.specs.List.{slice_get}
+use Rattle.plan_num.proofs.Common.{◌≡◌, ◌+◌, ◌∙◌, ap, arith, drop, slice_get}
 use Rattle.text_fields.proofs.LinesRead.{next_dropped}
 use Rattle.text_fields.proofs.text_lines.TextLines.skip.Goals as goal
 

@@ -1,6 +1,5 @@
 -- The trips so far have come, so all have where the rest has.
-use Rattle.std.proofs.Common.{◌≡◌, ◌-◌, length}
-use Rattle.std.specs.List.{list_all, range_with_len}
+use Rattle.plan_num.proofs.Common.{◌≡◌, ◌-◌, length, list_all, range_with_len}
 use Rattle.vehicle_model.specs.Readers.{has_come}
 use Rattle.vehicle_model.proofs.reader.Reader.all_come.Given as goal
 

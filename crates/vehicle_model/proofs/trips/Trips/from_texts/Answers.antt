@@ -2,8 +2,7 @@ use Rattle.std.proofs.Common.{Some, sym, subst, ◌∙◌, ap, w64, unsigned_abs
 use Rattle.std.proofs.lemmas.Int.{to_z-of_z}
 use Rattle.std.proofs.lemmas.Result.{err_from_is_err_and}
 use Rattle.event_tables.specs.Trips.{AreTrips as AreTripRows}
-use Rattle.tables.specs.Inputs.{Refuses}
-use Rattle.tables.proofs.Inputs.{refused_append}
+use Rattle.tables.proofs.Common.{Refuses, refused_append}
 use Rattle.ptn_network.specs.Networks.{network_faults}
 use Rattle.vehicle_model.specs.DeadTables.{IsDeadTable}
 use Rattle.vehicle_model.specs.Trips.{trips_faults}

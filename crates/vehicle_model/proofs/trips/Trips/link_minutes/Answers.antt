@@ -1,5 +1,5 @@
 use Rattle.std.proofs.Common.{sym, ◌∙◌, subst}
-use Rattle.walks.specs.Walks.{edge_time, IsLeastSum}
+use Rattle.walks.proofs.Common.{edge_time, IsLeastSum}
 use Rattle.vehicle_model.specs.Schedules.{trip_of}
 use Rattle.vehicle_model.specs.Trips.{start_stop, end_stop}
 use Rattle.vehicle_model.proofs.Following.{link_some, link_none, all_follow, may_minutes}

@@ -1,5 +1,4 @@
-use Rattle.std.proofs.Common.{◌∙◌, take, ap, sym, false, get_or, slice_set}
-use Rattle.std.proofs.lemmas.List.{take_more}
+use Rattle.plan_num.proofs.Common.{◌∙◌, take, ap, sym, false, get_or, slice_set, take_more}
 use Rattle.waiting_decisions.specs.Paths.{all_but}
 use Rattle.waiting_decisions.proofs.PathFacts.{none_dropped, one_dropped}
 use Rattle.waiting_decisions.proofs.kept.Kept.all_but.Goals as goal

@@ -1,7 +1,7 @@
 use Rattle.std.proofs.Common.{◌≡◌, ◌∙◌, ◌*◌, ◌+ℤ◌, ◌≤ℤ◌, pos, length, to_z, of_z, ap, sym, subst}
 use Rattle.std.proofs.lemmas.Int.{to_z-of_z}
 use mir.Syntax.{w128}
-use Rattle.propagation.specs.Problems.{IsForward}
+use Rattle.propagation.proofs.Common.{IsForward}
 use Rattle.waiting_decisions.specs.Choices.{total}
 use Rattle.waiting_decisions.specs.Paths.{dropped_in, region_in}
 use Rattle.waiting_decisions.specs.Regions.{bound_of}

@@ -1,5 +1,4 @@
-use Rattle.std.proofs.Common.{◌≡◌, ◌∙◌, length, not, false, ap, sym, subst, arith}
-use Rattle.std.proofs.lemmas.Bool.{le-ltb}
+use Rattle.plan_num.proofs.Common.{◌≡◌, ◌∙◌, length, not, false, ap, sym, subst, arith, le-ltb}
 use Rattle.waiting_decisions.specs.Paths.{region_in}
 use Rattle.waiting_decisions.specs.Regions.{is_free_at}
 use Rattle.waiting_decisions.proofs.PathFacts.{free_is, not_free}

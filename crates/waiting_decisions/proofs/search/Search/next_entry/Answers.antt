@@ -1,7 +1,7 @@
 use Rattle.std.proofs.Common.{◌≡◌, ◌∙◌, None, Some, length, sym, subst}
 use Rattle.std.proofs.lemmas.Int.{to_z-of_z}
 use mir.Syntax.{w128}
-use Rattle.propagation.specs.Problems.{IsForward}
+use Rattle.propagation.proofs.Common.{IsForward}
 use Rattle.waiting_decisions.specs.Paths.{region_in}
 use Rattle.waiting_decisions.specs.Regions.{bound_of, first_broken}
 use Rattle.waiting_decisions.specs.RightListings.{EntryHolds}

@@ -1,7 +1,6 @@
-use Rattle.std.proofs.Common.{ℕ, ◌∷◌, ◌≤◌, List, All, map, subst}
-use Rattle.std.specs.List.Sorted.{IsPermutation}
+use Rattle.plan_num.proofs.Common.{ℕ, ◌∷◌, ◌≤◌, List, All, map, subst, IsPermutation}
+use Rattle.plan_num.proofs.Common.{IsPermutation-map}
 use Rattle.std.specs.declared.cmp.Reverse.{Reverse}
-use Rattle.std.proofs.lemmas.List.Sorted.{IsPermutation-map}
 use Rattle.walks.proofs.LeastFirst.{least_sum_first}
 use Rattle.walks.proofs.frontier.Frontier.pop.Goals as goal
 

@@ -1,7 +1,5 @@
-use Rattle.std.proofs.Common.{ℕ, ◌∷◌, List, map, subst}
-use Rattle.std.specs.List.Sorted.{IsPermutation}
+use Rattle.plan_num.proofs.Common.{ℕ, ◌∷◌, List, map, subst, IsPermutation, IsPermutation-map}
 use Rattle.std.specs.declared.cmp.Reverse.{Reverse}
-use Rattle.std.proofs.lemmas.List.Sorted.{IsPermutation-map}
 use Rattle.walks.proofs.frontier.Frontier.push.Goals as goal
 
 pub returns-clause-more : goal.returns-clause-more

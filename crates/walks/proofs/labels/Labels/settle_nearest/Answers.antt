@@ -1,6 +1,5 @@
-use Rattle.std.proofs.Common.{◌≡◌, ◌<◌, ◌≢◌, ℕ, List, length, get_or, set, ap, sym, subst, ◌∙◌, arith}
-use Rattle.std.proofs.lemmas.List.{get_or_default}
-use Rattle.std.proofs.lemmas.List.Sorted.{length_permutation}
+use Rattle.plan_num.proofs.Common.{◌≡◌, ◌<◌, ◌≢◌, ℕ, List, length, get_or, set, ap, sym, subst, ◌∙◌}
+use Rattle.plan_num.proofs.Common.{arith, get_or_default, length_permutation}
 use Rattle.walks.specs.declared.label.Label.{Label}
 use Rattle.walks.specs.declared.label.Label.TheVariants.{Unseen, Reached, Settled}
 use Rattle.walks.specs.Labels.{label_at, is_reached_with, IsNearest}

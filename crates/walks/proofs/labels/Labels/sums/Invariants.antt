@@ -1,6 +1,5 @@
 -- The sums are those of the labels so far.
-use Rattle.std.proofs.Common.{◌≡◌, pos, map, take}
-use Rattle.std.specs.Option.{option_map}
+use Rattle.plan_num.proofs.Common.{◌≡◌, pos, map, take, option_map}
 use Rattle.walks.specs.Labels.{sum_of}
 use Rattle.walks.proofs.labels.Labels.sums.Given as goal
 

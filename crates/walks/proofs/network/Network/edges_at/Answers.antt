@@ -1,6 +1,5 @@
-use Rattle.std.proofs.Common.{◌≡◌, List, [], length, subst, ap, arith}
-use Rattle.std.specs.Map.{values_of}
-use Rattle.std.proofs.lemmas.Option.{get_or_from_slice_get}
+use Rattle.plan_num.proofs.Common.{◌≡◌, List, [], length, subst, ap, arith, values_of}
+use Rattle.plan_num.proofs.Common.{get_or_from_slice_get}
 use Rattle.walks.specs.declared.edge.Edge.{Edge}
 use Rattle.walks.specs.Networks.{NetworkParts}
 use Rattle.walks.specs.StopEdges.{AreEdgesAt}

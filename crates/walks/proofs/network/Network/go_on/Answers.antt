@@ -1,6 +1,5 @@
-use Rattle.std.proofs.Common.{◌<◌, length, get_or, map, fold, take, Contains, Some, None, ap, sym, ◌∙◌, arith}
-use Rattle.std.proofs.lemmas.List.{take_all, get_or_default}
-use Rattle.std.proofs.lemmas.Option.{slice_get_within}
+use Rattle.plan_num.proofs.Common.{◌<◌, length, get_or, map, fold, take, Contains, Some, None, ap}
+use Rattle.plan_num.proofs.Common.{sym, ◌∙◌, arith, take_all, get_or_default, slice_get_within}
 use Rattle.walks.specs.Labels.{weight_of, reach_over}
 use Rattle.walks.proofs.Partway.{ends_within}
 use Rattle.walks.proofs.Settling.{edge_of_index, over_more, over_size, went_on}

@@ -1,5 +1,4 @@
-use Rattle.std.proofs.Common.{◌≡◌, All, length, sym, subst, rules}
-use Rattle.std.specs.Map.{values_of}
+use Rattle.plan_num.proofs.Common.{◌≡◌, All, length, sym, subst, rules, values_of}
 use Rattle.walks.specs.Networks.{IsEdge}
 use Rattle.walks.specs.StopEdges.{AreStopEdges}
 use Rattle.walks.proofs.network.Network.new.Goals as goal

@@ -1,8 +1,6 @@
-use Rattle.std.proofs.Common.{◌≡◌, ℕ, ℤ, List, Some, map, slice_get, subst, arith, Vec, Global}
-use Rattle.std.specs.Map.{values_of}
-use Rattle.std.proofs.lemmas.List.{length-map}
-use Rattle.std.proofs.lemmas.List.Elements.{All-get_or}
-use Rattle.std.proofs.lemmas.Option.{get_or_from_slice_get, slice_get_within}
+use Rattle.plan_num.proofs.Common.{◌≡◌, ℕ, ℤ, List, Some, map, slice_get, subst, arith, Vec, Global}
+use Rattle.plan_num.proofs.Common.{values_of, length-map, All-get_or, get_or_from_slice_get}
+use Rattle.plan_num.proofs.Common.{slice_get_within}
 use Rattle.walks.specs.declared.edge.Edge.{Edge}
 use Rattle.walks.specs.Networks.{IsEdge}
 use Rattle.walks.proofs.Noting.{noted_more, noted_all}

@@ -1,6 +1,5 @@
 -- No index is noted before the first edge, and then those of the edges so far.
-use Rattle.std.proofs.Common.{◌≡◌, [], All, length, map}
-use Rattle.std.specs.Map.{values_of}
+use Rattle.plan_num.proofs.Common.{◌≡◌, [], All, length, map, values_of}
 use Rattle.walks.proofs.Noting.{NotedTo}
 use Rattle.walks.proofs.stop_edges.StopEdges.new.Given as goal
 
