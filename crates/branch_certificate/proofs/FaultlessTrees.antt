@@ -218,9 +218,8 @@ at_least : (ids : List ℤ) → IsStrictlySortedBy int_cmp ids → All IsId ids 
 at_least ids up each zero h = let low = (each 0 (pos 0) h).low in omega (arith, ints, low)
 at_least ids up each (suc k) h =
     let before = at_least ids up each k (omega (arith, h)) in
-    let rise : get_or ids k (pos 0) <ℤ get_or ids (suc k) (pos 0) = less_is _ _
-    (rises ids up k (suc k) (pos 0) (omega arith) h) in
-    omega (arith, ints, before, rise)
+    let rise : get_or ids k (pos 0) <ℤ get_or ids (suc k) (pos 0) = grind (arith, less_is, rises) in
+    grind (arith, ints)
 
 few_ids : (ids : List ℤ) → IsStrictlySortedBy int_cmp ids → All IsId ids → length ids ≤ 1000000000
 few_ids ids up each = by (length ids) refl
@@ -228,9 +227,7 @@ few_ids ids up each = by (length ids) refl
     by : (n : ℕ) → length ids ≡ n → length ids ≤ 1000000000
     by zero is = omega (arith, is)
     by (suc n) is =
-        let low = at_least ids up each n (omega (arith, is)) in
-        let high = (each n (pos 0) (omega (arith, is))).high in
-        omega (arith, ints, is, low, high)
+        let low = at_least ids up each n (omega (arith, is)) in grind (arith, ints)
 
 -- ---- a whole text
 

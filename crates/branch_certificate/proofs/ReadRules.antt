@@ -1,8 +1,8 @@
 -- What a row of each kind says, and for which of the six rules it is refused.
 use Rattle.plan_num.proofs.Common.{◌≡◌, ℕ, ℤ, zero, suc, pos, negsuc, ◌^◌, ◌+◌, ◌<◌, ◌≤◌, ◌≤ℤ◌}
-use Rattle.plan_num.proofs.Common.{arith, Bool, true, false, cond, not, ◌||◌, ◌&&◌, List, [], ◌∷◌}
-use Rattle.plan_num.proofs.Common.{◌++◌, length, position, slice_get, unsigned_abs, int_lt, refl}
-use Rattle.plan_num.proofs.Common.{ap, subst, unwrap_or, ◌∙◌, Option, Some, None, list_any}
+use Rattle.plan_num.proofs.Common.{arith, Bool, true, false, cond, not, ◌||◌, List, [], ◌∷◌, ◌++◌}
+use Rattle.plan_num.proofs.Common.{length, position, slice_get, unsigned_abs, int_lt, refl, ap}
+use Rattle.plan_num.proofs.Common.{subst, unwrap_or, ◌∙◌, Option, Some, None, list_any}
 use Rattle.plan_num.proofs.Common.{position_or_len, int_eq, ltb-false, not-true, not-false}
 use Rattle.plan_num.proofs.Common.{same_Some, ints, list_any_at, position-Some}
 use Rattle.tables.proofs.Common.{RowWhy}
@@ -12,9 +12,9 @@ use Rattle.line_concepts.specs.declared.node.Node.TheVariants as node
 use Rattle.branch_certificate.specs.declared.tree_row.TreeRow.{TreeRow}
 use Rattle.branch_certificate.specs.ReadRows.{IsTreeRow, first_why, IsRefused, IsRefusedIf}
 use Rattle.branch_certificate.specs.ReadRows.{SaysNode, SaysMultiplier}
-use Rattle.branch_certificate.specs.TreeFiles.{NamedIds, is_split, is_empty, is_multiplier}
-use Rattle.branch_certificate.specs.TreeFiles.{has_stray_cell, is_due, falls_back, has_line}
-use Rattle.branch_certificate.specs.TreeFiles.{has_edge, announced, node_of, side_of}
+use Rattle.branch_certificate.specs.TreeFiles.{NamedIds}
+use Rattle.branch_certificate.specs.TreeFiles.{has_stray_cell, is_due, falls_back}
+use Rattle.branch_certificate.specs.TreeFiles.{announced, node_of, side_of}
 use Rattle.plan_num.proofs.Tests.{or_false, or_true}
 
 -- ---- an id that is there
@@ -22,8 +22,7 @@ use Rattle.plan_num.proofs.Tests.{or_false, or_true}
 there : (ids : List ℤ) (id : ℤ) (place : ℕ) → position (int_eq id) ids ≡ Some place
     → list_any (int_eq id) ids ≡ true
 there ids id place e =
-    let at = position-Some (int_eq id) ids place (pos 0) e in
-    list_any_at (int_eq id) ids place (pos 0) at.0 at.1
+    let at = position-Some (int_eq id) ids place (pos 0) e in grind (arith, list_any_at)
 
 pub within : (ids : List ℤ) (id : ℤ) (place : ℕ) → position (int_eq id) ids ≡ Some place
     → place < length ids
@@ -64,15 +63,6 @@ out_of_order false false true f g h = ap (λ b. cond b (Some why.OrderGap) None)
 out_of_order false false false true g h = ap (λ b. cond b (Some why.OrderGap) None) h
 out_of_order false false false false g h = ap (λ b. cond b (Some why.OrderGap) None) h
 
--- the reason for which a row is refused, by the rules that it breaks
-first_is : (ids : NamedIds) (before : List TreeRow) (row : TreeRow) → first_why ids before row
-    ≡ first_of (is_split row && not (has_line ids row.id))
-    ((is_empty row || is_multiplier row) && not (has_edge ids row.id))
-    (cond (is_multiplier row) (not (is_due before)) (is_due before))
-    (is_multiplier row && (falls_back before row || int_eq row.multiplier (pos 0)))
-    (is_empty row && int_lt (pos 1) row.value) (has_stray_cell row)
-first_is ids before row = refl
-
 -- a row with another kind
 abbrev pub with_kind : TreeRow → ℕ → TreeRow
 with_kind row kind = record row { kind = pos kind }
@@ -111,10 +101,7 @@ module _ (ids : NamedIds) (row : TreeRow) (kind : row.kind ≡ pos 0) where
       → SaysNode ids row (node.Split line at)
   split_says line at stands none cells is = record {
     alone = ap (λ k. int_eq k (pos 3)) kind;
-    stands_for = λ behind.
-        ap (λ r. node_of ids r behind) is_split_row
-        ∙ ap (λ o. node.Split (unwrap_or o 0) (unsigned_abs row.value) ∷ []) stands
-        ∙ ap (λ n. node.Split line n ∷ []) is;
+    stands_for = λ behind. grind (arith, is_split_row, unwrap_or, unsigned_abs);
     none_due = ap announced is_split_row;
     place = λ before.
         split_known line stands false none before
@@ -181,10 +168,7 @@ module _ (ids : NamedIds) (row : TreeRow) (kind : row.kind ≡ pos 1) where
       let one = a_side _ _ _ named in
       record {
         alone = ap (λ k. int_eq k (pos 3)) kind;
-        stands_for = λ behind.
-            ap (λ r. node_of ids r behind) is_empty_row
-            ∙ ap (λ o. node.Empty (unwrap_or o 0) (side_of row.value) ∷ []) stands
-            ∙ ap (λ s. node.Empty edge s ∷ []) one.1;
+        stands_for = λ behind. grind (arith, is_empty_row, unwrap_or);
         none_due = ap announced is_empty_row;
         place = λ before.
             empty_known edge stands false false one.0 none before

@@ -1,10 +1,10 @@
 -- What is known after some rows of a tree, with one row more.
-use Rattle.plan_num.proofs.Common.{◌≡◌, ℕ, ℤ, pos, negsuc, suc, ◌≤ℤ◌, ◌+◌, ◌-◌, ◌<◌, ◌≤◌, arith}
-use Rattle.plan_num.proofs.Common.{Bool, true, false, cond, not, ◌||◌, ◌&&◌, nat_lt, int_lt, List}
-use Rattle.plan_num.proofs.Common.{[], ◌∷◌, ◌++◌, length, get_or, map, take, unsigned_abs, refl, ap}
-use Rattle.plan_num.proofs.Common.{sym, ◌∙◌, append_assoc, append-nil, Option, Some, None, All}
-use Rattle.plan_num.proofs.Common.{prefix_len, lt-ltb, le-ltb, ltb-false, cases_lt, ints}
-use Rattle.plan_num.proofs.Common.{reverse-append, All-nil, All-push, fold_push}
+use Rattle.plan_num.proofs.Common.{◌≡◌, ℕ, ℤ, pos, negsuc, ◌≤ℤ◌, ◌+◌, ◌-◌, ◌<◌, ◌≤◌, arith, Bool}
+use Rattle.plan_num.proofs.Common.{true, false, cond, not, ◌||◌, ◌&&◌, nat_lt, int_lt, List, []}
+use Rattle.plan_num.proofs.Common.{◌∷◌, ◌++◌, length, get_or, map, unsigned_abs, refl, ap, sym, ◌∙◌}
+use Rattle.plan_num.proofs.Common.{append_assoc, append-nil, Option, Some, None, All, lt-ltb}
+use Rattle.plan_num.proofs.Common.{le-ltb, ltb-false, cases_lt, ints, reverse-append, All-nil}
+use Rattle.plan_num.proofs.Common.{All-push, fold_push}
 use Rattle.line_cost_model.proofs.Common.{Multiplier, AreMultipliers, IsAmount, multipliers_push}
 use Rattle.line_concepts.specs.declared.node.Node.{Node}
 use Rattle.line_concepts.specs.declared.node.Node.TheVariants as node
@@ -54,23 +54,11 @@ inside_first row rest is = ap (λ b. b || false) is
 -- the multipliers right at the front of rows
 pub no_multiplier : (rest : List TreeRow) → begins_inside rest ≡ false → multiplier_rows rest ≡ []
 no_multiplier [] h = refl
-no_multiplier (row ∷ rest) h =
-    ap (λ n. take n (row ∷ rest))
-    (ap (λ b. cond b (1 + prefix_len is_multiplier rest) 0) (alone (is_multiplier row) h))
-  where
-    alone : (b : Bool) → (b || false) ≡ false → b ≡ false
-    alone true e = cc
-    alone false e = refl
+no_multiplier (row ∷ rest) h = grind arith
 
 pub multiplier_first : (row : TreeRow) (rest : List TreeRow) → is_multiplier row ≡ true
     → multiplier_rows (row ∷ rest) ≡ row ∷ multiplier_rows rest
-multiplier_first row rest is =
-    ap (λ n. take n (row ∷ rest))
-    (ap (λ b. cond b (1 + prefix_len is_multiplier rest) 0) is)
-    ∙ next (prefix_len is_multiplier rest)
-  where
-    next : (n : ℕ) → take (1 + n) (row ∷ rest) ≡ row ∷ take n rest
-    next n = let e : 1 + n ≡ suc n = omega arith in rw e refl
+multiplier_first row rest is = grind arith
 
 -- ---- a node behind rows
 
@@ -94,20 +82,12 @@ module _ (ids : NamedIds) (before : List TreeRow) (row : TreeRow) (nodes : List 
         ∙ ap (λ some. nodes ++ some) (nodes_first ids row rest
         ∙ ap (λ some. some ++ nodes_of ids rest) (says.stands_for rest));
     due = due_more before row false says.alone ∙ says.due;
-    last = λ other edge stands.
-        falls_more before row other false says.alone ∙ sym (le-ltb edge 0 (omega arith));
-    sound = record {
-      after = All-nil (λ (one : Multiplier). one.edge < 0);
-      are = no_multipliers;
-      named = All-nil (λ (one : Multiplier). one.edge < length ids.edges);
-    };
+    last = λ other edge stands. grind (arith, falls_more, le-ltb);
+    sound = grind (arith, All-nil);
   }
     where
       no_multipliers : AreMultipliers []
-      no_multipliers = record {
-        amounts = λ k d l. absurd (omega arith);
-        edges_rise = λ k l. absurd (omega arith);
-      }
+      no_multipliers = grind arith
 
 -- ---- a multiplier behind rows
 

@@ -28,15 +28,7 @@ module _ (ids : NamedIds) (before : List TreeRow) (row : TreeRow) (so_far : Read
   -- a row of a node is taken where none is due
   placed : first_why ids before row ≡ cond (is_due before) (Some why.OrderGap) None
       → first_why ids before row ≡ refused_unless (not (is_due_in so_far.bound))
-  placed place =
-      place
-      ∙ ap (λ b. cond b (Some why.OrderGap) None)
-      (due_told ids before so_far.nodes so_far.bound read.behind)
-      ∙ turned (is_due_in so_far.bound)
-    where
-      turned : (b : Bool) → cond b (Some why.OrderGap) None ≡ refused_unless (not b)
-      turned true = refl
-      turned false = refl
+  placed place = grind (arith, due_told)
 
   abbrev Next : RowSays → Type 0
   Next said = (first_why ids before row ≡ refused_unless (takes_row so_far said))

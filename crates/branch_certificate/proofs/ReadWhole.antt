@@ -1,7 +1,7 @@
 -- A row of a tree that is read, and what is known after it.
-use Rattle.std.proofs.Common.{◌≡◌, ℕ, ◌+◌, ◌<◌, Bool, true, false, cond, List, [], ◌∷◌, ◌++◌}
-use Rattle.std.proofs.Common.{length, take, get_or, slice_get, subst, refl, sym, ap, ◌∙◌, Some}
-use Rattle.std.proofs.Common.{None}
+use Rattle.plan_num.proofs.Common.{◌≡◌, ℕ, ◌+◌, ◌<◌, Bool, true, false, cond, List, [], ◌∷◌, ◌++◌}
+use Rattle.plan_num.proofs.Common.{length, take, get_or, slice_get, subst, refl, sym, ap, ◌∙◌, Some}
+use Rattle.plan_num.proofs.Common.{None}
 use Rattle.tables.specs.declared.file_id.FileId.TheVariants as file
 use Rattle.tables.specs.declared.refusal.Refusal.TheVariants as refusal
 use Rattle.tables.proofs.Common.{RowWhy, records, broken_whys, table_row_faults, TableRow, no_row}

@@ -201,9 +201,8 @@ module _ (problem : ProblemParts) (text : List ℕ) (fine : read_faults problem 
   never_refused : (first : RowFault) → slice_get (faults tree_columns text) 0 ≡ Some first → ⊥
   unfolding read_faults
   never_refused first refused =
-      let none = unmapped _ _ (parts_sound (tree_input (ids_of problem)) text fine).0 in
-      let never : slice_get [] 0 ≡ Some first = ap (λ all. slice_get all 0) (sym none) ∙ refused in
-      cc
+      let none = unmapped _ _ (parts_sound (tree_input (ids_of problem)) text fine).0 in grind
+      (arith, slice_get)
 
   -- and the copy is the text of its tree
   copied : (made : List ℕ)

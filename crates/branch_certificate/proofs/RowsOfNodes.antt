@@ -2,10 +2,9 @@
 use Rattle.plan_num.proofs.Common.{◌≡◌, ℕ, ℤ, zero, suc, pos, negsuc, ◌≤ℤ◌, arith, Bool, true}
 use Rattle.plan_num.proofs.Common.{false, cond, not, ◌||◌, ◌&&◌, List, [], ◌∷◌, ◌++◌, length, map}
 use Rattle.plan_num.proofs.Common.{slice_get, unsigned_abs, int_lt, int_eq, position, refl, ap, sym}
-use Rattle.plan_num.proofs.Common.{subst, ◌∙◌, Option, Some, None, append-nil, option_map}
-use Rattle.plan_num.proofs.Common.{unwrap_or, is_some, AllByRecursion, flat_map, list_any}
-use Rattle.plan_num.proofs.Common.{ltb-false, not-false, Decides-int_eq, ints, length-map}
-use Rattle.plan_num.proofs.Common.{position-Some}
+use Rattle.plan_num.proofs.Common.{◌∙◌, append-nil, option_map, unwrap_or, is_some, AllByRecursion}
+use Rattle.plan_num.proofs.Common.{flat_map, list_any, ltb-false, not-false, Decides-int_eq, ints}
+use Rattle.plan_num.proofs.Common.{length-map, position-Some}
 use Rattle.tables.proofs.Common.{RowWhy, RowRule, broken_whys, TableRow, KeepRules}
 use Rattle.plan_num.proofs.Found.{any_is}
 use Rattle.line_cost_model.proofs.Common.{BoundedEdge, Multiplier, CostedLine, ProblemParts}
@@ -51,19 +50,19 @@ id_back : {X : Type 0} (id_of : X → ℤ) (xs : List X) (id : ℤ)
     → list_any (int_eq id) (map id_of xs) ≡ true
     → unwrap_or (option_map id_of (slice_get xs (unwrap_or (position (int_eq id) (map id_of xs)) 0)))
     (pos 0) ≡ id
-id_back id_of xs id there = by (position (int_eq id) (map id_of xs)) refl
-  where
-    by : (place : Option ℕ) → position (int_eq id) (map id_of xs) ≡ place
-        → unwrap_or (option_map id_of (slice_get xs (unwrap_or (position (int_eq id) (map id_of xs)) 0)))
-        (pos 0) ≡ id
-    by None is =
-        let never : false ≡ true =
-        sym (any_is (int_eq id) (map id_of xs) ∙ ap is_some is) ∙ there in cc
-    by (Some i) is =
-        let at = position-Some (int_eq id) (map id_of xs) i (pos 0) is in
-        ap (λ place. unwrap_or (option_map id_of (slice_get xs (unwrap_or place 0))) (pos 0)) is
-        ∙ id_is id_of xs i (omega (arith, at.0, length-map xs id_of))
-        ∙ sym ((Decides-int_eq id _).0 at.1)
+id_back id_of xs id there = grind (
+  arith,
+  int_eq,
+  unwrap_or,
+  option_map,
+  slice_get,
+  any_is,
+  is_some,
+  position-Some,
+  id_is,
+  length-map,
+  Decides-int_eq,
+)
 
 side_back : (value : ℤ) → pos 0 ≤ℤ value → int_lt (pos 1) value ≡ false
     → pos (side_place (side_of value)) ≡ value
@@ -105,13 +104,7 @@ module _ (problem : ProblemParts) where
   pub whole_row : (row : TreeRow) → IsTreeRow row → (before : List TreeRow)
       → broken_whys (tree_rules ids) before row ≡ [] → IsWhole row
   whole_row row cells before keep =
-      let kept = none_broken (tree_rules ids) before row keep in record {
-        cells = cells;
-        line = kept.0;
-        edge = kept.1.0;
-        side = kept.1.1.1.1.0;
-        stray = kept.1.1.1.1.1.0;
-      }
+      let kept = none_broken (tree_rules ids) before row keep in grind arith
 
   module _ (row : TreeRow) (whole : IsWhole row) where
     -- the row of a kind
@@ -132,13 +125,17 @@ module _ (problem : ProblemParts) where
     multiplier_written : is_multiplier row ≡ true
         → of_multiplier (multiplier_in ids row) ≡ written row
     multiplier_written is =
-        let kind : row.kind ≡ pos 3 = (Decides-int_eq row.kind (pos 3)).0 is in
-        let none = none_of false (not (int_eq row.value (pos 0))) false (stray_of 3 kind) in
-        let there = not-false (has_edge ids row.id)
-        (ap (λ kind. ((int_eq kind (pos 1) || int_eq kind (pos 3)) && not (has_edge ids row.id))) (sym kind)
-        ∙ whole.edge) in
-        as_written 3 _ 0 _ kind (edge_back there) (is_zero row.value none.1)
-        (number_back row.multiplier whole.cells.multiplier.0)
+        let kind : row.kind ≡ pos 3 = (Decides-int_eq row.kind (pos 3)).0 is in grind (
+          arith,
+          none_of,
+          int_eq,
+          stray_of,
+          not-false,
+          as_written,
+          edge_back,
+          is_zero,
+          number_back,
+        )
 
     module _ (rest : List TreeRow) where
       -- the rows of the node of a row are that row and those of the multipliers right after it
@@ -209,8 +206,7 @@ module _ (problem : ProblemParts) where
               )
 
           never : row.kind ≡ pos 3 → IsWritten
-          never kind =
-              let is : true ≡ false = ap (λ kind. int_eq kind (pos 3)) (sym kind) ∙ other in cc
+          never kind = grind (arith, int_eq)
 
           point : row.kind ≡ pos 4 → IsWritten
           point kind = grind arith
@@ -228,10 +224,5 @@ module _ (problem : ProblemParts) where
     where
       by : (b : Bool) → is_multiplier row ≡ b → AreSame (multiplier_rows rows)
           → AreSame (multiplier_rows (row ∷ rows))
-      by false other others =
-          subst AreSame (sym (no_multiplier (row ∷ rows) (inside_first row rows other))) refl
-      by true is others =
-          subst AreSame (sym (multiplier_first row rows is))
-          (ap (λ first. first ∷ map of_multiplier (map (multiplier_in ids) (multiplier_rows rows)))
-          (multiplier_written row (whole_row row cells.0 before keep.0) is)
-          ∙ ap (λ some. written row ∷ some) others)
+      by false other others = grind (arith, no_multiplier, inside_first)
+      by true is others = grind (arith, multiplier_first, multiplier_written, whole_row)

@@ -57,10 +57,4 @@ text_back problem sound nodes named can text is =
 
 -- the splits of nodes that can be written are not too great
 pub small_splits : (nodes : List Node) → All CanBeWritten nodes → All IsSmallSplit nodes
-small_splits nodes can k d h = small (get_or nodes k d) (can k d h)
-  where
-    small : (one : Node) → CanBeWritten one → IsSmallSplit one
-    small (node.Split line at) can = can
-    small (node.Empty edge side) can = tt
-    small (node.Bound multipliers) can = tt
-    small node.Point can = tt
+small_splits nodes can k d h = grind (arith, get_or)

@@ -1,7 +1,7 @@
 -- The rows of nodes and of multipliers, one after the other.
 use Rattle.plan_num.proofs.Common.{◌≡◌, ℕ, ℤ, pos, zero, suc, ◌+◌, ◌<◌, arith, List, [], ◌∷◌, ◌++◌}
-use Rattle.plan_num.proofs.Common.{take, slice_get, ap, subst, sym, ◌∙◌, append_assoc, append-nil}
-use Rattle.plan_num.proofs.Common.{Some, option_map, All, flat_map, flat_map-append}
+use Rattle.plan_num.proofs.Common.{take, slice_get, ap, sym, ◌∙◌, append_assoc, append-nil, Some}
+use Rattle.plan_num.proofs.Common.{option_map, All, flat_map, flat_map-append}
 use Rattle.tables.proofs.Common.{tree_columns, TableRow, line_text}
 use Rattle.line_cost_model.proofs.Common.{Multiplier}
 use Rattle.branch_certificate.specs.TreeTexts.{cells_row}
@@ -35,12 +35,8 @@ rows_more rows xs i x old new pushed are there =
     more : (xs : List _) (i : ℕ) → slice_get xs i ≡ Some x
         → flat_map rows (take (i + 1) xs) ≡ flat_map rows (take i xs) ++ rows x
     more [] i e = cc
-    more (y ∷ xs) zero e =
-        let same : y ≡ x = cc in ap (λ z. rows z ++ []) same ∙ append-nil (rows x)
-    more (y ∷ xs) (suc i) e =
-        let next : suc i + 1 ≡ suc (i + 1) = omega arith in
-        rw next (ap (λ rest. rows y ++ rest) (more xs i e)
-        ∙ sym (append_assoc (rows y) (flat_map rows (take i xs)) (rows x)))
+    more (y ∷ xs) zero e = grind (arith, append-nil)
+    more (y ∷ xs) (suc i) e = grind (arith, append_assoc, more xs i e)
 
 -- the edge at a place is one of those that are there
 pub edge_there : (edges : ℕ) (multipliers : List Multiplier) (i : ℕ) (r : ℕ × ℤ)
@@ -49,7 +45,6 @@ pub edge_there : (edges : ℕ) (multipliers : List Multiplier) (i : ℕ) (r : �
 edge_there edges [] i r all e = cc
 edge_there edges (one ∷ rest) zero r all e =
     let same : (one.edge, pos one.amount) ≡ r = cc in
-    let own : one.edge < edges = all 0 one (omega arith) in
-    subst (λ (r : ℕ × ℤ). r.0 < edges) same own
+    let own : one.edge < edges = all 0 one (omega arith) in grind arith
 edge_there edges (one ∷ rest) (suc i) r all e =
     edge_there edges rest i r (λ k d h. all (suc k) d (omega arith)) e

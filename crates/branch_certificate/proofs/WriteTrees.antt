@@ -1,9 +1,8 @@
 -- A tree that is written is read back.
-use Rattle.plan_num.proofs.Common.{◌≡◌, ℕ, ℤ, pos, ◌<◌, ◌≤◌, ◌≤ℤ◌, ◌^◌, arith, Bool, true, false}
-use Rattle.plan_num.proofs.Common.{not, nat_lt, int_eq, List, [], ◌∷◌, ◌++◌, length, get_or, map}
-use Rattle.plan_num.proofs.Common.{refl, sym, ap, subst, ◌∙◌, append_assoc, append-nil, All}
-use Rattle.plan_num.proofs.Common.{flat_map, Decides-int_eq, ints, length-map, map-append, All-head}
-use Rattle.plan_num.proofs.Common.{All-tail, map-map}
+use Rattle.plan_num.proofs.Common.{◌≡◌, ℕ, ℤ, pos, ◌<◌, ◌≤◌, ◌≤ℤ◌, ◌^◌, arith, true, not, nat_lt}
+use Rattle.plan_num.proofs.Common.{int_eq, List, [], ◌∷◌, ◌++◌, length, get_or, map, refl, sym, ap}
+use Rattle.plan_num.proofs.Common.{◌∙◌, append_assoc, append-nil, All, flat_map, Decides-int_eq}
+use Rattle.plan_num.proofs.Common.{ints, length-map, map-append, All-head, All-tail, map-map}
 use Rattle.tables.specs.declared.row_why.RowWhy.TheVariants as why
 use Rattle.tables.specs.declared.file_id.FileId.TheVariants as file
 use Rattle.tables.proofs.Common.{tree_columns, records, table_of, TableRow, ReadsBack, KeepRules}
@@ -19,7 +18,7 @@ use Rattle.branch_certificate.specs.ReadRows.{SaysMultiplier}
 use Rattle.branch_certificate.specs.TreeFiles.{NamedIds, ids_of, is_due, nodes_of, tree_input}
 use Rattle.branch_certificate.specs.TreeFiles.{tree_rules, tree_row, tree_of, read_faults}
 use Rattle.branch_certificate.specs.TreeTexts.{CanBeWritten, edge_id, line_id, node_rows}
-use Rattle.branch_certificate.specs.TreeTexts.{side_place, ReadsBackAs, cells_row}
+use Rattle.branch_certificate.specs.TreeTexts.{side_place, ReadsBackAs}
 use Rattle.line_concepts.specs.Nodes.{NamesWhatIs}
 use Rattle.branch_certificate.proofs.ReadRules.{split_says, empty_says, multiplier_says}
 use Rattle.branch_certificate.proofs.ReadSteps.{node_more, bound_more, nodes_none}
@@ -73,13 +72,7 @@ module _ (problem : ProblemParts) (sound : IsProblem problem) where
   multiplier_row one = row 3 (edge_id problem one.edge) 0 one.amount
 
   some_amount : (n : ℕ) → 1 ≤ n → not (int_eq (pos n) (pos 0)) ≡ true
-  some_amount n h = is_some (int_eq (pos n) (pos 0)) refl
-    where
-      is_some : (b : Bool) → int_eq (pos n) (pos 0) ≡ b → not b ≡ true
-      is_some false is = refl
-      is_some true is =
-          let same : pos n ≡ pos 0 = (Decides-int_eq (pos n) (pos 0)).0 is in
-          absurd (omega (arith, ints, same, h))
+  some_amount n h = grind (arith, int_eq, Decides-int_eq, ints)
 
   few_edges_small : (edge : ℕ) → edge < length problem.edges → edge < 2 ^ 63
   few_edges_small edge h = omega (arith, few_edges problem sound)
@@ -131,17 +124,7 @@ module _ (problem : ProblemParts) (sound : IsProblem problem) where
       (record { multipliers = []; next = 0; due = length multipliers })
       (bound_more ids before first nodes (length multipliers) h said) refl
       (climb_of multipliers can)
-      can.amounts (named_there multipliers named) in
-      let same : map (λ row. tree_row row.cells)
-      (map (λ one. cells_row (pos 3) (edge_id problem one.edge)
-      (pos 0) (pos one.amount)) multipliers) ≡ map multiplier_row multipliers =
-      map-map (λ (row : TableRow). tree_row row.cells) (λ (one : Multiplier).
-      cells_row (pos 3) (edge_id problem one.edge) (pos 0) (pos one.amount)) multipliers in
-      subst (λ rows. Kept before nodes (first ∷ rows) (node.Bound multipliers ∷ [])) (sym same) (
-        (kept_here ids before first h.none_due (said.place before), others.0),
-        subst (λ all. IsClosed ids all (nodes ++ node.Bound multipliers ∷ []))
-            (append_assoc before (first ∷ []) (map multiplier_row multipliers)) others.1,
-      )
+      can.amounts (named_there multipliers named) in grind (arith, map-map, kept_here, append_assoc)
   node_kept node.Point named can before nodes h = alone before nodes _ _ h point_row
 
   nodes_kept : (these : List Node) → All (NamesWhatIs problem) these → All CanBeWritten these
@@ -151,19 +134,15 @@ module _ (problem : ProblemParts) (sound : IsProblem problem) where
   nodes_kept [] named can before nodes h = grind (arith, append-nil)
   nodes_kept (this ∷ these) named can before nodes h =
       let first = node_kept this (All-head (NamesWhatIs problem) this these named)
-      (All-head CanBeWritten this these can) before nodes h in
-      let others = nodes_kept these (All-tail (NamesWhatIs problem) this these named)
-      (All-tail CanBeWritten this these can) (before ++ written this) (nodes ++ this ∷ [])
-      first.1 in
-      let rest = map (λ row. tree_row row.cells) (flat_map (node_rows problem) these) in
-      subst (λ rows. Kept before nodes rows (this ∷ these))
-      (sym (map-append (λ row. tree_row row.cells) (node_rows problem this)
-      (flat_map (node_rows problem) these))) (
-        keep_both (tree_rules ids) before (written this) rest first.0 others.0,
-        subst (λ all. IsClosed ids all (nodes ++ this ∷ these))
-            (append_assoc before (written this) rest)
-            (subst (IsClosed ids ((before ++ written this) ++ rest))
-            (append_assoc nodes (this ∷ []) these) others.1),
+      (All-head CanBeWritten this these can) before nodes h in grind (
+        arith,
+        All-tail,
+        map-append,
+        keep_both,
+        append_assoc,
+        nodes_kept these (All-tail (NamesWhatIs problem) this these
+            named) (All-tail CanBeWritten this these can) (before ++ written this) (nodes ++ this ∷
+            []) first.1,
       )
 
   -- a text that reads back as the rows of nodes is read back as the nodes

@@ -1,16 +1,15 @@
 -- The ids of words, one after the other.
 use Rattle.plan_num.proofs.Common.{◌≡◌, ℕ, ℤ, ◌+◌, ◌<◌, ◌≤◌, List, [], ◌∷◌, ◌++◌, length, map, drop}
 use Rattle.plan_num.proofs.Common.{Option, Some, None, option_map, string_bytes, refl, ap, sym, ◌∙◌}
-use Rattle.plan_num.proofs.Common.{append_assoc, arith, slice_index_or, at_drop_more, Bool, true}
-use Rattle.plan_num.proofs.Common.{false, cond, not, ◌&&◌, ◌||◌, ◌⊎◌, ⊎_elim, nat_le}
-use Rattle.plan_num.proofs.Common.{option_and_then, suc, length-map, AllByRecursion, list_any}
-use Rattle.plan_num.proofs.Common.{int_eq, and_parts, false≢true, lt-leb, true≢false, not-true}
+use Rattle.plan_num.proofs.Common.{arith, slice_index_or, at_drop_more, Bool, true, false, not}
+use Rattle.plan_num.proofs.Common.{◌||◌, ◌⊎◌, ⊎_elim, nat_le, option_and_then, suc, length-map}
+use Rattle.plan_num.proofs.Common.{AllByRecursion, list_any, int_eq, and_parts, false≢true, lt-leb}
+use Rattle.plan_num.proofs.Common.{true≢false, not-true}
 use Rattle.std.specs.declared.alloc.Global.{Global}
 use Rattle.std.specs.declared.string.String.{String}
 use Rattle.std.specs.List.{IsDistinct}
 use Rattle.plan_num.specs.Terminals.{AreTerminals}
-use Rattle.command_line.specs.FormWords.{are_apart, id_in, ids_in, pool_form, pool_of_ids, sized_form, with_id}
-use Rattle.command_line.specs.declared.form.Form.TheVariants.{Pool}
+use Rattle.command_line.specs.FormWords.{are_apart, id_in, ids_in, pool_form, sized_form, with_id}
 
 -- the ids of words that are left
 abbrev ids_left : List (String Global) → Option (List ℤ)
@@ -25,19 +24,6 @@ module _ (words : List (String Global)) (i : ℕ) (word : String Global) (ids : 
   next_left =
       so_far ∙ at_drop_more (λ left. option_map (λ more. ids ++ more) (ids_left left)) words i word inside
       ∙ ap (λ word. option_map (λ more. ids ++ more) (with_id (id_in (string_bytes word)) (ids_left (drop (i + 1) words)))) (sym is)
-
-  pub ids_more : (id : ℤ) → Some id ≡ id_in (string_bytes word)
-      → IsIds words (ids ++ id ∷ []) (drop (i + 1) words)
-  ids_more id found =
-      next_left
-      ∙ ap (λ told. option_map (λ more. ids ++ more) (with_id told (ids_left (drop (i + 1) words)))) (sym found)
-      ∙ by (ids_left (drop (i + 1) words))
-    where
-      by : (told : Option (List ℤ))
-          → option_map (λ more. ids ++ more) (option_map (λ more. id ∷ more) told)
-          ≡ option_map (λ more. (ids ++ id ∷ []) ++ more) told
-      by None = refl
-      by (Some more) = ap Some (sym (append_assoc ids (id ∷ []) more))
 
 -- three words after the first are no form
 pub none_of_three : (first : List ℕ) (words : List (String Global)) → 3 ≤ length words
@@ -90,23 +76,13 @@ ids_count (word ∷ words) ids is = by (id_in word) (ids_in words) (ids_count wo
 -- too few words or too many are no pool
 pub no_pool : (words : List (String Global)) → (length words < 2) ⊎ (20 < length words)
     → None ≡ pool_form (map string_bytes words)
-no_pool words out = by (ids_in (map string_bytes words)) refl
-  where
-    size : length (map string_bytes words) ≡ length words
-    size = length-map words string_bytes
-
-    outside : (ids : List ℤ) → length ids ≡ length words → None ≡ pool_of_ids ids
-    outside ids same =
-        ⊎_elim
-        (λ low. rw (lt-leb 2 (length ids) (omega (arith, same, low))) refl)
-        (λ high. rw (lt-leb (length ids) 20 (omega (arith, same, high))) (either (nat_le 2 (length ids))))
-        out
-      where
-        either : (b : Bool) → None ≡ cond (b && false) (Some (Pool ids)) None
-        either true = refl
-        either false = refl
-
-    by : (told : Option (List ℤ)) → ids_in (map string_bytes words) ≡ told
-        → None ≡ option_and_then pool_of_ids told
-    by None is = refl
-    by (Some ids) is = outside ids (ids_count (map string_bytes words) ids is ∙ size)
+no_pool words out = grind (
+  arith,
+  string_bytes,
+  length-map,
+  ⊎_elim,
+  lt-leb,
+  nat_le,
+  option_and_then,
+  ids_count,
+)

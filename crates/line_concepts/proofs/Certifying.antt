@@ -15,7 +15,6 @@ use Rattle.line_concepts.specs.TreeFaults.{placed_faults, placed_in, shape_of, s
 use Rattle.line_concepts.specs.TreeFaults.{exceeds_costs, is_below, is_no_point, is_not_empty}
 use Rattle.line_concepts.specs.TreeFaults.{tree_faults, tree_in}
 use Rattle.line_concepts.specs.Trees.{NodeTree, PlacedNode, ReadTree, leaf, fork, first_tree}
-use Rattle.line_concepts.specs.Trees.{forked}
 use Rattle.line_concepts.specs.Trees.{placed_over, preorder}
 use Rattle.line_concepts.proofs.Leaves.{InOrder, Passes, leaf_passes, leaf_shows, not_outside}
 use Rattle.line_concepts.proofs.Leaves.{splits_inside}
@@ -99,12 +98,14 @@ module _ (problem : ProblemParts) (cost : ℤ) where
   tree_shows region (fork line at lower upper) order proper all =
       let inside = splits_inside region line at all.0.split in
       let parts = both_pass (placed_over (part_up_to region line at) lower)
-      (placed_over (part_from region line (at + 1)) upper) all.1 in (
-        inside,
-        tree_shows (part_up_to region line at) lower
-            (All-set InOrder region line _ inside.0 order) proper.0 parts.0,
-        tree_shows (part_from region line (at + 1)) upper
-            (All-set InOrder region line _ (omega (arith, inside.1)) order) proper.1 parts.1,
+      (placed_over (part_from region line (at + 1)) upper) all.1 in grind (
+        arith,
+        All-set,
+        InOrder,
+        tree_shows (part_up_to region line at) lower (All-set InOrder region line _ inside.0
+            order) proper.0 parts.0,
+        tree_shows (part_from region line (at + 1)) upper (All-set
+            InOrder region line _ (omega (arith, inside.1)) order) proper.1 parts.1,
       )
 
   tree_passes : (region : List LineRange) (tree : NodeTree) → TreeCertifies problem cost region tree
@@ -136,13 +137,15 @@ read_back (leaf (node.Bound multipliers)) proper (suc levels) rest few = refl
 read_back (leaf node.Point) proper (suc levels) rest few = refl
 read_back (fork line at lower upper) proper zero rest few = absurd (omega (arith, few))
 read_back (fork line at lower upper) proper (suc levels) rest few =
-    let size = length-append (preorder lower) (preorder upper) in
-    ap (λ nodes. option_and_then (forked (first_tree levels) line at) (first_tree levels nodes))
-    (append_assoc (preorder lower) (preorder upper) rest)
-    ∙ ap (option_and_then (forked (first_tree levels) line at))
-    (read_back lower proper.0 levels (preorder upper ++ rest) (omega (arith, few, size)))
-    ∙ ap (option_map (λ upper. (fork line at lower upper.0, upper.1)))
-    (read_back upper proper.1 levels rest (omega (arith, few, size)))
+    let size = length-append (preorder lower) (preorder upper) in grind (
+      arith,
+      option_and_then,
+      append_assoc,
+      option_map,
+      read_back lower proper.0 levels (preorder upper ++ rest) (omega
+          (arith, few, size)),
+      read_back upper proper.1 levels rest (omega (arith, few, size)),
+    )
 
 whole_is : (tree : NodeTree) (nodes : List Node) → IsProper tree → preorder tree ≡ nodes
     → tree_in nodes ≡ Some (tree, [])
@@ -161,13 +164,7 @@ pub no_rest : (rest : List Node) (faults : TreeFault)
     → (if length rest == 0 then [] else faults ∷ []) ≡ []
     → rest ≡ []
 no_rest [] faults h = refl
-no_rest (node ∷ rest) faults h =
-    let some = ap (λ none. if none then [] else faults ∷ [])
-    (ne_eqb (length (node ∷ rest)) 0 (λ e. omega (arith, e))) in
-    absurd (is_some (sym some ∙ h))
-  where
-    is_some : faults ∷ [] ≡ [] → ⊥
-    is_some e = absurd (cc)
+no_rest (node ∷ rest) faults h = grind (arith, ne_eqb)
 
 module _ (problem : ProblemParts) (cost : ℤ) (nodes : List Node) where
   certified_by : (read : ReadTree) → tree_in nodes ≡ read
@@ -180,8 +177,7 @@ module _ (problem : ProblemParts) (cost : ℤ) (nodes : List Node) where
       let left = no_rest read.1 _ parts.0 in
       record {
         tree = read.0;
-        whole = sym (append-nil (preorder read.0)) ∙ ap (λ rest. preorder read.0 ++ rest) (sym left)
-            ∙ begins.whole;
+        whole = grind (arith, append-nil);
         shows = tree_shows problem cost (root_of problem) read.0
             (root_in_order (most_of problem.edges) problem.lines) begins.proper
             (none_all_pass problem cost (placed_over (root_of problem) read.0) parts.1);

@@ -1,12 +1,11 @@
 -- The concept that a whole listing finds is the chosen one, and its nodes certify what it costs; what any
 -- first entries find is feasible.
-use Rattle.plan_num.proofs.Common.{◌≡◌, ℕ, zero, suc, pos, ◌≤◌, List, [], ◌∷◌, ◌++◌, length, take}
-use Rattle.plan_num.proofs.Common.{filter_map, Option, Some, None, IfSome, ⊎_elim, ap, sym, subst}
-use Rattle.plan_num.proofs.Common.{◌∙◌, arith, AllByRecursion, cons_option, last_or, ints}
-use Rattle.plan_num.proofs.Common.{length-map}
-use Rattle.line_cost_model.proofs.Common.{LineRange, ComesBefore, IsChosen, IsFeasible, cost_of}
-use Rattle.line_cost_model.proofs.Common.{CostedLine, IsProblem, ProblemParts, most_of, range_of}
-use Rattle.line_cost_model.proofs.Common.{root_of, root_has_each}
+use Rattle.plan_num.proofs.Common.{◌≡◌, ℕ, zero, suc, pos, List, [], ◌∷◌, ◌++◌, length, take}
+use Rattle.plan_num.proofs.Common.{filter_map, Option, Some, None, IfSome, ⊎_elim, subst, arith}
+use Rattle.plan_num.proofs.Common.{AllByRecursion, cons_option, last_or, ints, length-map}
+use Rattle.line_cost_model.proofs.Common.{LineRange, IsChosen, IsFeasible, cost_of, CostedLine}
+use Rattle.line_cost_model.proofs.Common.{IsProblem, ProblemParts, most_of, range_of, root_of}
+use Rattle.line_cost_model.proofs.Common.{root_has_each}
 use Rattle.line_concepts.specs.Certified.{Certifies}
 use Rattle.line_concepts.specs.declared.node.Node.TheVariants as node
 use Rattle.line_concepts.specs.Budgets.{nodes_in}
@@ -33,17 +32,8 @@ module _ (problem : ProblemParts) (sound : IsProblem problem) where
       → IsChosen problem concept
   found_is_chosen concept is = record {
     feasible = ⊎_elim (λ none. absurd (cc)) (λ found. found.feasible) (whole.found concept is);
-    cheapest = λ other feasible.
-        let no_better = whole.least other feasible (root_has_each problem sound other feasible) in
-        let same : Some no_better.chosen ≡ Some concept = sym no_better.is ∙ is in
-        let own : no_better.chosen ≡ concept = cc in
-        subst (λ x. cost_of problem x ≤ cost_of problem other) own no_better.cheap;
-    first = λ other feasible equal before.
-        let no_better = whole.least other feasible (root_has_each problem sound other feasible) in
-        let same : Some no_better.chosen ≡ Some concept = sym no_better.is ∙ is in
-        let own : no_better.chosen ≡ concept = cc in
-        no_better.first (equal ∙ ap (cost_of problem) (sym own))
-        (subst (λ x. ComesBefore problem other x) (sym own) before);
+    cheapest = λ other feasible. grind (arith, whole, root_has_each);
+    first = λ other feasible equal before. grind (arith, whole, root_has_each);
   }
 
   -- and the nodes of the listing certify what it costs

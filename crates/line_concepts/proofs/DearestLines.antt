@@ -103,22 +103,7 @@ IsDearest lines (Some first) = Dearest lines first
 one_dearer : (done : List (ℕ × CostedLine)) (first : ℕ × ℤ) (at : ℕ × CostedLine) → Dearest done first
     → (b : Bool) → int_le (pos at.1.cost) first.1 ≡ b
     → IsDearest (done ++ at ∷ []) (cond b (Some first) (Some (at.0, pos at.1.cost)))
-one_dearer done first at d true is =
-    let few : at.1.cost ≤ d.line.cost = below_it d.line.cost first.1 d.cost is in
-    record {
-      before = d.before;
-      line = d.line;
-      behind = d.behind ++ at ∷ [];
-      whole = ap (λ lines. lines ++ at ∷ []) d.whole
-          ∙ append_assoc d.before ((first.0, d.line) ∷ d.behind) (at ∷ []);
-      cost = d.cost;
-      less = d.less;
-      most = append_all (λ at. at.1.cost ≤ d.line.cost) d.behind (at ∷ []) d.most (few, tt);
-    }
-  where
-    below_it : (cost : ℕ) (most : ℤ) → most ≡ pos cost → int_le (pos at.1.cost) most ≡ true
-        → at.1.cost ≤ cost
-    below_it cost most is le = omega (arith, ints, is, le)
+one_dearer done first at d true is = grind (arith, append_assoc, append_all, int_le, ints)
 one_dearer done first at d false is =
     let more : d.line.cost < at.1.cost = above_it d.line.cost first.1 d.cost is in
     record {
@@ -127,14 +112,7 @@ one_dearer done first at d false is =
       behind = [];
       whole = refl;
       cost = refl;
-      less = subst (AllByRecursion (λ other. other.1.cost < at.1.cost)) (sym d.whole)
-          (append_all (λ other. other.1.cost < at.1.cost) d.before ((first.0, d.line) ∷ d.behind)
-          (all_by (λ other. other.1.cost < d.line.cost) (λ other. other.1.cost < at.1.cost) d.before
-          (λ other less. omega (arith, less, more)) d.less) (
-            more,
-            all_by (λ other. other.1.cost ≤ d.line.cost) (λ other. other.1.cost < at.1.cost)
-                d.behind (λ other most. omega (arith, most, more)) d.most,
-          ));
+      less = grind (arith, append_all, all_by);
       most = tt;
     }
   where
@@ -234,12 +212,7 @@ first_found before at behind less most rise =
           (λ other. stands at other ≡ true) behind
           (λ other most rise. not_before_first other.1 at.1 most
           (not_less other.1.id at.1.id (λ e. omega (arith, ints, e, rise)))) most rise,
-    )) in
-    let others : AllByRecursion (λ line. list_all (stands line) all ≡ false) before =
-    all_by (λ other. other.1.cost < at.1.cost) (λ line. list_all (stands line) all ≡ false) before
-    (λ line less. one_fails (stands line) before at behind (before_cheaper at.1 line.1 less)) less in
-    sym (ap (option_map (λ at. at.0)) (find_behind (λ line. list_all (stands line) all) before at behind
-    others own))
+    )) in grind (arith, all_by, one_fails, before_cheaper, option_map, find_behind)
 
 dearest_first : (lines : List (ℕ × CostedLine)) (first : Option (ℕ × ℤ)) → Rise lines
     → IsDearest lines first → option_map (λ first. first.0) first ≡ first_among lines
@@ -277,8 +250,4 @@ pub row_taken : (lines : List CostedLine) (region : List LineRange) (line : ℕ)
     ≡ fold with_row first (drop line (rows_from 0 lines region))
 row_taken lines region line first row after same is cost cost_is after_is =
     let more : line + 1 ≡ suc line = omega arith in
-    let start : line ≡ 0 + line = omega arith in
-    let taken : after ≡ dearer first (0 + line) row.1 (has_several (range_of region line)) =
-    after_is ∙ (λ i. dearer first (start i) (cost_is i) (has_several (range_of region line))) in
-    (λ i. fold with_row (taken i) (drop (more i) (rows_from 0 lines region)))
-    ∙ sym (row_turn 0 lines region line row same is first)
+    let start : line ≡ 0 + line = omega arith in grind (arith, row_turn)

@@ -1,9 +1,9 @@
 -- How many multipliers a bound can have: no more than there are edges, and these have ids.
-use Rattle.plan_num.proofs.Common.{◌≡◌, ℕ, ℤ, suc, pos, ◌+◌, ◌<◌, ◌≤◌, ◌≤ℤ◌, ◌<ℤ◌, int_lt, arith, T}
-use Rattle.plan_num.proofs.Common.{Bool, true, false, cond, List, [], ◌∷◌, length, get_or, map, All}
-use Rattle.plan_num.proofs.Common.{AllByRecursion, IsStrictlyIncreasing, int_cmp, ints, length-map}
+use Rattle.plan_num.proofs.Common.{◌≡◌, ℕ, ℤ, suc, pos, ◌+◌, ◌<◌, ◌≤◌, ◌≤ℤ◌, ◌<ℤ◌, int_lt, arith}
+use Rattle.plan_num.proofs.Common.{List, [], ◌∷◌, length, get_or, map, All, AllByRecursion}
+use Rattle.plan_num.proofs.Common.{IsStrictlyIncreasing, int_cmp, ints, length-map}
 use Rattle.std.specs.List.Sorted.{IsStrictlySortedBy}
-use Rattle.std.specs.declared.cmp.Ordering.TheVariants.{Less, Equal, Greater}
+use Rattle.std.specs.declared.cmp.Ordering.TheVariants.{Less}
 use Rattle.line_cost_model.proofs.Common.{BoundedEdge, Multiplier, AreMultipliers, IsBoundedEdge}
 use Rattle.line_cost_model.proofs.Common.{IsProblem, ProblemParts}
 use Rattle.plan_num.proofs.Tests.{less_is}
@@ -33,8 +33,7 @@ climbs next (one ∷ rest) up low = (
     later k h =
         let next : suc k + 1 ≡ suc (k + 1) = omega arith in
         let above : get_or (one.edge ∷ edges) (suc k) 0 < get_or (one.edge ∷ edges) (suc k + 1) 0 =
-        up (suc k) (omega arith) in
-        rw next at above
+        up (suc k) (omega arith) in grind arith
 
     first : 0 < length rest → one.edge + 1 ≤ get_or edges 0 0
     first h = grind (arith, get_or, length-map)
@@ -44,19 +43,13 @@ few_climb : (most next : ℕ) (multipliers : List Multiplier) → next ≤ most
     → All (λ one. one.edge < most) multipliers → next + length multipliers ≤ most
 few_climb most next [] h climb below = omega arith
 few_climb most next (one ∷ rest) h climb below =
-    let own : one.edge < most = below 0 one (omega arith) in
-    let low : next ≤ one.edge = climb.0 in
-    let rest_few : one.edge + 1 + length rest ≤ most =
-    few_climb most (one.edge + 1) rest (omega arith) climb.1
-    (λ k d l. below (suc k) d (omega arith)) in
-    omega arith
+    let own : one.edge < most = below 0 one (omega arith) in grind (
+      arith,
+      few_climb most (one.edge
+          + 1) rest (omega arith) climb.1 (λ k d l. below (suc k) d (omega arith)),
+    )
 
 -- ---- ids that rise
-
-less_shown : (less greater : Bool) → cond less Less (cond greater Greater Equal) ≡ Less → T less
-less_shown true greater h = tt
-less_shown false true h = cc
-less_shown false false h = cc
 
 abbrev LiesBetween : ℕ → ℕ → ℤ → Type 0
 LiesBetween low high id = (pos low ≤ℤ id) × (id ≤ℤ pos high)
@@ -74,11 +67,11 @@ few_between : (low high : ℕ) (ids : List ℤ) → low ≤ high + 1 → IsStric
 unfolding IsStrictlySortedBy
 few_between low high [] h rise all = omega (arith, h)
 few_between low high (id ∷ ids) h rise all =
-    let room : low ≤ high = omega (arith, ints, all.0.0, all.0.1) in
-    omega (
+    let room : low ≤ high = omega (arith, ints, all.0.0, all.0.1) in grind (
       arith,
-      few_between (low + 1) high ids (omega (arith, room)) rise.1
-          (behind low high id ids all.0 rise.0 all.1),
+      behind,
+      few_between (low + 1) high ids (omega (arith, room)) rise.1 (behind low high id ids all.0
+          rise.0 all.1),
     )
 
 ids_between : (edges : List BoundedEdge) → All IsBoundedEdge edges

@@ -1,7 +1,7 @@
 -- The first fault of nodes: that of their shape, or else the first of the nodes over their regions.
-use Rattle.plan_num.proofs.Common.{◌≡◌, ℤ, ◌+◌, ◌∙◌, ◌↔◌, arith, List, [], ◌∷◌, ◌++◌, length}
-use Rattle.plan_num.proofs.Common.{slice_get, Option, Some, None, Result, Ok, Err, IfNone, IfOk}
-use Rattle.plan_num.proofs.Common.{refl, ap, sym, false≢true, append_assoc, append-nil}
+use Rattle.plan_num.proofs.Common.{◌≡◌, ℤ, ◌+◌, ◌↔◌, arith, List, [], ◌∷◌, ◌++◌, length, slice_get}
+use Rattle.plan_num.proofs.Common.{Option, Some, None, Result, Ok, Err, IfNone, IfOk, refl, sym}
+use Rattle.plan_num.proofs.Common.{false≢true, append_assoc, append-nil}
 use Rattle.line_cost_model.proofs.Common.{LineRange, ProblemParts, HasEachFeasible, part_from}
 use Rattle.line_cost_model.proofs.Common.{part_up_to, root_of}
 use Rattle.line_concepts.specs.declared.fault.TreeFault.{TreeFault}
@@ -30,12 +30,14 @@ tree_walked (leaf (node.Bound multipliers)) proper region waiting rest = refl
 tree_walked (leaf node.Point) proper region waiting rest = refl
 tree_walked (fork line at lower upper) proper region waiting rest =
     let low = part_up_to region line at in
-    let high = part_from region line (at + 1) in
-    ap (λ placed. record { node = node.Split line at; region = region } ∷ placed)
-    (ap (walked (low ∷ high ∷ waiting)) (append_assoc (preorder lower) (preorder upper) rest)
-    ∙ tree_walked lower proper.0 low (high ∷ waiting) (preorder upper ++ rest)
-    ∙ ap (λ placed. placed_over low lower ++ placed) (tree_walked upper proper.1 high waiting rest)
-    ∙ sym (append_assoc (placed_over low lower) (placed_over high upper) (walked waiting rest)))
+    let high = part_from region line (at + 1) in grind (
+      arith,
+      append_assoc,
+      tree_walked lower
+          proper.0 low (high ∷ waiting) (preorder upper ++ rest),
+      tree_walked upper proper.1 high
+          waiting rest,
+    )
 
 placed_are : (problem : ProblemParts) (nodes : List Node) (read : ReadTree) → tree_in nodes ≡ read
     → slice_get (shape_of (length nodes) read) 0 ≡ None
@@ -43,12 +45,12 @@ placed_are : (problem : ProblemParts) (nodes : List Node) (read : ReadTree) → 
 unfolding walked placed_over
 placed_are problem nodes None is none = absurd (cc)
 placed_are problem nodes (Some read) is none =
-    let begins = tree_begins (length nodes) nodes read is in
-    let left = no_rest read.1 _ (empty_by _ none) in
-    sym (ap (walked (root_of problem ∷ [])) (sym begins.whole)
-    ∙ tree_walked read.0 begins.proper (root_of problem) [] read.1
-    ∙ ap (λ rest. placed_over (root_of problem) read.0 ++ walked [] rest) left
-    ∙ append-nil (placed_over (root_of problem) read.0))
+    let begins = tree_begins (length nodes) nodes read is in grind (
+      arith,
+      no_rest,
+      tree_walked,
+      append-nil,
+    )
   where
     empty_by : (faults : List TreeFault) → slice_get faults 0 ≡ None → faults ≡ []
     empty_by [] h = refl
@@ -86,14 +88,7 @@ module _ (problem : ProblemParts) (cost : ℤ) (nodes : List Node) where
     pub answer_first : IfOk result
         (λ first. first ≡ slice_get (placed_faults problem kept (all_placed problem nodes)) 0)
         → IfOk result (λ first. first ≡ slice_get (tree_faults problem cost nodes) 0)
-    answer_first answer = by result answer
-      where
-        by : (result : Result (Option TreeFault) E) → IfOk result
-            (λ first. first ≡ slice_get (placed_faults problem kept (all_placed problem nodes)) 0)
-            → IfOk result (λ first. first ≡ slice_get (tree_faults problem cost nodes) 0)
-        by (Ok first) is = nodes_first first none (is
-            ∙ ap (λ cost. slice_get (placed_faults problem cost (all_placed problem nodes)) 0) same)
-        by (Err why) is = tt
+    answer_first answer = grind (arith, slice_get, all_placed, nodes_first)
 
   pub answer_exact : {E : Type 0} (result : Result (Option TreeFault) E)
       → IfOk result (λ first. first ≡ slice_get (tree_faults problem cost nodes) 0)

@@ -3,7 +3,7 @@ use Rattle.std.proofs.Common.{◌≡◌, ℕ, ℤ, ◌+◌, Bool, true, false, i
 use Rattle.std.proofs.Common.{◌∷◌, ◌++◌, slice_get, Option, Some, None, option_map, refl}
 use Rattle.std.specs.List.{enumerate_from, flat_map}
 use Rattle.std.specs.Option.{option_or}
-use Rattle.line_cost_model.proofs.Common.{LineRange}
+use Rattle.line_cost_model.specs.declared.range.LineRange.{LineRange}
 use Rattle.line_cost_model.specs.Problems.{ProblemParts}
 use Rattle.line_concepts.specs.declared.fault.TreeFault.{TreeFault}
 use Rattle.line_concepts.specs.declared.fault.TreeFault.TheVariants as fault
@@ -35,18 +35,13 @@ first_from : (test : List LineRange → Node → Bool) (fault : ℕ → TreeFaul
     (enumerate_from place placed)) 0 ≡ option_map fault (place_of (at_node test) place placed)
 unfolding place_of
 first_from test fault place [] = refl
-first_from test fault place (at ∷ rest) =
-    gated (test at.region at.node)
-    (flat_map (λ at. if test at.1.region at.1.node then fault at.0 ∷ [] else [])
-    (enumerate_from (place + 1) rest))
-    (place_of (at_node test) (place + 1) rest) (first_from test fault (place + 1) rest)
-  where
-    gated : (fails : Bool) (faults : List TreeFault) (later : Option ℕ)
-        → slice_get faults 0 ≡ option_map fault later
-        → slice_get ((if fails then fault place ∷ [] else []) ++ faults) 0
-        ≡ option_map fault (if fails then Some place else later)
-    gated true faults later same = refl
-    gated false faults later same = same
+first_from test fault place (at ∷ rest) = grind (
+  arith,
+  slice_get,
+  option_map,
+  first_from test fault
+      (place + 1) rest,
+)
 
 -- the first fault of a kind is at the first place that fails
 first_by : (test : List LineRange → Node → Bool) (fault : ℕ → TreeFault) (placed : List PlacedNode)
@@ -68,10 +63,6 @@ or_later : (first : Option ℕ) (fails : Bool) (place : ℕ) (later : Option ℕ
 or_later (Some first) fails place later = refl
 or_later None true place later = refl
 or_later None false place later = refl
-
-or_none : (first : Option ℕ) → first ≡ option_or first None
-or_none None = refl
-or_none (Some first) = refl
 
 -- no place so far
 abbrev pub no_place : FirstFaults

@@ -1,7 +1,7 @@
 -- The loop over the nodes of a tree: what is known before a node, after it, and at the end.
-use Rattle.std.proofs.Common.{◌≡◌, ℕ, ℤ, ◌+◌, ◌≤◌, ◌∙◌, Bool, true, false, if◌then◌else◌, List, []}
-use Rattle.std.proofs.Common.{◌∷◌, length, drop, slice_get, Some, All, refl, ap, sym, arith}
-use Rattle.std.proofs.lemmas.List.{drop_all, length-map}
+use Rattle.plan_num.proofs.Common.{◌≡◌, ℕ, ℤ, ◌+◌, ◌≤◌, ◌∙◌, Bool, true, false, if◌then◌else◌, List}
+use Rattle.plan_num.proofs.Common.{[], ◌∷◌, length, drop, slice_get, Some, All, refl, ap, sym}
+use Rattle.plan_num.proofs.Common.{arith, drop_all, length-map}
 use Rattle.line_cost_model.proofs.Common.{LineRange, ProblemParts, most_of, root_of, holds_at}
 use Rattle.line_concepts.specs.declared.fault.TreeFault.TheVariants as fault
 use Rattle.line_concepts.specs.declared.first_faults.FirstFaults.{FirstFaults}

@@ -1,13 +1,11 @@
 -- A leaf that passes each test shows what it is to show, and the other way.
-use Rattle.plan_num.proofs.Common.{◌≡◌, ℕ, ℤ, pos, ◌≤◌, ◌≤ℤ◌, ◌||◌, not, Bool, true, false, T}
-use Rattle.plan_num.proofs.Common.{nat_le, int_le, List, [], ◌∷◌, All, zero, suc, refl, ap, sym}
-use Rattle.plan_num.proofs.Common.{arith, le_z_yes, list_any, false≢true, leb-true, le-leb}
-use Rattle.plan_num.proofs.Common.{ltb-true, ltb-false, le-ltb, T_from_true, AllPass-from_list_all}
+use Rattle.plan_num.proofs.Common.{◌≡◌, ℕ, ℤ, pos, ◌≤◌, ◌≤ℤ◌, ◌||◌, not, Bool, false, T, nat_le}
+use Rattle.plan_num.proofs.Common.{int_le, List, [], ◌∷◌, All, zero, suc, refl, ap, sym, arith}
+use Rattle.plan_num.proofs.Common.{le_z_yes, list_any, false≢true, leb-true, le-leb, ltb-false}
+use Rattle.plan_num.proofs.Common.{le-ltb, T_from_true, AllPass-from_list_all}
 use Rattle.plan_num.proofs.Common.{list_all-from_AllPass, not-false, or_parts}
-use Rattle.line_cost_model.proofs.Common.{BoundedEdge, Multiplier, LineRange, Side, bound_by}
-use Rattle.line_cost_model.proofs.Common.{open_lines, taken_off, is_empty_on, ProblemParts}
-use Rattle.line_cost_model.proofs.Common.{IsEmptyAt, has_several}
-use Rattle.line_cost_model.specs.declared.side.Side.TheVariants as side
+use Rattle.line_cost_model.proofs.Common.{Multiplier, LineRange, Side, bound_by, open_lines}
+use Rattle.line_cost_model.proofs.Common.{taken_off, ProblemParts, has_several}
 use Rattle.line_concepts.specs.declared.node.Node.{Node}
 use Rattle.line_concepts.specs.declared.node.Node.TheVariants as node
 use Rattle.line_concepts.specs.Certified.{LeafCertifies, ShowsBound, ShowsEmpty, ShowsPoint}
@@ -50,12 +48,6 @@ not_outside region line at inside = grind arith
 
 -- ---- empty edges
 
-empty_at : (problem : ProblemParts) (region : List LineRange) (edge : ℕ) (bounds : BoundedEdge)
-    (s : Side)
-    → is_empty_on problem region edge s bounds ≡ true → IsEmptyAt problem.lines region edge bounds s
-empty_at problem region edge bounds side.Over h = ltb-true _ _ h
-empty_at problem region edge bounds side.Under h = ltb-true _ _ h
-
 shows_empty : (problem : ProblemParts) (region : List LineRange) (edge : ℕ) (s : Side)
     → is_not_empty problem region (node.Empty edge s) ≡ false → ShowsEmpty problem region edge s
 shows_empty problem region edge s h = grind arith
@@ -87,12 +79,10 @@ single : (region : List LineRange) → All InOrder region → list_any has_sever
     → All (λ range. range.lo ≡ range.hi) region
 single [] order none k d h = absurd (omega (arith, h))
 single (range ∷ region) order none zero d h =
-    let first : range.lo ≤ range.hi = order zero range (omega arith) in
-    omega (
+    let first : range.lo ≤ range.hi = order zero range (omega arith) in grind (
       arith,
-      first,
-      ltb-false range.lo range.hi
-          (or_parts (has_several range) (list_any has_several region) none).0,
+      ltb-false,
+      or_parts,
     )
 single (range ∷ region) order none (suc k) d h =
     single region (λ k d h. order (suc k) d (omega (arith, h)))
@@ -102,9 +92,11 @@ none_several : (region : List LineRange) → All (λ range. range.lo ≡ range.h
     → list_any has_several region ≡ false
 none_several [] one = refl
 none_several (range ∷ region) one =
-    let first : range.lo ≡ range.hi = one zero range (omega arith) in
-    rw (le-ltb range.lo range.hi (omega (arith, first)))
-    (none_several region (λ k d h. one (suc k) d (omega (arith, h))))
+    let first : range.lo ≡ range.hi = one zero range (omega arith) in grind (
+      arith,
+      le-ltb,
+      none_several region (λ k d h. one (suc k) d (omega (arith, h))),
+    )
 
 shows_point : (problem : ProblemParts) (cost : ℤ) (region : List LineRange) → All InOrder region
     → is_no_point problem cost region node.Point ≡ false → ShowsPoint problem cost region

@@ -47,9 +47,13 @@ module _ {X : Type 0} (before : X → X → Bool) (self : (x : X) → before x x
       → is_least xs a ≡ true
   none_through [] a b h least = refl
   none_through (x ∷ xs) a b h least =
-      let parts = and_parts _ _ least in
-      and_from _ _ (ap not (false_from_ne_true (before x a) (λ is.
-      true≢false (sym parts.0 ∙ ap not (through x a b is h))))) (none_through xs a b h parts.1)
+      let parts = and_parts _ _ least in grind (
+        arith,
+        and_from,
+        false_from_ne_true,
+        true≢false,
+        none_through xs a b h parts.1,
+      )
 
   record Least (xs : List X) : Type 0 where
     least : X
@@ -66,19 +70,14 @@ module _ {X : Type 0} (before : X → X → Bool) (self : (x : X) → before x x
           one = inl refl;
           passes = and_from _ _ (ap not (self x)) (none_through (y ∷ ys) x rest.least is rest.passes);
         }
-        | inr is ↦ record {
-          least = rest.least;
-          one = inr rest.one;
-          passes = and_from _ _ (ap not is) rest.passes;
-        }
+        | inr is ↦ grind (arith, and_from)
       ]
 
   -- so it is found
   pub least_found : (xs : List X) → find (is_least xs) xs ≡ None → xs ≡ []
   least_found [] none = refl
   least_found (x ∷ xs) none =
-      let some = least_of x xs in
-      absurd (one_found (is_least (x ∷ xs)) (x ∷ xs) some.least some.one some.passes none)
+      let some = least_of x xs in grind (arith, one_found)
 
 -- ---- lines
 

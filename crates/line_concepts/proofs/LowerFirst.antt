@@ -1,8 +1,8 @@
 -- No concept of the upper part of a split at the first open line comes before one of the lower part.
 use Rattle.plan_num.proofs.Common.{◌≡◌, ◌≢◌, ℕ, zero, suc, pos, ◌+◌, ◌-◌, ◌<◌, ◌≤◌, ◌<ℤ◌, true, not}
 use Rattle.plan_num.proofs.Common.{List, [], ◌∷◌, length, map, find, get_or, slice_get, Option}
-use Rattle.plan_num.proofs.Common.{Some, None, IfSome, option_map, ◌⊎◌, inl, inr, ap, sym, subst}
-use Rattle.plan_num.proofs.Common.{◌∙◌, arith, list_all, int_cmp, cases_Bool, cases_lt, get_or-map}
+use Rattle.plan_num.proofs.Common.{Some, None, IfSome, option_map, ◌⊎◌, inl, inr, ap, sym, ◌∙◌}
+use Rattle.plan_num.proofs.Common.{arith, list_all, int_cmp, cases_Bool, cases_lt, get_or-map}
 use Rattle.plan_num.proofs.Common.{length-map, Less-from_sorted, get_or_from_slice_get}
 use Rattle.plan_num.proofs.Common.{slice_get_within, none-some}
 use Rattle.line_cost_model.proofs.Common.{LineRange, ComesBefore, stands_before, CostedLine}
@@ -94,13 +94,10 @@ one_is n (a ∷ lines) (range ∷ region) at one = elim (cases_Bool (has_several
 ]
   where
     behind : IsLineFrom (n + 1) lines at → IsLineFrom n (a ∷ lines) at
-    behind h =
-        let index : at.0 - n ≡ suc (at.0 - (n + 1)) = omega (arith, h.0) in
-        (omega (arith, h.0), ap (slice_get (a ∷ lines)) index ∙ h.1)
+    behind h = grind (arith, slice_get)
 
     here : (n, a) ≡ at → IsLineFrom n (a ∷ lines) at
-    here same = subst (IsLineFrom n (a ∷ lines)) same
-        (omega arith, let none : n - n ≡ zero = omega arith in ap (slice_get (a ∷ lines)) none)
+    here same = grind (arith, slice_get)
 
 -- the first open line: no open line stands before it
 pub record IsFirstOpen (problem : ProblemParts) (region : List LineRange) (line : ℕ) : Type 0 where
@@ -121,11 +118,7 @@ first_by problem region (Some at) h =
     record {
       at = at.1;
       there = ap (slice_get problem.lines) (sym index) ∙ own.1;
-      first = λ k other there is_open.
-          let start : 0 + k ≡ k = omega arith in
-          all_have (λ other. not (stands_before other.1 at.1)) (open_at problem region) (k, other)
-          h.0 (subst (λ m. IsOneOf {X = ℕ × CostedLine} (m, other) (open_at problem region))
-          start (open_one 0 problem.lines region k other there is_open));
+      first = λ k other there is_open. grind (arith, all_have, IsOneOf, open_one);
     }
 
 pub first_open_first : (problem : ProblemParts) (region : List LineRange)
@@ -170,6 +163,4 @@ lower_first problem sound region each line at is_open is_first x y in_x in_y h =
     let within = slice_get_within problem.lines h.index h.line h.there in
     let here = parts_open region x y line at h.index in_x in_y (omega (arith, within, each)) h.less in
     let ids = ids_apart problem sound h.index line h.line is_first.at here.1 h.there is_first.there in
-    let stands = stands_behind h.line is_first.at ids (is_first.first h.index h.line h.there here.0) in
-    let same = h.equal line is_first.at is_first.there stands in
-    omega (arith, same, upper_at region x line (at + 1) in_x is_open.0, lower_at region y line at in_y is_open.0)
+    grind (arith, stands_behind, upper_at, lower_at)

@@ -1,14 +1,12 @@
 -- What is said of a region names lines and edges that are there.
-use Rattle.plan_num.proofs.Common.{◌≡◌, ℕ, ◌+◌, ◌≤◌, ◌<◌, true, false, cond, List, [], ◌∷◌, length}
-use Rattle.plan_num.proofs.Common.{filter_map, fold, slice_get, arith, Option, Some, None}
-use Rattle.plan_num.proofs.Common.{option_map, IfSome, All, ap, sym, subst, nat_le, All-nil}
-use Rattle.plan_num.proofs.Common.{All-append, enumerate_from}
+use Rattle.plan_num.proofs.Common.{◌≡◌, ℕ, ◌+◌, ◌≤◌, ◌<◌, List, [], ◌∷◌, length, filter_map, fold}
+use Rattle.plan_num.proofs.Common.{slice_get, arith, Option, Some, None, option_map, IfSome, All}
+use Rattle.plan_num.proofs.Common.{sym, subst, nat_le, All-nil, All-append, enumerate_from}
 use Rattle.line_cost_model.proofs.Common.{BoundedEdge, Multiplier, LineRange, Side, CostedLine}
-use Rattle.line_cost_model.proofs.Common.{ProblemParts, cost_of, dual_bound, next_multiplier}
-use Rattle.line_cost_model.proofs.Common.{unless_zero, with_next, empty_side}
+use Rattle.line_cost_model.proofs.Common.{ProblemParts, next_multiplier, unless_zero, with_next}
+use Rattle.line_cost_model.proofs.Common.{empty_side}
 use Rattle.line_cost_model.specs.DualBounds.{multipliers_of}
 use Rattle.line_cost_model.specs.Regions.{empty_edge}
-use Rattle.line_concepts.specs.declared.node.Node.{Node}
 use Rattle.line_concepts.specs.declared.node.Node.TheVariants as node
 use Rattle.line_concepts.specs.Listings.{as_bound, first_open}
 use Rattle.line_concepts.proofs.Lengths.{IsOpenAt, first_open_is}
@@ -74,18 +72,7 @@ named_by : (problem : ProblemParts) (region : List LineRange) (best : Option (Li
     → Some (node.Bound multipliers) ≡ as_bound problem region best
     → multipliers ≡ multipliers_of problem region
 named_by problem region None multipliers is = absurd (cc)
-named_by problem region (Some best) multipliers is =
-    elim (nat_le (cost_of problem best) (dual_bound problem region)) as
-    (λ b. Some (node.Bound multipliers)
-    ≡ cond b (Some (node.Bound (multipliers_of problem region))) None
-    → multipliers ≡ multipliers_of problem region) [
-      | true ↦ λ is. ap multipliers_said is
-      | false ↦ λ is. absurd (cc)
-    ] is
-  where
-    multipliers_said : Option Node → List Multiplier
-    multipliers_said (Some (node.Bound multipliers)) = multipliers
-    multipliers_said _ = []
+named_by problem region (Some best) multipliers is = grind (arith, nat_le)
 
 -- the multipliers that are said of a region
 pub bound_names : (problem : ProblemParts) (region : List LineRange) (best : Option (List ℕ))

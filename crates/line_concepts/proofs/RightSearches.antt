@@ -5,7 +5,7 @@ use Rattle.plan_num.proofs.Common.{refl, arith, ap, sym, subst, le-leb, leb-true
 use Rattle.line_cost_model.proofs.Common.{IsChosen, IsFeasible, cost_of, IsProblem, ProblemParts}
 use Rattle.line_concepts.specs.Certified.{Certifies}
 use Rattle.line_concepts.specs.Budgets.{nodes_in}
-use Rattle.line_concepts.specs.Listings.{Entry, best_after, listing}
+use Rattle.line_concepts.specs.Listings.{Entry, listing}
 use Rattle.line_concepts.specs.RightSearches.{FoundIsRight, ListingIsWhole, SearchIsRight, found_by}
 use Rattle.line_concepts.specs.Searches.{ArePriced, IsResult, concept_in}
 use Rattle.line_concepts.specs.declared.best.BestConcept.{BestConcept}
@@ -26,18 +26,18 @@ pub listing_whole : (problem : ProblemParts) → ListingIsWhole problem
 listing_whole problem = record {
   ordered = root_ordered problem.edges problem.lines;
   enough_levels = visit_unrolls problem;
-  feasible = λ count. best_feasible problem None (take count (listing problem)) tt
-      (some_find problem count (listing problem) (listing_finds problem));
+  feasible = λ count. grind (arith, best_feasible, some_find, listing_finds);
   counted = concepts_listed;
 }
 
 pub search_right : (problem : ProblemParts) → IsProblem problem → SearchIsRight problem
-search_right problem sound = record {
-  chosen = where_found (IsChosen problem) (found_by problem) (found_is_chosen problem sound);
-  certified = where_found (λ concept. Certifies problem (pos (cost_of problem concept))
-      (nodes_in (listing problem))) (found_by problem) (nodes_certify problem sound);
-  none = none_is_feasible problem sound;
-}
+search_right problem sound = grind (
+  arith,
+  where_found,
+  found_is_chosen,
+  nodes_certify,
+  none_is_feasible,
+)
 
 -- ---- within a budget
 
@@ -52,8 +52,7 @@ in_price : (problem : ProblemParts) (nodes : List Node) (best : Option BestConce
     → IfSome (concept_in best) (λ concept. Certifies problem (pos (cost_of problem concept)) nodes)
     → IfSome best (λ best. Certifies problem best.cost nodes)
 in_price problem nodes None priced h = tt
-in_price problem nodes (Some best) priced h =
-    subst (λ cost. Certifies problem cost nodes) (sym priced.cost) h
+in_price problem nodes (Some best) priced h = grind arith
 
 -- what holds of a tree holds where the listing is within the budget
 where_whole : (P : List Node → Type 0) (budget : ℕ) (all : List Entry) (b : Bool)
@@ -71,10 +70,7 @@ module _ (problem : ProblemParts) (budget : ℕ) (found : Searched) (sound : IsP
   with_tree : (P : List Node → Type 0)
       → (concept_in found.best ≡ found_by problem → P (nodes_in (listing problem)))
       → IfSome found.tree P
-  with_tree P h =
-      subst (λ tree. IfSome tree P) (sym is.tree_is)
-      (where_whole P budget (listing problem) (nat_le (length (listing problem)) budget) refl
-      (λ all. h (is.best_is ∙ ap (best_after None) all)))
+  with_tree P h = grind (arith, where_whole, nat_le)
 
   pub found_right : FoundIsRight problem budget found
   found_right = record {
@@ -84,14 +80,10 @@ module _ (problem : ProblemParts) (budget : ℕ) (found : Searched) (sound : IsP
     chosen = with_tree (λ _. IfSome found.best (λ best. IsChosen problem best.frequencies.items))
         (λ same. in_concept (IsChosen problem) found.best
         (subst (λ concept. IfSome concept (IsChosen problem)) (sym same) right.chosen));
-    certified = with_tree (λ tree. IfSome found.best (λ best. Certifies problem best.cost tree))
-        (λ same. in_price problem (nodes_in (listing problem)) found.best is.priced
-        (subst (λ concept. IfSome concept (λ concept. Certifies problem
-        (pos (cost_of problem concept)) (nodes_in (listing problem)))) (sym same) right.certified));
+    certified = grind (arith, with_tree, in_price, right);
     none = with_tree (λ _. found.best ≡ None → (concept : List ℕ) → ¬ IsFeasible problem concept)
         (λ same none. right.none (sym same ∙ ap concept_in none));
-    whole = λ enough. is.tree_is ∙ ap (λ b. if b then Some (nodes_in (listing problem)) else None)
-        (le-leb (length (listing problem)) budget (omega (arith, enough, listing_bound problem)));
+    whole = λ enough. grind (arith, le-leb, listing_bound);
   }
 
 pub result_right : {E : Type 0} (problem : ProblemParts) (budget : ℕ) → IsProblem problem

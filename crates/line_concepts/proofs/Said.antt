@@ -1,10 +1,9 @@
 -- What is known of a region by what is said of it.
-use Rattle.plan_num.proofs.Common.{◌≡◌, ℕ, zero, suc, ◌+◌, ◌-◌, ◌<◌, ◌≤◌, Bool, true, false, cond}
-use Rattle.plan_num.proofs.Common.{nat_le, List, [], ◌∷◌, length, filter_map, slice_get, Option}
-use Rattle.plan_num.proofs.Common.{Some, None, IfSome, option_map, unwrap_or, refl, ap, sym, subst}
-use Rattle.plan_num.proofs.Common.{◌∙◌, arith, inl, inr, AllByRecursion, cons_option}
-use Rattle.plan_num.proofs.Common.{enumerate_from, length-map, none-some, ltb-false, leb-true}
-use Rattle.plan_num.proofs.Common.{leb-false, cases_Bool}
+use Rattle.plan_num.proofs.Common.{◌≡◌, ℕ, zero, suc, ◌+◌, ◌-◌, ◌<◌, ◌≤◌, nat_le, List, [], ◌∷◌}
+use Rattle.plan_num.proofs.Common.{length, filter_map, slice_get, Option, Some, None, IfSome}
+use Rattle.plan_num.proofs.Common.{option_map, unwrap_or, refl, ap, sym, subst, ◌∙◌, arith, inl}
+use Rattle.plan_num.proofs.Common.{inr, AllByRecursion, cons_option, enumerate_from, length-map}
+use Rattle.plan_num.proofs.Common.{none-some, ltb-false, leb-true, leb-false, cases_Bool}
 use Rattle.line_cost_model.proofs.Common.{BoundedEdge, LineRange, Side, IsFeasible, cost_of}
 use Rattle.line_cost_model.proofs.Common.{frequency_on, dual_bound, multipliers_of, CostedLine}
 use Rattle.line_cost_model.proofs.Common.{ProblemParts, IsEmptyAt, empty_edges, empty_side}
@@ -53,14 +52,7 @@ first_side problem region n (bounds ∷ edges) =
   where
     behind : (found : ℕ × Side) → ShowsFrom problem region (n + 1) edges found
         → ShowsFrom problem region n (bounds ∷ edges) found
-    behind found h =
-        let index : found.0 - n ≡ suc (found.0 - (n + 1)) = omega (arith, h.above) in
-        record {
-          bounds = h.bounds;
-          above = omega (arith, h.above);
-          there = ap (slice_get (bounds ∷ edges)) index ∙ h.there;
-          empty = h.empty;
-        }
+    behind found h = grind (arith, slice_get)
 
     by : (told : Option Side) → empty_side problem.lines region n bounds ≡ told
         → (rest : List (ℕ × Side)) → IfSome (slice_get rest 0) (ShowsFrom problem region (n + 1) edges)
@@ -101,14 +93,9 @@ none_on problem region n (a ∷ edges) none k bounds there =
         → (k : ℕ) → slice_get (a ∷ edges) k ≡ Some bounds
         → empty_side problem.lines region (n + k) bounds ≡ None
     by (Some found) is more none k there = absurd (cc)
-    by None is more none zero there =
-        let same : a ≡ bounds = cc in
-        let index : n ≡ n + zero = omega arith in
-        subst (λ m. empty_side problem.lines region m bounds ≡ None) index
-        (subst (λ at. empty_side problem.lines region n at ≡ None) same is)
+    by None is more none zero there = grind arith
     by None is more none (suc k) there =
-        let index : n + 1 + k ≡ n + suc k = omega arith in
-        subst (λ m. empty_side problem.lines region m bounds ≡ None) index (more none k bounds there)
+        let index : n + 1 + k ≡ n + suc k = omega arith in grind arith
 
 side_none : (lines : List CostedLine) (region : List LineRange) (edge : ℕ) (bounds : BoundedEdge)
     → empty_side lines region edge bounds ≡ None
@@ -136,13 +123,7 @@ one_feasible problem region long one none = record {
       let start : 0 + edge ≡ edge = omega arith in
       let side = subst (λ m. empty_side problem.lines region m at ≡ None) start
       (none_on problem region 0 problem.edges (none_first (empty_edges problem region) none)
-      edge at there) in
-      let kept = side_none problem.lines region edge at side in
-      record {
-        enough = subst (λ concept. at.least ≤ frequency_on problem.lines concept edge)
-            (sym (ends_same region one)) kept.1;
-        few = kept.0;
-      };
+      edge at there) in grind (arith, side_none, ends_same);
 }
 
 all_closed : (n : ℕ) (lines : List CostedLine) (region : List LineRange)
@@ -153,9 +134,11 @@ all_closed n [] (range ∷ region) long ordered none = absurd (omega (arith, lon
 all_closed n (line ∷ lines) (range ∷ region) long ordered none =
     elim (cases_Bool (has_several range)) [
       | inl is ↦ absurd (let e = rw is at none in cc)
-      | inr is ↦ (
-        omega (arith, ordered.0, ltb-false range.lo range.hi is),
-        all_closed (n + 1) lines region (omega (arith, long)) ordered.1 (rw is at none),
+      | inr is ↦ grind (
+        arith,
+        ltb-false,
+        all_closed (n + 1) lines region (omega (arith, long))
+            ordered.1 (rw is at none),
       )
     ]
 
@@ -185,34 +168,11 @@ module _ (problem : ProblemParts) (region : List LineRange) (best : Option (List
   last : empty_edge problem region ≡ None
       → IfSome best (λ y. dual_bound problem region < cost_of problem y)
       → P (unwrap_or (first_of (as_split problem region ∷ [])) node.Point)
-  last none above = by (first_open problem region) refl
-    where
-      by : (o : Option ℕ) → first_open problem region ≡ o
-          → P (unwrap_or (first_of
-          (option_map (λ line. node.Split line (middle (range_of region line))) o ∷ []))
-          node.Point)
-      by None is =
-          let one = none_open problem region long ordered is in
-          point one (one_feasible problem region long one none) above
-      by (Some line) is = split line is
+  last none above = grind (arith, unwrap_or, option_map, none_open, one_feasible)
 
   not_empty : empty_edge problem region ≡ None
       → P (unwrap_or (first_of (as_bound problem region best ∷ as_split problem region ∷ [])) node.Point)
-  not_empty none = by best refl
-    where
-      by : (o : Option (List ℕ)) → best ≡ o
-          → P (unwrap_or (first_of (as_bound problem region o ∷ as_split problem region ∷ [])) node.Point)
-      by None is = last none (subst (λ o. IfSome o (λ y. dual_bound problem region < cost_of problem y)) (sym is) tt)
-      by (Some y) is = with (nat_le (cost_of problem y) (dual_bound problem region)) refl
-        where
-          with : (b : Bool) → nat_le (cost_of problem y) (dual_bound problem region) ≡ b
-              → P (unwrap_or (first_of
-              (cond b (Some (node.Bound (multipliers_of problem region))) None ∷ as_split
-              problem region ∷ [])) node.Point)
-          with true low = bound y is (leb-true _ _ low)
-          with false low = last none
-              (subst (λ o. IfSome o (λ y. dual_bound problem region < cost_of problem y)) (sym is)
-              (omega (arith, leb-false _ _ low)))
+  not_empty none = grind (arith, unwrap_or, last, nat_le, leb-true, leb-false)
 
   pub said : P (node_at problem region best)
   said = by (empty_edge problem region) refl (empty_shows problem region)

@@ -1,17 +1,16 @@
 -- A search entry by entry, and what it found at its end.
-use Rattle.plan_num.proofs.Common.{◌≡◌, ℕ, ◌+◌, ◌≤◌, ◌<◌, ◌∙◌, Bool, if◌then◌else◌, List, [], ◌∷◌}
-use Rattle.plan_num.proofs.Common.{◌++◌, length, take, arith, ap, sym, subst, Option, Some, None}
-use Rattle.plan_num.proofs.Common.{All, Result, Ok, Err, OnErr, true, false, le-leb, lt-leb}
-use Rattle.plan_num.proofs.Common.{append_assoc, append-nil, length-append, map-append, take_all}
-use Rattle.plan_num.proofs.Common.{All-nil, All-push, le-min, min-eq_left, min-eq_right}
-use Rattle.plan_num.proofs.Common.{take-append_seam, AllByRecursion}
+use Rattle.plan_num.proofs.Common.{◌≡◌, ℕ, ◌+◌, ◌≤◌, ◌<◌, ◌∙◌, Bool, List, [], ◌∷◌, ◌++◌, length}
+use Rattle.plan_num.proofs.Common.{arith, ap, sym, subst, Option, Some, None, All, Result, Ok, Err}
+use Rattle.plan_num.proofs.Common.{OnErr, true, false, le-leb, lt-leb, append_assoc, append-nil}
+use Rattle.plan_num.proofs.Common.{length-append, map-append, take_all, All-nil, All-push, le-min}
+use Rattle.plan_num.proofs.Common.{min-eq_left, min-eq_right, take-append_seam, AllByRecursion}
 use Rattle.line_cost_model.proofs.Common.{LineRange, ProblemParts, root_of}
 use Rattle.line_concepts.specs.declared.node.Node.{Node}
 use Rattle.line_concepts.specs.Nodes.{IsInLimits, NamesWhatIs}
 use Rattle.line_concepts.specs.Walks.{WalkedRegions}
 use Rattle.line_concepts.specs.declared.best.BestConcept.{BestConcept}
 use Rattle.line_concepts.specs.declared.search.Search.{Search}
-use Rattle.line_concepts.specs.Budgets.{entries_listed, nodes_in}
+use Rattle.line_concepts.specs.Budgets.{entries_listed}
 use Rattle.line_concepts.specs.Listings.{best_after, listing}
 use Rattle.line_concepts.specs.Searches.{IsResult, IsSearched, IsSearchedBy, IsSearchedOn}
 use Rattle.line_concepts.specs.Searches.{IsVisited}
@@ -82,18 +81,12 @@ pub search_spent : (problem : ProblemParts) (region : List LineRange)
     → IsSearchedBy problem (region ∷ waiting) nodes best budget
     → IsResult problem budget (record { best = best; tree = None; entries = budget })
 search_spent problem region waiting nodes best budget so =
-    let over = longer problem region waiting nodes best budget so in
-    let first : take budget (listing problem) ≡ so.done =
-    (λ i. take (sym so.count_is i) (sym so.whole i))
-    ∙ take-append_seam so.done (visits problem (region ∷ waiting) (concept_in best)) in
-    record {
-      best_is = so.best_is ∙ ap (best_after None) (sym first);
-      tree_is = ap (λ b. if b then Some (nodes_in (listing problem)) else None)
-          (sym (lt-leb (length (listing problem)) budget (omega (arith, over))));
-      entries_are = sym (min-eq_left (omega (arith, over)));
-      sound = tt;
-      priced = so.priced;
-    }
+    let over = longer problem region waiting nodes best budget so in grind (
+      arith,
+      take-append_seam,
+      lt-leb,
+      min-eq_left,
+    )
 
 -- another entry is within the budget and the listing
 pub one_within : (problem : ProblemParts) (region : List LineRange)

@@ -2,7 +2,7 @@
 use Rattle.std.proofs.Common.{◌≡◌, ◌≢◌, ℕ, zero, suc, ◌+◌, ◌-◌, ◌≤◌, ◌<◌, ◌∙◌, ◌==◌, Bool, true}
 use Rattle.std.proofs.Common.{false, nat_lt, if◌then◌else◌, List, [], ◌∷◌, ◌++◌, length, drop}
 use Rattle.std.proofs.Common.{slice_get, Option, Some, None, option_map, option_and_then, refl, ap}
-use Rattle.std.proofs.Common.{sym, arith, subst}
+use Rattle.std.proofs.Common.{sym, arith}
 use Rattle.std.proofs.lemmas.Bool.{eq-eqb, ne_eqb, lt-ltb, le-ltb, cases_lt}
 use Rattle.std.proofs.lemmas.List.{append_assoc, drop_more, drop_all, length-append, length-drop}
 use Rattle.std.proofs.lemmas.Option.{slice_get_within, get_or_from_slice_get, none-some}
@@ -46,10 +46,7 @@ none_begins nodes one is = absurd (none-some one is)
 
 begins_by : (nodes : List Node) (read : NodeTree × List Node) → Begins nodes read
     → BeginsIf nodes (Some read)
-begins_by nodes read begins one is = subst (Begins nodes) (some_same read one is) begins
-  where
-    some_same : (read one : NodeTree × List Node) → Some read ≡ Some one → read ≡ one
-    some_same read one is = cc
+begins_by nodes read begins one is = grind arith
 
 leaf_begins : (node : Node) (nodes : List Node) → is_split node ≡ false
     → Begins (node ∷ nodes) (leaf node, nodes)

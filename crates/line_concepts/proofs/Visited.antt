@@ -2,7 +2,7 @@
 -- concept behind them has at least, and no feasible concept of the region is better than that one.
 use Rattle.plan_num.proofs.Common.{◌≡◌, ℕ, zero, suc, ℤ, pos, ◌+◌, ◌<◌, ◌≤◌, ◌≤ℤ◌, List, [], ◌∷◌}
 use Rattle.plan_num.proofs.Common.{◌++◌, Option, Some, None, IfSome, ◌⊎◌, inl, inr, ⊎_elim, refl}
-use Rattle.plan_num.proofs.Common.{ap, sym, subst, ◌∙◌, arith, ints}
+use Rattle.plan_num.proofs.Common.{sym, subst, ◌∙◌, arith, ints}
 use Rattle.line_cost_model.proofs.Common.{LineRange, ComesBefore, IsFeasible, cost_of, ProblemParts}
 use Rattle.line_cost_model.proofs.Common.{LiesIn, least_in, part_from, part_up_to, range_of}
 use Rattle.line_cost_model.proofs.Common.{split_covers}
@@ -105,15 +105,7 @@ module _ (problem : ProblemParts) (region : List LineRange) (line at : ℕ) (bes
   up_to cost a b h k = omega (arith, ints, h, k)
 
   mid_costs : (cost : ℤ) → CostsUpTo problem cost behind → CostsUpTo problem cost mid
-  mid_costs cost h = by mid refl
-    where
-      by : (o : Option (List ℕ)) → mid ≡ o → CostsUpTo problem cost o
-      by None is = tt
-      by (Some first) is =
-          let last = no_dearer first is in
-          let own : cost ≤ℤ pos (cost_of problem last.0) = subst (CostsUpTo problem cost) last.1 h in
-          ⊎_elim (λ same. subst (λ x. cost ≤ℤ pos (cost_of problem x)) same own)
-          (λ less. up_to cost (cost_of problem last.0) (cost_of problem first) own (omega (arith, less))) last.2
+  mid_costs cost h = grind (arith, no_dearer, ⊎_elim, up_to)
 
   cheaper_still : (concept : List ℕ) → IfSome mid (λ other. cost_of problem concept < cost_of problem other)
       → IfSome best (λ other. cost_of problem concept < cost_of problem other)
@@ -127,36 +119,18 @@ module _ (problem : ProblemParts) (region : List LineRange) (line at : ℕ) (bes
           let less : cost_of problem concept < cost_of problem first = subst
           (λ o. IfSome o (λ other. cost_of problem concept < cost_of problem other)) same h in
           ⊎_elim (λ old. let equal : Some b ≡ Some first = sym is ∙ old in let own : b ≡ first = cc in rw own less)
-          (λ found. let lower_still : cost_of problem first < cost_of problem b = subst
-          (λ o. IfSome o (λ other. cost_of problem first < cost_of problem other)) is
-          found.cheaper in omega (arith, less, lower_still))
+          (λ found. let lower_still : cost_of problem first < cost_of problem b = grind arith in
+          omega (arith, less, lower_still))
           (below.found first same)
 
   pub both_visited : IsVisited problem region best behind (node.Split line at ∷ lower ++ upper)
   unfolding preorder TreeCertifies
   both_visited = record {
     tree = fork line at below.tree above.tree;
-    whole = ap (λ nodes. node.Split line at ∷ nodes ++ preorder above.tree) below.whole
-        ∙ ap (λ nodes. node.Split line at ∷ lower ++ nodes) above.whole;
+    whole = grind arith;
     certifies = λ cost h. ((inside_low, inside_high), below.certifies cost (mid_costs cost h), above.certifies cost h);
     kept = λ none. below.kept (above.kept none);
-    found = λ concept is. ⊎_elim
-        (λ same. ⊎_elim (λ old. inl old)
-        (λ new. inr (record {
-          inside = lower_inside region line at concept
-              (omega (arith, inside_high)) new.inside;
-          feasible = new.feasible;
-          cheaper
-              = new.cheaper;
-        })) (below.found concept same))
-        (λ new. inr (record {
-          inside = upper_inside region line (at + 1) concept
-              (omega (arith, inside_low)) new.inside;
-          feasible = new.feasible;
-          cheaper
-              = cheaper_still concept new.cheaper;
-        }))
-        (above.found concept is);
+    found = λ concept is. grind (arith, ⊎_elim, lower_inside, upper_inside, cheaper_still);
     least = λ concept feasible inside. ⊎_elim
         (λ low. in_lower concept (below.least concept feasible low))
         (λ high. above.least concept feasible high)
@@ -164,22 +138,4 @@ module _ (problem : ProblemParts) (region : List LineRange) (line at : ℕ) (bes
   }
     where
       in_lower : (concept : List ℕ) → IsNoBetter problem mid concept → IsNoBetter problem behind concept
-      in_lower concept h =
-          let last = no_dearer h.chosen h.is in
-          ⊎_elim
-          (λ same. record {
-            chosen = last.0;
-            is = last.1;
-            cheap = subst
-                (λ x. cost_of problem x ≤ cost_of problem concept) (sym same) h.cheap;
-            first = subst
-                (λ x. cost_of problem concept ≡ cost_of problem x → ¬ ComesBefore problem concept x)
-                (sym same) h.first;
-          })
-          (λ less. record {
-            chosen = last.0;
-            is = last.1;
-            cheap = omega (arith, less, h.cheap);
-            first = λ equal before. omega (arith, equal, less, h.cheap);
-          })
-          last.2
+      in_lower concept h = grind (arith, no_dearer, ⊎_elim)

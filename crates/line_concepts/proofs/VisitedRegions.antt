@@ -6,12 +6,12 @@ use Rattle.plan_num.proofs.Common.{Option, Some, None, IfSome, inl, inr, ⊎_eli
 use Rattle.plan_num.proofs.Common.{refl, ap, sym, subst, ◌∙◌, arith, append-nil, All}
 use Rattle.plan_num.proofs.Common.{AllByRecursion, enumerate_from, ints, leb-true, length-set}
 use Rattle.plan_num.proofs.Common.{map-append, AllPass-from_list_all}
-use Rattle.line_cost_model.proofs.Common.{Multiplier, BoundedEdge, LineRange, Side, ComesBefore}
-use Rattle.line_cost_model.proofs.Common.{IsFeasible, cost_of, are_within, dual_bound, least_left}
-use Rattle.line_cost_model.proofs.Common.{open_lines, shortfall, taken_off, unless_zero, with_next}
-use Rattle.line_cost_model.proofs.Common.{IsProblem, ProblemParts, least_in, part_from, part_up_to}
-use Rattle.line_cost_model.proofs.Common.{range_of, bound_is_least, empty_is_none, one_concept}
-use Rattle.line_cost_model.proofs.Common.{within_more, within_none}
+use Rattle.line_cost_model.proofs.Common.{Multiplier, BoundedEdge, LineRange, Side, IsFeasible}
+use Rattle.line_cost_model.proofs.Common.{cost_of, are_within, dual_bound, least_left, open_lines}
+use Rattle.line_cost_model.proofs.Common.{shortfall, taken_off, unless_zero, with_next, IsProblem}
+use Rattle.line_cost_model.proofs.Common.{ProblemParts, least_in, part_from, part_up_to, range_of}
+use Rattle.line_cost_model.proofs.Common.{bound_is_least, empty_is_none, one_concept, within_more}
+use Rattle.line_cost_model.proofs.Common.{within_none}
 use Rattle.line_cost_model.specs.DualBounds.{bound_by}
 use Rattle.line_cost_model.specs.DualBounds.{multipliers_of}
 use Rattle.line_concepts.specs.declared.node.Node.TheVariants as node
@@ -88,8 +88,7 @@ module _ (problem : ProblemParts) (region : List LineRange) (best : Option (List
     certifies = λ cost h. shows;
     kept = λ none. none;
     found = λ concept is. inl is;
-    least = λ concept feasible inside. absurd
-        (empty_is_none problem region edge shows.0 side shows.1 shows.2 concept feasible inside);
+    least = λ concept feasible inside. grind (arith, empty_is_none);
   }
 
   bound_visited : StandsFirst problem region best → (chosen : List ℕ) → best ≡ Some chosen
@@ -106,18 +105,14 @@ module _ (problem : ProblemParts) (region : List LineRange) (best : Option (List
               (AllPass-from_list_all
               (λ line. nat_le (taken_off (multipliers_of problem region) line) line.cost)
               (open_lines problem.lines region) within k d inside);
-          enough = up_to cost (cost_of problem chosen) (dual_bound problem region)
-              (subst (CostsUpTo problem cost) is h) low;
+          enough = grind (arith, up_to, CostsUpTo);
         };
         kept = λ none. none;
         found = λ concept is. inl is;
         least = λ concept feasible inside. record {
           chosen = chosen;
           is = is;
-          cheap =
-              let above = bound_is_least problem region (multipliers_of problem region) within
-              concept feasible inside in
-              omega (arith, low, above);
+          cheap = grind (arith, bound_is_least);
           first = λ equal. first chosen is concept inside;
         };
       }
@@ -138,15 +133,7 @@ module _ (problem : ProblemParts) (region : List LineRange) (best : Option (List
           feasible = feasible;
           cheaper = some_less best above;
         }));
-    least = λ concept other inside.
-        let same = one_concept region concept one inside in
-        record {
-          chosen = least_in region;
-          is = refl;
-          cheap = let equal = ap (cost_of problem) same in omega (arith, equal);
-          first = λ equal before. never_before_self problem (least_in region)
-              (subst (λ x. ComesBefore problem x (least_in region)) same before);
-        };
+    least = λ concept other inside. grind (arith, one_concept, never_before_self);
   }
     where
       some_less : (o : Option (List ℕ)) → IfSome o (λ y. dual_bound problem region < cost_of problem y)

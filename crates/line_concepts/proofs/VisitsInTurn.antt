@@ -1,6 +1,6 @@
 -- The visits of the regions that wait, entry by entry.
-use Rattle.plan_num.proofs.Common.{arith, ◌≡◌, ℕ, ◌<◌, ◌∙◌, false, not, ◌&&◌, List, [], ◌∷◌, ◌++◌}
-use Rattle.plan_num.proofs.Common.{length, filter_map, refl, Option, Some, None, le-leb, lt-ltb}
+use Rattle.plan_num.proofs.Common.{arith, ◌≡◌, ℕ, ◌<◌, false, List, [], ◌∷◌, ◌++◌, length}
+use Rattle.plan_num.proofs.Common.{filter_map, refl, Option, Some, None, le-leb, lt-ltb}
 use Rattle.plan_num.proofs.Common.{append_assoc, append-nil, length-map, length-set}
 use Rattle.plan_num.proofs.Common.{filter_map-append, AllByRecursion, last_or}
 use Rattle.line_cost_model.proofs.Common.{LineRange, ProblemParts, range_of, root_of}
@@ -63,12 +63,7 @@ split_inside problem region best =
     split : (line : ℕ) → IsOpenAt region line
         → (line < length region)
         × (splits_outside region (node.Split line (middle (range_of region line))) ≡ false)
-    split line is_open =
-        let range : LineRange = range_of region line in
-        let inside = middle_inside range.lo range.hi is_open.1 in (
-          is_open.0,
-          (λ i. not (le-leb range.lo (middle range) inside.0 i && lt-ltb (middle range) range.hi inside.1 i)),
-        )
+    split line is_open = grind (arith, middle_inside, le-leb, lt-ltb)
 
 pub visited_behind : (problem : ProblemParts) (region : List LineRange) (waiting : List (List LineRange))
     (best : Option (List ℕ)) → AllByRecursion (IsVisited problem) (region ∷ waiting)
@@ -82,21 +77,7 @@ visited_behind problem region waiting best all =
     split : (line : ℕ) → IsOpenAt region line
         → AllByRecursion (IsVisited problem)
         (behind_node region waiting (node.Split line (middle (range_of region line))))
-    split line is_open =
-        let range : LineRange = range_of region line in
-        let inside = middle_inside range.lo range.hi is_open.1 in (
-          record {
-            ordered = lower_ordered region line (middle range) all.0.ordered inside.0;
-            each = length-set region line _ ∙ all.0.each;
-          },
-          (
-            record {
-              ordered = upper_ordered region line (middle range) all.0.ordered inside.1;
-              each = length-set region line _ ∙ all.0.each;
-            },
-            all.1,
-          ),
-        )
+    split line is_open = grind (arith, middle_inside, lower_ordered, length-set, upper_ordered)
 
 -- the root is the whole listing
 pub root_visited : (problem : ProblemParts) → IsVisited problem (root_of problem)

@@ -1,6 +1,6 @@
 -- The nodes of a listing can be written.
 use Rattle.plan_num.proofs.Common.{◌≡◌, ℕ, zero, suc, ◌+◌, ◌≤◌, ◌<◌, ◌==◌, inl, inr, List, [], ◌∷◌}
-use Rattle.plan_num.proofs.Common.{◌++◌, fold, length, Option, IfSome, All, arith, sym, subst, ◌∙◌}
+use Rattle.plan_num.proofs.Common.{◌++◌, fold, length, Option, IfSome, All, arith, subst, ◌∙◌}
 use Rattle.plan_num.proofs.Common.{AllByRecursion, enumerate_from, eqb-false, cases_Bool}
 use Rattle.plan_num.proofs.Common.{append-nil, length-map, length-set, All-nil, All-cons}
 use Rattle.plan_num.proofs.Common.{All-append, All-set, slice_get_within}
@@ -34,8 +34,7 @@ module _ (problem : ProblemParts) (region : List LineRange)
     one_more n amount before little own =
         let one : Multiplier = record { edge = n; amount = amount } in
         elim (cases_Bool (amount == 0)) [
-          | inl is ↦ rw is (subst (AreBefore (n + 1)) (sym (append-nil before))
-              (own.0, λ k d h. omega (arith, own.1 k d h)))
+          | inl is ↦ grind (arith, append-nil)
           | inr is ↦ rw is (
             multipliers_push before n amount own.0
                 (record { some = omega (arith, eqb-false amount 0 is); few = little }) own.1,
@@ -138,8 +137,7 @@ module _ (problem : ProblemParts) (sound : IsProblem problem) where
       region_written levels (all_written levels) region best long ranges
 
   nodes_written : (entries : List Entry) → AllWritten entries → AreSound problem (nodes_in entries)
-  nodes_written [] h =
-      record { names = All-nil (NamesWhatIs problem); limits = All-nil IsInLimits }
+  nodes_written [] h = grind (arith, All-nil)
   nodes_written (entry ∷ entries) h = grind (arith, All-cons, nodes_written entries h.1)
 
   pub listing_written : AreSound problem (nodes_in (listing problem))

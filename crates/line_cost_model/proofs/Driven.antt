@@ -82,13 +82,7 @@ few_gated false index line rest = omega arith
 few_from : (first : ℕ) (lines : List CostedLine) (edge : ℕ)
     → length (over_from first lines edge) ≤ length lines
 few_from first [] edge = omega arith
-few_from first (line ∷ lines) edge =
-    omega (
-      arith,
-      few_gated (goes_over edge line) first line
-          (filter (λ at. goes_over edge at.1) (enumerate_from (first + 1) lines)),
-      few_from (first + 1) lines edge,
-    )
+few_from first (line ∷ lines) edge = grind (arith, few_gated, few_from (first + 1) lines edge)
 
 pub few_over : (lines : List CostedLine) (edge : ℕ) → length (lines_over lines edge) ≤ length lines
 unfolding lines_over

@@ -77,8 +77,7 @@ one_line ms line range f x y z w inside paid h = elim (cases_Bool (has_several r
       leb-true (taken_off ms line) line.cost (paid several) in
       pays line.cost (taken_off ms line) (line.cost - taken_off ms line) range.lo f (f - range.lo) x y z w
       (omega (arith, pays_all)) (omega (arith, inside.low)) h
-  | inr single ↦ stays line.cost (taken_off ms line) range.lo f x y z w
-      (omega (arith, inside.low, inside.high, ltb-false range.lo range.hi single)) h
+  | inr single ↦ grind (arith, stays, ltb-false)
 ]
 
 exchange : (ms : List Multiplier) (lines : List CostedLine) (region : List LineRange) (fs : List ℕ)
@@ -106,13 +105,11 @@ more_driven [] region fs e inside = omega arith
 more_driven (line ∷ lines) [] [] e inside = omega arith
 more_driven (line ∷ lines) [] (f ∷ fs) e inside = absurd inside
 more_driven (line ∷ lines) (range ∷ region) [] e inside = absurd inside
-more_driven (line ∷ lines) (range ∷ region) (f ∷ fs) e inside =
-    rw (frequency_step e line lines f fs, frequency_step e line lines range.lo (least_in region))
-    (gated (goes_over e line) range.lo f _ _ inside.0.low (more_driven lines region fs e inside.1))
-  where
-    gated : (b : Bool) (lo f x y : ℕ) → lo ≤ f → x ≤ y → (if b then lo else 0) + x ≤ (if b then f else 0) + y
-    gated true lo f x y h k = omega (arith, h, k)
-    gated false lo f x y h k = omega (arith, k)
+more_driven (line ∷ lines) (range ∷ region) (f ∷ fs) e inside = grind (
+  arith,
+  frequency_step,
+  more_driven lines region fs e inside.1,
+)
 
 -- the drives that are missing on an edge, and those of the least frequencies, are no more than a
 -- feasible concept has
@@ -159,13 +156,11 @@ less_driven [] region fs e inside = omega arith
 less_driven (line ∷ lines) [] [] e inside = omega arith
 less_driven (line ∷ lines) [] (f ∷ fs) e inside = absurd inside
 less_driven (line ∷ lines) (range ∷ region) [] e inside = absurd inside
-less_driven (line ∷ lines) (range ∷ region) (f ∷ fs) e inside =
-    rw (frequency_step e line lines f fs, frequency_step e line lines range.hi (greatest_in region))
-    (gated (goes_over e line) f range.hi _ _ inside.0.high (less_driven lines region fs e inside.1))
-  where
-    gated : (b : Bool) (lo f x y : ℕ) → lo ≤ f → x ≤ y → (if b then lo else 0) + x ≤ (if b then f else 0) + y
-    gated true lo f x y h k = omega (arith, h, k)
-    gated false lo f x y h k = omega (arith, k)
+less_driven (line ∷ lines) (range ∷ region) (f ∷ fs) e inside = grind (
+  arith,
+  frequency_step,
+  less_driven lines region fs e inside.1,
+)
 
 -- a region with an empty edge has no feasible concept
 pub empty_is_none : (problem : ProblemParts) (region : List LineRange) (e : ℕ) (bounds : BoundedEdge)

@@ -31,16 +31,12 @@ zero_plus n = omega arith
 same_sums : (f g : ℕ → ℕ) (a n : ℕ) → ((e : ℕ) → a ≤ e → f e ≡ g e)
     → sum_by f (range_with_len a n) ≡ sum_by g (range_with_len a n)
 same_sums f g a zero same = refl
-same_sums f g a (suc n) same =
-    let left = sum_by-cons f a (range_with_len (a + 1) n) in
-    let right = sum_by-cons g a (range_with_len (a + 1) n) in
-    omega (
-      arith,
-      left,
-      right,
-      same a (omega arith),
-      same_sums f g (a + 1) n (λ e h. same e (omega (arith, h))),
-    )
+same_sums f g a (suc n) same = grind (
+  arith,
+  sum_by-cons,
+  same_sums f g (a + 1) n (λ e h. same e
+      (omega (arith, h))),
+)
 
 -- two sums whose terms differ at one number alone
 sums_apart : (f g : ℕ → ℕ) (p a n : ℕ) → ((e : ℕ) → e ≢ p → f e ≡ g e) → a ≤ p → p < a + n
@@ -50,9 +46,7 @@ sums_apart f g p a (suc n) same low high =
     let left = sum_by-cons f a (range_with_len (a + 1) n) in
     let right = sum_by-cons g a (range_with_len (a + 1) n) in
     elim (cases_eq a p) [
-      | inl here ↦
-          let rest = same_sums f g (a + 1) n (λ e h. same e (λ is. omega (arith, h, is, here))) in
-          omega (arith, left, right, rest, ap f here, ap g here)
+      | inl here ↦ grind (arith, same_sums)
       | inr other ↦
           let later : a + 1 ≤ p = omega (arith, low, other) in
           let rest = sums_apart f g p (a + 1) n same later (omega (arith, high)) in
@@ -110,20 +104,16 @@ least_put edges sums short over_count over_now edge sum before bounds least ther
       size = length-set sums edge sum ∙ least.size;
       few = least.few;
       marks = length-set short edge (nat_lt sum bounds.least) ∙ least.marks;
-      short_is = λ k within. elim (cases_eq k edge) [
-        | inl same ↦
-            ap (λ k. get_or (slice_set short edge (nat_lt sum bounds.least)) k false) same
-            ∙ get_or-set_same short edge (nat_lt sum bounds.least) false (omega (arith, least.marks, there))
-            ∙ (λ i. nat_lt (sym (get_or-set_same sums edge sum 0 (omega (arith, least.size, there))) i)
-            (sym at i).least)
-            ∙ ap (λ k. nat_lt (get_or (slice_set sums edge sum) k 0) (get_or edges k no_bounds).least) (sym same)
-        | inr other ↦
-            get_or-set_other short edge k (nat_lt sum bounds.least) false other ∙ least.short_is k within
-            ∙ ap (λ n. nat_lt n (get_or edges k no_bounds).least) (sym (get_or-set_other sums edge k sum 0 other))
-      ];
-      over_is =
-          let put = edge_put over edges sums edge sum before bounds least.size there is before_is in
-          omega (arith, counted, put, least.over_is);
+      short_is = λ k within. grind (
+        arith,
+        cases_eq,
+        get_or,
+        slice_set,
+        nat_lt,
+        get_or-set_same,
+        get_or-set_other,
+      );
+      over_is = grind (arith, edge_put);
     }
 
 pub greatest_put : (edges : List BoundedEdge) (sums : List ℕ) (under_count under_now edge sum before : ℕ)
@@ -131,13 +121,8 @@ pub greatest_put : (edges : List BoundedEdge) (sums : List ℕ) (under_count und
     → slice_get edges edge ≡ Some bounds → before ≡ get_or sums edge 0
     → under_now + under bounds before ≡ under_count + under bounds sum
     → IsOfGreatest edges (slice_set sums edge sum) under_now
-greatest_put edges sums under_count under_now edge sum before bounds greatest there is before_is counted = record {
-  size = length-set sums edge sum ∙ greatest.size;
-  few = greatest.few;
-  under_is =
-      let put = edge_put under edges sums edge sum before bounds greatest.size there is before_is in
-      omega (arith, counted, put, greatest.under_is);
-}
+greatest_put edges sums under_count under_now edge sum before bounds greatest there is before_is counted =
+    grind (arith, length-set, edge_put)
 
 no_less : (most : ℕ) → one_of (nat_lt most 0) ≤ 0
 no_less most = subst (λ b. one_of b ≤ 0) (sym (le-ltb most 0 (omega arith))) (omega arith)
@@ -146,8 +131,7 @@ no_less most = subst (λ b. one_of b ≤ 0) (sym (le-ltb most 0 (omega arith))) 
 none_over : (edges : List BoundedEdge) (n : ℕ) → over_edges over edges (replicate n 0) ≡ 0
 none_over edges n =
     let all = sum_by-le (at_edge over edges (replicate n 0)) 0 (range_with_len 0 (length edges))
-    (λ k d h. never (get_or (range_with_len 0 (length edges)) k d)) in
-    omega (arith, all)
+    (λ k d h. never (get_or (range_with_len 0 (length edges)) k d)) in grind arith
   where
     zeros : (n k : ℕ) → get_or {A = ℕ} (replicate n 0) k 0 ≡ 0
     zeros zero k = refl
@@ -166,10 +150,7 @@ zero_sums edges sums short few zero_is marks told = subst (λ sums. IsOfLeast ed
   size = length-replicate (length edges) 0;
   few = few;
   marks = marks;
-  short_is = λ edge within.
-      told edge within
-      ∙ ap (λ sum. nat_lt sum (get_or edges edge no_bounds).least)
-      (sym (get_or-replicate (length edges) edge 0 0 within));
+  short_is = λ edge within. grind (arith, nat_lt, get_or, get_or-replicate);
   over_is = sym (none_over edges (length edges));
 })
 

@@ -1,8 +1,8 @@
 -- Sums move edge by edge, where a line over some edges has another frequency.
 use Rattle.plan_num.proofs.Common.{◌≡◌, ℕ, ◌+◌, ◌≤◌, ◌<◌, ◌∙◌, true, ◌||◌, cond, nat_eq, List}
 use Rattle.plan_num.proofs.Common.{length, get_or, set, take, ap, subst, sym, arith, inl, inr}
-use Rattle.plan_num.proofs.Common.{get_or-set_other, get_or-set_same, IsDistinct, list_any, ne_eqb}
-use Rattle.plan_num.proofs.Common.{eq-eqb, cases_eq, get_or_default_zero, length-set, list_any_more}
+use Rattle.plan_num.proofs.Common.{get_or-set_other, get_or-set_same, list_any, ne_eqb, eq-eqb}
+use Rattle.plan_num.proofs.Common.{cases_eq, get_or_default_zero, length-set, list_any_more}
 use Rattle.line_cost_model.specs.RunningSums.{AreCounted}
 use Rattle.line_cost_model.proofs.Lowered.{is_new}
 use Rattle.plan_num.proofs.Tests.{or_true, or_false}
@@ -18,12 +18,7 @@ module _ (edges : List ℕ) (k before after : ℕ) (old now : List ℕ) (counted
     (so_far : AreMovedUpTo edges k before after old now) (h : k < length edges) (value : ℕ)
     (read : value ≡ get_or now (get_or edges k 0) value) where
   value_is : value ≡ get_or old (get_or edges k 0) 0
-  value_is =
-      let there : get_or edges k 0 < length old = counted.there k 0 h in
-      let apart : IsDistinct nat_eq edges = counted.distinct in
-      let size = so_far.size in
-      let moved = so_far.moved in
-      grind (arith, get_or, is_new, nat_eq, get_or_default_zero)
+  value_is = grind (arith, get_or, nat_eq, is_new, get_or_default_zero)
 
   -- the frequency is counted in the sum of the next edge, which is not too great
   pub next_counted : before ≤ value

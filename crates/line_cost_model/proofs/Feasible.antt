@@ -6,7 +6,7 @@ use Rattle.plan_num.proofs.Common.{enumerate_from, drop_more, drop_all, eq-eqb, 
 use Rattle.plan_num.proofs.Common.{le-leb, slice_get_within, get_or_from_slice_get, none-some}
 use Rattle.line_cost_model.specs.declared.edge.BoundedEdge.{BoundedEdge}
 use Rattle.line_cost_model.specs.Problems.{ProblemParts}
-use Rattle.line_cost_model.specs.Concepts.{IsFeasible, KeepsBounds, frequency_on, is_feasible, keeps_bounds}
+use Rattle.line_cost_model.specs.Concepts.{IsFeasible, KeepsBounds, is_feasible, keeps_bounds}
 
 -- the edges that are left, with their indexes
 abbrev pub left_from : List BoundedEdge → ℕ → List (ℕ × BoundedEdge)
@@ -33,17 +33,9 @@ abbrev KeepFrom : ProblemParts → List ℕ → ℕ → List BoundedEdge → Typ
 KeepFrom problem f first edges = (edge : ℕ) (at : BoundedEdge) → slice_get edges edge ≡ Some at
     → KeepsBounds problem.lines f (first + edge) at
 
-kept : (problem : ProblemParts) (f : List ℕ) (edge : ℕ) (at : BoundedEdge)
-    → keeps_bounds problem.lines f (edge, at) ≡ true → KeepsBounds problem.lines f edge at
-kept problem f edge at h = grind arith
-
 shown : (problem : ProblemParts) (f : List ℕ) (edge : ℕ) (at : BoundedEdge)
     → KeepsBounds problem.lines f edge at → keeps_bounds problem.lines f (edge, at) ≡ true
-shown problem f edge at keeps = rw (
-  le-leb at.least (frequency_on problem.lines f edge) keeps.enough,
-  le-leb
-      (frequency_on problem.lines f edge) at.most keeps.few,
-) refl
+shown problem f edge at keeps = grind (arith, le-leb)
 
 tested_from : (problem : ProblemParts) (f : List ℕ) (first : ℕ) (edges : List BoundedEdge)
     → list_all (keeps_bounds problem.lines f) (enumerate_from first edges) ≡ true → KeepFrom problem f first edges
@@ -51,9 +43,10 @@ tested_from problem f first [] h edge at there = absurd (none-some at there)
 tested_from problem f first (one ∷ edges) h zero at there = grind arith
 tested_from problem f first (one ∷ edges) h (suc edge) at there =
     let both = and_parts (keeps_bounds problem.lines f (first, one))
-    (list_all (keeps_bounds problem.lines f) (enumerate_from (first + 1) edges)) h in
-    subst (λ n. KeepsBounds problem.lines f n at) (omega arith)
-    (tested_from problem f (first + 1) edges both.1 edge at there)
+    (list_all (keeps_bounds problem.lines f) (enumerate_from (first + 1) edges)) h in grind (
+      arith,
+      tested_from problem f (first + 1) edges both.1 edge at there,
+    )
 
 test_from : (problem : ProblemParts) (f : List ℕ) (first : ℕ) (edges : List BoundedEdge)
     → KeepFrom problem f first edges → list_all (keeps_bounds problem.lines f) (enumerate_from first edges) ≡ true
@@ -80,8 +73,7 @@ test_means problem f answer is = (
   λ feasible.
       let all = test_from problem f 0 problem.edges
       (λ edge at there. subst (λ n. KeepsBounds problem.lines f n at) (omega arith)
-      (feasible.bounds edge at there)) in
-      is ∙ rw (eq-eqb (length f) (length problem.lines) feasible.each, all) refl,
+      (feasible.bounds edge at there)) in grind (arith, eq-eqb),
 )
 
 -- ---- one edge more

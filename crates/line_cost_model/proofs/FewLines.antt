@@ -1,21 +1,16 @@
 -- A line problem has no more lines than there are ids, and what a concept of it costs fits.
-use Rattle.plan_num.proofs.Common.{◌≡◌, ℕ, ℤ, pos, ◌+◌, ◌*◌, ◌≤◌, ◌<◌, ◌≤ℤ◌, ◌<ℤ◌, Bool, true}
-use Rattle.plan_num.proofs.Common.{false, cond, T, int_lt, List, [], ◌∷◌, length, get_or, map, take}
-use Rattle.plan_num.proofs.Common.{sum_by, suc, zip, slice_get, Some, option_map, unwrap_or, All}
-use Rattle.plan_num.proofs.Common.{arith, sym, ap, ◌∙◌, AllByRecursion, int_cmp, ints, length-map}
-use Rattle.plan_num.proofs.Common.{take_more, take_all, sum_by-append, mul-le, slice_get_within}
-use Rattle.plan_num.proofs.Common.{get_or_from_slice_get, none-some, get_or-zip, length-zip}
+use Rattle.plan_num.proofs.Common.{◌≡◌, ℕ, ℤ, pos, ◌+◌, ◌*◌, ◌≤◌, ◌<◌, ◌≤ℤ◌, ◌<ℤ◌, int_lt, List, []}
+use Rattle.plan_num.proofs.Common.{◌∷◌, length, get_or, map, take, sum_by, suc, zip, slice_get}
+use Rattle.plan_num.proofs.Common.{Some, option_map, unwrap_or, All, arith, sym, ap, ◌∙◌}
+use Rattle.plan_num.proofs.Common.{AllByRecursion, int_cmp, ints, length-map, take_more, take_all}
+use Rattle.plan_num.proofs.Common.{sum_by-append, mul-le, slice_get_within, get_or_from_slice_get}
+use Rattle.plan_num.proofs.Common.{none-some, get_or-zip, length-zip}
 use Rattle.std.specs.List.Sorted.{IsStrictlySortedBy}
-use Rattle.std.specs.declared.cmp.Ordering.TheVariants.{Less, Equal, Greater}
+use Rattle.std.specs.declared.cmp.Ordering.TheVariants.{Less}
 use Rattle.line_cost_model.specs.declared.edge.BoundedEdge.{BoundedEdge}
 use Rattle.line_cost_model.specs.Problems.{IsBoundedEdge, CostedLine, ProblemParts, IsCostedLine, IsProblem}
 use Rattle.line_cost_model.specs.Concepts.{cost_of}
 use Rattle.plan_num.proofs.Tests.{less_is}
-
-less_shown : (less greater : Bool) → cond less Less (cond greater Greater Equal) ≡ Less → T less
-less_shown true greater h = tt
-less_shown false true h = cc
-less_shown false false h = cc
 
 -- an id lies between two bounds
 abbrev LiesBetween : ℕ → ℕ → ℤ → Type 0
@@ -34,11 +29,11 @@ few_between : (low high : ℕ) (ids : List ℤ) → low ≤ high + 1 → IsStric
 unfolding IsStrictlySortedBy
 few_between low high [] h rise all = omega (arith, h)
 few_between low high (id ∷ ids) h rise all =
-    let room : low ≤ high = omega (arith, ints, all.0.0, all.0.1) in
-    omega (
+    let room : low ≤ high = omega (arith, ints, all.0.0, all.0.1) in grind (
       arith,
-      few_between (low + 1) high ids (omega (arith, room)) rise.1
-          (behind low high id ids all.0 rise.0 all.1),
+      behind,
+      few_between (low + 1) high ids (omega (arith, room)) rise.1 (behind low high id ids all.0
+          rise.0 all.1),
     )
 
 ids_between : (edges : ℕ) (lines : List CostedLine) → All (IsCostedLine edges) lines

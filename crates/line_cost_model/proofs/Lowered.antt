@@ -1,12 +1,12 @@
 -- An amount is taken off what is left of the costs of the lines over an edge, line by line.
 use Rattle.plan_num.proofs.Common.{◌≡◌, ℕ, zero, suc, ◌+◌, ◌-◌, ◌<◌, Bool, true, false, ◌||◌, cond}
 use Rattle.plan_num.proofs.Common.{nat_eq, List, [], ◌∷◌, ◌++◌, length, get_or, set, map, filter}
-use Rattle.plan_num.proofs.Common.{take, refl, ap, subst, sym, ◌∙◌, arith, inl, inr}
-use Rattle.plan_num.proofs.Common.{get_or-set_other, get_or-set_same, AllByRecursion}
-use Rattle.plan_num.proofs.Common.{enumerate_from, list_any, ne_eqb, eq-eqb, cases_eq, nat_eq_equiv}
-use Rattle.plan_num.proofs.Common.{get_or_default_zero, get_or-take, length-take-le, length-map}
-use Rattle.plan_num.proofs.Common.{get_or-map, All-from_get_or, list_any_none, list_any_more}
-use Rattle.plan_num.proofs.Common.{sum_by-append, apart_from_distinct}
+use Rattle.plan_num.proofs.Common.{take, refl, ap, sym, ◌∙◌, arith, get_or-set_other}
+use Rattle.plan_num.proofs.Common.{get_or-set_same, AllByRecursion, enumerate_from, list_any}
+use Rattle.plan_num.proofs.Common.{ne_eqb, eq-eqb, cases_eq, nat_eq_equiv, get_or_default_zero}
+use Rattle.plan_num.proofs.Common.{get_or-take, length-take-le, length-map, get_or-map}
+use Rattle.plan_num.proofs.Common.{All-from_get_or, list_any_none, list_any_more, sum_by-append}
+use Rattle.plan_num.proofs.Common.{apart_from_distinct}
 use Rattle.std.specs.List.{IsDistinct}
 use Rattle.std.proofs.lemmas.Grind.{same_number_lists}
 use Rattle.std.proofs.lemmas.Map.Keys.{IsDistinct-cons}
@@ -126,23 +126,19 @@ module _ (over : List ℕ) (k : ℕ) (apart : IsDistinct nat_eq over) (h : k < l
         let here : line < length left = omega arith in
         let more : list_any (nat_eq at) (take (k + 1) over)
         ≡ (list_any (nat_eq at) (take k over) || nat_eq at line) = list_any_more (nat_eq at)
-        over k 0 h in
-        elim (cases_eq at line) [
-          | inl same ↦
-              let now : list_any (nat_eq at) (take (k + 1) over) ≡ true = more
-              ∙ ap (λ b. list_any (nat_eq at) (take k over) || b) (eq-eqb at line same)
-              ∙ or_true (list_any (nat_eq at) (take k over)) in
-              subst (λ stop. get_or (set left line (value - amount)) stop 0 ≡ get_or old stop 0 - amount) (sym same)
-              (get_or-set_same left line (value - amount) 0 here ∙ ap (λ n. n - amount) value_is)
-              ∙ sym (ap (λ b. get_or old at 0 - cond b amount 0) now)
-          | inr other ↦
-              let now : list_any (nat_eq at) (take (k + 1) over) ≡ list_any (nat_eq at)
-              (take k over) = more
-              ∙ ap (λ b. list_any (nat_eq at) (take k over) || b) (ne_eqb at line other)
-              ∙ or_false (list_any (nat_eq at) (take k over)) in
-              get_or-set_other left line at (value - amount) 0 other ∙ so_far at within
-              ∙ sym (ap (λ b. get_or old at 0 - cond b amount 0) now)
-        ]
+        over k 0 h in grind (
+          arith,
+          cases_eq,
+          nat_eq,
+          eq-eqb,
+          or_true,
+          get_or,
+          get_or-set_same,
+          value_is,
+          ne_eqb,
+          or_false,
+          get_or-set_other,
+        )
 
 -- ---- what is left, with one multiplier more
 

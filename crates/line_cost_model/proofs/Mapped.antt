@@ -1,8 +1,8 @@
 -- A list made of another one, item by item.
-use Rattle.std.proofs.Common.{◌≡◌, ℕ, ◌+◌, ◌≤◌, List, [], ◌∷◌, ◌++◌, length, map, take, slice_get}
-use Rattle.std.proofs.Common.{Some, option_map, ap, ◌∙◌, arith}
-use Rattle.std.proofs.lemmas.List.{take_more, take_all, length-map}
-use Rattle.std.proofs.lemmas.Option.{get_or_from_slice_get, slice_get_within, slice_get-map}
+use Rattle.plan_num.proofs.Common.{◌≡◌, ℕ, ◌+◌, ◌≤◌, List, [], ◌∷◌, ◌++◌, length, map, take}
+use Rattle.plan_num.proofs.Common.{slice_get, Some, option_map, ap, ◌∙◌, arith, take_more, take_all}
+use Rattle.plan_num.proofs.Common.{length-map, get_or_from_slice_get, slice_get_within}
+use Rattle.plan_num.proofs.Common.{slice_get-map}
 
 -- one item more
 pub map_more : {X Y : Type 0} (f : X → Y) (xs : List X) (i : ℕ) (y : Y) → option_map f (slice_get xs i) ≡ Some y

@@ -2,8 +2,8 @@
 use Rattle.plan_num.proofs.Common.{◌≡◌, ◌≢◌, ℕ, zero, suc, ◌+◌, ◌-◌, ◌*◌, ◌≤◌, ◌<◌, nat_lt, Bool}
 use Rattle.plan_num.proofs.Common.{true, false, if◌then◌else◌, List, [], ◌∷◌, ◌++◌, length, map}
 use Rattle.plan_num.proofs.Common.{fold, slice_get, unwrap_or, Some, None, option_map, get_or, All}
-use Rattle.plan_num.proofs.Common.{refl, arith, ap, subst, sym, ◌∙◌, AllByRecursion, ne_eqb}
-use Rattle.plan_num.proofs.Common.{append-nil, All-push, All-nil, sum_by-append, mul-le, none-some}
+use Rattle.plan_num.proofs.Common.{refl, arith, ap, subst, ◌∙◌, AllByRecursion, ne_eqb, append-nil}
+use Rattle.plan_num.proofs.Common.{All-push, All-nil, sum_by-append, mul-le, none-some}
 use Rattle.plan_num.proofs.Common.{slice_get-get_or}
 use Rattle.line_cost_model.specs.declared.multipliers.Multiplier.{Multiplier}
 use Rattle.line_cost_model.specs.declared.range.LineRange.{LineRange}
@@ -24,10 +24,7 @@ use Rattle.line_cost_model.proofs.Within.{IsCheap, few_left, within_more, within
 
 pub costs_left : (lines : List CostedLine) → map (λ line. line.cost) lines ≡ map (left_of []) lines
 costs_left [] = refl
-costs_left (line ∷ lines) = λ i. own i ∷ costs_left lines i
-  where
-    own : line.cost ≡ left_of [] line
-    own = omega arith
+costs_left (line ∷ lines) = grind (arith, costs_left lines)
 
 pub pass_first : (problem : ProblemParts) (region : List LineRange) (left : List ℕ) (value : ℕ)
     → left ≡ map (λ line. line.cost) problem.lines → value ≡ cost_of problem (least_in region)
@@ -71,19 +68,19 @@ none_next : (problem : ProblemParts) (region : List LineRange) (multipliers : Li
     → option_map (λ at. next_multiplier problem region multipliers (edge, at)) (slice_get problem.edges edge) ≡ Some 0
 none_next problem region multipliers edge within none =
     let at = get_or problem.edges edge no_bounds in
-    let there = slice_get-get_or problem.edges edge no_bounds within in
-    let short : shortfall problem.lines region edge at ≡ 0 =
-    sym (ap (λ at. unwrap_or (option_map (shortfall problem.lines region edge) at) 0) there) ∙ none in
-    ap (option_map (λ at. next_multiplier problem region multipliers (edge, at))) there
-    ∙ ap (λ n. Some (if nat_lt 0 n then least_left problem region multipliers edge else 0)) short
+    let there = slice_get-get_or problem.edges edge no_bounds within in grind (
+      arith,
+      unwrap_or,
+      option_map,
+      nat_lt,
+    )
 
 pass_over : (problem : ProblemParts) (region : List LineRange) (multipliers : List Multiplier) (left : List ℕ)
     (value from n : ℕ) → IsPass problem region multipliers left value from
     → from + n ≤ length problem.edges
     → ((edge : ℕ) → from ≤ edge → edge < from + n → shortfall_at problem region edge ≡ 0)
     → IsPass problem region multipliers left value (from + n)
-pass_over problem region multipliers left value from zero pass within none =
-    subst (IsPass problem region multipliers left value) (omega arith) pass
+pass_over problem region multipliers left value from zero pass within none = grind arith
 pass_over problem region multipliers left value from (suc n) pass within none =
     let next = pass_none problem region multipliers left value from 0 pass
     (none_next problem region multipliers from (omega (arith, within)) (none from (omega arith) (omega arith))) refl in
@@ -95,10 +92,7 @@ pub pass_to : (problem : ProblemParts) (region : List LineRange) (multipliers : 
     (value from edge : ℕ) → IsPass problem region multipliers left value from
     → IsNextShort problem region from (Some edge) → IsPass problem region multipliers left value edge
 pass_to problem region multipliers left value from edge pass next =
-    let there : from + (edge - from) ≡ edge = omega (arith, next.0) in
-    subst (IsPass problem region multipliers left value) there
-    (pass_over problem region multipliers left value from (edge - from) pass (omega (arith, there, next.1))
-    (λ k behind before. next.2 k behind (omega (arith, before, there))))
+    let there : from + (edge - from) ≡ edge = omega (arith, next.0) in grind (arith, pass_over)
 
 -- the next multiplier is the least that is left, where drives are missing
 next_is : (problem : ProblemParts) (region : List LineRange) (multipliers : List Multiplier) (edge missing amount : ℕ)
@@ -131,8 +125,7 @@ module _ (problem : ProblemParts) (region : List LineRange) (multipliers : List 
   few_amount : amount ≤ 1000000000000000000
   few_amount =
       let few = few_left problem region multipliers edge
-      (cheap_lines (length problem.edges) problem.lines sound.lines) in
-      omega (arith, few, least_is)
+      (cheap_lines (length problem.edges) problem.lines sound.lines) in grind (arith, least_is)
 
   pub is_amount : IsAmount amount
   is_amount = record { some = omega (arith, some); few = few_amount }

@@ -2,11 +2,10 @@
 -- within their costs.
 use Rattle.plan_num.proofs.Common.{◌≡◌, ℕ, ◌+◌, ◌-◌, ◌≤◌, ◌<◌, Bool, true, false, ◌&&◌, cond}
 use Rattle.plan_num.proofs.Common.{if◌then◌else◌, nat_le, List, [], ◌∷◌, ◌++◌, length, get_or, map}
-use Rattle.plan_num.proofs.Common.{filter, filter_map, take, drop, slice_get, Some, None, inl, inr}
-use Rattle.plan_num.proofs.Common.{refl, arith, ap, sym, ◌∙◌, list_all, cons_option, and_parts}
-use Rattle.plan_num.proofs.Common.{leb-true, le-leb, cases_Bool, false≢true, take_more}
-use Rattle.plan_num.proofs.Common.{take-append-drop, drop_more, sum_by-append, slice_get_within}
-use Rattle.plan_num.proofs.Common.{get_or_from_slice_get}
+use Rattle.plan_num.proofs.Common.{filter, filter_map, take, drop, slice_get, Some, refl, arith, ap}
+use Rattle.plan_num.proofs.Common.{sym, ◌∙◌, list_all, and_parts, leb-true, le-leb, cases_Bool}
+use Rattle.plan_num.proofs.Common.{false≢true, take_more, take-append-drop, drop_more}
+use Rattle.plan_num.proofs.Common.{sum_by-append, slice_get_within, get_or_from_slice_get}
 use Rattle.line_cost_model.specs.declared.multipliers.Multiplier.{Multiplier}
 use Rattle.line_cost_model.specs.declared.range.LineRange.{LineRange}
 use Rattle.line_cost_model.specs.Problems.{CostedLine, ProblemParts}
@@ -31,18 +30,14 @@ pub paying_more : (ranges : List LineRange) (left over : List ℕ) (amount index
     (get_or left line 0) else true)
     → have_left ranges left amount (drop index over)
     ≡ (pays && have_left ranges left amount (drop (index + 1) over))
-paying_more ranges left over amount index line pays within line_is is =
-    ap (have_left ranges left amount) (drop_more over index 0 within
-    ∙ ap (λ line. line ∷ drop (index + 1) over) (sym line_is))
-    ∙ either (has_several (range_of ranges line)) (get_or left line 0)
-    (filter_map (left_at ranges left) (drop (index + 1) over))
-    ∙ ap (λ pays. pays && have_left ranges left amount (drop (index + 1) over)) (sym is)
-  where
-    either : (several : Bool) (own : ℕ) (rest : List ℕ)
-        → list_all (nat_le amount) (cons_option (if several then Some own else None) rest)
-        ≡ (cond several (nat_le amount own) true && list_all (nat_le amount) rest)
-    either true own rest = refl
-    either false own rest = refl
+paying_more ranges left over amount index line pays within line_is is = grind (
+  arith,
+  drop_more,
+  get_or,
+  filter_map,
+  left_at,
+  nat_le,
+)
 
 all_mapped : {X : Type 0} (test : ℕ → Bool) (f : X → ℕ) (xs : List X)
     → list_all test (map f xs) ≡ list_all (λ x. test (f x)) xs
@@ -69,19 +64,14 @@ is_paid multipliers line = nat_le (taken_off multipliers line) line.cost
 -- a line pays an amount more where so much is left of its cost
 pays_more : (goes : Bool) (taken cost amount : ℕ) → taken ≤ cost
     → nat_le (taken + cond goes amount 0) cost ≡ cond goes (nat_le amount (cost - taken)) true
-pays_more true taken cost amount paid = elim (cases_Bool (nat_le amount (cost - taken))) [
-  | inl can ↦ le-leb (taken + amount) cost (omega (arith, paid, leb-true amount (cost - taken) can))
-      ∙ sym can
-  | inr cannot ↦ not_le (taken + amount) cost
-      (λ less. false≢true (sym cannot ∙ le-leb amount (cost - taken) (omega (arith, less))))
-      ∙ sym cannot
-]
-  where
-    not_le : (a b : ℕ) → ¬ (a ≤ b) → nat_le a b ≡ false
-    not_le a b over = elim (cases_Bool (nat_le a b)) [
-      | inl at_most ↦ absurd (over (leb-true a b at_most))
-      | inr is ↦ is
-    ]
+pays_more true taken cost amount paid = grind (
+  arith,
+  cases_Bool,
+  nat_le,
+  le-leb,
+  leb-true,
+  false≢true,
+)
 pays_more false taken cost amount paid = le-leb (taken + 0) cost (omega (arith, paid))
 
 paid_more : (multipliers : List Multiplier) (edge amount : ℕ) (lines : List CostedLine)
@@ -91,17 +81,15 @@ paid_more : (multipliers : List Multiplier) (edge amount : ℕ) (lines : List Co
 paid_more multipliers edge amount [] paid = refl
 paid_more multipliers edge amount (line ∷ lines) paid =
     let parts = and_parts (is_paid multipliers line) (list_all (is_paid multipliers) lines) paid in
-    let can : CostedLine → Bool = λ line. nat_le amount (left_of multipliers line) in
-    let own = pays_more (goes_over edge line) (taken_off multipliers line) line.cost amount
-    (leb-true (taken_off multipliers line) line.cost parts.0) in
-    ap (λ taken. nat_le taken line.cost && list_all
-    (is_paid (multipliers ++ record { edge = edge; amount = amount } ∷ [])) lines)
-    (taken_more multipliers edge amount line)
-    ∙ ap (λ b. b && list_all (is_paid (multipliers ++ record { edge = edge; amount = amount } ∷ []))
-    lines) own
-    ∙ ap (λ b. cond (goes_over edge line) (can line) true && b)
-    (paid_more multipliers edge amount lines parts.1)
-    ∙ gated (goes_over edge line) can line (filter (goes_over edge) lines)
+    grind (
+      arith,
+      nat_le,
+      pays_more,
+      leb-true,
+      taken_more,
+      paid_more multipliers edge amount
+          lines parts.1,
+    )
   where
     gated : (goes : Bool) (can : CostedLine → Bool) (line : CostedLine) (rest : List CostedLine)
         → (cond goes (can line) true && list_all can rest)
@@ -117,12 +105,13 @@ fewer_paid : (before rest : List Multiplier) (lines : List CostedLine)
 fewer_paid before rest [] paid = refl
 fewer_paid before rest (line ∷ lines) paid =
     let parts = and_parts (is_paid (before ++ rest) line)
-    (list_all (is_paid (before ++ rest)) lines) paid in
-    let more = sum_by-append (λ (multiplier : Multiplier). if goes_over multiplier.edge line then
-    multiplier.amount else 0) before rest in
-    rw (le-leb (taken_off before line) line.cost
-    (omega (arith, more, leb-true (taken_off (before ++ rest) line) line.cost parts.0)))
-    (fewer_paid before rest lines parts.1)
+    (list_all (is_paid (before ++ rest)) lines) paid in grind (
+      arith,
+      sum_by-append,
+      le-leb,
+      leb-true,
+      fewer_paid before rest lines parts.1,
+    )
 
 pub none_within : (problem : ProblemParts) (region : List LineRange) (before rest : List Multiplier)
     → are_within problem region before ≡ false → are_within problem region (before ++ rest) ≡ false

@@ -32,11 +32,12 @@ few_places multipliers place one are there =
     let within = slice_get_within multipliers place one there in
     let edge_of : Multiplier → ℕ = λ multiplier. multiplier.edge in
     let low = not_below (map edge_of multipliers) are.edges_rise place
-    (omega (arith, within, length-map multipliers edge_of)) in
-    let own : get_or (map edge_of multipliers) place 0 ≡ one.edge =
-    get_or-map edge_of multipliers place one 0 within
-    ∙ ap edge_of (get_or_from_slice_get multipliers place one one there) in
-    omega (arith, low, own)
+    (omega (arith, within, length-map multipliers edge_of)) in grind (
+      arith,
+      get_or,
+      get_or-map,
+      get_or_from_slice_get,
+    )
 
 pub adds_little : (multipliers : List Multiplier) (place missing : ℕ) (one : Multiplier)
     → AreMultipliers multipliers
@@ -44,10 +45,7 @@ pub adds_little : (multipliers : List Multiplier) (place missing : ℕ) (one : M
     → one.amount * missing ≤ 4294967296000000000000000000
 adds_little multipliers place missing one are there few =
     let amount = holds_at (λ (multiplier : Multiplier). IsAmount multiplier.amount) multipliers
-    place one are.amounts there in
-    let most = mul-le one.amount missing 1000000000000000000 4294967295 amount.few
-    (omega (arith, few)) in
-    omega (arith, most)
+    place one are.amounts there in grind (arith, mul-le)
 
 -- before the first multiplier, and one multiplier more
 pub bound_first : (problem : ProblemParts) (region : List LineRange) (multipliers : List Multiplier)

@@ -1,9 +1,9 @@
 -- What always holds of multipliers and of a line problem, with one more at the end.
-use Rattle.plan_num.proofs.Common.{◌≡◌, ℕ, ℤ, ◌+◌, ◌<◌, ◌<ℤ◌, Bool, true, false, cond, T, int_lt}
-use Rattle.plan_num.proofs.Common.{List, [], ◌∷◌, ◌++◌, length, map, filter, slice_get, refl, ap}
-use Rattle.plan_num.proofs.Common.{subst, sym, ◌∙◌, arith, inl, inr, ◌⊎◌, zero, suc, Some, All}
-use Rattle.plan_num.proofs.Common.{enumerate_from, IsStrictlyIncreasing, int_cmp, map_push}
-use Rattle.plan_num.proofs.Common.{append-nil, All-push, All-map, All-nil, same_Some}
+use Rattle.plan_num.proofs.Common.{◌≡◌, ℕ, ℤ, ◌+◌, ◌<◌, ◌<ℤ◌, Bool, cond, T, int_lt, List, [], ◌∷◌}
+use Rattle.plan_num.proofs.Common.{◌++◌, length, map, filter, slice_get, ap, subst, sym, ◌∙◌, arith}
+use Rattle.plan_num.proofs.Common.{inl, inr, ◌⊎◌, zero, suc, Some, All, enumerate_from}
+use Rattle.plan_num.proofs.Common.{IsStrictlyIncreasing, int_cmp, map_push, append-nil, All-push}
+use Rattle.plan_num.proofs.Common.{All-map, All-nil, same_Some}
 use Rattle.std.specs.List.Sorted.{IsStrictlySortedBy}
 use Rattle.std.specs.declared.cmp.Ordering.TheVariants.{Less, Equal, Greater}
 use Rattle.line_cost_model.specs.declared.edge.BoundedEdge.{BoundedEdge}
@@ -47,13 +47,7 @@ ids_push id xs x rise below =
 
 pub no_problem : IsProblem (record { edges = []; lines = [] })
 unfolding IsStrictlySortedBy
-no_problem = record {
-  edges_rise = tt;
-  lines_rise = tt;
-  edges = All-nil IsBoundedEdge;
-  lines
-      = All-nil (IsCostedLine 0);
-}
+no_problem = grind (arith, All-nil)
 
 pub edge_push : (edges : List BoundedEdge) (edge : BoundedEdge)
     → IsProblem (record { edges = edges; lines = [] }) → IsBoundedEdge edge
@@ -88,11 +82,7 @@ enumerated_push n (y ∷ xs) x = ap (λ rest. (n, y) ∷ rest)
 
 filtered_push : {X : Type 0} (p : X → Bool) (xs : List X) (x : X)
     → filter p (xs ++ x ∷ []) ≡ filter p xs ++ cond (p x) (x ∷ []) []
-filtered_push p [] x = last (p x)
-  where
-    last : (b : Bool) → cond b (x ∷ []) [] ≡ [] ++ cond b (x ∷ []) []
-    last true = refl
-    last false = refl
+filtered_push p [] x = grind arith
 filtered_push p (y ∷ xs) x = grind (arith, filtered_push p xs x)
 
 -- a line more goes over an edge, or not
@@ -100,26 +90,7 @@ pub over_push : (lines : List CostedLine) (line : CostedLine) (edge : ℕ)
     → lines_over (lines ++ line ∷ []) edge ≡ cond (goes_over edge line)
     (lines_over lines edge ++ length lines ∷ []) (lines_over lines edge)
 unfolding lines_over
-over_push lines line edge =
-    ap (λ all. map (λ at. at.0) (filter (λ at. goes_over edge at.1) all)) (enumerated_push 0 lines line)
-    ∙ ap (map (λ at. at.0))
-    (filtered_push (λ at. goes_over edge at.1) (enumerate_from 0 lines)
-    (0 + length lines, line))
-    ∙ added (goes_over edge line)
-  where
-    added : (b : Bool) → map (λ (at : ℕ × CostedLine). at.0)
-        (filter (λ at. goes_over edge at.1) (enumerate_from 0 lines) ++ cond b
-        ((0 + length lines, line) ∷ []) [])
-        ≡ cond b (map (λ (at : ℕ × CostedLine). at.0)
-        (filter (λ at. goes_over edge at.1) (enumerate_from 0 lines)) ++ length lines ∷ [])
-        (map (λ (at : ℕ × CostedLine). at.0)
-        (filter (λ at. goes_over edge at.1) (enumerate_from 0 lines)))
-    added true = map_push (λ (at : ℕ × CostedLine). at.0)
-        (filter (λ at. goes_over edge at.1) (enumerate_from 0 lines)) (0 + length lines, line)
-        ∙ ap (λ m. map (λ (at : ℕ × CostedLine). at.0)
-        (filter (λ at. goes_over edge at.1) (enumerate_from 0 lines)) ++ m ∷ []) (omega arith)
-    added false = ap (map (λ (at : ℕ × CostedLine). at.0))
-        (append-nil (filter (λ at. goes_over edge at.1) (enumerate_from 0 lines)))
+over_push lines line edge = grind (arith, enumerated_push, filtered_push, map_push, append-nil)
 
 -- what stands in a list with one item more
 pushed_there : {X : Type 0} (xs : List X) (x : X) (k : ℕ) (y : X)

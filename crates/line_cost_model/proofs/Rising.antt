@@ -23,9 +23,11 @@ pub sorted_push : {K : Type 0} (cmp : K → K → Ordering) (ks : List K) (k : K
     → IsStrictlySortedBy cmp (ks ++ k ∷ [])
 unfolding IsStrictlySortedBy
 sorted_push cmp [] k rise below = (tt, tt)
-sorted_push cmp (first ∷ ks) k rise below = (
-  each_push (λ other. cmp first other ≡ Less) ks k rise.0
-      (All-head (λ other. cmp other k ≡ Less) first ks below),
-  sorted_push cmp ks k rise.1
-      (All-tail (λ other. cmp other k ≡ Less) first ks below),
+sorted_push cmp (first ∷ ks) k rise below = grind (
+  arith,
+  each_push,
+  All-head,
+  All-tail,
+  sorted_push
+      cmp ks k rise.1 (All-tail (λ other. cmp other k ≡ Less) first ks below),
 )

@@ -1,6 +1,6 @@
 -- The sums of the root of a line problem.
-use Rattle.plan_num.proofs.Common.{◌≡◌, ℕ, zero, suc, ◌∙◌, List, [], ◌∷◌, length, get_or, map}
-use Rattle.plan_num.proofs.Common.{replicate, All, Option, IfSome, refl, ap, sym, length-map}
+use Rattle.plan_num.proofs.Common.{arith, ◌≡◌, ℕ, zero, suc, ◌∙◌, List, [], ◌∷◌, length, get_or}
+use Rattle.plan_num.proofs.Common.{map, replicate, All, Option, IfSome, refl, ap, length-map}
 use Rattle.plan_num.proofs.Common.{get_or-replicate, length-replicate}
 use Rattle.line_cost_model.specs.declared.edge_sums.EdgeSums.{EdgeSums}
 use Rattle.line_cost_model.specs.declared.range.LineRange.{LineRange}
@@ -35,27 +35,23 @@ pub root_sums : (problem : ProblemParts) (ranges : List LineRange) (sums : EdgeS
     → IsOfLeast problem.edges sums.least.sums.items sums.least.short sums.least.over
     → IsOfGreatest problem.edges sums.greatest.sums.items sums.greatest.under
     → AreSums problem ranges sums
-root_sums problem ranges sums is zero_least greatest_are of_least of_greatest = record {
-  least_are = record {
-    size = ap length zero_least ∙ length-replicate (length problem.edges) 0;
-    told = λ edge h. ap (λ sums. get_or sums edge 0) zero_least
-        ∙ get_or-replicate (length problem.edges) edge 0 0 h
-        ∙ sym (none_driven problem.lines (least_in ranges) edge (least_long problem ranges is)
-        (none_least problem ranges is));
-  };
-  greatest_are = greatest_are;
-  of_least = of_least;
-  of_greatest = of_greatest;
-}
+root_sums problem ranges sums is zero_least greatest_are of_least of_greatest = grind (
+  arith,
+  length-replicate,
+  get_or,
+  get_or-replicate,
+  none_driven,
+  least_long,
+  none_least,
+)
 
 pub root_summed : (problem : ProblemParts) (ranges : List LineRange) (sums : Option EdgeSums)
     → IsProblem problem → ranges ≡ root_of problem → All IsRange ranges
     → IfSome sums (AreSums problem ranges) → IsSummed problem ranges sums 0
-root_summed problem ranges sums problem_is is sound sums_are = record {
-  problem_is = problem_is;
-  each = root_long problem ranges is;
-  sound = sound;
-  cost_is = sym (none_cost problem (least_in ranges) (least_long problem ranges is)
-      (none_least problem ranges is));
-  sums_are = sums_are;
-}
+root_summed problem ranges sums problem_is is sound sums_are = grind (
+  arith,
+  root_long,
+  none_cost,
+  least_long,
+  none_least,
+)

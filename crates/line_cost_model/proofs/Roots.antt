@@ -7,7 +7,7 @@ use Rattle.plan_num.proofs.Common.{eq-eqb, or_right, AllByRecursion, cons_option
 use Rattle.plan_num.proofs.Common.{get_or_from_slice_get, slice_get_within, none-some}
 use Rattle.line_cost_model.specs.declared.edge.BoundedEdge.{BoundedEdge}
 use Rattle.line_cost_model.specs.Problems.{CostedLine, ProblemParts, IsBoundedEdge, IsCostedLine, IsProblem}
-use Rattle.line_cost_model.specs.Concepts.{goes_over, frequency_on}
+use Rattle.line_cost_model.specs.Concepts.{frequency_on}
 use Rattle.line_cost_model.specs.Regions.{HasEachFeasible, IsRange, LiesIn, most_on, most_of, root_of}
 use Rattle.line_cost_model.specs.declared.range.LineRange.{LineRange}
 use Rattle.line_cost_model.proofs.Duality.{frequency_step}
@@ -62,14 +62,7 @@ leaves_line : (edges : List BoundedEdge) (line : CostedLine) (lines : List Coste
     → All (Leaves edges f) line.edges
 leaves_line edges line lines f fs sound few k d h =
     let e = get_or line.edges k d in
-    let at = is_there edges e (sound.there k d h) in
-    let driven : (if goes_over e line then f else 0) + frequency_on lines fs e ≤ at.0.most =
-    rw (sym (frequency_step e line lines f fs)) (few e at.0 at.1) in (
-      at.0,
-      at.1,
-      gate_least (goes_over e line) f (frequency_on lines fs e) at.0.most
-          (goes line.edges k d h) driven,
-    )
+    let at = is_there edges e (sound.there k d h) in grind (arith, frequency_step, gate_least, goes)
 
 root_lies : (edges : List BoundedEdge) (lines : List CostedLine) (fs : List ℕ)
     → AllByRecursion (IsCostedLine (length edges)) lines → length fs ≡ length lines

@@ -62,10 +62,12 @@ few_sum term most lines fs same each =
     let long : length (zip lines fs) ≡ length lines = omega (arith, length-zip lines fs, same) in
     subst (λ n. sum_by term (zip lines fs) ≤ n * most) long
     (sum_by-le term most (zip lines fs) (λ k d h.
-    let within : k < length lines = omega (arith, h, long) in
-    subst (λ (at : CostedLine × ℕ). term at ≤ most)
-    (sym (get_or_default (zip lines fs) k d (no_line, 0) h
-    ∙ get_or-zip lines fs k (no_line, 0) within (omega (arith, within, same)))) (each k within)))
+    let within : k < length lines = omega (arith, h, long) in grind (
+      arith,
+      get_or_default,
+      no_line,
+      get_or-zip,
+    )))
 
 gated_few : (over : Bool) (f most : ℕ) → f ≤ most → cond over f 0 ≤ most
 gated_few true f most few = few
@@ -80,11 +82,12 @@ few_cost : (problem : ProblemParts) (fs : List ℕ) → IsProblem problem
     → cost_of problem fs ≤ 5000000000000000000000000000000000000
 few_cost problem fs sound same few =
     let all = few_sum of_cost 1000000000000000000000 problem.lines fs same (λ k h.
-    let times : get_or fs k 0 ≤ 1000 = few k 0 (omega (arith, h, same)) in
-    let most = mul-le (get_or problem.lines k no_line).cost (get_or fs k 0) 1000000000000000000 1000
-    (sound.lines k no_line h).cheap times in
-    omega (arith, most)) in
-    omega (arith, all, few_lines problem sound)
+    let times : get_or fs k 0 ≤ 1000 = few k 0 (omega (arith, h, same)) in grind (
+      arith,
+      mul-le,
+      get_or,
+      no_line,
+    )) in grind (arith, few_lines)
 
 pub none_driven : (lines : List CostedLine) (fs : List ℕ) (edge : ℕ) → length fs ≡ length lines
     → ((k : ℕ) → get_or fs k 0 ≡ 0) → frequency_on lines fs edge ≡ 0
@@ -97,9 +100,8 @@ pub none_cost : (problem : ProblemParts) (fs : List ℕ) → length fs ≡ lengt
     → ((k : ℕ) → get_or fs k 0 ≡ 0) → cost_of problem fs ≡ 0
 none_cost problem fs same none =
     let all = few_sum of_cost 0 problem.lines fs same (λ k h.
-    let own = ap (λ f. (get_or problem.lines k no_line).cost * f) (none k) in
-    omega (arith, own)) in
-    omega (arith, all)
+    let own = ap (λ f. (get_or problem.lines k no_line).cost * f) (none k) in grind arith) in grind
+    arith
 
 -- ---- both ends of ranges
 
@@ -240,10 +242,7 @@ cost_counts : (problem : ProblemParts) (fs : List ℕ) (cost line price before :
 cost_counts problem fs cost line price before cost_is same within price_is before_is =
     let at = get_or problem.lines line no_line in
     let price_of : price ≡ at.cost = read_at (λ (at : CostedLine). at.cost) problem.lines line price price_is in
-    let moved = sum_moved of_cost problem.lines fs line 0 within same in
-    let own : of_cost (at, get_or fs line 0) ≡ price * before = λ i. sym price_of i * sym before_is i in
-    let none : of_cost (at, 0) ≡ 0 = omega arith in
-    omega (arith, moved, own, none, cost_is)
+    let moved = sum_moved of_cost problem.lines fs line 0 within same in grind (arith, get_or)
 
 pub least_cost_few : (problem : ProblemParts) (ranges : List LineRange) (sums : Option EdgeSums) (cost : ℕ)
     → IsSummed problem ranges sums cost → cost ≤ 5000000000000000000000000000000000000

@@ -1,8 +1,8 @@
 -- What always holds of a line problem with the lines over its edges, with one edge or line more.
 use Rattle.plan_num.proofs.Common.{◌≡◌, get_or-set_same, get_or-set_other, set, ℕ, ◌<◌, ◌<ℤ◌, Bool}
 use Rattle.plan_num.proofs.Common.{true, false, cond, nat_eq, List, [], ◌∷◌, ◌++◌, length, get_or}
-use Rattle.plan_num.proofs.Common.{map, refl, ap, subst, sym, ◌∙◌, arith, inl, inr, ◌||◌, All}
-use Rattle.plan_num.proofs.Common.{list_any, map_push, length-map, get_or-map, same_lists, All-push}
+use Rattle.plan_num.proofs.Common.{map, refl, ap, subst, sym, ◌∙◌, arith, ◌||◌, All, list_any}
+use Rattle.plan_num.proofs.Common.{map_push, length-map, get_or-map, same_lists, All-push}
 use Rattle.plan_num.proofs.Common.{slice_get-get_or, slice_get_within, get_or_from_slice_get}
 use Rattle.plan_num.proofs.Common.{cases_eq, eq-eqb, ne_eqb}
 use Rattle.line_cost_model.specs.declared.edge.BoundedEdge.{BoundedEdge}
@@ -55,11 +55,7 @@ module _ (edges after : List CrossedEdge) (lines : List CostedLine) (line : Cost
     crossed_more are edge at there =
         let within : edge < length edges = omega (arith, slice_get_within after edge at there) in
         let here : edge_at after edge ≡ at = get_or_from_slice_get after edge at no_edge there in
-        let old : (edge_at edges edge).lines ≡ lines_over lines edge = are edge (edge_at edges edge)
-        (slice_get-get_or edges edge no_edge within) in
-        sym (ap (λ (at : CrossedEdge). at.lines) here) ∙ ap (λ (at : CrossedEdge). at.lines) (taken_over edge within)
-        ∙ either (goes_over edge line) edge old
-        ∙ sym (over_push lines line edge)
+        grind (arith, slice_get-get_or, taken_over, over_push)
       where
         either : (b : Bool) (edge : ℕ) → (edge_at edges edge).lines ≡ lines_over lines edge
             → (cond b (crossed_at edges (length lines) edge) (edge_at edges edge)).lines ≡ cond b
@@ -81,41 +77,19 @@ pub taken_more : (edges : List CrossedEdge) (line : ℕ) (before : List Longer) 
     → one.edge < length edges → one.lines.items ≡ (edge_at edges one.edge).lines ++ line ∷ []
     → after ≡ set now one.edge (record (edge_at now one.edge) { lines = one.lines.items })
     → AreTaken edges line (before ++ one ∷ []) after
-taken_more edges line before one now after size taken there is put edge h =
-    ap (λ (some : List CrossedEdge). edge_at some edge) put
-    ∙ elim (cases_eq edge one.edge) [
-      | inl same ↦
-          let bounds : (edge_at now one.edge).bounds ≡ (edge_at edges one.edge).bounds = ap
-          (λ (at : CrossedEdge). at.bounds) (taken one.edge there)
-          ∙ either (list_any (λ other. nat_eq one.edge other.edge) before) in
-          subst (λ k. get_or (set now one.edge
-          (record (edge_at now one.edge) { lines = one.lines.items })) k no_edge ≡ cond
-          (list_any (λ other. nat_eq k other.edge) (before ++ one ∷ []))
-          (crossed_at edges line k) (edge_at edges k)) (sym same)
-          (get_or-set_same now one.edge
-          (record (edge_at now one.edge) { lines = one.lines.items }) no_edge (omega arith)
-          ∙ ap (λ lines. record (edge_at now one.edge) { lines = lines }) is
-          ∙ ap (λ bounds. record { bounds = bounds; lines = (edge_at edges one.edge).lines ++ line ∷ [] }) bounds
-          ∙ sym (ap (λ b. cond b (crossed_at edges line one.edge) (edge_at edges one.edge))
-          (any_push (λ other. nat_eq one.edge other.edge) before one
-          ∙ ap (λ b. list_any (λ other. nat_eq one.edge other.edge) before || b)
-          (eq-eqb one.edge one.edge refl)
-          ∙ or_true (list_any (λ other. nat_eq one.edge other.edge) before))))
-      | inr apart ↦
-          get_or-set_other now one.edge edge (record (edge_at now one.edge) { lines = one.lines.items }) no_edge apart
-          ∙ taken edge h
-          ∙ sym (ap (λ b. cond b (crossed_at edges line edge) (edge_at edges edge))
-          (any_push (λ other. nat_eq edge other.edge) before one
-          ∙ ap (λ b. list_any (λ other. nat_eq edge other.edge) before || b)
-          (ne_eqb edge one.edge apart)
-          ∙ or_false (list_any (λ other. nat_eq edge other.edge) before)))
-    ]
-  where
-    either : (b : Bool) →
-        (cond b (crossed_at edges line one.edge) (edge_at edges one.edge)).bounds
-        ≡ (edge_at edges one.edge).bounds
-    either true = refl
-    either false = refl
+taken_more edges line before one now after size taken there is put edge h = grind (
+  arith,
+  cases_eq,
+  nat_eq,
+  get_or,
+  get_or-set_same,
+  any_push,
+  eq-eqb,
+  or_true,
+  get_or-set_other,
+  ne_eqb,
+  or_false,
+)
 
 -- ---- whole problems
 

@@ -54,13 +54,14 @@ paid_more multipliers edge amount [] paid left = refl
 paid_more multipliers edge amount (line ∷ lines) paid left =
     let parts = and_parts (is_paid multipliers line) (list_all (is_paid multipliers) lines) paid in
     let over = first_over (goes_over edge line) (λ line. amount ≤ left_of multipliers line) line
-    (filter (goes_over edge) lines) left in
-    let own = pays_more (goes_over edge line) (taken_off multipliers line) line.cost amount
-    (leb-true (taken_off multipliers line) line.cost parts.0) over.0 in
-    let more = taken_more multipliers edge amount line in
-    rw (le-leb (taken_off (multipliers ++ record { edge = edge; amount = amount } ∷ []) line)
-    line.cost (omega (arith, own, more)))
-    (paid_more multipliers edge amount lines parts.1 over.1)
+    (filter (goes_over edge) lines) left in grind (
+      arith,
+      pays_more,
+      leb-true,
+      taken_more,
+      le-leb,
+      paid_more multipliers edge amount lines parts.1 over.1,
+    )
 
 pub within_more : (problem : ProblemParts) (region : List LineRange) (multipliers : List Multiplier) (edge amount : ℕ)
     → amount ≡ least_left problem region multipliers edge → are_within problem region multipliers ≡ true

@@ -86,13 +86,10 @@ module _ (problem : ProblemParts) (edges : List Edge) (count : length problem.ed
   all_walked [] frequencies own walks = tt
   all_walked (line ∷ lines) [] own walks = tt
   all_walked (line ∷ lines) (frequency ∷ frequencies) own walks =
-      let first = own 0 line (omega arith) in (
-        record {
-          there = λ k d h. omega (arith, first.there k d h, count);
-          apart = first.distinct;
-          walk = walks.0;
-        },
-        all_walked lines frequencies (λ k d h. own (suc k) d (omega (arith, h))) walks.1,
+      let first = own 0 line (omega arith) in grind (
+        arith,
+        all_walked lines frequencies (λ k d h.
+            own (suc k) d (omega (arith, h))) walks.1,
       )
 
 above_at : (id : ℤ) (lines : List CostedLine) (frequencies : List ℕ)

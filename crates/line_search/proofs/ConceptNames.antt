@@ -1,6 +1,6 @@
 -- Which files the stage of line concepts names where it refuses a row.
-use Rattle.plan_num.proofs.Common.{arith, ◌≡◌, ℕ, Bool, true, List, [], ◌∷◌, ◌++◌, slice_get}
-use Rattle.plan_num.proofs.Common.{Option, Some, None, Err, refl, subst, ok_or}
+use Rattle.plan_num.proofs.Common.{arith, ◌≡◌, ℕ, Bool, true, List, [], ◌∷◌, ◌++◌, slice_get, Some}
+use Rattle.plan_num.proofs.Common.{Err, refl, subst}
 use Rattle.tables.proofs.Common.{FileId, Refusal, input_faults, NamesInput, NamesOnly, AllName}
 use Rattle.tables.proofs.Common.{input_names, names_both}
 use Rattle.tables.specs.declared.file_id.FileId.TheVariants as file
@@ -12,17 +12,10 @@ use Rattle.ptn_network.proofs.NamedFaults.{network_names}
 use Rattle.line_walks.specs.PoolCosts.{pool_cost_input}
 use Rattle.line_walks.specs.Pools.{line_faults, pool_faults}
 use Rattle.line_cost_model.proofs.Common.{ProblemParts}
-use Rattle.line_search.specs.ConceptResults.{FoundConcept, result_within}
+use Rattle.line_search.specs.ConceptResults.{result_within}
 use Rattle.line_search.specs.ConceptStage.{concept_stage, search_made}
 use Rattle.line_search.specs.GivenProblems.{lines_in, problem_faults}
 use Rattle.line_concepts.specs.Listings.{Entry}
-
-ended : (test : FileId → Bool) (problem : ProblemParts) (found : Option FoundConcept)
-    (why reason : Refusal) → NamesOnly test why
-    → search_made problem (ok_or found why) ≡ Err reason → NamesOnly test reason
-ended test problem (Some concept) why reason h is = absurd (cc)
-ended test problem None why reason h is =
-    let same : why ≡ reason = cc in subst (NamesOnly test) same h
 
 -- a search names no file
 search_names : (test : FileId → Bool) (problem : ProblemParts) (budget : ℕ) (entries : List Entry)
@@ -67,8 +60,7 @@ input_faults_only bundle =
 pub inputs_fine : (bundle : BundleParts) (reason : Refusal) → ¬ NamesInput (λ _. true) reason
     → concept_stage bundle ≡ Err reason → problem_faults bundle ≡ []
 unfolding concept_stage
-inputs_fine bundle reason other is =
-    fine_after (problem_faults bundle) _ reason (input_faults_only bundle) other is
+inputs_fine bundle reason other is = grind (arith, fine_after, input_faults_only)
 
 first_named : (test : FileId → Bool) (faults : List Refusal) (first : Refusal) → AllName test faults
     → slice_get faults 0 ≡ Some first → NamesInput test first

@@ -156,8 +156,7 @@ module _ (bundle : BundleParts) (none : problem_faults bundle ≡ []) where
       chosen = marked.0;
       marks = marks problem sound frequencies feasible nodes marked.1 marked.2;
     };
-    passes = passes_by problem sound frequencies feasible (Some (tree_text problem nodes))
-        (tree_kept problem sound frequencies feasible nodes marked.1 marked.2);
+    passes = grind (arith, passes_by, sound, tree_kept);
     accepted = concept_accepted bundle none frequencies (concept_text problem frequencies)
         (reads problem sound frequencies feasible);
   }
@@ -186,8 +185,7 @@ module _ (bundle : BundleParts) (none : problem_faults bundle ≡ []) where
         found_is_chosen problem sound frequencies is,
         listing_written problem sound,
         nodes_certify problem sound frequencies is,
-      ) in
-      own
+      ) in grind arith
 
   unmarked : (found : Option (List ℕ)) → IfSome found (λ frequencies. marked_by problem frequencies None)
   unmarked None = tt

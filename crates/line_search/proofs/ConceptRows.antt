@@ -1,11 +1,11 @@
 -- The rows of a concept, line by line and edge by edge.
 use Rattle.plan_num.proofs.Common.{◌≡◌, ℕ, suc, ℤ, pos, ◌+◌, ◌<◌, ◌≤◌, arith, List, [], ◌∷◌, ◌++◌}
-use Rattle.plan_num.proofs.Common.{length, map, take, get_or, slice_get, zip, refl, ap, subst, sym}
-use Rattle.plan_num.proofs.Common.{◌∙◌, Option, Some, None, option_map, All, flat_map}
-use Rattle.plan_num.proofs.Common.{enumerate_from, flat_map-append, take_more, take_all, map_push}
-use Rattle.plan_num.proofs.Common.{append-nil, All-get_or, length-enumerate_from}
-use Rattle.plan_num.proofs.Common.{get_or-enumerate_from, same_Some, slice_get_within}
-use Rattle.plan_num.proofs.Common.{get_or_from_slice_get, slice_get-get_or, get_or-zip}
+use Rattle.plan_num.proofs.Common.{length, map, take, get_or, slice_get, zip, refl, ap, subst, ◌∙◌}
+use Rattle.plan_num.proofs.Common.{Option, Some, None, option_map, All, flat_map, enumerate_from}
+use Rattle.plan_num.proofs.Common.{flat_map-append, take_more, take_all, map_push, append-nil}
+use Rattle.plan_num.proofs.Common.{All-get_or, length-enumerate_from, get_or-enumerate_from}
+use Rattle.plan_num.proofs.Common.{same_Some, slice_get_within, get_or_from_slice_get}
+use Rattle.plan_num.proofs.Common.{slice_get-get_or, get_or-zip}
 use Rattle.tables.proofs.Common.{TableRow}
 use Rattle.line_cost_model.proofs.Common.{CostedLine, ProblemParts, IsProblem, IsCostedLine, IsId}
 use Rattle.line_search.specs.ConceptTables.{row_at, line_rows, concept_rows}
@@ -72,20 +72,7 @@ module _ (problem : ProblemParts) where
         → table ≡ old ++ map (row_at problem row.0 frequency) (enumerate_from 1 edges)
         → option_map (λ at. old ++ line_rows problem at frequency) (slice_get problem.lines line)
         ≡ Some table
-    line_is frequency old table made = one (slice_get problem.lines line) is over
-      where
-        one : (found : Option CostedLine) → option_map (λ at. (at.id, pos at.cost)) found ≡ Some row
-            → option_map (λ at. at.edges) found ≡ Some edges
-            → option_map (λ at. old ++ line_rows problem at frequency) found ≡ Some table
-        one None is over = cc
-        one (Some at) is over =
-            let id : at.id ≡ row.0 = ap (λ (row : ℤ × ℤ). row.0) (same_Some _ _ is) in
-            let own : at.edges ≡ edges = same_Some _ _ over in
-            ap Some (ap (λ id. old ++ map (row_at problem id frequency)
-            (enumerate_from 1 at.edges)) id
-            ∙ ap (λ edges. old ++ map (row_at problem row.0 frequency)
-            (enumerate_from 1 edges)) own
-            ∙ sym made)
+    line_is frequency old table made = grind (arith, slice_get, option_map, same_Some)
 
     -- its edges are there
     pub edges_there : IsProblem problem → All (λ edge. edge < length problem.edges) edges
@@ -123,10 +110,14 @@ module _ (problem : ProblemParts) where
         ∙ flat_map-append (λ at. line_rows problem at.0 at.1) (take i both)
         (get_or both i (no_line, 0) ∷ [])
         ∙ ap (λ at. rows_of_lines i ++ (line_rows problem at.0 at.1 ++ [])) at
-        ∙ ap (λ some. rows_of_lines i ++ some) (append-nil _) in
-        same_Some _ _ (sym is ∙ ap (option_map (λ at. rows_of_lines i
-        ++ line_rows problem at (get_or frequencies i 0)))
-        (slice_get-get_or problem.lines i no_line lt)) ∙ sym more
+        ∙ ap (λ some. rows_of_lines i ++ some) (append-nil _) in grind (
+          arith,
+          same_Some,
+          option_map,
+          get_or,
+          slice_get-get_or,
+          no_line,
+        )
 
     pub lines_whole : (i : ℕ) → length frequencies ≡ length problem.lines
         → length problem.lines ≤ i → rows_of_lines i ≡ concept_rows problem frequencies

@@ -34,13 +34,7 @@ module _ (problem : ProblemParts) (sound : IsProblem problem) where
       → place ≤ 1000000000 → edge < length problem.edges
       → InConcept (row_at problem id frequency (place, edge))
   cell_row id frequency place edge is few low high there =
-      let own = edge_there problem sound edge there in (
-        (is.low, is.high),
-        (
-          (omega (arith, ints, low), omega (arith, ints, high)),
-          ((own.low, own.high), ((omega (arith, ints), omega (arith, ints, few)), tt)),
-        ),
-      )
+      let own = edge_there problem sound edge there in grind (arith, ints)
 
   edge_rows : (id : ℤ) (frequency n : ℕ) (edges : List ℕ) → IsId id → frequency ≤ 1000 → 1 ≤ n
       → n + length edges ≤ 1000000001 → All (λ edge. edge < length problem.edges) edges

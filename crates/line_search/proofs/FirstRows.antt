@@ -1,8 +1,7 @@
 -- The frequency of a line, which is that of its first row.
 use Rattle.plan_num.proofs.Common.{arith, ◌≡◌, ℕ, ℤ, pos, ◌+◌, ◌<◌, ◌≤◌, Bool, true, false, cond}
-use Rattle.plan_num.proofs.Common.{List, length, drop, get_or, slice_get, ap, sym, ◌∙◌, Option}
-use Rattle.plan_num.proofs.Common.{Some, None, option_map, unwrap_or, find, int_eq, drop_more}
-use Rattle.plan_num.proofs.Common.{drop_all, same_Some}
+use Rattle.plan_num.proofs.Common.{List, length, drop, get_or, slice_get, ap, Some, option_map}
+use Rattle.plan_num.proofs.Common.{unwrap_or, find, int_eq, drop_more, drop_all, same_Some}
 use Rattle.tables.proofs.Common.{TableRow, cell_at, no_row}
 use Rattle.line_cost_model.proofs.Common.{CostedLine}
 use Rattle.line_search.specs.ConceptTables.{frequency_in, frequency_of_row}
@@ -34,10 +33,4 @@ pub frequency_at : (lines : List CostedLine) (rows : List TableRow) (line : ℕ)
     → option_map (λ at. (at.id, pos at.cost)) (slice_get lines line) ≡ Some row
     → n ≡ frequency_in rows row.0
     → option_map (λ at. frequency_in rows at.id) (slice_get lines line) ≡ Some n
-frequency_at lines rows line row n is read = one (slice_get lines line) is
-  where
-    one : (found : Option CostedLine) → option_map (λ at. (at.id, pos at.cost)) found ≡ Some row
-        → option_map (λ at. frequency_in rows at.id) found ≡ Some n
-    one None is = cc
-    one (Some at) is = ap Some (ap (λ (row : ℤ × ℤ). frequency_in rows row.0) (same_Some _ _ is)
-        ∙ sym read)
+frequency_at lines rows line row n is read = grind (arith, slice_get, option_map, same_Some)

@@ -1,8 +1,8 @@
 -- The rows of a concept give back its frequencies.
-use Rattle.plan_num.proofs.Common.{◌≡◌, ℕ, suc, ℤ, pos, ◌+◌, ◌<◌, Bool, false, ◌∙◌, List, [], ◌∷◌}
-use Rattle.plan_num.proofs.Common.{◌++◌, length, map, find, zip, Some, None, All, refl, ap, sym}
-use Rattle.plan_num.proofs.Common.{arith, append_assoc, get_or, option_map, unwrap_or}
-use Rattle.plan_num.proofs.Common.{AllByRecursion, enumerate_from, flat_map, int_cmp, int_eq}
+use Rattle.plan_num.proofs.Common.{◌≡◌, ℕ, suc, ℤ, pos, ◌+◌, ◌<◌, Bool, false, List, [], ◌∷◌, ◌++◌}
+use Rattle.plan_num.proofs.Common.{length, map, find, zip, Some, None, All, refl, arith}
+use Rattle.plan_num.proofs.Common.{append_assoc, get_or, option_map, unwrap_or, AllByRecursion}
+use Rattle.plan_num.proofs.Common.{enumerate_from, flat_map, int_cmp, int_eq}
 use Rattle.std.specs.List.Sorted.{IsStrictlySortedBy}
 use Rattle.std.specs.declared.cmp.Ordering.TheVariants.{Less}
 use Rattle.std.proofs.lemmas.List.Folds.{find-append as find_both}
@@ -71,13 +71,15 @@ module _ (problem : ProblemParts) where
   given_back before (line ∷ lines) [] each rise some none = absurd (omega (arith, each))
   given_back before (line ∷ lines) (frequency ∷ frequencies) each rise some none =
       let behind = rows_for lines frequencies in
-      let now = before ++ line_rows problem line frequency in
-      let first = first_is before line frequency behind some.0 none.0 in
-      let rest = given_back now lines frequencies (omega (arith, each)) rise.1 some.1
-      (none_more before line frequency (map (λ (line : CostedLine). line.id) lines) rise.0 none.1) in
-      let whole = ap (λ all. map (λ (line : CostedLine). frequency_in all line.id) lines)
-      (append_assoc before (line_rows problem line frequency) behind) in
-      (λ i. first i ∷ (sym whole ∙ rest) i)
+      let now = before ++ line_rows problem line frequency in grind (
+        arith,
+        first_is,
+        none_more,
+        append_assoc,
+        given_back now lines frequencies (omega (arith, each)) rise.1 some.1
+            (none_more before line frequency (map (λ (line : CostedLine). line.id) lines) rise.0
+            none.1),
+      )
 
   none_yet : (ids : List ℤ) → NoneOf [] ids
   none_yet [] = tt

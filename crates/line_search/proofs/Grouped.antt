@@ -137,22 +137,7 @@ module _ {X : Type 0} (key : X → ℤ) where
           (ap (int_eq e.0) same ∙ same_id e.0)
           ∙ ap (λ rest. length ((item ∷ with_key items e.0) ++ rest))
           (others item items (keys_of es) above)
-      by Greater is more =
-          let under : int_cmp e.0 (key item) ≡ Less =
-          int_cmp_total.antisymm e.0 (key item) ∙ ap ordering_reverse is in
-          let not_own = apart e.0 (key item) under in
-          ap (λ b. length (cond b (item ∷ with_key items e.0) (with_key items e.0)
-          ++ flat_map (with_key (item ∷ items)) (keys_of (put int_cmp (key item) tt es)))) not_own.0
-          ∙ length-append (with_key items e.0) (flat_map (with_key (item ∷ items))
-          (keys_of (put int_cmp (key item) tt es)))
-          ∙ ap (λ n. length (with_key items e.0) + n)
-          (more (λ absent. none (ap (λ b. b || list_any (int_eq (key item)) (keys_of es)) not_own.1
-          ∙ absent)))
-          ∙ omega (
-            arith,
-            length-append (with_key items e.0)
-                (flat_map (with_key items) (keys_of es)),
-          )
+      by Greater is more = grind (arith, int_cmp_total, apart, length-append)
 
   -- there are as many items in the groups
   pub grouped_count : (items : List X) → length (grouped key items) ≡ length items

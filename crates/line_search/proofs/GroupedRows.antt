@@ -1,8 +1,7 @@
 -- The rows of a planner's concept, line by line.
-use Rattle.plan_num.proofs.Common.{◌≡◌, ℤ, pos, Bool, List, [], ◌∷◌, ◌++◌, length, inl, inr, map}
-use Rattle.plan_num.proofs.Common.{filter, get_or, take, All, refl, ap, sym, ◌∙◌, arith, flat_map}
-use Rattle.plan_num.proofs.Common.{int_eq, length-map, map-append, All-head, All-tail, map-map}
-use Rattle.plan_num.proofs.Common.{cases_Bool}
+use Rattle.plan_num.proofs.Common.{◌≡◌, ℤ, pos, Bool, List, [], ◌∷◌, ◌++◌, length, map, filter}
+use Rattle.plan_num.proofs.Common.{get_or, take, All, refl, ap, sym, ◌∙◌, arith, flat_map, int_eq}
+use Rattle.plan_num.proofs.Common.{length-map, map-append, All-head, All-tail, map-map, cases_Bool}
 use Rattle.tables.proofs.Common.{TableRow, Wide}
 use Rattle.walks.proofs.Common.{rising}
 use Rattle.line_search.specs.declared.pool_rows.PlacedEdge.{PlacedEdge}
@@ -28,12 +27,14 @@ grouped_map {X} {Y} f key xs = grind (arith, map-map, filter_map_of, map_flat)
 filter_same : {X Y : Type 0} (f g : X → Y) (p : X → Bool) (xs : List X) → All (λ x. f x ≡ g x) xs
     → map f (filter p xs) ≡ map g (filter p xs)
 filter_same f g p [] same = refl
-filter_same f g p (x ∷ xs) same =
-    let rest = filter_same f g p xs (All-tail (λ x. f x ≡ g x) x xs same) in
-    elim (cases_Bool (p x)) [
-      | inl is ↦ rw is (λ i. All-head (λ x. f x ≡ g x) x xs same i ∷ rest i)
-      | inr is ↦ rw is rest
-    ]
+filter_same f g p (x ∷ xs) same = grind (
+  arith,
+  All-tail,
+  cases_Bool,
+  All-head,
+  filter_same f g p xs
+      (All-tail (λ x. f x ≡ g x) x xs same),
+)
 
 -- functions that agree on items agree on their groups
 grouped_same : {X Y : Type 0} (f g : X → Y) (key : X → ℤ) (xs : List X) → All (λ x. f x ≡ g x) xs

@@ -32,21 +32,12 @@ module _ (problem : ProblemParts) (text : List ℕ) (certificate : Option (List 
 
   pub not_read : None ≡ read_rows → Some fault.Row ≡ first_broken problem text certificate
   unfolding first_broken
-  not_read none = rw (broken (has_some (faults concept_columns text)) none) refl
-    where
-      broken : (b : Bool) → None ≡ cond b None (Some (table_of concept_columns text)) → b ≡ true
-      broken true e = refl
-      broken false e = cc
+  not_read none = grind arith
 
   module _ (table : List TableRow) (read : Some table ≡ read_rows) where
     is_read : (has_some (faults concept_columns text) ≡ false)
         × (table ≡ table_of concept_columns text)
-    is_read = one (has_some (faults concept_columns text)) read
-      where
-        one : (b : Bool) → Some table ≡ cond b None (Some (table_of concept_columns text))
-            → (b ≡ false) × (table ≡ table_of concept_columns text)
-        one true e = cc
-        one false e = (refl, same_Some _ _ e)
+    is_read = grind (arith, same_Some)
 
     module _ (fs : List ℕ) (given : fs ≡ frequencies_in problem table) (rows : List TableRow)
         (made : rows ≡ concept_rows problem fs) where

@@ -6,10 +6,9 @@ use Rattle.giv_files.proofs.Common.{Made, BundleParts, StageGives, gives_always,
 use Rattle.tables.proofs.Common.{Refusal, StageFault}
 use Rattle.tables.specs.declared.refusal.Refusal.TheVariants as refusal
 use Rattle.line_cost_model.proofs.Common.{IsChosen, ProblemParts}
-use Rattle.line_concepts.specs.declared.node.Node.{Node}
 use Rattle.line_concepts.specs.Budgets.{nodes_in}
 use Rattle.line_search.specs.ConceptResults.{last_found, result_within}
-use Rattle.line_search.specs.ConceptStage.{after_faults, budget_of, concept_stage, search_made}
+use Rattle.line_search.specs.ConceptStage.{budget_of, concept_stage, search_made}
 use Rattle.line_search.specs.GivenProblems.{problem_faults, problem_of}
 use Rattle.line_concepts.specs.Listings.{Entry, best_after, listing}
 use Rattle.line_search.specs.RightConcepts.{SaysNone}
@@ -22,11 +21,6 @@ abbrev no_solution : Result Made Refusal
 no_solution = Err refusal.NoSolution
 
 -- ---- what is made where nothing was found
-
-none_found : (problem : ProblemParts) (best : Option (List ℕ)) (nodes : List Node) (entries : ℕ)
-    → search_made problem (by_parts best (Some nodes) entries) ≡ no_solution → best ≡ None
-none_found problem None nodes entries is = refl
-none_found problem (Some best) nodes entries is = absurd (cc)
 
 not_spent : (problem : ProblemParts) (best : Option (List ℕ)) (budget entries : ℕ)
     → ¬ (search_made problem (ok_or (option_map (λ found. record {
@@ -71,8 +65,7 @@ nothing_found problem (Some concept) chosen none = absurd (none concept chosen.f
 given_outcome : (bundle : BundleParts) → problem_faults bundle ≡ [] → concept_stage bundle
     ≡ search_made (problem_of bundle) (result_within (budget_of bundle) (listing (problem_of bundle)))
 unfolding concept_stage
-given_outcome bundle none = ap (λ faults. after_faults faults
-    (search_made (problem_of bundle) (result_within (budget_of bundle) (listing (problem_of bundle))))) none
+given_outcome bundle none = grind arith
 
 pub none_told : (bundle : BundleParts) (result : Result Made StageFault)
     → StageGives (concept_stage bundle) result → SaysNone bundle result

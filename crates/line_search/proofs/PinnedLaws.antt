@@ -1,6 +1,6 @@
 -- The laws of the stage of a planner's concept: which files it makes, that they are right, and
 -- which file a refusal names.
-use Rattle.std.proofs.Common.{arith, ◌≡◌, Bool, true, Ok, Err}
+use Rattle.plan_num.proofs.Common.{arith, ◌≡◌, Bool, true, Ok, Err}
 use Rattle.tables.proofs.Common.{FileId, Refusal, input_faults, NamesInput, AllName, input_names}
 use Rattle.tables.proofs.Common.{names_both}
 use Rattle.tables.specs.declared.file_id.FileId.TheVariants as file

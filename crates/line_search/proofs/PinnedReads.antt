@@ -1,5 +1,5 @@
 -- What is made of a planner's concept is right.
-use Rattle.plan_num.proofs.Common.{◌≡◌, ℕ, pos, Bool, true, false, cond, not, List, [], ◌∷◌, arith}
+use Rattle.plan_num.proofs.Common.{◌≡◌, ℕ, pos, Bool, true, false, not, List, [], ◌∷◌, arith}
 use Rattle.plan_num.proofs.Common.{slice_get, option_map, is_some, Option, Some, None, Ok, refl, ap}
 use Rattle.plan_num.proofs.Common.{sym, ◌∙◌, subst, map-map}
 use Rattle.giv_files.proofs.Common.{Made, BundleParts, input_text, made_unless, none_unless}
@@ -16,11 +16,9 @@ use Rattle.branch_certificate.specs.TreeTexts.{tree_text}
 use Rattle.line_concepts.proofs.Certifying.{no_fault_certifies}
 use Rattle.branch_certificate.proofs.FaultlessTrees.{faultless_tree}
 use Rattle.line_search.specs.declared.fault.ConceptFault.{ConceptFault}
-use Rattle.line_search.specs.declared.fault.ConceptFault.TheVariants as fault
-use Rattle.line_concepts.specs.Firsts.{first_of}
 use Rattle.line_search.specs.ConceptTables.{concept_text, frequencies_in}
 use Rattle.line_search.specs.GivenProblems.{problem_faults, problem_of}
-use Rattle.line_search.specs.Judged.{broken_where, certificate_rule, frequencies_of, has_some}
+use Rattle.line_search.specs.Judged.{frequencies_of}
 use Rattle.line_search.specs.Judged.{rule_of, tree_rule}
 use Rattle.line_search.specs.PinnedConcepts.{breaks_bounds, differs_from_pool, made_of_texts}
 use Rattle.line_search.specs.PinnedConcepts.{marking_tree, pinned_concept_faults}
@@ -46,17 +44,7 @@ no_fault (Some first) e = cc
 pub no_rule : (problem : ProblemParts) (cost : ℕ) (text : List ℕ)
     → tree_rule problem cost (Some text) ≡ None
     → (read_faults problem text ≡ []) × (tree_faults problem (pos cost) (tree_of problem text) ≡ [])
-no_rule problem cost text none = by (has_some (read_faults problem text))
-    (certificate_rule problem cost text) refl refl none
-  where
-    by : (broken : Bool) (rule : Option ConceptFault) → has_some (read_faults problem text) ≡ broken
-        → certificate_rule problem cost text ≡ rule
-        → first_of (broken_where broken fault.Tree ∷ rule ∷ []) ≡ None
-        → (read_faults problem text ≡ []) × (tree_faults problem (pos cost) (tree_of problem text)
-        ≡ [])
-    by true rule is rules e = absurd (cc)
-    by false (Some first) is rules e = absurd (cc)
-    by false None is rules e = (no_some _ is, none_ruled _ rules)
+no_rule problem cost text none = grind (arith, no_some, none_ruled)
 
 -- ---- a concept without a fault
 
@@ -145,13 +133,7 @@ module _ (bundle : BundleParts) (none : pinned_concept_faults bundle ≡ []) whe
       }
 
   made_right : (text : List ℕ) → Right (marking_tree problem (cost_of problem frequencies) text)
-  made_right text = by (tree_rule problem (cost_of problem frequencies) (Some text)) refl
-    where
-      by : (found : Option ConceptFault)
-          → tree_rule problem (cost_of problem frequencies) (Some text) ≡ found
-          → Right (cond (is_some found) None (Some (tree_of problem text)))
-      by None is = beside text is
-      by (Some first) is = alone
+  made_right text = grind (arith, is_some, beside, alone)
 
 -- the law of the stage
 pub pinned_right : (bundle : BundleParts) (made : Made) → pinned_concept_stage bundle ≡ Ok made

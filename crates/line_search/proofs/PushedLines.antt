@@ -1,8 +1,8 @@
 -- Lines with their costs, one after the other.
 use Rattle.plan_num.proofs.Common.{◌≡◌, ℕ, ℤ, ◌+◌, ◌≤◌, ◌<ℤ◌, arith, List, [], ◌∷◌, ◌++◌, length}
 use Rattle.plan_num.proofs.Common.{map, take, slice_get, zip, unsigned_abs, to_z, of_z, w64, refl}
-use Rattle.plan_num.proofs.Common.{ap, subst, sym, ◌∙◌, Option, Some, None, option_map, All}
-use Rattle.plan_num.proofs.Common.{IsStrictlySortedBy, int_cmp, same_Some, slice_get-map}
+use Rattle.plan_num.proofs.Common.{ap, subst, sym, ◌∙◌, Some, option_map, All, IsStrictlySortedBy}
+use Rattle.plan_num.proofs.Common.{int_cmp, same_Some, slice_get-map}
 use Rattle.walks.proofs.Common.{Edge}
 use Rattle.line_walks.specs.GivenCosts.{IsCost}
 use Rattle.line_walks.specs.Pools.{LineParts, IsLine}
@@ -39,19 +39,7 @@ pub record IsAt (lines : List LineParts) (i : ℕ) (id : ℤ) (over : List ℕ) 
 pub line_at : (lines : List LineParts) (i : ℕ) (id : ℤ) (over : List ℕ)
     → option_map (λ at. at.id) (slice_get lines i) ≡ Some id
     → option_map (λ at. at.edges) (slice_get lines i) ≡ Some over → IsAt lines i id over
-line_at lines i id over is own = one (slice_get lines i) refl is own
-  where
-    one : (found : Option LineParts) → slice_get lines i ≡ found
-        → option_map (λ at. at.id) found ≡ Some id → option_map (λ at. at.edges) found ≡ Some over
-        → IsAt lines i id over
-    one None at is own = cc
-    one (Some line) at is own =
-        record {
-          line = line;
-          at = at;
-          id_is = sym (same_Some _ _ is);
-          over_is = sym (same_Some _ _ own);
-        }
+line_at lines i id over is own = grind (arith, slice_get, option_map, same_Some)
 
 -- a line of a pool with its cost, over as many edges
 pub is_costed : (edges : List Edge) (line : LineParts) (cost : ℤ) (count : ℕ) → count ≡ length edges

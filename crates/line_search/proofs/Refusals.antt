@@ -1,5 +1,5 @@
 -- What each input of the search gives: the first fault, or a part of the line problem.
-use Rattle.std.proofs.Common.{◌≡◌, ℕ, ℤ, List, [], ◌++◌, ap, subst, sym, ◌∙◌, arith}
+use Rattle.plan_num.proofs.Common.{◌≡◌, ℕ, ℤ, List, [], ◌++◌, ap, subst, sym, ◌∙◌, arith}
 use Rattle.tables.specs.declared.file_id.FileId.TheVariants as file
 use Rattle.tables.proofs.Common.{Refusal, StageFault, Refuses, input_faults, refused_append}
 use Rattle.giv_files.proofs.Common.{BundleParts, input_text}

@@ -1,8 +1,8 @@
 -- How many rows a concept has.
-use Rattle.plan_num.proofs.Common.{◌≡◌, ℕ, ◌+◌, ◌-◌, ◌<◌, ◌≤◌, Bool, true, false, nat_eq, ℤ, List}
-use Rattle.plan_num.proofs.Common.{[], ◌∷◌, length, drop, get_or, slice_get, zip, refl, ap, sym}
-use Rattle.plan_num.proofs.Common.{◌∙◌, arith, Some, option_map, pos, flat_map, int_eq, eq-eqb}
-use Rattle.plan_num.proofs.Common.{eqb-true, false≢true, ne_eqb, false_from_ne_true, at_drop_more}
+use Rattle.plan_num.proofs.Common.{◌≡◌, ℕ, ◌+◌, ◌-◌, ◌<◌, ◌≤◌, false, nat_eq, ℤ, List, [], ◌∷◌}
+use Rattle.plan_num.proofs.Common.{length, drop, get_or, slice_get, zip, refl, ap, sym, ◌∙◌, arith}
+use Rattle.plan_num.proofs.Common.{Some, option_map, pos, flat_map, int_eq, eq-eqb, eqb-true}
+use Rattle.plan_num.proofs.Common.{false≢true, ne_eqb, false_from_ne_true, at_drop_more}
 use Rattle.plan_num.proofs.Common.{length-append, length-map, length-enumerate_from, same_Some}
 use Rattle.plan_num.proofs.Common.{slice_get-get_or, signed_items, pointwise, pointwise_decides}
 use Rattle.tables.proofs.Common.{TableRow}
@@ -26,13 +26,7 @@ rows_behind lines i edges there is =
     ∙ ap (λ edges. length edges + row_count (drop (i + 1) lines)) own
 
 same_test : (a b c d : ℕ) → (a ≡ b → c ≡ d) → (c ≡ d → a ≡ b) → nat_eq a b ≡ nat_eq c d
-same_test a b c d there back = by (nat_eq a b) (nat_eq c d) refl refl
-  where
-    by : (s t : Bool) → nat_eq a b ≡ s → nat_eq c d ≡ t → s ≡ t
-    by true true p q = refl
-    by false false p q = refl
-    by true false p q = absurd (false≢true (sym q ∙ eq-eqb c d (there (eqb-true a b p))))
-    by false true p q = absurd (false≢true (sym p ∙ eq-eqb a b (back (eqb-true c d q))))
+same_test a b c d there back = grind (arith, nat_eq, false≢true, eq-eqb, eqb-true)
 
 module _ (lines : List CostedLine) (i left : ℕ) (edges : List ℕ) (there : i < length lines)
     (is : option_map (λ at. at.edges) (slice_get lines i) ≡ Some edges) where

@@ -1,5 +1,5 @@
 -- What a search finds over the inputs of the stage is right.
-use Rattle.std.proofs.Common.{◌≡◌, []}
+use Rattle.plan_num.proofs.Common.{◌≡◌, []}
 use Rattle.giv_files.proofs.Common.{BundleParts}
 use Rattle.line_search.specs.GivenProblems.{problem_faults, problem_of}
 use Rattle.line_concepts.specs.RightSearches.{SearchIsRight}

@@ -1,7 +1,7 @@
 -- Valid potentials prove that exactly the tight plans gain the most.
-use Rattle.plan_num.proofs.Common.{◌≡◌, ℕ, pos, ◌+◌, ◌<◌, ◌≤◌, ◌≤ℤ◌, nat_lt, Bool, true, false}
-use Rattle.plan_num.proofs.Common.{List, length, Option, Some, None, unwrap_or, refl, ap, sym, ◌∙◌}
-use Rattle.plan_num.proofs.Common.{arith, ltb-true, ltb-false, ints, get_or-eq_default}
+use Rattle.plan_num.proofs.Common.{◌≡◌, ℕ, pos, ◌+◌, ◌<◌, ◌≤◌, ◌≤ℤ◌, nat_lt, List, Option, Some}
+use Rattle.plan_num.proofs.Common.{None, unwrap_or, ap, sym, ◌∙◌, arith, ltb-true, ltb-false, ints}
+use Rattle.plan_num.proofs.Common.{get_or-eq_default}
 use Rattle.link_plans.specs.Plans.{next, plan_gain, IsPlan, IsBest}
 use Rattle.link_plans.specs.Links.{Links}
 use Rattle.link_plans.proofs.Linking.{some_of}
@@ -10,11 +10,7 @@ use Rattle.link_plans.proofs.TightGains.{AreCovering, AreTight, at_most, then_ti
 
 -- a number is below another one, or not
 pub by_bound : {P : Type 0} (i n : ℕ) → (i < n → P) → (n ≤ i → P) → P
-by_bound {P} i n within past = split (nat_lt i n) refl
-  where
-    split : (b : Bool) → nat_lt i n ≡ b → P
-    split true e = within (ltb-true i n e)
-    split false e = past (ltb-false i n e)
+by_bound {P} i n within past = grind (arith, nat_lt, ltb-true, ltb-false)
 
 module _ (links : Links) (certified plan : List (Option ℕ)) (potentials : PotentialParts)
     (valid : AreValid links certified potentials) (is : IsPlan links plan) where
@@ -44,14 +40,12 @@ module _ (links : Links) (certified plan : List (Option ℕ)) (potentials : Pote
     where
       last_at : AreTight links.gain 0 plan potentials.u potentials.v → (i : ℕ) → next plan i ≡ None
           → at potentials.u i ≡ 0
-      last_at tight i e = by_bound i (length plan) (λ within. tight.last i within e)
-          (λ past. get_or-eq_default potentials.u 0 (omega (arith, past, valid.over.each_u, is.each)))
+      last_at tight i e = grind (arith, by_bound, get_or-eq_default)
 
   -- and a tight one gains as much
   pub tight_all : IsTight links potentials plan → plan_gain links plan ≡ pos (total potentials)
   tight_all tight = tight_gains links.gain 0 plan potentials.u potentials.v covering (record {
-    linked = λ k j e. ap (λ i. unwrap_or (links.gain i j) (pos 0)) (sym (none_before k))
-        ∙ ap (λ gain. unwrap_or gain (pos 0)) (tight.linked k j e);
+    linked = λ k j e. grind (arith, unwrap_or, none_before);
     last = λ k h e. tight.last k e;
     first = tight.first;
   })
@@ -61,15 +55,7 @@ module _ (links : Links) (certified : List (Option ℕ)) (potentials : Potential
   -- a plan that gains as much as all potentials gains the most
   all_best : (plan : List (Option ℕ)) → IsPlan links plan
       → plan_gain links plan ≡ pos (total potentials) → IsBest links plan
-  all_best plan possible all = record {
-    possible = possible;
-    most = λ other fits. omega (
-      arith,
-      ints,
-      all,
-      gain_most links certified other potentials valid fits,
-    );
-  }
+  all_best plan possible all = grind (arith, ints, gain_most)
 
   pub certified_best : IsBest links certified
   certified_best = all_best certified is (sym valid.exact)
@@ -90,8 +76,4 @@ module _ (links : Links) (certified : List (Option ℕ)) (potentials : Potential
 -- potentials that are valid for one plan that gains the most are so for each
 pub valid_for_best : (links : Links) (plan other : List (Option ℕ)) (potentials : PotentialParts)
     → IsBest links plan → IsBest links other → AreValid links plan potentials → AreValid links other potentials
-valid_for_best links plan other potentials best also valid = record {
-  over = valid.over;
-  covered = valid.covered;
-  exact = omega (arith, ints, valid.exact, best.most other also.possible, also.most plan best.possible);
-}
+valid_for_best links plan other potentials best also valid = grind (arith, ints)

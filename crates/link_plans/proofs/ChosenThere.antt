@@ -1,9 +1,8 @@
 -- Over any links there is a plan with potentials that are valid for it.
 use Rattle.plan_num.proofs.Common.{◌≡◌, ℕ, ℤ, pos, ◌+◌, ◌<◌, ◌≤◌, ◌≤ℤ◌, is_some, List, length, map}
 use Rattle.plan_num.proofs.Common.{get_or, Option, Some, None, IfSome, unwrap_or, refl, ap, sym}
-use Rattle.plan_num.proofs.Common.{◌∙◌, subst, arith, range_with_len, get_or-eq_default, ints}
-use Rattle.plan_num.proofs.Common.{get_or-map, length-map, get_or-range_with_len}
-use Rattle.plan_num.proofs.Common.{length-range_with_len}
+use Rattle.plan_num.proofs.Common.{◌∙◌, arith, range_with_len, get_or-eq_default, ints, get_or-map}
+use Rattle.plan_num.proofs.Common.{length-map, get_or-range_with_len, length-range_with_len}
 use Rattle.link_plans.specs.Plans.{next, IsPlan}
 use Rattle.link_plans.specs.Links.{Links, AreLinks}
 use Rattle.link_plans.proofs.Linking.{not_next}
@@ -57,14 +56,12 @@ module _ (links : Links) (sound : AreLinks links) where
   past_none i past (Some j) e = absurd (omega (arith, past, (found.done.follow i j e).0))
 
   next_is : (i : ℕ) → next plan i ≡ found.plan i
-  next_is i = by_bound i n (λ within. listed_at found.plan n None i within)
-      (λ past. listed_past found.plan n None i past ∙ sym (past_none i past (found.plan i) refl))
+  next_is i = grind (arith, by_bound, listed_at, listed_past, past_none)
 
   -- a link is between trips, and gains its potentials
   both_in : (i j : ℕ) → next plan i ≡ Some j → (i < n) × (j < n)
   both_in i j e =
-      let told = found.done.follow i j (sym (next_is i) ∙ e) in
-      sound.within i j (ap is_some told.1)
+      let told = found.done.follow i j (sym (next_is i) ∙ e) in grind (arith, is_some)
 
   gains : (i j : ℕ) → next plan i ≡ Some j
       → gain i j ≡ Some (pos (at potentials.u i + at potentials.v j))
@@ -77,10 +74,7 @@ module _ (links : Links) (sound : AreLinks links) where
       → (i < n → IfSome some (λ g. g ≤ℤ pos (found.u i + found.v j)))
       → IfSome some (λ g. g ≤ℤ pos (at potentials.u i + at potentials.v j))
   covered_by i j None e most = tt
-  covered_by i j (Some g) e most =
-      let inside = sound.within i j (ap is_some e) in
-      subst (λ k. g ≤ℤ pos (k + at potentials.v j)) (sym (listed_at found.u n 0 i inside.0))
-      (subst (λ k. g ≤ℤ pos (found.u i + k)) (sym (listed_at found.v n 0 j inside.1)) (most inside.0))
+  covered_by i j (Some g) e most = grind (arith, is_some, listed_at)
 
   gain_value : (i j number : ℕ) → gain i j ≡ Some (pos number)
       → unwrap_or (gain i j) (pos 0) ≡ pos number
@@ -106,9 +100,7 @@ module _ (links : Links) (sound : AreLinks links) where
           })
           (record {
             linked = value_at;
-            last = λ k within e. let inside : k < n = omega (arith, within, listed_long found.plan n None) in
-                listed_at found.u n 0 k inside
-                ∙ found.done.last k (sym (next_is k) ∙ e) (λ never. never);
+            last = λ k within e. grind (arith, listed_long, listed_at, next_is);
             first = λ j none. by_bound j n
                 (λ inside. listed_at found.v n 0 j inside
                 ∙ found.done.first j (λ i e. not_next plan i j none (next_is i ∙ e)))

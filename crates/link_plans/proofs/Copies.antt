@@ -1,7 +1,7 @@
 -- A plan that is made link by link from another one.
-use Rattle.plan_num.proofs.Common.{◌≡◌, ◌≢◌, ℕ, zero, suc, ◌<◌, ◌≤◌, ◌+◌, false, List, [], ◌∷◌}
-use Rattle.plan_num.proofs.Common.{length, slice_set, replicate, Option, Some, None, IfSome, refl}
-use Rattle.plan_num.proofs.Common.{ap, sym, ◌∙◌, arith, length-set, length-replicate, none-some}
+use Rattle.plan_num.proofs.Common.{◌≡◌, ℕ, zero, suc, ◌<◌, ◌≤◌, ◌+◌, false, List, [], ◌∷◌, length}
+use Rattle.plan_num.proofs.Common.{slice_set, replicate, Option, Some, None, IfSome, refl, ap, sym}
+use Rattle.plan_num.proofs.Common.{◌∙◌, arith, length-set, length-replicate, none-some}
 use Rattle.link_plans.specs.Plans.{next, is_next, AreSuccessors}
 use Rattle.link_plans.proofs.Linking.{by_number, none_next, never_next}
 use Rattle.link_plans.proofs.Certified.{by_bound}
@@ -28,18 +28,8 @@ module _ (full copy : List (Option ℕ)) (done : ℕ) (is : IsCopied full copy d
     -- one trip more has its successor
     pub copied_more : (at : Option ℕ) → at ≡ next full done
         → IsCopied full (slice_set copy done at) (done + 1)
-    copied_more at e = record {
-      each = length-set copy done at ∙ is.each;
-      same = λ i h. by_number i done
-          (λ here. ap (next (slice_set copy done at)) here
-          ∙ moved_is copy done at copied_within ∙ e ∙ ap (next full) (sym here))
-          (λ apart. moved_other copy done at copied_within i apart
-          ∙ is.same i (omega (arith, h, apart)));
-      none = λ i h. moved_other copy done at copied_within i (past i h) ∙ is.none i (omega (arith, h));
-    }
-      where
-        past : (i : ℕ) → done + 1 ≤ i → i ≢ done
-        past i h same = omega (arith, h, same)
+    copied_more at e =
+        grind (arith, length-set, by_number, slice_set, moved_is, copied_within, moved_other)
 
     -- and it is no successor yet
     pub copied_fits : AreSuccessors full → (at : Option ℕ) → at ≡ next full done
@@ -64,8 +54,7 @@ same_next (at ∷ plan) (to ∷ other) each same =
 
 pub copied_all : (full copy : List (Option ℕ)) (done : ℕ) → IsCopied full copy done
     → length full ≤ done → copy ≡ full
-copied_all full copy done is past =
-    same_next copy full is.each (λ i h. is.same i (omega (arith, h, past, is.each)))
+copied_all full copy done is past = grind (arith, same_next)
 
 -- a trip without a successor is left without one
 pub set_none : (plan : List (Option ℕ)) (i : ℕ) (at : Option ℕ) → at ≡ None → next plan i ≡ None

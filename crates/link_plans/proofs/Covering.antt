@@ -1,5 +1,5 @@
 -- A potential that covers what the links of a trip gain.
-use Rattle.plan_num.proofs.Common.{◌≡◌, ℕ, ℤ, ◌<◌, ◌≤◌, ◌+◌, ◌-◌, max, List, length, slice_get}
+use Rattle.plan_num.proofs.Common.{◌≡◌, ℕ, ◌<◌, ◌≤◌, ◌+◌, ◌-◌, max, List, length, slice_get}
 use Rattle.plan_num.proofs.Common.{slice_set, is_some, Option, Some, None, IfSome, refl, ap, sym}
 use Rattle.plan_num.proofs.Common.{◌∙◌, subst, arith, get_or-set_same, same_Some, slice_get_within}
 use Rattle.link_plans.specs.Links.{Links, AreLinks}
@@ -24,16 +24,7 @@ module _ (links : Links) (potentials : PotentialParts) (i most done : ℕ) (row 
       → more ≡ max most (link.gain - at potentials.v link.to) → CoversLinks row potentials more (done + 1)
   covers_more link more here most_is = record {
     small = omega (arith, are.small, (is.right done link here).small, most_is);
-    covers = λ k other before e. by_number k done
-        (λ same.
-        let gain_is : link.gain ≡ other.gain = ap (λ x. x.gain) (link_is other k same e) in
-        let to_is : at potentials.v link.to ≡ at potentials.v other.to =
-        ap (λ x. at potentials.v x.to) (link_is other k same e) in
-        omega (arith, most_is, gain_is, to_is))
-        (λ apart.
-        let low : other.gain ≤ most + at potentials.v other.to =
-        are.covers k other (omega (arith, before, apart)) e in
-        omega (arith, most_is, low));
+    covers = λ k other before e. grind (arith, by_number);
   }
     where
       link_is : (other : Link) (k : ℕ) → k ≡ done → slice_get row k ≡ Some other → link ≡ other
@@ -61,10 +52,4 @@ module _ (links : Links) (potentials : PotentialParts) (i most done : ℕ) (row 
 -- no link is to a trip that is not there
 pub none_past : (links : Links) → AreLinks links → (i j : ℕ) → links.count ≤ j
     → worth (links.gain i j) ≡ None
-none_past links sound i j past = split (links.gain i j) refl
-  where
-    split : (at_j : Option ℤ) → links.gain i j ≡ at_j → worth at_j ≡ None
-    split None e = refl
-    split (Some gain) e =
-        let there = sound.within i j (ap is_some e) in
-        absurd (omega (arith, there.1, past))
+none_past links sound i j past = grind (arith, is_some)

@@ -1,6 +1,6 @@
 -- For each links there are a plan and potentials that are valid for it: trip by trip, where potentials go
 -- down until the trip in hand has its place.
-use Rattle.plan_num.proofs.Common.{◌≡◌, ◌≢◌, ℕ, ℤ, zero, suc, pos, negsuc, ◌+◌, ◌-◌, ◌<◌, ◌≤◌, ◌≤ℤ◌}
+use Rattle.plan_num.proofs.Common.{◌≡◌, ℕ, ℤ, zero, suc, pos, negsuc, ◌+◌, ◌-◌, ◌<◌, ◌≤◌, ◌≤ℤ◌}
 use Rattle.plan_num.proofs.Common.{◌==◌, ◌&&◌, not, is_some, Bool, true, false, cond, Option, Some}
 use Rattle.plan_num.proofs.Common.{None, IfSome, refl, ap, sym, ◌∙◌, subst, arith, eqb-true, eq-eqb}
 use Rattle.plan_num.proofs.Common.{false≢true, not-true, ints, none-some}
@@ -16,8 +16,7 @@ use Rattle.plan_num.proofs.Tests.{both_true, first_true, second_true, not_both}
 -- a gain that is not more than a number, and not the number
 less_than : (gain : ℤ) (number : ℕ) → gain ≤ℤ pos number → (gain ≡ pos number → ⊥)
     → gain ≤ℤ pos (number - 1)
-less_than (pos m) number most apart =
-    let other : m ≢ number = λ e. apart (ap pos e) in omega (arith, ints, most, other)
+less_than (pos m) number most apart = grind (arith, ints)
 less_than (negsuc m) number most apart = omega (arith, ints)
 
 module _ (gain : ℕ → ℕ → Option ℤ) where
@@ -66,9 +65,8 @@ module _ (gain : ℕ → ℕ → Option ℤ) where
         → g ≤ℤ pos (lower_u i + raised_v j)
     covers i j within g is most = by_bool (hands i)
         (λ in_it. by_bool (is_there j)
-        (λ there. let same : lower_u i + raised_v j ≡ u i + v j =
-        omega (arith, u_in i in_it, v_in j there, some i in_it) in
-        subst (λ k. g ≤ℤ pos k) (sym same) most)
+        (λ there. let same : lower_u i + raised_v j ≡ u i + v j = grind (arith, u_in, v_in) in grind
+        arith)
         (λ away. let same : lower_u i + raised_v j ≡ (u i + v j) - 1 =
         omega (arith, u_in i in_it, v_out j away, some i in_it) in
         subst (λ k. g ≤ℤ pos k) (sym same) (less_than g (u i + v j) most
@@ -91,11 +89,8 @@ module _ (gain : ℕ → ℕ → Option ℤ) where
         );
         once = it.held.once;
         covered = λ i j within. covered i j within (gain i j) refl (it.held.covered i j within);
-        last = λ i none apart. let nothing = it.held.last i none apart in
-            by_bool (hands i) (λ in_it. omega (arith, u_in i in_it, nothing))
-            (λ out. omega (arith, u_out i out, nothing));
-        first = λ j free. by_bool (is_there j) (λ there. absurd (none_free j there free))
-            (λ away. v_out j away ∙ it.held.first j free);
+        last = λ i none apart. grind (arith, by_bool, u_in, u_out);
+        first = λ j free. grind (arith, by_bool, v_out);
       };
       within = it.within;
       none = it.none;
@@ -186,8 +181,7 @@ module _ (gain : ℕ → ℕ → Option ℤ) where
     -- down to nothing at the latest
     down : (taken depth : ℕ) (u v : ℕ → ℕ) (plan : Plan gain) (h : ℕ)
         → IsInHand gain taken u v plan h → u h ≤ depth → HasDone gain taken
-    down taken zero u v plan h it few =
-        placed taken u v plan h it (λ lower raised again less. absurd (omega (arith, less, few)))
+    down taken zero u v plan h it few = grind (arith, placed)
     down taken (suc depth) u v plan h it few =
         placed taken u v plan h it
         (λ lower raised again less. down taken depth lower raised plan h again (omega (arith, less, few)))
@@ -213,17 +207,9 @@ module _ (gain : ℕ → ℕ → Option ℤ) where
       in_hand : IsInHand gain (taken + 1) more_u old.v old.plan taken
       in_hand = record {
         held = record {
-          follow = λ i j e. let told = old.done.follow i j e in (
-            omega (arith, told.0),
-            told.1 ∙ ap (λ k. Some (pos (k + old.v j))) (sym (was i told.0)),
-          );
+          follow = λ i j e. let told = old.done.follow i j e in grind (arith, was);
           once = old.done.once;
-          covered = λ i j within. by_number i taken
-              (λ same. subst (λ k. IfSome (gain i j) (λ g. g ≤ℤ pos (k + old.v j)))
-              (sym (put_here old.u taken top i same)) (covers_new j (gain i j) (most i j)))
-              (λ apart. let before : i < taken = omega (arith, within, apart) in
-              subst (λ k. IfSome (gain i j) (λ g. g ≤ℤ pos (k + old.v j))) (sym (was i before))
-              (old.done.covered i j before));
+          covered = λ i j within. grind (arith, by_number, put_here, covers_new, was, covered);
           last = λ i none apart. put_other old.u taken top i apart ∙ old.done.last i none (λ never. never);
           first = old.done.first;
         };
@@ -240,13 +226,7 @@ module _ (gain : ℕ → ℕ → Option ℤ) where
       u = λ i. 0;
       v = λ i. 0;
       plan = λ i. None;
-      done = record {
-        follow = λ i j e. absurd (none-some j e);
-        once = λ i k j e f. absurd (none-some j e);
-        covered = λ i j within. absurd (omega (arith, within));
-        last = λ i none apart. refl;
-        first = λ j free. refl;
-      };
+      done = grind (arith, none-some, covered);
     }
     all_done (suc taken) =
         let same : taken + 1 ≡ suc taken = omega arith in

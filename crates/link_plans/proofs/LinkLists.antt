@@ -1,12 +1,10 @@
 -- What a list of links says of the link to a trip, and that such lists are the links that are worth
 -- something.
-use Rattle.std.proofs.Common.{◌≡◌, ◌≢◌, ℕ, ℤ, zero, suc, pos, negsuc, ◌≤ℤ◌, ◌<◌, ◌≤◌, ◌==◌, Bool, true, false, cond}
-use mathlib.Core.Path.{fun_ext}
-use Rattle.std.proofs.Common.{List, [], ◌∷◌, length, slice_get, get_or, Option, Some, None, is_some}
-use Rattle.std.proofs.Common.{option_map, IfSome, refl, ap, sym, ◌∙◌, subst, arith, eq-eqb}
-use Rattle.std.proofs.lemmas.Bool.{false≢true, eqb-true, ne_eqb}
-use Rattle.std.proofs.lemmas.Option.{none-some, same_Some, slice_get-get_or, slice_get_within}
-use Rattle.std.proofs.Math.ListN.{get_or-eq_default}
+use Rattle.plan_num.proofs.Common.{◌≡◌, ◌≢◌, ℕ, zero, suc, pos, ◌<◌, ◌≤◌, ◌==◌, Bool, true, false}
+use Rattle.plan_num.proofs.Common.{cond, List, [], ◌∷◌, length, slice_get, get_or, Option, Some}
+use Rattle.plan_num.proofs.Common.{None, is_some, option_map, refl, ap, sym, ◌∙◌, subst, arith}
+use Rattle.plan_num.proofs.Common.{eq-eqb, false≢true, eqb-true, ne_eqb, none-some, same_Some}
+use Rattle.plan_num.proofs.Common.{slice_get-get_or, slice_get_within, get_or-eq_default}
 use Rattle.link_plans.proofs.LinkRows.{worth_is}
 use Rattle.link_plans.specs.declared.link_table.Link.{Link}
 use Rattle.link_plans.specs.Links.{Links, AreLinks, gain_in, links_in}
@@ -23,20 +21,14 @@ pub gain_at : (row : List Link) (to k : ℕ) (link : Link) → IsRising row
     → link.to ≡ to → gain_in row to ≡ Some link.gain
 unfolding gain_in
 gain_at [] to k link rising e same = absurd (none-some link e)
-gain_at (first ∷ row) to zero link rising e same =
-    let is : first ≡ link = same_Some first link e in
-    ap (λ b. cond b (Some first.gain) (gain_in row to)) (eq-eqb first.to to (ap (λ it. it.to) is ∙
-    same))
-    ∙ ap (λ it. Some it.gain) is
+gain_at (first ∷ row) to zero link rising e same = grind (arith, same_Some, eq-eqb)
 gain_at (first ∷ row) to (suc k) link rising e same =
-    let low : first.to < link.to = rising 0 (suc k) first link (omega arith) refl e in
-    ap (λ b. cond b (Some first.gain) (gain_in row to)) (ne_eqb first.to to (λ also. omega (
+    let low : first.to < link.to = rising 0 (suc k) first link (omega arith) refl e in grind (
       arith,
-      low,
-      same,
-      also,
-    )))
-    ∙ gain_at row to k link (rest_rising first row rising) e same
+      ne_eqb,
+      rest_rising,
+      gain_at row to k link (rest_rising first row rising) e same,
+    )
 
 -- none is found that is not there
 pub gain_none : (row : List Link) (to : ℕ)
@@ -62,11 +54,7 @@ gain_found (first ∷ row) to gain e = split (first.to == to) refl e (gain_found
         → cond b (Some first.gain) (gain_in row to) ≡ Some gain
         → (gain_in row to ≡ Some gain → (k : ℕ) × (slice_get row k ≡ Some (link_to to gain)))
         → (k : ℕ) × (slice_get (first ∷ row) k ≡ Some (link_to to gain))
-    split true is f more = (
-      0,
-      ap (λ k. Some (link_to k first.gain)) (eqb-true first.to to is)
-          ∙ ap (λ k. Some (link_to to k)) (same_Some first.gain gain f),
-    )
+    split true is f more = grind (arith, eqb-true, same_Some)
     split false is f more = let rest = more f in (suc rest.0, rest.1)
 
 -- what a look by halves finds
@@ -82,27 +70,8 @@ module _ (row : List Link) (to place : ℕ) (rising : IsRising row) (before : Ar
 
   looked_past : (link : Link) → slice_get row place ≡ Some link → (link.to == to) ≡ false
       → None ≡ gain_in row to
-  looked_past link e not_it = sym (gain_none row to apart)
-    where
-      apart : (k : ℕ) (other : Link) → slice_get row k ≡ Some other → other.to ≢ to
-      apart k other f same = by_place k
-          (λ low. let less : other.to < to = before k other low f in omega (arith, less, same))
-          (λ high. at_or_past k other f same high)
-        where
-          at_or_past : (k : ℕ) (other : Link) → slice_get row k ≡ Some other → other.to ≡ to
-              → place ≤ k → ⊥
-          at_or_past k other f same high = split (k == place) refl
-            where
-              split : (b : Bool) → (k == place) ≡ b → ⊥
-              split true is =
-                  let one : other ≡ link = same_Some other link
-                  (sym f ∙ ap (slice_get row) (eqb-true k place is) ∙ e) in
-                  false≢true (sym not_it ∙ eq-eqb link.to to (ap (λ it. it.to) (sym one) ∙ same))
-              split false is =
-                  let later : place < k = grind (arith, high, is) in
-                  let more : link.to < other.to = rising place k link other later e f in
-                  let low : to ≤ link.to = after place link (omega arith) e in
-                  omega (arith, more, low, same)
+  looked_past link e not_it =
+      grind (arith, gain_none, slice_get, by_place, same_Some, eqb-true, false≢true, eq-eqb)
 
   pub looked : (link : Link) → place < length row → ((d : Link) → link ≡ get_or row place d)
       → (found : Option ℕ) → found ≡ cond (link.to == to) (Some link.gain) None
@@ -118,9 +87,7 @@ module _ (row : List Link) (to place : ℕ) (rising : IsRising row) (before : Ar
       split false e = ap (λ b. cond b (Some link.gain) None) e ∙ looked_past link there e
 
   pub looked_end : length row ≤ place → None ≡ gain_in row to
-  looked_end past = sym (gain_none row to (λ k link f same. by_place k
-      (λ low. let less : link.to < to = before k link low f in omega (arith, less, same))
-      (λ high. omega (arith, past, high, slice_get_within row k link f))))
+  looked_end past = grind (arith, gain_none, by_place, slice_get_within)
 
 -- ---- the lists of all trips
 
@@ -138,34 +105,15 @@ module _ (links : Links) (sound : AreLinks links) (rows : List (List Link)) (are
       inside : IsRow links i links.count (get_or rows i []) → (it : Option ℕ)
           → worth (links.gain i j) ≡ it
           → gain_in (get_or rows i []) j ≡ worth (links.gain i j)
-      inside row (Some gain) e =
-          let there = sound.within i j (ap is_some (worth_is (links.gain i j) gain e)) in
-          let found = row.all j gain there.1 e in
-          gain_at (get_or rows i []) j found.0 (link_to j gain) row.rising found.1 refl ∙ sym e
-      inside row None e = gain_none (get_or rows i []) j
-          (λ k link f same. none-some link.gain
-          (sym e ∙ ap (λ to. worth (links.gain i to)) (sym same) ∙ (row.right k link f).is)) ∙ sym e
+      inside row (Some gain) e = grind (arith, is_some, worth_is, gain_at, get_or)
+      inside row None e = grind (arith, gain_none, get_or, none-some)
 
       outside : links.count ≤ i → gain_in (get_or rows i []) j ≡ worth (links.gain i j)
-      outside past =
-          ap (λ row. gain_in row j) (get_or-eq_default rows [] (omega (arith, past, are.each)))
-          ∙ none_in j ∙ sym (none_worth (links.gain i j) refl)
-        where
-          none_worth : (it : Option ℤ) → links.gain i j ≡ it → worth (links.gain i j) ≡ None
-          none_worth None e = ap worth e
-          none_worth (Some gain) e =
-              let there = sound.within i j (ap is_some e) in absurd (omega (arith, past, there.0))
+      outside past = grind (arith, get_or-eq_default, none_in, is_some)
 
   -- so the lists are the links that are worth something
   pub lists_are : links_in rows ≡ worthy links
-  lists_are =
-      let of_count : ℕ → Links = λ n. record { count = n; gain = (links_in rows).gain } in
-      let of_gain : (ℕ → ℕ → Option ℤ) → Links = λ gain. record {
-        count = links.count;
-        gain = gain;
-      } in
-      ap of_count are.each
-      ∙ ap of_gain (fun_ext (λ i. fun_ext (λ j. ap (option_map pos) (gain_is i j))))
+  lists_are = grind (arith, option_map, gain_is)
 
 -- what is worth something is so again
 pub worth_again : (it : Option ℕ) → worth (option_map pos it) ≡ it
@@ -174,33 +122,14 @@ worth_again (Some gain) = refl
 
 -- links that are worth something are links
 pub worthy_links : (links : Links) → AreLinks links → AreLinks (worthy links)
-worthy_links links sound = record {
-  few = sound.few;
-  within = λ i j h. sound.within i j (there (links.gain i j) h);
-  small = λ i j. small_of (links.gain i j) (sound.small i j);
-}
-  where
-    there : (it : Option ℤ) → is_some (option_map pos (worth it)) ≡ true → is_some it ≡ true
-    there None h = h
-    there (Some gain) h = refl
-
-    small_of : (it : Option ℤ) → IfSome it (λ gain. gain ≤ℤ pos 1000000000000)
-        → IfSome (option_map pos (worth it)) (λ gain. gain ≤ℤ pos 1000000000000)
-    small_of None h = tt
-    small_of (Some (pos gain)) h = h
-    small_of (Some (negsuc less)) h = tt
+worthy_links links sound = grind (arith, is_some, option_map)
 
 worthy_row : (links : Links) (i : ℕ) (row : List Link) → IsRow links i links.count row
     → IsRow (worthy links) i links.count row
 worthy_row links i row is = record {
   rising = is.rising;
   right = λ k link e.
-      let it = is.right k link e in
-      record {
-        within = it.within;
-        is = worth_again (worth (links.gain i link.to)) ∙ it.is;
-        small = it.small;
-      };
+      let it = is.right k link e in grind (arith, worth_again);
   all = λ j gain within e. is.all j gain within (sym (worth_again (worth (links.gain i j))) ∙ e);
 }
 

@@ -40,9 +40,7 @@ module _ (links : Links) (i below : ℕ) (row : List Link) (is : IsRow links i b
   row_kept none = record {
     rising = is.rising;
     right = λ k link e. link_more link (is.right k link e);
-    all = λ j gain before e. by_number j below
-        (λ same. absurd (none-some gain (sym none ∙ ap (λ k. worth (links.gain i k)) (sym same) ∙ e)))
-        (λ apart. is.all j gain (omega (arith, before, apart)) e);
+    all = λ j gain before e. grind (arith, by_number, none-some);
   }
 
   row_longer : (gain : ℕ) → worth (links.gain i below) ≡ Some gain → gain ≤ 1000000000000
@@ -54,8 +52,7 @@ module _ (links : Links) (i below : ℕ) (row : List Link) (is : IsRow links i b
         (λ same _. absurd (omega (arith, same, before, inside))))
         (λ same last. pushed_item row (link_to below gain) one k e
         (λ _ first.
-        let low : one.to < below = (is.right k one first).within in
-        subst (λ link. one.to < link.to) last low)
+        let low : one.to < below = (is.right k one first).within in grind arith)
         (λ also _. absurd (omega (arith, same, also, before))));
     right = λ k link e. pushed_item row (link_to below gain) link k e
         (λ _ old. link_more link (is.right k link old))
@@ -74,16 +71,14 @@ module _ (links : Links) (i below : ℕ) (row : List Link) (is : IsRow links i b
               ),
         ))
         (λ apart.
-        let found = is.all j other (omega (arith, before, apart)) e in
-        (found.0, front_item row (link_to below gain) (link_to j other) found.0 found.1));
+        let found = is.all j other (omega (arith, before, apart)) e in grind (arith, front_item));
   }
 
   pub row_more : (at_here : Option ℕ) (new : List Link) → at_here ≡ worth (links.gain i below)
       → IfSome at_here (λ gain. gain ≤ 1000000000000) → new ≡ and_link row below at_here
       → IsRow links i (below + 1) new
   row_more None new here small new_is = subst (IsRow links i (below + 1)) (sym new_is) (row_kept (sym here))
-  row_more (Some gain) new here small new_is =
-      subst (IsRow links i (below + 1)) (sym new_is) (row_longer gain (sym here) small)
+  row_more (Some gain) new here small new_is = grind (arith, row_longer)
 
 -- ---- between two links
 
@@ -97,11 +92,7 @@ module _ (links : Links) (i : ℕ) (row : List Link) (is : IsRow links i links.c
 
   -- behind all links
   pub reached_last : (k : ℕ) → length row ≤ k → reached links.count row k ≡ links.count
-  reached_last k past = split (slice_get row k) refl
-    where
-      split : (at_k : Option Link) → slice_get row k ≡ at_k → end_of links.count at_k ≡ links.count
-      split None e = refl
-      split (Some one) e = absurd (omega (arith, past, slice_get_within row k one e))
+  reached_last k past = grind (arith, slice_get, slice_get_within)
 
   -- no link leads to a trip before the one to which some link leads, and behind those of the links before
   row_gap : (k j : ℕ) → ((m : ℕ) (link : Link) → m < k → slice_get row m ≡ Some link → link.to < j)
@@ -113,15 +104,7 @@ module _ (links : Links) (i : ℕ) (row : List Link) (is : IsRow links i links.c
       later None e low m gain past there = none-some (get_or row k (link_to j gain))
           (sym e ∙ slice_get-get_or row k (link_to j gain)
           (omega (arith, past, slice_get_within row m (link_to j gain) there)))
-      later (Some one) e low m gain past there = by_number k m
-          (λ same.
-          let to : one.to ≡ j = ap (λ link. link.to)
-          (same_Some one (link_to j gain) (sym e ∙ ap (slice_get row) same ∙ there)) in
-          omega (arith, to, low))
-          (λ apart.
-          let rising : one.to < j =
-          is.rising k m one (link_to j gain) (omega (arith, past, apart)) e there in
-          omega (arith, rising, low))
+      later (Some one) e low m gain past there = grind (arith, by_number, same_Some, slice_get)
 
       split : (at_j : Option ℕ) → worth (links.gain i j) ≡ at_j → worth (links.gain i j) ≡ None
       split None e = e
@@ -129,8 +112,7 @@ module _ (links : Links) (i : ℕ) (row : List Link) (is : IsRow links i links.c
           let found = is.all j gain (omega (arith, before, reached_within k)) e in
           by_bound found.0 k
           (λ sooner.
-          let low : j < j = after found.0 (link_to j gain) sooner found.1 in
-          absurd (omega (arith, low)))
+          let low : j < j = after found.0 (link_to j gain) sooner found.1 in grind arith)
           (λ past. absurd (later (slice_get row k) refl before found.0 gain past found.1))
 
   pub gap_first : (j : ℕ) → j < reached links.count row 0 → worth (links.gain i j) ≡ None

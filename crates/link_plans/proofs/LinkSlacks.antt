@@ -1,6 +1,6 @@
 -- The slacks of the links of a trip in a list.
-use Rattle.std.proofs.Common.{◌≡◌, ℕ, ◌<◌, ◌≤◌, ◌+◌, ◌-◌, cond, List, slice_get, Some, None, IfSome, ap, ◌∙◌, subst}
-use Rattle.std.proofs.lemmas.Bool.{lt-ltb}
+use Rattle.plan_num.proofs.Common.{arith, ◌≡◌, ℕ, ◌<◌, ◌≤◌, ◌+◌, ◌-◌, List, slice_get, Some, None}
+use Rattle.plan_num.proofs.Common.{IfSome, ap, ◌∙◌, subst, lt-ltb}
 use Rattle.link_plans.specs.Links.{Links}
 use Rattle.link_plans.specs.declared.link_table.Link.{Link}
 use Rattle.link_plans.specs.LinkRows.{worth, IsRow}
@@ -11,8 +11,7 @@ module _ (links : Links) (i : ℕ) (row : List Link) (is : IsRow links i links.c
   module _ (potentials : PotentialParts) where
     inside_slack : (j : ℕ) → j < links.count → slack_to links potentials i j
         ≡ slack_of (at potentials.u i + at potentials.v j) (worth (links.gain i j))
-    inside_slack j within = ap (λ b. cond b (slack_of (at potentials.u i + at potentials.v j)
-        (worth (links.gain i j))) (Some (at potentials.u i))) (lt-ltb j links.count within)
+    inside_slack j within = grind (arith, lt-ltb)
 
     -- the slack of a trip at a place to which no link leads
     pub gap_slack : (j : ℕ) → j < links.count → worth (links.gain i j) ≡ None
@@ -23,8 +22,7 @@ module _ (links : Links) (i : ℕ) (row : List Link) (is : IsRow links i links.c
     pub link_slack : (k : ℕ) (link : Link) → slice_get row k ≡ Some link
         → slack_to links potentials i link.to
         ≡ Some (at potentials.u i + at potentials.v link.to - link.gain)
-    link_slack k link e = inside_slack link.to (is.right k link e).within
-        ∙ ap (slack_of (at potentials.u i + at potentials.v link.to)) (is.right k link e).is
+    link_slack k link e = grind (arith, inside_slack)
 
     -- a link that is covered
     pub link_covered : Covers links potentials i → (k : ℕ) (link : Link) → slice_get row k ≡ Some link

@@ -100,16 +100,9 @@ module _ (plan : List (Option ℕ)) (i j : ℕ) (within : i < length plan) where
   pub linked : AreSuccessors plan → j < length plan → is_next plan j ≡ false
       → AreSuccessors (slice_set plan i (Some j))
   linked are to free = record {
-    within = λ other k e. elim (next_before other k e) as
-        (λ _. k < length (slice_set plan i (Some j))) [
-          | inl new ↦ omega (arith, length-set plan i (Some j), new.1)
-          | inr old ↦ omega (arith, length-set plan i (Some j), are.within other k old)
-        ];
+    within = λ other k e. grind (arith, next_before, slice_set, length-set);
     once = λ one other k e f. elim (next_before one k e) as (λ _. one ≡ other) [
-      | inl new ↦ elim (next_before other k f) as (λ _. one ≡ other) [
-        | inl same ↦ new.0 ∙ sym same.0
-        | inr old ↦ absurd (not_next plan other j free (old ∙ ap Some new.1))
-      ]
+      | inl new ↦ grind (arith, next_before, not_next)
       | inr was ↦ elim (next_before other k f) as (λ _. one ≡ other) [
         | inl new ↦ absurd (not_next plan one j free (was ∙ ap Some new.1))
         | inr old ↦ are.once one other k was old

@@ -1,9 +1,9 @@
 -- What a plan is after one trip was given another place, and the trips before them.
-use Rattle.plan_num.proofs.Common.{◌≡◌, ◌≢◌, ◌⊎◌, inl, inr, ℕ, zero, suc, ◌<◌, ◌≤◌, nat_lt, Bool}
-use Rattle.plan_num.proofs.Common.{true, false, cond, List, [], ◌∷◌, length, slice_set, replicate}
-use Rattle.plan_num.proofs.Common.{Option, Some, None, MatchOption, IfSome, refl, ap, sym, ◌∙◌}
-use Rattle.plan_num.proofs.Common.{subst, arith, get_or-set_same, get_or-set_other, ltb-true}
-use Rattle.plan_num.proofs.Common.{ltb-false, length-set, none-some, same_Some}
+use Rattle.plan_num.proofs.Common.{◌≡◌, ◌≢◌, ◌⊎◌, inl, inr, ℕ, zero, suc, ◌<◌, ◌≤◌, nat_lt, false}
+use Rattle.plan_num.proofs.Common.{List, [], ◌∷◌, length, slice_set, replicate, Option, Some, None}
+use Rattle.plan_num.proofs.Common.{MatchOption, IfSome, refl, ap, sym, ◌∙◌, arith, get_or-set_same}
+use Rattle.plan_num.proofs.Common.{get_or-set_other, ltb-true, ltb-false, length-set, none-some}
+use Rattle.plan_num.proofs.Common.{same_Some}
 use Rattle.link_plans.specs.Plans.{next, is_next, AreSuccessors}
 use Rattle.link_plans.proofs.Linking.{by_number, none_next, not_next, never_next}
 use Rattle.link_plans.specs.Places.{successor_at, forgotten, AreLinked}
@@ -12,45 +12,31 @@ use Rattle.link_plans.specs.Places.{successor_at, forgotten, AreLinked}
 
 pub some_successor : (count place j : ℕ) → successor_at count place ≡ Some j
     → (place < count) × (place ≡ j)
-some_successor count place j e = split (nat_lt place count) refl e
-  where
-    split : (b : Bool) → nat_lt place count ≡ b → cond b (Some place) None ≡ Some j
-        → (place < count) × (place ≡ j)
-    split true is f = (ltb-true place count is, same_Some place j f)
-    split false is f = absurd (none-some j f)
+some_successor count place j e = grind (arith, nat_lt, ltb-true, same_Some, none-some)
 
 pub no_successor : (count place : ℕ) → successor_at count place ≡ None → count ≤ place
-no_successor count place e = split (nat_lt place count) refl e
-  where
-    split : (b : Bool) → nat_lt place count ≡ b → cond b (Some place) None ≡ None → count ≤ place
-    split true is f = absurd (none-some place (sym f))
-    split false is f = ltb-false place count is
+no_successor count place e = grind (arith, nat_lt, none-some, ltb-false)
 
 pub successor_within : (count place : ℕ) → place < count → successor_at count place ≡ Some place
-successor_within count place within = split (nat_lt place count) refl
-  where
-    split : (b : Bool) → nat_lt place count ≡ b → cond b (Some place) None ≡ Some place
-    split true is = refl
-    split false is = absurd (omega (arith, within, ltb-false place count is))
+successor_within count place within = grind (arith, nat_lt, ltb-false)
 
 pub successor_past : (count place : ℕ) → count ≤ place → successor_at count place ≡ None
-successor_past count place past = split (nat_lt place count) refl
-  where
-    split : (b : Bool) → nat_lt place count ≡ b → cond b (Some place) None ≡ None
-    split true is = absurd (omega (arith, past, ltb-true place count is))
-    split false is = refl
+successor_past count place past = grind (arith, nat_lt, ltb-true)
 
 -- two places with the same trip are the same
 pub same_place : (count f g : ℕ) → f ≤ count → g ≤ count
     → successor_at count f ≡ successor_at count g → f ≡ g
-same_place count f g few most e = split (nat_lt f count) refl
-  where
-    split : (b : Bool) → nat_lt f count ≡ b → f ≡ g
-    split true is = sym (some_successor count g f
-        (sym e ∙ successor_within count f (ltb-true f count is))).1
-    split false is =
-        let past = ltb-false f count is in
-        omega (arith, few, most, past, no_successor count g (sym e ∙ successor_past count f past))
+same_place count f g few most e =
+    grind (
+      arith,
+      nat_lt,
+      some_successor,
+      successor_within,
+      ltb-true,
+      ltb-false,
+      no_successor,
+      successor_past,
+    )
 
 -- ---- one trip with another place
 
@@ -99,11 +85,7 @@ module _ (after before : List (Option ℕ)) (are : AreLinked after before) where
 
   -- what comes after a trip is there
   pub next_inside : (i : ℕ) → IfSome (next after i) (λ j. j < length after)
-  next_inside i = split (next after i) refl
-    where
-      split : (at : Option ℕ) → next after i ≡ at → IfSome at (λ j. j < length after)
-      split None e = tt
-      split (Some j) e = are.within i j e
+  next_inside i = grind arith
 
   pub linked_are : AreSuccessors after
   linked_are = record { within = are.within; once = linked_once }
@@ -134,42 +116,21 @@ module _ (after before : List (Option ℕ)) (are : AreLinked after before) where
 
     left_some : (own : ℕ) → next after i ≡ Some own
         → AreLinked (slice_set after i None) (slice_set before own None)
-    left_some own is = record {
-      each = length-set before own None ∙ are.each ∙ sym (length-set after i None);
-      within = λ k j e. elim (moved_next after i None inside k j e) as
-          (λ _. j < length (slice_set after i None)) [
-            | inl new ↦ absurd (none-some j new.1)
-            | inr old ↦ subst (λ n. j < n) (sym (length-set after i None)) (are.within k j old.1)
-          ];
-      both = λ k j. (
-        (λ e. elim (moved_next after i None inside k j e) as
-            (λ _. next (slice_set before own None) j ≡ Some k) [
-              | inl new ↦ absurd (none-some j new.1)
-              | inr old ↦ moved_other before own None own_within j
-                  (λ same. old.0 (linked_once k i own (old.1 ∙ ap Some same) is))
-                  ∙ (are.both k j).0 old.1
-            ]),
-        (λ e. elim (moved_next before own None own_within j k e) as
-            (λ _. next (slice_set after i None) k ≡ Some j) [
-              | inl new ↦ absurd (none-some k new.1)
-              | inr old ↦ moved_other after i None inside k
-                  (λ same. old.0 (same_Some j own
-                  (sym ((are.both i j).1 (old.1 ∙ ap Some same)) ∙ is)))
-                  ∙ (are.both k j).1 old.1
-            ]),
-      );
-    }
-      where
-        own_within : own < length before
-        own_within = omega (arith, are.each, are.within i own is)
+    left_some own is =
+        grind (
+          arith,
+          length-set,
+          moved_next,
+          slice_set,
+          none-some,
+          moved_other,
+          linked_once,
+          same_Some,
+        )
 
     -- the trip whose place it was is there
     pub own_inside : IfSome (next after i) (λ own. own < length before)
-    own_inside = split (next after i) refl
-      where
-        split : (at : Option ℕ) → next after i ≡ at → IfSome at (λ own. own < length before)
-        split None e = tt
-        split (Some own) e = omega (arith, are.each, are.within i own e)
+    own_inside = grind arith
 
     pub taken_away : AreLinked (slice_set after i None) (forgotten before (next after i))
     taken_away = split (next after i) refl
@@ -182,36 +143,18 @@ module _ (after before : List (Option ℕ)) (are : AreLinked after before) where
     -- a trip without a place is given one that no trip has
     pub given : (place : ℕ) → next after i ≡ None → place < length after → is_next after place ≡ false
         → AreLinked (slice_set after i (Some place)) (slice_set before place (Some i))
-    given place none to free = record {
-      each = length-set before place (Some i) ∙ are.each ∙ sym (length-set after i (Some place));
-      within = λ k j e. elim (moved_next after i (Some place) inside k j e) as
-          (λ _. j < length (slice_set after i (Some place))) [
-            | inl new ↦ omega (arith, to, length-set after i (Some place), same_Some place j new.1)
-            | inr old ↦ subst (λ n. j < n) (sym (length-set after i (Some place)))
-                (are.within k j old.1)
-          ];
-      both = λ k j. (
-        (λ e. elim (moved_next after i (Some place) inside k j e) as
-            (λ _. next (slice_set before place (Some i)) j ≡ Some k) [
-              | inl new ↦ ap (next (slice_set before place (Some i))) (sym (same_Some place j new.1))
-                  ∙ moved_is before place (Some i) place_within ∙ ap Some (sym new.0)
-              | inr old ↦ moved_other before place (Some i) place_within j
-                  (λ same. not_next after k place free (old.1 ∙ ap Some same))
-                  ∙ (are.both k j).0 old.1
-            ]),
-        (λ e. elim (moved_next before place (Some i) place_within j k e) as
-            (λ _. next (slice_set after i (Some place)) k ≡ Some j) [
-              | inl new ↦ ap (next (slice_set after i (Some place))) (sym (same_Some i k new.1))
-                  ∙ moved_is after i (Some place) inside ∙ ap Some (sym new.0)
-              | inr old ↦ moved_other after i (Some place) inside k
-                  (λ same. none-some j (sym none ∙ (are.both i j).1 (old.1 ∙ ap Some same)))
-                  ∙ (are.both k j).1 old.1
-            ]),
-      );
-    }
-      where
-        place_within : place < length before
-        place_within = omega (arith, are.each, to)
+    given place none to free =
+        grind (
+          arith,
+          length-set,
+          moved_next,
+          slice_set,
+          same_Some,
+          moved_is,
+          moved_other,
+          not_next,
+          none-some,
+        )
 
 -- so many trips, none after another
 pub none_before : (n : ℕ) → AreLinked (replicate n None) (replicate n None)

@@ -1,7 +1,7 @@
 -- Tests on the numbers below one, functions with another value at a place, and gains that are a number.
 use Rattle.plan_num.proofs.Common.{◌≡◌, ◌≢◌, ℕ, ℤ, zero, suc, pos, ◌<◌, ◌==◌, ◌&&◌, ◌||◌, Bool}
-use Rattle.plan_num.proofs.Common.{true, false, cond, Option, Some, None, refl, ap, sym, ◌∙◌, subst}
-use Rattle.plan_num.proofs.Common.{arith, eq-eqb, int_eq, false≢true, ne_eqb, Decides-int_eq}
+use Rattle.plan_num.proofs.Common.{true, false, cond, Option, Some, None, refl, ap, sym, arith}
+use Rattle.plan_num.proofs.Common.{eq-eqb, int_eq, false≢true, ne_eqb, Decides-int_eq}
 use Rattle.link_plans.proofs.Linking.{by_number}
 use Rattle.plan_num.proofs.Tests.{both_true, second_true, first_true, not_both}
 
@@ -23,8 +23,7 @@ found_below p (suc n) h = split (p n) refl h (found_below p n)
     split : (b : Bool) → p n ≡ b → (b || some_below p n) ≡ true
         → (some_below p n ≡ true → IsFound p n) → IsFound p (suc n)
     split true is h rest = record { i = n; within = omega arith; passes = is }
-    split false is h rest = let found = rest h in
-        record { i = found.i; within = omega (arith, found.within); passes = found.passes }
+    split false is h rest = grind arith
 
 pub none_below : (p : ℕ → Bool) (n : ℕ) → some_below p n ≡ false → (i : ℕ) → i < n → p i ≡ false
 none_below p zero h i within = absurd (omega (arith, within))
@@ -33,8 +32,7 @@ none_below p (suc n) h i within = split (p n) refl h (none_below p n)
     split : (b : Bool) → p n ≡ b → (b || some_below p n) ≡ false
         → (some_below p n ≡ false → (i : ℕ) → i < n → p i ≡ false) → p i ≡ false
     split true is h rest = absurd (false≢true (sym h))
-    split false is h rest = by_number i n (λ same. ap p same ∙ is)
-        (λ apart. rest h i (omega (arith, within, apart)))
+    split false is h rest = grind (arith, by_number)
 
 pub by_bool : {P : Type 0} (b : Bool) → (b ≡ true → P) → (b ≡ false → P) → P
 by_bool true whole none = whole refl
@@ -56,8 +54,7 @@ is_exact None number = false
 is_exact (Some gain) number = int_eq gain (pos number)
 
 pub exact_where : (gain : Option ℤ) (number : ℕ) → gain ≡ Some (pos number) → is_exact gain number ≡ true
-exact_where gain number e = subst (λ at. is_exact at number ≡ true) (sym e)
-    ((Decides-int_eq (pos number) (pos number)).1 refl)
+exact_where gain number e = grind (arith, Decides-int_eq)
 
 pub where_exact : (gain : Option ℤ) (number : ℕ) → is_exact gain number ≡ true → gain ≡ Some (pos number)
 where_exact None number h = absurd (false≢true h)

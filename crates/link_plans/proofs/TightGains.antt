@@ -1,6 +1,6 @@
 -- What a plan gains against numbers that cover its links: never more than all of them, and as much
 -- exactly where it is tight.
-use Rattle.plan_num.proofs.Common.{◌≡◌, ◌≢◌, ℕ, ℤ, zero, suc, pos, ◌+◌, ◌<◌, ◌+ℤ◌, ◌≤ℤ◌, ◌==◌, ◌||◌}
+use Rattle.plan_num.proofs.Common.{◌≡◌, ◌≢◌, ℕ, ℤ, zero, suc, pos, ◌+◌, ◌<◌, ◌+ℤ◌, ◌≤ℤ◌, ◌==◌}
 use Rattle.plan_num.proofs.Common.{eq-eqb, false, List, [], ◌∷◌, length, sum, set, Option, Some}
 use Rattle.plan_num.proofs.Common.{None, unwrap_or, refl, ap, sym, ◌∙◌, subst, arith, or_parts}
 use Rattle.plan_num.proofs.Common.{ne_eqb, false≢true, ints, get_or-set_other, sum_by-cons}
@@ -19,8 +19,7 @@ sum_more first numbers = sum_by-cons (λ n. n) first numbers
 sum_without : (numbers : List ℕ) (k : ℕ) → sum numbers ≡ at numbers k + sum (set numbers k 0)
 sum_without [] k = omega arith
 sum_without (first ∷ numbers) zero = omega (arith, sum_more first numbers, sum_more 0 numbers)
-sum_without (first ∷ numbers) (suc k) =
-    omega (arith, sum_more first numbers, sum_more first (set numbers k 0), sum_without numbers k)
+sum_without (first ∷ numbers) (suc k) = grind (arith, sum_more, sum_without numbers k)
 
 -- numbers whose sum is 0 are 0
 all_zero : (numbers : List ℕ) → sum numbers ≡ 0 → (k : ℕ) → at numbers k ≡ 0
@@ -174,8 +173,7 @@ module _ (gain : ℕ → ℕ → Option ℤ) where
     where
       linked_at : gain_at n j ≡ pos (first + at v j) → AreTight (n + 1) plan u (set v j 0) → (k i : ℕ)
           → next (Some j ∷ plan) k ≡ Some i → gain_at (n + k) i ≡ pos (at (first ∷ u) k + at v i)
-      linked_at exact rest zero i e = subst (λ x. gain_at (n + 0) x ≡ pos (first + at v x)) (same_Some j i e)
-          (ap (λ x. gain_at x j) (plain n) ∙ exact)
+      linked_at exact rest zero i e = grind (arith, same_Some, plain)
       linked_at exact rest (suc k) i e = ap (λ x. gain_at x i) (moved n k) ∙ rest.linked k i e
           ∙ ap (λ x. pos (at u k + x)) (stays n j plan first u v are k i e)
 
@@ -203,20 +201,16 @@ module _ (gain : ℕ → ℕ → Option ℤ) where
         last = λ k h e. tight.last (suc k) (omega (arith, h)) e;
         first = λ j h. tight.first j h;
       }) in
-      let own_zero : first ≡ 0 = tight.last 0 (omega arith) refl in
-      omega (arith, ints, sum_more first u, own_zero, rest)
+      let own_zero : first ≡ 0 = tight.last 0 (omega arith) refl in grind (arith, ints, sum_more)
   tight_gains n (Some j ∷ plan) (first ∷ u) v are tight =
       let rest : gains_from gain (n + 1) plan ≡ pos (sum u + sum (set v j 0)) =
       tight_gains (n + 1) plan u (set v j 0) (rest_linked n j plan first u v are) (record {
         linked = λ k i e. sym (ap (λ x. gain_at x i) (moved n k)) ∙ tight.linked (suc k) i e
             ∙ sym (ap (λ x. pos (at u k + x)) (stays n j plan first u v are k i e));
         last = λ k h e. tight.last (suc k) (omega (arith, h)) e;
-        first = λ i h. by_number i j
-            (λ same. ap (at (set v j 0)) same ∙ set_itself v j)
-            (λ other. set_zero v j i (tight.first i (ap (λ b. b || is_next plan i) (ne_eqb i j other) ∙ h)));
+        first = λ i h. grind (arith, by_number, set_itself, set_zero, ne_eqb);
       }) in
       let exact : gain_at n j ≡ pos (first + at v j) =
       ap (λ x. gain_at x j) (sym (plain n)) ∙ tight.linked 0 j refl in
       let both : gains_from gain n (Some j ∷ plan) ≡ gain_at n j +ℤ gains_from gain (n + 1) plan =
-      gains_more gain n j plan in
-      omega (arith, ints, sum_more first u, sum_without v j, rest, exact, both)
+      gains_more gain n j plan in grind (arith, ints, sum_more, sum_without)

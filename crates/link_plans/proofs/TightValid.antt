@@ -1,6 +1,6 @@
 -- Potentials that cover all links are valid for a plan that is tight for them.
 use Rattle.plan_num.proofs.Common.{◌≡◌, ℕ, ℤ, pos, ◌+◌, ◌≤ℤ◌, true, List, is_some, Option, Some}
-use Rattle.plan_num.proofs.Common.{None, IfSome, unwrap_or, ap, sym, ◌∙◌, subst, arith, false≢true}
+use Rattle.plan_num.proofs.Common.{None, IfSome, unwrap_or, sym, ◌∙◌, arith, false≢true}
 use Rattle.link_plans.specs.Plans.{IsPlan}
 use Rattle.link_plans.specs.Links.{Links}
 use Rattle.link_plans.specs.Potentials.{PotentialParts, at, AreOver, AreValid, IsTight}
@@ -25,14 +25,10 @@ tight_valid links plan potentials over covered is tight = record {
       (record {
         size = over.each_u ∙ sym is.each;
         once = is.once;
-        covered = λ k j e.
-            subst (λ i. unwrap_or (links.gain i j) (pos 0) ≤ℤ pos (at potentials.u k + at potentials.v j))
-            (none_before k)
-            (covered_by (links.gain k j) (at potentials.u k + at potentials.v j) (is.follow k j e) (covered k j));
+        covered = λ k j e. grind (arith, unwrap_or, none_before, covered_by);
       })
       (record {
-        linked = λ k j e. ap (λ i. unwrap_or (links.gain i j) (pos 0)) (sym (none_before k))
-            ∙ ap (λ gain. unwrap_or gain (pos 0)) (tight.linked k j e);
+        linked = λ k j e. grind (arith, unwrap_or, none_before);
         last = λ k h e. tight.last k e;
         first = tight.first;
       }));

@@ -43,8 +43,7 @@ minutes_from minutes n plan =
 pub gains_more : (gain : ℕ → ℕ → Option ℤ) (n j : ℕ) (plan : List (Option ℕ))
     → gains_from gain n (Some j ∷ plan)
     ≡ unwrap_or (gain n j) (pos 0) +ℤ gains_from gain (n + 1) plan
-gains_more gain n j plan = total_more (unwrap_or (gain n j) (pos 0))
-    (map (λ (link : ℕ × ℕ). unwrap_or (gain link.0 link.1) (pos 0)) (links_from (n + 1) plan))
+gains_more gain n j plan = grind (arith, total_more, unwrap_or)
 
 pub minutes_more : (minutes : ℕ → ℕ → Option ℕ) (n j : ℕ) (plan : List (Option ℕ))
     → minutes_from minutes n (Some j ∷ plan)

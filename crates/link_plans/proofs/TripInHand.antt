@@ -57,30 +57,14 @@ module _ (gain : ℕ → ℕ → Option ℤ) where
       follow = λ i k e. by_number i h
           (λ same. follows i k same (same_Some j k (sym (put_here plan h (Some j) i same) ∙ e)))
           (λ apart. it.held.follow i k (sym (put_other plan h (Some j) i apart) ∙ e));
-      once = λ i k x e f. by_number i h
-          (λ same. by_number k h (λ also. same ∙ sym also)
-          (λ apart. absurd (free k (sym (put_other plan h (Some j) k apart) ∙ f
-          ∙ ap Some (sym (same_Some j x (sym (put_here plan h (Some j) i same) ∙ e)))))))
-          (λ apart. by_number k h
-          (λ also. absurd (free i (sym (put_other plan h (Some j) i apart) ∙ e
-          ∙ ap Some (sym (same_Some j x (sym (put_here plan h (Some j) k also) ∙ f))))))
-          (λ other. it.held.once i k x (sym (put_other plan h (Some j) i apart) ∙ e)
-          (sym (put_other plan h (Some j) k other) ∙ f)));
+      once = λ i k x e f. grind (arith, by_number, put_other, same_Some, put_here);
       covered = it.held.covered;
-      last = λ i e never. by_number i h
-          (λ same. absurd (none-some j (sym e ∙ put_here plan h (Some j) i same)))
-          (λ apart. it.held.last i (sym (put_other plan h (Some j) i apart) ∙ e) apart);
-      first = λ k is. it.held.first k (λ i e. by_number i h
-          (λ same. none-some k (sym it.none ∙ ap plan (sym same) ∙ e))
-          (λ apart. is i (put_other plan h (Some j) i apart ∙ e)));
+      last = λ i e never. grind (arith, by_number, none-some, put_here, put_other);
+      first = λ k is. grind (arith, by_number, none-some, put_other);
     }
       where
         follows : (i k : ℕ) → i ≡ h → j ≡ k → (i < taken) × (gain i k ≡ Some (pos (u i + v k)))
-        follows i k same at = (
-          subst (λ x. x < taken) (sym same) it.within,
-          subst (λ x. gain x k ≡ Some (pos (u x + v k))) (sym same)
-              (subst (λ x. gain h x ≡ Some (pos (u h + v x))) at tight),
-        )
+        follows i k same at = grind arith
 
     -- it may take one from another trip, which is then in hand
     module _ (plan : Plan) (h j k : ℕ) (it : IsInHand taken u v plan h)
@@ -98,8 +82,7 @@ module _ (gain : ℕ → ℕ → Option ℤ) where
       at_other i apart e = put_other (put plan k None) h (Some j) i apart ∙ put_here plan k None i e
 
       pub elsewhere : (i : ℕ) → i ≢ h → i ≢ k → passed i ≡ plan i
-      elsewhere i apart other =
-          put_other (put plan k None) h (Some j) i apart ∙ put_other plan k None i other
+      elsewhere i apart other = grind (arith, put_other, put)
 
       by_place : {P : Type 0} (i : ℕ) → (i ≡ h → P) → (i ≢ h → i ≡ k → P) → (i ≢ h → i ≢ k → P) → P
       by_place i at_h at_k else = by_number i h at_h (λ apart. by_number i k (at_k apart) (else apart))
@@ -112,8 +95,7 @@ module _ (gain : ℕ → ℕ → Option ℤ) where
 
       -- a link that was there to the trip that is taken is that from the other one
       was_other : (i x : ℕ) → i ≢ h → i ≢ k → passed i ≡ Some x → j ≡ x → ⊥
-      was_other i x apart other e at = other (it.held.once i k j
-          (sym (elsewhere i apart other) ∙ e ∙ ap Some (sym at)) behind)
+      was_other i x apart other e at = grind (arith, elsewhere)
 
       pub passes : IsInHand taken u v passed k
       passes = record {
@@ -133,15 +115,8 @@ module _ (gain : ℕ → ℕ → Option ℤ) where
               (λ apart_l other_l. it.held.once i l x (sym (elsewhere i apart other) ∙ e)
               (sym (elsewhere l apart_l other_l) ∙ f)));
           covered = it.held.covered;
-          last = λ i e never. by_place i
-              (λ same. absurd (none-some j (sym e ∙ at_hand i same)))
-              (λ apart same. absurd (never same))
-              (λ apart other. it.held.last i (sym (elsewhere i apart other) ∙ e) apart);
-          first = λ x is. it.held.first x (λ i e. by_place i
-              (λ same. none-some x (sym it.none ∙ ap plan (sym same) ∙ e))
-              (λ apart same. is h (at_hand h refl
-              ∙ sym behind ∙ ap plan (sym same) ∙ e))
-              (λ apart other. is i (elsewhere i apart other ∙ e)));
+          last = λ i e never. grind (arith, by_place, none-some, at_hand, elsewhere);
+          first = λ x is. grind (arith, by_place, none-some, at_hand, elsewhere);
         };
         within = (it.held.follow k j behind).0;
         none = at_other k apart_hand refl;
@@ -197,14 +172,8 @@ module _ (gain : ℕ → ℕ → Option ℤ) where
 
     pub reached : (hands : ℕ → Bool) (j : ℕ) → is_reached hands j ≡ true → IsReached hands j
     reached hands j e =
-        let found = found_below (λ i. hands i && is_exact (gain i j) (u i + v j)) taken e in
-        record {
-          i = found.i;
-          within = found.within;
-          is = first_true (hands found.i) _ found.passes;
-          tight = where_exact (gain found.i j) (u found.i + v j)
-              (second_true (hands found.i) _ found.passes);
-        }
+        let found = found_below (λ i. hands i && is_exact (gain i j) (u i + v j)) taken e in grind
+        (arith, first_true, passes, where_exact, second_true)
 
     pub not_reached : (hands : ℕ → Bool) (j i : ℕ) → is_reached hands j ≡ false → i < taken
         → hands i ≡ true → gain i j ≡ Some (pos (u i + v j)) → ⊥
@@ -242,8 +211,7 @@ module _ (gain : ℕ → ℕ → Option ℤ) where
       }
         where
           is_there : (i : ℕ) → hands i ≡ true → with_hand hands k i ≡ true
-          is_there i e = by_bool (i == k) (λ same. ap (λ b. b || hands i) same)
-              (λ apart. ap (λ b. b || hands i) apart ∙ e)
+          is_there i e = grind (arith, by_bool)
 
           wider : (i : ℕ) → CanHold hands i → CanHold (with_hand hands k) i
           wider i can = grind arith

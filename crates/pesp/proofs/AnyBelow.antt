@@ -20,9 +20,12 @@ unfolding any_below
 some_below test zero some = absurd (false≢true some)
 some_below test (suc n) some = elim (cases_Bool (test n)) [
   | inl is ↦ (n, omega arith, is)
-  | inr not ↦
-      let rest = some_below test n (sym (or_none (any_below test n) (test n) not) ∙ some) in
-      (rest.0, (let low = rest.1 in omega (arith, low)), rest.2)
+  | inr not ↦ grind (
+    arith,
+    or_none,
+    some_below test n (sym (or_none (any_below test n) (test n)
+        not) ∙ some),
+  )
 ]
 
 -- none does

@@ -63,10 +63,7 @@ none_left sets (change ∷ all) none = absurd (omega (arith, none))
 -- what holds of all holds of the last one and of the others
 pub others_hold : {X : Type 0} (P : X → Type 0) (all rest : List X) (last : X)
     → all ≡ rest ++ last ∷ [] → All P all → All P rest
-others_hold P all rest last is holds = λ k d h.
-    let both = subst (All P) is holds in
-    let within : k < length (rest ++ last ∷ []) = omega (arith, h, length_push rest last) in
-    subst P (get_or_append_left rest (last ∷ []) d k h) (both k d within)
+others_hold P all rest last is holds = grind (arith, length_push, get_or_append_left)
 
 pub last_holds : {X : Type 0} (P : X → Type 0) (all rest : List X) (last : X)
     → all ≡ rest ++ last ∷ [] → All P all → P last

@@ -32,9 +32,7 @@ pub placed_more : (problem : Problem) (places : List Place) (place : Place)
     → ArePlaced problem places → IsPlaced problem (length places) place
     → ArePlaced problem (places ++ place ∷ [])
 placed_more problem places place so is event other within = elim (cases_lt event (length places)) [
-  | inl low ↦
-      subst (IsPlaced problem event)
-      (sym (get_or_append_left places (place ∷ []) other event low)) (so event other low)
+  | inl low ↦ grind (arith, get_or_append_left)
   | inr high ↦
       let last : event ≡ length places =
       omega (arith, within, high, length-append places (place ∷ [])) in
@@ -59,9 +57,7 @@ all_alone problem sound classes own period placed places shifts zeros none = rec
   around = λ event within.
       subst (AreLater problem event event) (sym (zeros event 0 (omega (arith, within, shifts))))
       (stays_there problem event);
-  few_around = λ event within.
-      subst (λ n. n < problem.period) (sym (zeros event 0 (omega (arith, within, shifts))))
-      (omega (arith, sound.some));
+  few_around = λ event within. grind arith;
 }
 
 -- ---- a tie more
@@ -69,12 +65,10 @@ all_alone problem sound classes own period placed places shifts zeros none = rec
 module _ (problem : Problem) (classes : Classes) (so : AreClasses problem classes) where
   pub placed_at : (event : ℕ) (place : Place) → event < problem.events
       → place ≡ get_or classes.places.items event place → IsPlaced problem event place
-  placed_at event place within is =
-      subst (IsPlaced problem event) (sym is) (so.placed event place within)
+  placed_at event place within is = grind arith
 
   pub small : (n : ℕ) → n % classes.period < problem.period
-  small n = subst (λ period. n % period < problem.period) (sym so.period)
-      (mod-lt n (omega (arith, so.sound.some)))
+  small n = grind (arith, mod-lt)
 
   module _ (tie : Tie) (is : IsTie problem tie) (near far : Place)
       (near_so : IsPlaced problem tie.from near) (far_so : IsPlaced problem tie.to far) where
@@ -196,17 +190,7 @@ module _ (problem : Problem) (classes : Classes) (so : AreClasses problem classe
   pub waits_less : (waiting : Vec ℕ Global)
       → All (λ event. event < problem.events) waiting.items
       → AreClasses problem (record classes { waiting = waiting })
-  waits_less waiting are = record {
-    own = so.own;
-    period = so.period;
-    sound = so.sound;
-    places = so.places;
-    shifts = so.shifts;
-    waiting = are;
-    placed = so.placed;
-    around = so.around;
-    few_around = so.few_around;
-  }
+  waits_less waiting are = grind (arith, around)
 
 -- they are classes of the problem that they know of
 pub owned : (problem : Problem) (classes : Classes) → AreClasses problem classes
@@ -222,11 +206,7 @@ pub record AreShiftsTo (problem : Problem) (shifts : List ℕ) (count : ℕ) : T
   pub few : (event : ℕ) → event < count → get_or shifts event 0 < problem.period
 
 pub no_shifts : (problem : Problem) (shifts : List ℕ) → shifts ≡ [] → AreShiftsTo problem shifts 0
-no_shifts problem shifts none = record {
-  size = ap length none;
-  around = λ event low. absurd (omega (arith, low));
-  few = λ event low. absurd (omega (arith, low));
-}
+no_shifts problem shifts none = grind (arith, around)
 
 module _ (problem : Problem) (classes : Classes) (so : AreClasses problem classes) where
   pub shift_more : (shifts items : List ℕ) (count : ℕ) (place : Place) (shift : ℕ)
@@ -255,8 +235,7 @@ module _ (problem : Problem) (classes : Classes) (so : AreClasses problem classe
           is.there)
 
       here : get_or (shifts ++ last ∷ []) count 0 ≡ last
-      here = subst (λ n. get_or (shifts ++ last ∷ []) n 0 ≡ last) are.size
-          (get_or-append_seam shifts last [] 0)
+      here = grind (arith, get_or, get_or-append_seam)
 
       around_at : (event : ℕ) → event < count + 1
           → AreLater problem event event (get_or (shifts ++ last ∷ []) event 0)

@@ -1,8 +1,7 @@
 -- An activity takes out nothing where more times are left than lie outside of each window.
-use Rattle.std.proofs.Common.{◌≡◌, ◌∙◌, inl, inr, ℕ, ◌+◌, ◌-◌, ◌<◌, ◌≤◌, ◌==◌, nat_le, nat_lt, Bool}
-use Rattle.std.proofs.Common.{true, false, not, ◌&&◌, ◌||◌, filter, length, refl, ap, sym, arith}
-use Rattle.std.specs.List.{range_with_len}
-use Rattle.std.proofs.lemmas.Bool.{and_parts, cases_Bool, false≢true, le-leb, leb-true, ltb-true}
+use Rattle.plan_num.proofs.Common.{◌≡◌, ◌∙◌, ℕ, ◌+◌, ◌-◌, ◌<◌, ◌≤◌, ◌==◌, nat_le, nat_lt, Bool}
+use Rattle.plan_num.proofs.Common.{true, false, not, ◌||◌, filter, length, arith, range_with_len}
+use Rattle.plan_num.proofs.Common.{and_parts, cases_Bool, false≢true, le-leb, leb-true, ltb-true}
 use Rattle.pesp.specs.declared.activity.PespActivity.{PespActivity}
 use Rattle.pesp.specs.Timetables.{IsActivity}
 use Rattle.pesp.specs.Marks.{AreMarks, Prunes, Tracked, is_left, times_from}
@@ -17,22 +16,7 @@ use Rattle.pesp.proofs.WindowSums.{crowded}
 prunes_none : (before : Tracked) (keeps : Left)
     → ((event time : ℕ) → is_left before.sets event time ≡ true → keeps event time ≡ true)
     → Prunes before before keeps false
-prunes_none before keeps all = record {
-  period = refl;
-  events = refl;
-  saved = refl;
-  left = λ i event time. stay event time i;
-  same = λ _. refl;
-  fewer = λ is. absurd (false≢true is);
-  no_more = omega arith;
-}
-  where
-    stay : (event time : ℕ)
-        → is_left before.sets event time ≡ (is_left before.sets event time && keeps event time)
-    stay event time = elim (cases_Bool (is_left before.sets event time)) [
-      | inl is ↦ is ∙ sym (ap (λ b. b && keeps event time) is ∙ all event time is)
-      | inr is ↦ is ∙ sym (ap (λ b. b && keeps event time) is)
-    ]
+prunes_none before keeps all = grind (arith, false≢true, cases_Bool)
 
 module _ (activity : PespActivity) (before : Tracked)
     (is : IsActivity before.sets.rows activity) (are : AreMarks before.sets) where
@@ -70,9 +54,7 @@ module _ (activity : PespActivity) (before : Tracked)
 
   pub crowded_end : (end : ActivityEnd) → IsCrowded (event_at activity (other_end end))
       → Prunes before before (keeps_partnered period (is_left before.sets) activity end) false
-  crowded_end end so =
-      prunes_none before (keeps_partnered period (is_left before.sets) activity end)
-      (λ event time left. own event _ (met end time so (low event time left)) (event_at activity end))
+  crowded_end end so = grind (arith, prunes_none, own, met, low)
 
   -- and any two times keep an activity that is free
   crowded_free : is_free period activity ≡ true → (event : ℕ)

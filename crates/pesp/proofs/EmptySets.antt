@@ -1,7 +1,7 @@
 -- Sets of times of which one is empty.
 use Rattle.plan_num.proofs.Common.{◌≡◌, ◌∙◌, inl, inr, ℕ, zero, suc, ◌+◌, ◌<◌, ◌≤◌, ◌||◌, Bool}
-use Rattle.plan_num.proofs.Common.{true, false, ◌&&◌, List, [], ◌∷◌, length, map, filter, ap, sym}
-use Rattle.plan_num.proofs.Common.{arith, ◌⊎◌, ◌-◌, if◌then◌else◌, refl, slice_set, subst, list_any}
+use Rattle.plan_num.proofs.Common.{true, false, List, [], ◌∷◌, length, map, filter, ap, sym, arith}
+use Rattle.plan_num.proofs.Common.{◌⊎◌, ◌-◌, if◌then◌else◌, refl, slice_set, subst, list_any}
 use Rattle.plan_num.proofs.Common.{range_with_len, and_from, and_parts, cases_Bool, cases_eq}
 use Rattle.plan_num.proofs.Common.{eq-eqb, false≢true, ne_eqb, le-ltb, ltb-false, or_left, or_parts}
 use Rattle.plan_num.proofs.Common.{or_right}
@@ -17,11 +17,13 @@ use Rattle.plan_num.proofs.Tests.{same_tests}
 fewer_pass : (test other : ℕ → Bool) → ((x : ℕ) → test x ≡ true → other x ≡ true) → (xs : List ℕ)
     → length (filter test xs) ≤ length (filter other xs)
 fewer_pass test other more xs =
-    let short = filter_short test (filter other xs) in
-    let twice = ap length (filter_twice other test xs) in
-    let same = ap (λ test. length (filter test xs)) (λ i x. same_tests (other x && test x) (test x)
-    (λ is. (and_parts (other x) _ is).1) (λ is. and_from (other x) _ (more x is) is) i) in
-    omega (arith, short, twice, same)
+    let short = filter_short test (filter other xs) in grind (
+      arith,
+      filter_twice,
+      same_tests,
+      and_parts,
+      and_from,
+    )
 
 none_more : (few many : List ℕ) → length few ≤ length many → is_empty many ≡ true
     → is_empty few ≡ true
@@ -37,10 +39,7 @@ module _ (period : ℕ) (left others : Left) (within : IsWithin left others) whe
   empty_on : (from n : ℕ) → some_empty others from n ≡ true → some_empty left from n ≡ true
   empty_on from zero none = none
   empty_on from (suc n) none = elim (cases_Bool (is_empty (times others from))) [
-    | inl here ↦
-        or_left (is_empty (times left from)) _
-        (none_more (times left from) (times others from)
-        (fewer_pass (left from) (others from) (within from) (range_with_len 0 period)) here)
+    | inl here ↦ grind (arith, or_left, none_more, fewer_pass)
     | inr not_here ↦
         let later : some_empty others (from + 1) n ≡ true =
         sym (ap (λ b. b || some_empty others (from + 1) n) not_here) ∙ none in
@@ -66,11 +65,7 @@ settled_within some many end period within so event low =
     let times : ℕ → List ℕ = λ period.
     filter (is_left many event) (range_with_len 0 (period - 0)) in
     let fewer = fewer_pass (is_left some event) (is_left many event) (within event)
-    (range_with_len 0 (some.columns - 0)) in
-    let same : length (times some.columns) ≡ length (times many.columns) =
-    ap (λ period. length (times period)) period in
-    let few = ltb-false 1 (length (times many.columns)) (so event low) in
-    le-ltb 1 _ (omega (arith, fewer, same, few))
+    (range_with_len 0 (some.columns - 0)) in grind (arith, ltb-false, le-ltb)
 
 -- where none is empty, times are left to each event
 times_at : (sets : Marks) (from n event : ℕ) → from ≤ event → event < from + n
@@ -81,20 +76,18 @@ times_at sets from (suc n) event low high none =
     let parts = or_parts (is_empty (times_from sets from 0)) _ none in
     elim (cases_eq event from) [
       | inl same ↦ ap (λ event. is_empty (times_from sets event 0)) same ∙ parts.0
-      | inr other ↦ times_at sets (from + 1) n event (omega (arith, low, other)) (omega (
+      | inr other ↦ grind (
         arith,
-        high,
-      )) parts.1
+        times_at sets (from + 1) n event (omega (arith, low, other))
+            (omega (arith, high)) parts.1,
+      )
     ]
 
 pub some_left : (sets : Marks) (event : ℕ) → event < sets.rows
     → list_any is_empty (sets_of sets) ≡ false → 1 ≤ length (times_from sets event 0)
 some_left sets event within none =
-    let test = times_at sets 0 sets.rows event (omega arith) (omega (arith, within)) none in
-    elim (cases_eq (length (times_from sets event 0)) 0) [
-      | inl zero_is ↦ absurd (false≢true (sym test ∙ eq-eqb _ 0 zero_is))
-      | inr other ↦ omega (arith, other)
-    ]
+    let test = times_at sets 0 sets.rows event (omega arith) (omega (arith, within)) none in grind
+    (arith, cases_eq, false≢true, eq-eqb)
 
 -- and where an event has none, one is empty
 empty_at : (sets : Marks) (from n event : ℕ) → from ≤ event → event < from + n
@@ -102,11 +95,13 @@ empty_at : (sets : Marks) (from n event : ℕ) → from ≤ event → event < fr
     → list_any is_empty (map (λ event. times_from sets event 0) (range_with_len from n)) ≡ true
 empty_at sets from zero event low high none = absurd (omega (arith, low, high))
 empty_at sets from (suc n) event low high none = elim (cases_eq event from) [
-  | inl same ↦
-      or_left _ _ (eq-eqb _ 0 (ap (λ event. length (times_from sets event 0)) (sym same) ∙ none))
-  | inr other ↦
-      or_right (is_empty (times_from sets from 0)) _
-      (empty_at sets (from + 1) n event (omega (arith, low, other)) (omega (arith, high)) none)
+  | inl same ↦ grind (arith, or_left, eq-eqb)
+  | inr other ↦ grind (
+    arith,
+    or_right,
+    empty_at sets (from + 1) n event (omega (arith, low, other))
+        (omega (arith, high)) none,
+  )
 ]
 
 pub none_at : (sets : Marks) (event : ℕ) → event < sets.rows
@@ -161,8 +156,7 @@ set_full : (sets : List (List ℕ)) (i time : ℕ) → list_any is_empty sets �
 set_full [] i time full = full
 set_full (times ∷ sets) zero time full = (or_parts (is_empty times) _ full).1
 set_full (times ∷ sets) (suc i) time full =
-    let parts = or_parts (is_empty times) _ full in
-    (λ k. parts.0 k || set_full sets i time parts.1 k)
+    let parts = or_parts (is_empty times) _ full in grind (arith, set_full sets i time parts.1)
 
 pub with_time_full : (sets : List (List ℕ)) (event time : ℕ) → list_any is_empty sets ≡ false
     → list_any is_empty (with_time sets event time) ≡ false
@@ -180,8 +174,7 @@ first_on period from (suc n) some =
     long (suc n) many = ne_eqb _ 0 (λ none. absurd (omega (arith, none)))
 
     one : (from ≡ 0) ⊎ (from ≡ 0 → ⊥) → is_empty (times_at_first period from) ≡ false
-    one (inl first) =
-        ap (λ b. is_empty (if b then 0 ∷ [] else range_with_len 0 period)) (eq-eqb from 0 first)
+    one (inl first) = grind (arith, eq-eqb)
     one (inr other) =
         ap (λ b. is_empty (if b then 0 ∷ [] else range_with_len 0 period)) (ne_eqb from 0 other)
         ∙ long period some

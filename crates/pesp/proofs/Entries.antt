@@ -6,14 +6,14 @@ use Rattle.plan_num.proofs.Common.{Global, refl, ap, sym, subst, arith, list_any
 use Rattle.plan_num.proofs.Common.{min-eq_left, min-eq_right, cases_eq, eq-eqb, false≢true}
 use Rattle.plan_num.proofs.Common.{position-Some}
 use Rattle.pesp.specs.Timetables.{Problem}
-use Rattle.pesp.specs.Listings.{Listing, branches, entries_listed, entry, first_sets}
+use Rattle.pesp.specs.Listings.{Listing, branches, entries_listed, entry}
 use Rattle.pesp.specs.Listings.{has_several, in_turn, is_empty}
 use Rattle.pesp.specs.Listings.{listing, listing_of, one_more, unless_found}
 use Rattle.pesp.specs.Listings.{with_time}
 use Rattle.pesp.specs.Marks.{IsNextChild, Marks, Tracked, sets_of, times_from, waiting}
 use Rattle.pesp.specs.Flags.{Flags, has_changed}
-use Rattle.pesp.specs.Revising.{AllFrom, AreRevised, IsReady, IsRevised, Reduces, Stands}
-use Rattle.pesp.specs.Searches.{AreFirst, Branches, IsSearched, SavesOnce, behind, entry_here}
+use Rattle.pesp.specs.Revising.{AreRevised, IsReady, Reduces, Stands}
+use Rattle.pesp.specs.Searches.{AreFirst, Branches, IsSearched, SavesOnce, entry_here}
 use Rattle.pesp.specs.Searches.{listed_on}
 use Rattle.pesp.specs.TimeSets.{left_to, reduced}
 use Rattle.pesp.specs.TimeSets.{reduced as all_reduced}
@@ -31,9 +31,7 @@ visit_child sets visit event time = visit (with_time (sets_of sets.sets) event t
 
 pub event_within : (sets : Marks) (event : ℕ) → position has_several (sets_of sets) ≡ Some event
     → event < sets.rows
-event_within sets event is =
-    let at = position-Some has_several (sets_of sets) event [] is in
-    omega (arith, at.0, sets_size sets)
+event_within sets event is = grind (arith, position-Some, sets_size)
 
 -- no event before the first one with several times has several
 settled_at : (sets : Marks) (end : ℕ) → position has_several (sets_of sets) ≡ Some end
@@ -90,10 +88,6 @@ module _ (problem : Problem) (before reduced : Tracked) (so : Reduces problem be
   abbrev children_of : List (List ℕ) → Listing
   children_of sets = entry sets (λ event time. listing_of problem (with_time sets event time))
 
-  dead : (sets : List (List ℕ)) → list_any is_empty sets ≡ true
-      → children_of sets ≡ record { entries = 1; found = None }
-  dead sets none = grind arith
-
   -- an entry of sets in which some event has no time left is that of the reduced sets
   same_entry : Stands problem before reduced
       → children_of (all_reduced problem (sets_of before.sets)) ≡ children_of (sets_of reduced.sets)
@@ -117,11 +111,6 @@ module _ (problem : Problem) (before reduced : Tracked) (so : Reduces problem be
       entry_is ∙ branch.0 (listing_of problem)
       ∙ ap (λ sets. one_more (in_turn (listing_of problem) sets)) none
       ∙ ap one_more (no_turn (listing_of problem))
-
-  all_revised : Stands problem before reduced → list_any is_empty (sets_of reduced.sets) ≡ false
-      → AllFrom problem.activities (IsRevised problem.period (is_left reduced.sets)) 0
-  all_revised (inr stands) none = stands.1
-  all_revised (inl stands) none = absurd (false≢true (sym none ∙ stands.0))
 
   -- what was saved before is still revised, and so is what an entry saves
   saved_revised : (after : Tracked) → AreRevised problem before.saved → SavesOnce reduced after
@@ -201,51 +190,19 @@ module _ (problem : Problem) (before reduced : Tracked) (so : Reduces problem be
 pub search_begun : (problem : Problem) (sets : Tracked) → AreFirst problem sets
     → IsSearched problem sets 0
 unfolding listing waiting
-search_begun problem sets are = record {
-  period = are.period;
-  events = are.events;
-  listed = sym (behind_none (listed_on problem sets)
-      ∙ (λ i. in_turn (listing_of problem) (are.first i ∷ waiting (are.saved i)))
-      ∙ first_turn (listing_of problem) (first_sets problem) []
-      ∙ ap (unless_found (listing_of problem (first_sets problem))) (no_turn (listing_of problem))
-      ∙ none_behind (listing_of problem (first_sets problem)));
-}
-  where
-    behind_none : (rest : Listing) → behind 0 rest ≡ rest
-    behind_none rest =
-        let sum : 0 + rest.entries ≡ rest.entries = omega arith in ap (λ n. listed n rest.found) sum
+search_begun problem sets are = grind (arith, listed, first_turn, no_turn, none_behind)
 
 pub search_turn : (problem : Problem) (before after : Tracked) (count : ℕ)
     → IsSearched problem before count
     → listed_on problem before ≡ one_more (listed_on problem after)
     → after.sets.columns ≡ before.sets.columns → after.sets.rows ≡ before.sets.rows
     → IsSearched problem after (count + 1)
-search_turn problem before after count so next period events = record {
-  period = period ∙ so.period;
-  events = events ∙ so.events;
-  listed = so.listed ∙ ap (behind count) next ∙ again (listed_on problem after);
-}
-  where
-    again : (rest : Listing) → behind count (one_more rest) ≡ behind (count + 1) rest
-    again rest =
-        let sum : count + (1 + rest.entries) ≡ count + 1 + rest.entries = omega arith in
-        ap (λ n. listed n rest.found) sum
+search_turn problem before after count so next period events = grind (arith, listed)
 
 -- ---- how many entries
 
 entry_some : (sets : List (List ℕ)) (visit : ℕ → ℕ → Listing) → 1 ≤ (entry sets visit).entries
-entry_some sets visit =
-    elim (list_any is_empty sets) as (λ b. 1 ≤ (elim b as (λ _. Listing) [
-      | true ↦ record { entries = 1; found = None }
-      | false ↦ branches sets visit (position has_several sets)
-    ]).entries) [
-      | true ↦ omega arith
-      | false ↦ some (position has_several sets)
-    ]
-  where
-    some : (found : Option ℕ) → 1 ≤ (branches sets visit found).entries
-    some None = omega arith
-    some (Some event) = omega arith
+entry_some sets visit = grind (arith, visit)
 
 listing_some : (problem : Problem) (sets : List (List ℕ)) → 1 ≤ (listing_of problem sets).entries
 listing_some problem sets =
@@ -258,14 +215,7 @@ first_some first rest = grind arith
 -- another entry is within the listing
 pub one_within : (problem : Problem) (sets : Tracked) (count : ℕ) → IsSearched problem sets count
     → count + 1 ≤ (listing problem).entries
-one_within problem sets count so =
-    let here = listing_some problem (sets_of sets.sets) in
-    let all = first_some (listing_of problem (sets_of sets.sets)) (in_turn (listing_of problem)
-    (waiting sets.saved)) in
-    let listed = ap (λ (listed : Listing). listed.entries)
-    (first_turn (listing_of problem) (sets_of sets.sets) (waiting sets.saved)) in
-    let sum = ap (λ (listed : Listing). listed.entries) so.listed in
-    omega (arith, here, all, listed, sum)
+one_within problem sets count so = grind (arith, listing_some, first_some, listed, first_turn)
 
 -- ---- what a search comes to
 
@@ -276,24 +226,13 @@ pub search_ended : (problem : Problem) (sets : Tracked) (count budget : ℕ)
     × ((listing problem).found ≡ found)
     × ((listing problem).entries ≡ count + 1)
     × (entries_listed budget (listing problem) ≡ count + 1)
-search_ended problem sets count budget found so few is =
-    let entries : (listing problem).entries ≡ count + 1 =
-    ap (λ (listed : Listing). listed.entries) so.listed
-    ∙ ap (λ (listed : Listing). count + listed.entries) is in
-    let within : (listing problem).entries ≤ budget = omega (arith, entries, few) in (
-      within,
-      ap (λ (listed : Listing). listed.found) so.listed
-          ∙ ap (λ (listed : Listing). listed.found) is,
-      entries,
-      min-eq_right within ∙ entries,
-    )
+search_ended problem sets count budget found so few is = grind (arith, listed, min-eq_right)
 
 pub search_spent : (problem : Problem) (sets : Tracked) (budget : ℕ)
     → IsSearched problem sets budget
     → (budget < (listing problem).entries) × (entries_listed budget (listing problem) ≡ budget)
 search_spent problem sets budget so =
-    let over = one_within problem sets budget so in
-    (omega (arith, over), min-eq_left (omega (arith, over)))
+    let over = one_within problem sets budget so in grind (arith, min-eq_left)
 
 -- another step is within the budget and the listing
 pub step_within : (problem : Problem) (sets : Tracked) (count budget : ℕ)

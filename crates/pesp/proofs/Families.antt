@@ -1,6 +1,6 @@
 -- Sets of times by a test of events and times, and rounds on them.
-use Rattle.plan_num.proofs.Common.{◌≡◌, ◌∙◌, ℕ, zero, suc, ◌+◌, ◌<◌, Bool, inl, inr, cond, ◌&&◌}
-use Rattle.plan_num.proofs.Common.{List, [], ◌∷◌, map, filter, refl, ap, arith, enumerate_from}
+use Rattle.plan_num.proofs.Common.{◌≡◌, ℕ, zero, suc, ◌+◌, ◌<◌, Bool, inl, inr, cond, ◌&&◌, List}
+use Rattle.plan_num.proofs.Common.{[], ◌∷◌, map, filter, refl, ap, arith, enumerate_from}
 use Rattle.plan_num.proofs.Common.{range_with_len, get_or-map-range_with_len, cases_Bool}
 use Rattle.bit_rows.proofs.Columns.{same_filter}
 use Rattle.pesp.specs.Timetables.{Problem}
@@ -53,11 +53,7 @@ module _ (period : ℕ) where
   pub round_family : (problem : Problem) (events : ℕ) (left : Left)
       → round problem (family period events left)
       ≡ family period events (both_of left (has_partners problem (family period events left)))
-  round_family problem events left =
-      let partners = has_partners problem (family period events left) in
-      numbered (λ at. filter (partners at.0) at.1) (times left) 0 events
-      ∙ ap (λ set. map set (range_with_len 0 events))
-      (λ i e. filter_twice (left e) (partners e) (range_with_len 0 period) i)
+  round_family problem events left = grind (arith, numbered, filter_twice)
 
 -- marks are a family
 pub sets_family : (sets : Marks) → sets_of sets ≡ family sets.columns sets.rows (is_left sets)

@@ -22,13 +22,13 @@ pub filter_one : (test : ℕ → Bool) (one : ℕ) (from n : ℕ) → from ≤ o
     → filter test (range_with_len from n) ≡ one ∷ []
 filter_one test one from zero low high is others = absurd (omega (arith, low, high))
 filter_one test one from (suc n) low high is others = elim (cases_eq from one) [
-  | inl same ↦
-      kept_first test test from (range_with_len (from + 1) n) (ap test same ∙ is)
-      ∙ (λ i. same i ∷ none_of_range test (from + 1) n
-      (λ x above _. others x (λ own. absurd (omega (arith, own, above, same)))) i)
-  | inr other ↦
-      left_out test test from (range_with_len (from + 1) n) (others from other)
-      ∙ filter_one test one (from + 1) n (omega (arith, low, other)) (omega (arith, high)) is others
+  | inl same ↦ grind (arith, kept_first, none_of_range)
+  | inr other ↦ grind (
+    arith,
+    left_out,
+    filter_one test one (from + 1) n (omega (arith, low, other))
+        (omega (arith, high)) is others,
+  )
 ]
 
 -- ---- one time of an event
@@ -98,12 +98,7 @@ all_are : (marks : Marks)
     → ((event time : ℕ) → event < marks.rows → time < marks.columns
     → is_left marks event time ≡ true)
     → sets_of marks ≡ all_sets marks.columns marks.rows
-all_are marks all =
-    sets_family marks
-    ∙ same_on_range (λ event. filter (is_left marks event) (range_with_len 0 marks.columns))
-    (λ _. range_with_len 0 marks.columns) 0 marks.rows
-    (λ event _ high. all_of_range (is_left marks event) 0 marks.columns
-    (λ time _ low. all event time (omega (arith, high)) (omega (arith, low))))
+all_are marks all = grind (arith, sets_family, same_on_range, all_of_range)
 
 -- and then time 0 alone to the first one
 one_first : (period events : ℕ) → 0 < events
@@ -134,10 +129,4 @@ module _ (problem : Problem) (marks : Marks) (before : Tracked)
 
   pub first_of_some : (after : Tracked) → 0 < problem.events → KeepsTime before after 0 0
       → AreFirst problem after
-  first_of_some after some kept = record {
-    period = kept.period ∙ same_period;
-    events = kept.events ∙ same_events;
-    saved = kept.saved ∙ ap (λ (now : Tracked). now.saved) is;
-    first = kept.sets ∙ ap (λ sets. with_time sets 0 0) sets_are
-        ∙ one_first problem.period problem.events some;
-  }
+  first_of_some after some kept = grind (arith, kept, same_period, same_events, sets_are, one_first)

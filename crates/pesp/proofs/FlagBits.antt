@@ -1,7 +1,7 @@
 -- Flags of events as the bits of words.
 use Rattle.plan_num.proofs.Common.{◌≡◌, ◌∙◌, ◌⊎◌, inl, inr, is_some, Option, ℕ, ◌+◌, ◌-◌, ◌*◌, ◌/◌}
-use Rattle.plan_num.proofs.Common.{◌%◌, ◌<◌, ◌≤◌, ◌==◌, Bool, true, false, ◌&&◌, if◌then◌else◌, min}
-use Rattle.plan_num.proofs.Common.{map, length, slice_set, Some, None, refl, ap, sym, arith}
+use Rattle.plan_num.proofs.Common.{◌<◌, ◌≤◌, ◌==◌, Bool, true, false, if◌then◌else◌, min, map}
+use Rattle.plan_num.proofs.Common.{length, slice_set, Some, None, refl, ap, sym, arith}
 use Rattle.plan_num.proofs.Common.{range_with_len, cases_eq, cases_lt, eq-eqb, le-ltb, lt-ltb}
 use Rattle.plan_num.proofs.Common.{ne_eqb, get_or-set_at, get_or-set_other, get_or_past}
 use Rattle.plan_num.proofs.Common.{get_or-map-range_with_len, length-map-range_with_len}
@@ -20,26 +20,20 @@ size_is bits flags is =
 
 -- none is set behind the last event
 pub flag_is : (bits : Bits) (event : ℕ) → has_changed (flags_of bits) event ≡ has bits 0 event
-flag_is bits event = elim (cases_lt event bits.columns) [
-  | inl low ↦
-      get_or-map-range_with_len (has bits 0) 0 bits.columns event event false low (omega arith)
-  | inr high ↦
-      let size = length-map-range_with_len (has bits 0) 0 bits.columns in
-      get_or_past (flags_of bits) event false (omega (arith, high, size))
-      ∙ sym (ap (λ b. b && bit_there bits 0 event) (le-ltb event bits.columns high))
-]
+flag_is bits event = grind (
+  arith,
+  cases_lt,
+  get_or-map-range_with_len,
+  length-map-range_with_len,
+  get_or_past,
+  bit_there,
+  le-ltb,
+)
 
 pub flags_in : (bits : Bits) (flags : Flags) → flags_of bits ≡ flags → (index word : ℕ)
     → ((event : ℕ) → event / 64 ≡ index → word_of bits 0 event ≡ word) → (bit : ℕ) → bit < 64
     → 64 * index + bit < length flags → has_bit word bit ≡ has_changed flags (64 * index + bit)
-flags_in bits flags view index word is bit small inside =
-    let low : 64 * index + bit < bits.columns = omega (arith, inside, size_is bits flags view) in
-    let own : (64 * index + bit) / 64 ≡ index = omega (arith, small) in
-    let place : (64 * index + bit) % 64 ≡ bit = omega (arith, small) in
-    sym (ap (λ (flags : Flags). has_changed flags (64 * index + bit)) (sym view)
-    ∙ flag_is bits (64 * index + bit)
-    ∙ (λ i. lt-ltb (64 * index + bit) bits.columns low i
-    && has_bit (is (64 * index + bit) own i) (place i)))
+flags_in bits flags view index word is bit small inside = grind (arith, size_is, flag_is, lt-ltb)
 
 -- ---- one flag
 
@@ -90,11 +84,7 @@ module _ (flags : Flags) (index end word : ℕ) (within : end ≤ length flags)
   none_above bit none event high low = elim (cases_lt event (64 * (index + 1))) [
     | inr behind ↦ so event behind low
     | inl here ↦
-        let place : 64 * index + (event - 64 * index) ≡ event = omega (arith, high) in
-        let small : event - 64 * index < 64 = omega (arith, here, high) in
-        ap (has_changed flags) (sym place)
-        ∙ sym (at (event - 64 * index) small (omega (arith, place, low, within)))
-        ∙ none (event - 64 * index) small (omega (arith, high)) (omega (arith, high, low))
+        let place : 64 * index + (event - 64 * index) ≡ event = omega (arith, high) in grind arith
   ]
 
   pub last_flag : (bit : ℕ) → IsLastBit word (end - 64 * index) (Some bit)
@@ -125,18 +115,21 @@ some_by_last flags end (Some last) all so =
 pub one_set : (flags : Flags) (event : ℕ) → event < length flags
     → ((other : ℕ) → has_changed flags other ≡ false) → (other : ℕ)
     → has_changed (slice_set flags event true) other ≡ (other == event)
-one_set flags event inside none other = elim (cases_eq other event) [
-  | inl same ↦ get_or-set_at flags event other true false same inside
-      ∙ sym (eq-eqb other event same)
-  | inr apart ↦ get_or-set_other flags event other true false apart ∙ none other
-      ∙ sym (ne_eqb other event apart)
-]
+one_set flags event inside none other = grind (
+  arith,
+  cases_eq,
+  get_or-set_at,
+  eq-eqb,
+  get_or-set_other,
+  ne_eqb,
+)
 
 pub one_more_set : (flags : Flags) (event : ℕ) → event < length flags
     → ((other : ℕ) → other < event → has_changed flags other ≡ true) → (other : ℕ)
     → other < event + 1 → has_changed (slice_set flags event true) other ≡ true
-one_more_set flags event inside so other low = elim (cases_eq other event) [
-  | inl same ↦ get_or-set_at flags event other true false same inside
-  | inr apart ↦ get_or-set_other flags event other true false apart
-      ∙ so other (omega (arith, low, apart))
-]
+one_more_set flags event inside so other low = grind (
+  arith,
+  cases_eq,
+  get_or-set_at,
+  get_or-set_other,
+)

@@ -1,11 +1,11 @@
 -- What a listing finds is a timetable.
 use Rattle.plan_num.proofs.Common.{◌≡◌, ◌∙◌, ℕ, zero, suc, ◌+◌, ◌<◌, ◌==◌, nat_eq, nat_lt, Bool}
-use Rattle.plan_num.proofs.Common.{true, false, cond, not, ◌&&◌, ◌||◌, List, [], ◌∷◌, get_or}
-use Rattle.plan_num.proofs.Common.{length, position, All, filter, slice_index_or, Option, Some}
-use Rattle.plan_num.proofs.Common.{None, is_some, refl, ap, sym, subst, arith, AllByRecursion}
-use Rattle.plan_num.proofs.Common.{list_all, list_any, and_parts, eq-eqb, eqb-true, ltb-true}
-use Rattle.plan_num.proofs.Common.{ltb-false, or_parts, or_right, get_or_default, length-map}
-use Rattle.plan_num.proofs.Common.{length-set, AllPass-from_list_all, Any-from_list_any}
+use Rattle.plan_num.proofs.Common.{true, false, not, ◌&&◌, ◌||◌, List, [], ◌∷◌, get_or, length}
+use Rattle.plan_num.proofs.Common.{position, All, filter, slice_index_or, Option, Some, None}
+use Rattle.plan_num.proofs.Common.{is_some, refl, ap, sym, subst, arith, AllByRecursion, list_all}
+use Rattle.plan_num.proofs.Common.{list_any, and_parts, eq-eqb, eqb-true, ltb-true, ltb-false}
+use Rattle.plan_num.proofs.Common.{or_parts, or_right, get_or_default, length-map, length-set}
+use Rattle.plan_num.proofs.Common.{AllPass-from_list_all, Any-from_list_any}
 use Rattle.pesp.specs.declared.activity.PespActivity.{PespActivity}
 use Rattle.pesp.specs.Timetables.{IsActivity, IsKept, IsProblem, IsTimetable, Problem, keeps}
 use Rattle.pesp.specs.Timetables.{time_of}
@@ -30,19 +30,22 @@ pub filter_below : (period : ℕ) (test : ℕ → Bool) (xs : List ℕ) → are_
     → are_below period (filter test xs) ≡ true
 filter_below period test [] h = refl
 filter_below period test (x ∷ xs) h =
-    let parts = and_parts (nat_lt x period) (are_below period xs) h in
-    let rest = filter_below period test xs parts.1 in
-    elim (test x) as (λ b. are_below period (cond b (x ∷ filter test xs) (filter test xs)) ≡ true) [
-      | true ↦ ap (λ b. b && are_below period (filter test xs)) parts.0 ∙ rest
-      | false ↦ rest
-    ]
+    let parts = and_parts (nat_lt x period) (are_below period xs) h in grind (
+      arith,
+      filter_below
+          period test xs parts.1,
+    )
 
 below_of : (period x : ℕ) (xs : List ℕ) → is_in x xs ≡ true → are_below period xs ≡ true
     → nat_lt x period ≡ true
-below_of period x xs is h =
-    let at = Any-from_list_any (nat_eq x) xs is in
-    ap (λ x. nat_lt x period) (eqb-true x at.1 at.4 ∙ sym at.3)
-    ∙ AllPass-from_list_all (λ x. nat_lt x period) xs h at.0 at.1 at.2
+below_of period x xs is h = grind (
+  arith,
+  Any-from_list_any,
+  nat_eq,
+  nat_lt,
+  eqb-true,
+  AllPass-from_list_all,
+)
 
 settled_below : (period : ℕ) (sets : List (List ℕ)) (event time : ℕ) → nat_lt time period ≡ true
     → AreBelow period sets → AreBelow period (with_time sets event time)

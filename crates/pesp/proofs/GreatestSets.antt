@@ -1,19 +1,19 @@
 -- The reduced sets are the greatest ones in which no time is without a partner, and lose no
 -- timetable.
-use Rattle.plan_num.proofs.Common.{◌≡◌, ◌∙◌, inl, inr, ℕ, zero, suc, ◌+◌, ◌<◌, ◌==◌, nat_eq, Bool}
-use Rattle.plan_num.proofs.Common.{true, false, not, ◌||◌, List, [], ◌∷◌, All, Contains, cond}
-use Rattle.plan_num.proofs.Common.{filter, get_or, length, refl, ap, sym, subst, arith, list_all}
-use Rattle.plan_num.proofs.Common.{list_any, and_from, and_parts, cases_lt, eq-eqb, eqb-true}
-use Rattle.plan_num.proofs.Common.{false≢true, or_cases, or_left, or_right, get_or_past}
-use Rattle.plan_num.proofs.Common.{All-contains, All-contains_itself, All-filter, Contains-get_or}
+use Rattle.plan_num.proofs.Common.{◌≡◌, ◌∙◌, inl, inr, ℕ, zero, suc, ◌+◌, ◌<◌, nat_eq, Bool, true}
+use Rattle.plan_num.proofs.Common.{false, ◌||◌, List, [], ◌∷◌, All, Contains, filter, get_or}
+use Rattle.plan_num.proofs.Common.{length, refl, ap, sym, subst, arith, list_all, list_any}
+use Rattle.plan_num.proofs.Common.{and_from, and_parts, cases_lt, eq-eqb, eqb-true, false≢true}
+use Rattle.plan_num.proofs.Common.{or_cases, or_left, or_right, get_or_past, All-contains}
+use Rattle.plan_num.proofs.Common.{All-contains_itself, All-filter, Contains-get_or}
 use Rattle.plan_num.proofs.Common.{Any-from_list_any, list_any_at, AllPass-from_list_all}
 use Rattle.pesp.specs.declared.activity.PespActivity.{PespActivity}
-use Rattle.pesp.specs.Timetables.{IsProblem, Problem, keeps}
+use Rattle.pesp.specs.Timetables.{IsProblem, Problem}
 use Rattle.pesp.specs.Listings.{AreDead, is_empty}
 use Rattle.pesp.specs.Marks.{Tracked, sets_of}
 use Rattle.pesp.specs.Revising.{Stands}
 use Rattle.pesp.specs.TimeSets.{AreGreatest, AreLeft, ArePartnered, AreWithin, LosesNone}
-use Rattle.pesp.specs.TimeSets.{RoundsSuffice, has_partner, has_partners, has_second}
+use Rattle.pesp.specs.TimeSets.{RoundsSuffice, has_partner, has_partners}
 use Rattle.pesp.specs.TimeSets.{left_to, reduced, times_left}
 use Rattle.pesp.proofs.ListedTimes.{no_empty}
 use Rattle.pesp.proofs.RoundsKeep.{Holds, filter_keeps, is_in, reduced_keeps}
@@ -22,13 +22,10 @@ use Rattle.pesp.proofs.ShrinkingSets.{reduced_partnered, rounded, rounds_leave}
 -- ---- times of lists
 
 contained : (x : ℕ) (xs : List ℕ) → is_in x xs ≡ true → Contains xs x
-contained x xs is =
-    let at = Any-from_list_any (nat_eq x) xs is in
-    subst (Contains xs) (sym (eqb-true x at.1 at.4)) (at.0, at.2, at.3)
+contained x xs is = grind (arith, Any-from_list_any, nat_eq, eqb-true)
 
 found_in : (x : ℕ) (xs : List ℕ) → Contains xs x → is_in x xs ≡ true
-found_in x xs there =
-    list_any_at (nat_eq x) xs there.0 x there.1 (ap (nat_eq x) there.2 ∙ eq-eqb x x refl)
+found_in x xs there = grind (arith, list_any_at, nat_eq, eq-eqb)
 
 -- a test that holds somewhere among some times does among more
 more_any : (test : ℕ → Bool) (few many : List ℕ) → All (Contains many) few
@@ -41,9 +38,11 @@ more_any test few many all is =
 filter_same : (test : ℕ → Bool) (xs : List ℕ) → list_all test xs ≡ true → filter test xs ≡ xs
 filter_same test [] all = refl
 filter_same test (x ∷ xs) all =
-    let parts = and_parts (test x) (list_all test xs) all in
-    ap (λ b. cond b (x ∷ filter test xs) (filter test xs)) parts.0
-    ∙ ap (λ xs. x ∷ xs) (filter_same test xs parts.1)
+    let parts = and_parts (test x) (list_all test xs) all in grind (
+      arith,
+      filter_same test xs
+          parts.1,
+    )
 
 more_pass : {X : Type 0} (test other : X → Bool) → ((x : X) → test x ≡ true → other x ≡ true)
     → (xs : List X) → list_all test xs ≡ true → list_all other xs ≡ true
@@ -76,8 +75,7 @@ none_within : (few many : List ℕ) → All (Contains many) few → is_empty man
 none_within [] many all none = refl
 none_within (x ∷ few) [] all none =
     let at = all 0 x (omega arith) in absurd (omega (arith, at.1))
-none_within (x ∷ few) (y ∷ many) all none =
-    absurd (omega (arith, eqb-true (length (y ∷ many)) 0 none))
+none_within (x ∷ few) (y ∷ many) all none = grind (arith, eqb-true)
 
 some_empty : (few many : List (List ℕ)) → AreWithin few many → list_any is_empty many ≡ true
     → list_any is_empty few ≡ true
@@ -110,22 +108,18 @@ module _ (problem : Problem) where
     more_partner : (event time : ℕ) (activity : PespActivity)
         → has_partner problem.period few event time activity ≡ true
         → has_partner problem.period many event time activity ≡ true
-    more_partner event time activity is =
-        let parts = and_parts
-        (not (activity.from == event) || has_second problem.period few time activity) _ is in
-        and_from (not (activity.from == event) || has_second problem.period many time activity) _
-        (or_more (not (activity.from == event)) _ _
-        (more_any (keeps problem.period activity time) (left_to few activity.to)
-        (left_to many activity.to) (left_within few many within activity.to)) parts.0)
-        (or_more (not (activity.to == event)) _ _
-        (more_any (λ other. keeps problem.period activity other time) (left_to few activity.from)
-        (left_to many activity.from) (left_within few many within activity.from)) parts.1)
+    more_partner event time activity is = grind (
+      arith,
+      and_parts,
+      and_from,
+      or_more,
+      more_any,
+      left_within,
+    )
 
     more_partners : (event time : ℕ) → has_partners problem few event time ≡ true
         → has_partners problem many event time ≡ true
-    more_partners event time is =
-        more_pass (has_partner problem.period few event time) (has_partner problem.period many event time)
-        (more_partner event time) problem.activities is
+    more_partners event time is = grind (arith, more_pass, more_partner)
 
   -- ---- a round
 
@@ -195,9 +189,7 @@ module _ (problem : Problem) where
           All-contains (λ time. has_partners problem left event time ≡ true) (left_to left event) time
           (AllPass-from_list_all (has_partners problem left event) (left_to left event)
           (reduced_partnered problem sets event inside)) there
-      | inr past ↦
-          let none = subst (λ set. Contains set time) (get_or_past left event [] past) there in
-          absurd (omega (arith, none.1))
+      | inr past ↦ grind (arith, get_or_past)
     ]
 
     reduced_has : (others : List (List ℕ)) → AreWithin others sets → ArePartnered problem others
@@ -210,13 +202,11 @@ module _ (problem : Problem) where
         within
 
     pub reduced_greatest : AreGreatest problem sets left
-    reduced_greatest =
-        record { within = reduced_within; partnered = all_partnered; greatest = reduced_has }
+    reduced_greatest = grind (arith, reduced_within, all_partnered, reduced_has)
 
     -- greatest sets are within the reduced ones
     dead_where : list_any is_empty left ≡ true → AreDead problem sets
-    dead_where empty others are =
-        some_empty others left (reduced_has others are.within are.partnered) empty
+    dead_where empty others are = grind (arith, some_empty, reduced_has)
 
   pub rounds_suffice : RoundsSuffice problem
   rounds_suffice sets = rounded_same (left sets) 0 (left sets) (λ event inside.
@@ -225,8 +215,7 @@ module _ (problem : Problem) where
 
   pub reduced_loses_none : IsProblem problem → (sets : List (List ℕ))
       → LosesNone problem sets (reduced problem sets)
-  reduced_loses_none sound sets times is held =
-      held_left (left sets) times (reduced_keeps problem sound times is sets (left_held sets times held))
+  reduced_loses_none sound sets times is held = grind (arith, held_left, reduced_keeps, left_held)
 
   -- ---- what a reduction leaves
 
@@ -240,8 +229,7 @@ module _ (problem : Problem) where
     pub stands_dead : Stands problem before after → list_any is_empty (sets_of after.sets) ≡ true
         → AreDead problem (sets_of before.sets)
     stands_dead (inl dead) empty = dead_where (sets_of before.sets) dead.1
-    stands_dead (inr same) empty =
-        dead_where (sets_of before.sets) (sym (ap (list_any is_empty) same.0) ∙ empty)
+    stands_dead (inr same) empty = grind (arith, dead_where)
 
     pub stands_loses_none : IsProblem problem → Stands problem before after
         → LosesNone problem (sets_of before.sets) (sets_of after.sets)
@@ -249,5 +237,4 @@ module _ (problem : Problem) where
         let full = no_empty (left (sets_of before.sets)) times
         (reduced_keeps problem sound times is (sets_of before.sets) (left_held _ times held)) in
         absurd (false≢true (sym full ∙ dead.1))
-    stands_loses_none sound (inr same) times is held = subst (λ sets. AreLeft sets times) (sym same.0)
-        (reduced_loses_none sound (sets_of before.sets) times is held)
+    stands_loses_none sound (inr same) times is held = grind (arith, reduced_loses_none)

@@ -1,7 +1,6 @@
 -- The test of an activity tells whether it is kept.
-use Rattle.plan_num.proofs.Common.{ℕ, ℤ, ◌+◌, ◌<◌, ◌≤◌, ◌≤ℤ◌, pos, negsuc, int_le, List, length}
-use Rattle.plan_num.proofs.Common.{Decides, All, sym, subst, arith, T_from_true, ints, All-get_or}
-use Rattle.plan_num.proofs.Common.{le_z_yes}
+use Rattle.plan_num.proofs.Common.{ℕ, ℤ, ◌<◌, ◌≤◌, ◌≤ℤ◌, pos, negsuc, int_le, List, length, Decides}
+use Rattle.plan_num.proofs.Common.{All, arith, T_from_true, ints, All-get_or}
 use Rattle.pesp.specs.declared.activity.PespActivity.{PespActivity}
 use Rattle.pesp.specs.Timetables.{IsActivity, IsKept, Leads, keeps_in, tension, time_of}
 use Rattle.pesp.proofs.LeastTensions.{rest, rest_least, tension_is}
@@ -24,13 +23,14 @@ passes : (period l u from to : ℕ) → from < period → to < period
     (Within period (pos l) (pos u) from to)
 passes period l u from to from_in to_in =
     let is = tension_is period l from to (omega arith) in
-    let least = rest_least period l from to from_in to_in in
-    subst (λ z. Decides (int_le z (pos u)) (Within period (pos l) (pos u) from to)) (sym is) (
-      (λ yes. (l + rest period l from to, least.leads, least.enough, le_z_yes (T_from_true _ yes))),
-      (λ kept.
-          let near = least.least kept.0 kept.1 kept.2 in
-          let high = high_of (l + rest period l from to) kept.0 u near (low_of kept.0 u kept.3) in
-          is_true _ (high.le)),
+    let least = rest_least period l from to from_in to_in in grind (
+      arith,
+      int_le,
+      rest,
+      T_from_true,
+      high_of,
+      low_of,
+      is_true,
     )
 
 passes_z : (period : ℕ) (lower upper : ℤ) (from to : ℕ) → from < period → to < period
@@ -50,8 +50,4 @@ module _ (period : ℕ) (times : List ℕ) (within : All (λ time. time < period
   test_tells activity is =
       let told = passes_z period activity.lower activity.upper (time_of times activity.from)
       (time_of times activity.to) (time_in activity.from is.from) (time_in activity.to is.to)
-      is.low is.in_order in (
-        (λ yes. let kept = told.0 yes in
-            record { minutes = kept.0; leads = kept.1; enough = kept.2; short = kept.3 }),
-        (λ kept. told.1 (kept.minutes, kept.leads, kept.enough, kept.short)),
-      )
+      is.low is.in_order in grind arith

@@ -1,7 +1,7 @@
 -- The tension is the least time that an activity can take.
-use Rattle.std.proofs.Common.{◌≡◌, ℕ, ℤ, ◌+◌, ◌-◌, ◌*◌, ◌%◌, ◌<◌, ◌≤◌, ◌+ℤ◌, ◌≤ℤ◌, pos, negsuc, unsigned_abs, refl, ap, sym, subst, ◌∙◌, arith}
+use Rattle.plan_num.proofs.Common.{◌≡◌, ℕ, ℤ, ◌+◌, ◌-◌, ◌*◌, ◌%◌, ◌<◌, ◌≤◌, ◌+ℤ◌, ◌≤ℤ◌, pos, negsuc}
+use Rattle.plan_num.proofs.Common.{unsigned_abs, refl, ap, sym, subst, ◌∙◌, arith, ints}
 use Rattle.std.proofs.Math.Nat.{le-mul_of_pos_right, mod-lt}
-use Rattle.std.proofs.lemmas.Int.{ints}
 use Rattle.pesp.proofs.Slack.{slack_is, not_above, slack_leads}
 use Rattle.pesp.specs.Timetables.{IsTension, tension}
 

@@ -96,8 +96,7 @@ module _ (problem : Problem) (count : ℕ) (activity : PespActivity) (rows new :
 
     bound_more : AreLinks problem (count + 1) new
     bound_more = record {
-      size = noted_size first new activity.to count two to_in
-          ∙ noted_size rows first activity.from count one from_in ∙ so.size;
+      size = grind (arith, noted_size, to_in, from_in);
       within = own;
       all = λ index other is low bound. elim (cases_lt index count) [
         | inl before ↦

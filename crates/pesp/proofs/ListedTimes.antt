@@ -1,8 +1,8 @@
 -- What a listing finds is a timetable, and it finds nothing only where there is none.
-use Rattle.plan_num.proofs.Common.{◌≡◌, ◌∙◌, ℕ, zero, suc, ◌+◌, ◌<◌, nat_eq, Bool, true, false, inl}
-use Rattle.plan_num.proofs.Common.{inr, cond, ◌||◌, List, [], ◌∷◌, filter, length, position, Option}
-use Rattle.plan_num.proofs.Common.{Some, None, is_some, refl, ap, sym, arith, list_any, eq-eqb}
-use Rattle.plan_num.proofs.Common.{eqb-true, ne_eqb, cases_Bool, position-Some}
+use Rattle.plan_num.proofs.Common.{◌≡◌, ◌∙◌, ℕ, zero, suc, ◌+◌, ◌<◌, nat_eq, Bool, true, false}
+use Rattle.plan_num.proofs.Common.{◌||◌, List, [], ◌∷◌, length, position, Option, Some, None}
+use Rattle.plan_num.proofs.Common.{is_some, refl, ap, arith, list_any, eq-eqb, eqb-true, ne_eqb}
+use Rattle.plan_num.proofs.Common.{cases_Bool, position-Some}
 use Rattle.pesp.specs.Timetables.{IsProblem, IsTimetable, Problem}
 use Rattle.pesp.specs.Timetables.{time_of}
 use Rattle.pesp.specs.Listings.{Listing, branches, has_several, in_turn, is_empty}
@@ -39,9 +39,7 @@ turn_finds visit x (y ∷ xs) is found =
         ]).found ≡ true
     by b same is true some rest = some
     by false other is false none rest = rest is
-    by true same is false none rest =
-        let both : true ≡ false = sym found ∙ ap (λ y. is_some (visit y).found) (eqb-true x y same) ∙ none in
-        absurd (cc)
+    by true same is false none rest = grind (arith, is_some, eqb-true)
 
 -- a time of the timetable may be settled
 settled_holds : (sets : List (List ℕ)) (times : List ℕ) (event : ℕ) → Holds sets times
@@ -57,17 +55,13 @@ settled_holds (set ∷ sets) (time ∷ times) (suc event) h inside =
 pub fewer_settled : (sets : List (List ℕ)) (event time : ℕ) → event < length sets
     → has_several (left_to sets event) ≡ true → several_in (with_time sets event time) < several_in sets
 fewer_settled [] event time inside several = absurd (omega (arith, inside))
-fewer_settled (set ∷ sets) zero time inside several =
-    ap_less (sym (ap (λ b. length (cond b (set ∷ filter has_several sets) (filter has_several sets))) several))
-  where
-    ap_less : suc (several_in sets) ≡ several_in (set ∷ sets) → several_in sets < several_in (set ∷ sets)
-    ap_less is = omega (arith, is)
-fewer_settled (set ∷ sets) (suc event) time inside several =
-    let rest = fewer_settled sets event time (omega (arith, inside)) several in
-    elim (cases_Bool (has_several set)) [
-      | inl is ↦ rw is (omega (arith, rest))
-      | inr is ↦ rw is rest
-    ]
+fewer_settled (set ∷ sets) zero time inside several = grind arith
+fewer_settled (set ∷ sets) (suc event) time inside several = grind (
+  arith,
+  cases_Bool,
+  fewer_settled
+      sets event time (omega (arith, inside)) several,
+)
 
 held_length : (sets : List (List ℕ)) (times : List ℕ) → Holds sets times → length sets ≡ length times
 held_length [] [] h = refl
@@ -78,9 +72,7 @@ held_length (set ∷ sets) (time ∷ times) h = ap suc (held_length sets times h
 -- an event with several times is there
 pub several_at : (sets : List (List ℕ)) (event : ℕ) → position has_several sets ≡ Some event
     → (event < length sets) × (has_several (left_to sets event) ≡ true)
-several_at sets event is =
-    let found = position-Some has_several sets event [] is in
-    (found.0, found.1)
+several_at sets event is = grind (arith, position-Some)
 
 module _ (problem : Problem) (sound : IsProblem problem) (times : List ℕ)
     (is : IsTimetable problem times) where

@@ -1,11 +1,11 @@
 -- The listing of a problem is right, and whole.
 use Rattle.plan_num.proofs.Common.{◌≡◌, ◌∙◌, ℕ, zero, suc, ◌+◌, ◌-◌, ◌≤◌, ◌==◌, true, false, cond}
-use Rattle.plan_num.proofs.Common.{◌&&◌, List, [], ◌∷◌, length, map, filter, Option, Some, None}
-use Rattle.plan_num.proofs.Common.{is_some, refl, ap, sym, arith, AllByRecursion, range_with_len}
-use Rattle.plan_num.proofs.Common.{lt-ltb, length-map}
+use Rattle.plan_num.proofs.Common.{◌&&◌, List, [], ◌∷◌, length, map, Option, Some, None, is_some}
+use Rattle.plan_num.proofs.Common.{refl, ap, sym, arith, AllByRecursion, range_with_len, lt-ltb}
+use Rattle.plan_num.proofs.Common.{length-map}
 use Rattle.std.proofs.lemmas.List.FromFn.{length-range_with_len as range_length}
 use Rattle.pesp.specs.Timetables.{IsProblem, IsTimetable, Problem}
-use Rattle.pesp.specs.Listings.{ListingIsRight, ListingIsWhole, Tells, first_sets, has_several, listing, most_entries}
+use Rattle.pesp.specs.Listings.{ListingIsRight, ListingIsWhole, Tells, first_sets, listing, most_entries}
 use Rattle.pesp.specs.Listings.{several_in, times_at_first}
 use Rattle.pesp.proofs.FoundRight.{AreBelow, are_below, found_is}
 use Rattle.pesp.proofs.GreatestSets.{reduced_greatest, reduced_loses_none, rounds_suffice}
@@ -23,13 +23,7 @@ range_below period from (suc count) few =
 
 filter_less : (sets : List (List ℕ)) → several_in sets ≤ length sets
 filter_less [] = omega arith
-filter_less (set ∷ sets) =
-    let rest = filter_less sets in
-    elim (has_several set) as
-    (λ b. length (cond b (set ∷ filter has_several sets) (filter has_several sets)) ≤ suc (length sets)) [
-      | true ↦ omega (arith, rest)
-      | false ↦ omega (arith, rest)
-    ]
+filter_less (set ∷ sets) = grind (arith, filter_less sets)
 
 pub listing_whole : (problem : Problem) → ListingIsWhole problem
 listing_whole problem = record {

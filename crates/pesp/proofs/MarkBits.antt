@@ -1,8 +1,8 @@
 -- Marks of times as bits, and one word that is replaced.
 use Rattle.plan_num.proofs.Common.{◌≡◌, ◌∙◌, inl, inr, ℕ, ◌+◌, ◌-◌, ◌*◌, ◌/◌, ◌<◌, ◌≤◌, true, false}
 use Rattle.plan_num.proofs.Common.{List, length, get_or, slice_set, sum, max, Some, None, ap, sym}
-use Rattle.plan_num.proofs.Common.{arith, ◌++◌, filter, cases_lt, get_or_past, set-get_or, set-set}
-use Rattle.plan_num.proofs.Common.{sum_by-set, range_with_len, filter-append}
+use Rattle.plan_num.proofs.Common.{arith, cases_lt, get_or_past, set-get_or, set-set, sum_by-set}
+use Rattle.plan_num.proofs.Common.{filter-append}
 use Rattle.bit_rows.specs.Bits.{IsFirstBit, has_bit, with_word, word_of, words_of}
 use Rattle.bit_rows.proofs.RowBits.{bit_there}
 use Rattle.pesp.specs.Marks.{AreMarks, IsNext, Marks, is_left, times_from}
@@ -37,12 +37,8 @@ none_between : (sets : Marks) (event from n : ℕ)
     → ((time : ℕ) → from ≤ time → time < from + n → is_left sets event time ≡ false)
     → from + n ≤ sets.columns → times_from sets event from ≡ times_from sets event (from + n)
 none_between sets event from n none few =
-    let size : sets.columns - from ≡ n + (sets.columns - (from + n)) = omega (arith, few) in
-    ap (λ size. filter (is_left sets event) (range_with_len from size)) size
-    ∙ ap (filter (is_left sets event)) (range_parts from n (sets.columns - (from + n)))
-    ∙ filter-append (is_left sets event) (range_with_len from n) _
-    ∙ ap (λ first. first ++ times_from sets event (from + n))
-    (none_of_range (is_left sets event) from n none)
+    let size : sets.columns - from ≡ n + (sets.columns - (from + n)) = omega (arith, few) in grind
+    (arith, range_parts, filter-append, none_of_range)
 
 -- none so far
 abbrev pub NoneLeft : Marks → ℕ → ℕ → ℕ → Type 0

@@ -1,9 +1,9 @@
 -- How many bits are set, and how many times are left.
-use Rattle.plan_num.proofs.Common.{get_or, slice_set, ◌⊎◌, ◌≡◌, ◌∙◌, inl, inr, ℕ, zero, suc, ◌+◌}
-use Rattle.plan_num.proofs.Common.{◌-◌, ◌*◌, ◌/◌, ◌%◌, ◌^◌, ◌<◌, ◌≤◌, cond, nat_lt, count_ones}
-use Rattle.plan_num.proofs.Common.{Bool, false, ◌&&◌, List, length, filter, refl, ap, sym, arith}
-use Rattle.plan_num.proofs.Common.{bit_at, range_with_len, cases_Bool, cases_eq, cases_lt, lt-ltb}
-use Rattle.plan_num.proofs.Common.{le-ltb, get_or-set_other, get_or-set_same, pow_pos}
+use Rattle.plan_num.proofs.Common.{get_or, slice_set, ◌≡◌, ◌∙◌, ℕ, zero, suc, ◌+◌, ◌-◌, ◌*◌, ◌/◌}
+use Rattle.plan_num.proofs.Common.{◌%◌, ◌^◌, ◌<◌, ◌≤◌, cond, nat_lt, count_ones, Bool, false, ◌&&◌}
+use Rattle.plan_num.proofs.Common.{List, length, filter, refl, ap, sym, arith, bit_at}
+use Rattle.plan_num.proofs.Common.{range_with_len, cases_Bool, cases_eq, cases_lt, lt-ltb, le-ltb}
+use Rattle.plan_num.proofs.Common.{get_or-set_other, get_or-set_same, pow_pos}
 use Rattle.std.specs.Int.Count.{ones}
 use Rattle.std.proofs.Math.Nat.{mod-eq_of_lt, mod-lt}
 use Rattle.std.proofs.lemmas.Nat.{mod-pow-add, ones-le, ones_cat}
@@ -25,13 +25,12 @@ count_same : (test other : ℕ → Bool) (from n : ℕ)
 count_same test other from zero none =
     let same : from + 0 ≡ from = omega arith in ap (count_below test) same
 count_same test other from (suc n) none =
-    let same : from + suc n ≡ suc (from + n) = omega arith in
-    let rest = count_same test other from n (λ k low high. none k low (omega (arith, high))) in
-    let last = count_next test (from + n) in
-    let gone = ap (λ (b : Bool). cond {A = ℕ} b 1 0) (none (from + n) (omega arith) (omega arith))
-    in
-    let all = ap (count_below test) same in
-    omega (arith, rest, last, gone, all)
+    let same : from + suc n ≡ suc (from + n) = omega arith in grind (
+      arith,
+      count_next,
+      count_same
+          test other from n (λ k low high. none k low (omega (arith, high))),
+    )
 
 -- ---- the bits of a word
 
@@ -44,22 +43,12 @@ unfolding ones
 one_set = refl
 
 one_of : (word bit : ℕ) → count_ones (bit_at word bit) ≡ cond (has_bit word bit) 1 0
-one_of word bit = elim (cases_Bool (has_bit word bit)) [
-  | inl is ↦ ap count_ones (set_is word bit is) ∙ one_set
-      ∙ sym (ap (λ (b : Bool). cond {A = ℕ} b 1 0) is)
-  | inr not ↦ ap count_ones (unset_is word bit not) ∙ none_set
-      ∙ sym (ap (λ (b : Bool). cond {A = ℕ} b 1 0) not)
-]
+one_of word bit = grind (arith, cases_Bool, count_ones, set_is, one_set, unset_is, none_set)
 
 low_ones : (test : ℕ → Bool) (from word n : ℕ) → ((bit : ℕ) → bit < n
     → test (from + bit) ≡ has_bit word bit)
     → count_below test (from + n) ≡ count_below test from + count_ones (word % 2 ^ n)
-low_ones test from word zero same =
-    let none : from + 0 ≡ from = omega arith in
-    let last : word % 2 ^ 0 ≡ 0 = omega arith in
-    let all = ap (count_below test) none in
-    let ones = ap count_ones last ∙ none_set in
-    omega (arith, all, ones)
+low_ones test from word zero same = grind (arith, count_ones, none_set)
 low_ones test from word (suc n) same =
     let rest = low_ones test from word n (λ bit low. same bit (omega (arith, low))) in
     let next : from + suc n ≡ suc (from + n) = omega arith in
@@ -84,10 +73,7 @@ word_counted sets event index word fits is =
     fits)
   where
     here : (bit : ℕ) → bit < 64 → bit_there sets event (64 * index + bit) ≡ has_bit word bit
-    here bit low =
-        let own : (64 * index + bit) / 64 ≡ index = omega (arith, low) in
-        let place : (64 * index + bit) % 64 ≡ bit = omega (arith, low) in
-        (λ i. has_bit (is (64 * index + bit) own i) (place i))
+    here bit low = grind arith
 
 -- ---- the times that are left
 
@@ -97,16 +83,13 @@ filtered : (left test : ℕ → Bool) (from n : ℕ) → ((k : ℕ) → k < from
 filtered left test from zero same = grind arith
 filtered left test from (suc n) same =
     let next : from + 1 + n ≡ from + suc n = omega arith in
-    let own : from + 1 ≡ suc from = omega arith in
-    let rest = filtered left test (from + 1) n (λ k low. same k (omega (arith, low))) in
-    let all = ap (count_below test) next in
-    let first = ap (count_below test) own in
-    let last = count_next test from in
-    let bit = ap (λ (b : Bool). cond {A = ℕ} b 1 0) (same from (omega arith)) in
-    elim (cases_Bool (left from)) [
-      | inl is ↦ rw is (omega (arith, rw is at bit, rest, all, first, last))
-      | inr is ↦ rw is (omega (arith, rw is at bit, rest, all, first, last))
-    ]
+    let own : from + 1 ≡ suc from = omega arith in grind (
+      arith,
+      count_next,
+      cases_Bool,
+      filtered
+          left test (from + 1) n (λ k low. same k (omega (arith, low))),
+    )
 
 pub all_counted : (sets : Marks) (event index count : ℕ) → AreMarks sets → event < sets.rows
     → index ≡ words_of sets.columns → count ≡ count_below (bit_there sets event) (64 * index)
@@ -144,40 +127,21 @@ pub one_copied : (sets : Marks) (event index word : ℕ) (times : List ℕ) → 
     → ((time : ℕ) → time / 64 ≡ index → word_of sets event time ≡ word)
     → ((time : ℕ) → marked times time ≡ copied_below sets event (64 * index) time) → (time : ℕ)
     → marked (slice_set times index word) time ≡ copied_below sets event (64 * (index + 1)) time
-one_copied sets event index word times within is so time = elim (cases_eq (time / 64) index) [
-  | inl own ↦
-      let after : time < 64 * (index + 1) = omega (arith, own) in
-      ap (λ i. has_bit (get_or (slice_set times index word) i 0) (time % 64)) own
-      ∙ ap (λ word. has_bit word (time % 64)) (get_or-set_same times index word 0 within
-      ∙ sym (is time own))
-      ∙ sym (ap (λ b. b && bit_there sets event time) (lt-ltb time _ after))
-  | inr other ↦
-      ap (λ word. has_bit word (time % 64)) (get_or-set_other times index (time / 64) word 0 other)
-      ∙ so time
-      ∙ ap (λ b. b && bit_there sets event time) (elsewhere (cases_lt time (64 * index)) other)
-]
-  where
-    elsewhere : (time < 64 * index) ⊎ (64 * index ≤ time) → (time / 64 ≡ index → ⊥)
-        → nat_lt time (64 * index) ≡ nat_lt time (64 * (index + 1))
-    elsewhere (inl before) other =
-        lt-ltb time _ before ∙ sym (lt-ltb time _ (omega (arith, before)))
-    elsewhere (inr behind) other =
-        le-ltb time _ behind ∙ sym (le-ltb time _ (omega (arith, behind, other)))
+one_copied sets event index word times within is so time = grind (
+  arith,
+  cases_eq,
+  get_or,
+  slice_set,
+  get_or-set_same,
+  bit_there,
+  lt-ltb,
+  get_or-set_other,
+  cases_lt,
+  nat_lt,
+  le-ltb,
+)
 
 pub all_copied : (sets : Marks) (event index : ℕ) → AreMarks sets → event < sets.rows
     → index ≡ words_of sets.columns → (time : ℕ)
     → copied_below sets event (64 * index) time ≡ is_left sets event time
-all_copied sets event index are inside all time = one (cases_lt time sets.columns) (cases_lt time
-    (64 * index))
-  where
-    one : (time < sets.columns) ⊎ (sets.columns ≤ time) → (time < 64 * index) ⊎ (64 * index ≤ time)
-        → copied_below sets event (64 * index) time ≡ is_left sets event time
-    one (inl low) place =
-        let before : time < 64 * index = omega (arith, low, all) in
-        ap (λ b. b && bit_there sets event time) (lt-ltb time _ before ∙ sym (lt-ltb time _ low))
-    one (inr high) (inl before) =
-        ap (λ b. b && bit_there sets event time) (lt-ltb time _ before)
-        ∙ are.bits.clear event time inside high (omega (arith, before, all))
-        ∙ sym (ap (λ b. b && bit_there sets event time) (le-ltb time _ high))
-    one (inr high) (inr behind) =
-        ap (λ b. b && bit_there sets event time) (le-ltb time _ behind ∙ sym (le-ltb time _ high))
+all_copied sets event index are inside all time = grind (arith, cases_lt, bit_there, lt-ltb, le-ltb)

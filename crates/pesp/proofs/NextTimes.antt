@@ -5,10 +5,6 @@ use Rattle.plan_num.proofs.Common.{range_with_len, false≢true}
 use Rattle.pesp.specs.Listings.{is_empty}
 use Rattle.pesp.specs.Marks.{IsNext, Marks, is_left, times_from}
 
-range_more : (from end : ℕ) → from < end
-    → range_with_len from (end - from) ≡ from ∷ range_with_len (from + 1) (end - (from + 1))
-range_more from end some = grind arith
-
 range_none : (from end : ℕ) → end ≤ from → range_with_len from (end - from) ≡ []
 range_none from end none =
     let zero_is : end - from ≡ 0 = omega (arith, none) in ap (range_with_len from) zero_is

@@ -1,9 +1,8 @@
 -- Times of a period in one word.
-use Rattle.std.proofs.Common.{◌≡◌, ◌∙◌, ◌⊎◌, inl, inr, ℕ, ◌+◌, ◌-◌, ◌*◌, ◌/◌, ◌%◌, ◌^◌, ◌<◌, ◌≤◌}
-use Rattle.std.proofs.Common.{nat_lt, bit_or, false, ◌&&◌, ◌||◌, [], ◌∷◌, slice_set, ap, sym, arith}
-use Rattle.std.proofs.Math.Nat.{add-mod_left, add-mod_right, mod-eq_of_lt}
-use Rattle.std.proofs.lemmas.Bool.{cases_lt, le-ltb, lt-ltb}
-use Rattle.std.proofs.lemmas.List.{get_or_past}
+use Rattle.plan_num.proofs.Common.{◌≡◌, ◌∙◌, ◌⊎◌, inl, inr, ℕ, ◌+◌, ◌-◌, ◌*◌, ◌/◌, ◌%◌, ◌^◌, ◌<◌}
+use Rattle.plan_num.proofs.Common.{◌≤◌, nat_lt, bit_or, false, ◌&&◌, ◌||◌, [], ◌∷◌, slice_set, ap}
+use Rattle.plan_num.proofs.Common.{sym, arith, add-mod_right, cases_lt, le-ltb, lt-ltb, get_or_past}
+use Rattle.std.proofs.Math.Nat.{add-mod_left, mod-eq_of_lt}
 use Rattle.bit_rows.specs.Bits.{has_bit, marked, word_of}
 use Rattle.bit_rows.proofs.WordBits.{high_bit, or_bit, shl_high, shl_low, shr_bit, zero_bit}
 use Rattle.pesp.specs.Marks.{AreMarks, Marks, is_left}
@@ -15,22 +14,12 @@ pub in_word : (word time : ℕ) → time < 64 → marked (word ∷ []) time ≡ 
 in_word word time low = grind arith
 
 pub past_word : (word time : ℕ) → 64 ≤ time → marked (word ∷ []) time ≡ false
-past_word word time high =
-    let past : 1 ≤ time / 64 = omega (arith, high) in
-    ap (λ word. has_bit word (time % 64)) (get_or_past (word ∷ []) (time / 64) 0 past)
-    ∙ zero_bit (time % 64)
+past_word word time high = grind (arith, get_or_past, zero_bit)
 
 pub both_words : (first second time : ℕ)
     → marked (bit_or first second ∷ []) time
     ≡ (marked (first ∷ []) time || marked (second ∷ []) time)
-both_words first second time = elim (cases_lt time 64) [
-  | inl low ↦
-      in_word (bit_or first second) time low ∙ or_bit first second time
-      ∙ sym (λ i. in_word first time low i || in_word second time low i)
-  | inr high ↦
-      past_word (bit_or first second) time high
-      ∙ sym (λ i. past_word first time high i || past_word second time high i)
-]
+both_words first second time = grind (arith, cases_lt, in_word, bit_or, or_bit, past_word)
 
 -- a word before words without a bit
 pub word_alone : (word time : ℕ) → marked (slice_set zeros 0 word) time ≡ marked (word ∷ []) time
@@ -45,19 +34,13 @@ word_begun sets event word are inside small is =
   where
     there : (time : ℕ) → time < 64 → marked (word ∷ []) time
         ≡ has_bit (word_of sets event time) (time % 64)
-    there time low =
-        let index : time / 64 ≡ 0 = omega (arith, low) in
-        let place : time ≡ time % 64 = omega (arith, low) in
-        in_word word time low ∙ (λ i. has_bit (sym (is time index) i) (place i))
+    there time low = grind (arith, in_word)
 
     one : (time : ℕ) → (time < 64) ⊎ (64 ≤ time) → (time < sets.columns) ⊎ (sets.columns ≤ time)
         → marked (word ∷ []) time ≡ (nat_lt time sets.columns && is_left sets event time)
     one time (inl low) (inl within) = grind arith
     one time (inl low) (inr late) = grind arith
-    one time (inr high) place =
-        let late : sets.columns ≤ time = omega (arith, high, small) in
-        past_word word time high
-        ∙ sym (ap (λ b. b && is_left sets event time) (le-ltb time sets.columns late))
+    one time (inr high) place = grind (arith, past_word, le-ltb)
 
 -- ---- a word that is turned
 
@@ -65,13 +48,7 @@ module _ (times period by : ℕ) (some : 1 ≤ period) (small : period ≤ 64)
     (clear : IsClear period (times ∷ [])) where
   outside : (word time : ℕ) → period ≤ time → (time < 64 → has_bit word time ≡ false)
       → marked (word ∷ []) time ≡ turned_to period (times ∷ []) by time
-  outside word time late none = elim (cases_lt time 64) [
-    | inl low ↦ in_word word time low ∙ none low ∙ sym gone
-    | inr high ↦ past_word word time high ∙ sym gone
-  ]
-    where
-      gone : turned_to period (times ∷ []) by time ≡ false
-      gone = ap (λ b. b && marked (times ∷ []) ((time + by) % period)) (le-ltb time period late)
+  outside word time late none = grind (arith, cases_lt, in_word, past_word, le-ltb)
 
   within : (time : ℕ) → time < period
       → turned_to period (times ∷ []) by time ≡ marked (times ∷ []) ((time + by) % period)
@@ -80,17 +57,15 @@ module _ (times period by : ℕ) (some : 1 ≤ period) (small : period ≤ 64)
 
   pub not_turned : (by ≡ 0) ⊎ (by ≡ period) → (time : ℕ)
       → marked (times ∷ []) time ≡ turned_to period (times ∷ []) by time
-  not_turned whole time = elim (cases_lt time period) [
-    | inr late ↦ outside times time late (λ low. sym (in_word times time low) ∙ clear time late)
-    | inl low ↦ sym (within time low ∙ ap (marked (times ∷ [])) (at whole low))
-  ]
-    where
-      at : (by ≡ 0) ⊎ (by ≡ period) → time < period → (time + by) % period ≡ time
-      at (inl none) low =
-          let same : time + by ≡ time = omega (arith, none) in
-          ap (λ n. n % period) same ∙ mod-eq_of_lt low
-      at (inr all) low =
-          ap (λ by. (time + by) % period) all ∙ add-mod_right time period ∙ mod-eq_of_lt low
+  not_turned whole time = grind (
+    arith,
+    cases_lt,
+    outside,
+    in_word,
+    within,
+    mod-eq_of_lt,
+    add-mod_right,
+  )
 
   pub turned_bit : (fits : times < 2 ^ 64) → 1 ≤ by → by < period → (time : ℕ) → time < period
       → has_bit (bit_or (times / 2 ^ by) (times * 2 ^ (period - by) % 2 ^ 64)) time
@@ -129,15 +104,14 @@ module _ (times period by : ℕ) (some : 1 ≤ period) (small : period ≤ 64)
       → ((bit : ℕ) → bit < 64 → has_bit word bit ≡ (nat_lt bit period
       && has_bit (bit_or (times / 2 ^ by) (times * 2 ^ (period - by) % 2 ^ 64)) bit))
       → (time : ℕ) → marked (word ∷ []) time ≡ turned_to period (times ∷ []) by time
-  turned_word word fits first less is time = elim (cases_lt time period) [
-    | inr late ↦
-        outside word time late (λ low. is time low
-        ∙ ap (λ b. b && has_bit (bit_or (times / 2 ^ by) (times * 2 ^ (period - by) % 2 ^ 64)) time)
-        (le-ltb time period late))
-    | inl low ↦
-        let shown : time < 64 = omega (arith, low, small) in
-        in_word word time shown ∙ is time shown
-        ∙ ap (λ b. b && has_bit (bit_or (times / 2 ^ by) (times * 2 ^ (period - by) % 2 ^ 64)) time)
-        (lt-ltb time period low)
-        ∙ turned_bit fits first less time low ∙ sym (within time low)
-  ]
+  turned_word word fits first less is time = grind (
+    arith,
+    cases_lt,
+    outside,
+    bit_or,
+    le-ltb,
+    in_word,
+    lt-ltb,
+    turned_bit,
+    within,
+  )

@@ -31,15 +31,16 @@ module _ (left test : ℕ → Bool) where
   range_holds from zero x low high is holds = absurd (omega (arith, low, high))
   range_holds from (suc n) x low high is holds =
       elim (cases_eq from x) [
-        | inl same ↦
-            ap (list_any test) (kept_first from _ (ap left same ∙ is))
-            ∙ or_left (test from) _ (ap test same ∙ holds)
-        | inr other ↦
-            let rest = range_holds (from + 1) n x (omega (arith, low, other)) (omega (arith, high)) is holds in
-            elim (cases_Bool (left from)) [
-              | inl kept ↦ ap (list_any test) (kept_first from _ kept) ∙ or_right (test from) _ rest
-              | inr gone ↦ ap (list_any test) (left_out from _ gone) ∙ rest
-            ]
+        | inl same ↦ grind (arith, kept_first, or_left)
+        | inr other ↦ grind (
+          arith,
+          cases_Bool,
+          kept_first,
+          or_right,
+          left_out,
+          range_holds (from +
+              1) n x (omega (arith, low, other)) (omega (arith, high)) is holds,
+        )
       ]
 
   pub holds_in_range : (from n : ℕ) → list_any test (filter left (range_with_len from n)) ≡ true
@@ -65,12 +66,12 @@ module _ (left test : ℕ → Bool) where
       → list_all test (filter left (range_with_len from n)) ≡ true → left x ≡ true → test x ≡ true
   all_in_range from zero x low high all is = absurd (omega (arith, low, high))
   all_in_range from (suc n) x low high all is = elim (cases_eq from x) [
-    | inl same ↦
-        ap test (sym same) ∙ (and_parts (test from) _
-        (sym (ap (list_all test) (kept_first from _ (ap left same ∙ is))) ∙ all)).0
-    | inr other ↦
-        all_in_range (from + 1) n x (omega (arith, low, other)) (omega (arith, high))
-        (rest (left from) all) is
+    | inl same ↦ grind (arith, and_parts, kept_first)
+    | inr other ↦ grind (
+      arith,
+      all_in_range (from + 1) n x (omega (arith, low, other)) (omega
+          (arith, high)) (rest (left from) all) is,
+    )
   ]
     where
       xs : List ℕ
@@ -132,9 +133,7 @@ module _ (period lower upper : ℕ) (some : 1 ≤ period) (order : lower ≤ upp
   -- the minutes behind the lower bound
   second_at : (time minutes : ℕ) → lower ≤ minutes
       → (time + lower % period + (minutes - lower) % period) % period ≡ (time + minutes) % period
-  second_at time minutes enough =
-      let all : lower + (minutes - lower) ≡ minutes = omega (arith, enough) in
-      turn time lower (minutes - lower) ∙ ap (λ n. (time + n) % period) all
+  second_at time minutes enough = grind (arith, turn)
 
   abbrev back : ℕ
   back = period - (lower + width) % period

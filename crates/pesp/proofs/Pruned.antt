@@ -1,10 +1,10 @@
 -- Times that are taken out of the set of an event, one word after the other.
-use Rattle.std.proofs.Common.{◌≡◌, ◌∙◌, ◌⊎◌, inl, inr, ℕ, ◌+◌, ◌*◌, ◌/◌, ◌%◌, ◌<◌, ◌≤◌, ◌==◌}
-use Rattle.std.proofs.Common.{nat_lt, bit_and, Bool, true, false, not, ◌&&◌, ◌||◌, List, get_or}
-use Rattle.std.proofs.Common.{length, refl, ap, sym, subst, arith, IfOk, Result, Ok, Err}
-use Rattle.std.proofs.lemmas.Bool.{cases_Bool, cases_eq, cases_lt, cases_order, le-ltb}
-use Rattle.std.proofs.lemmas.Bool.{lt-ltb, ltb-true, ne_eqb, or_cases, or_parts, or_right}
-use Rattle.bit_rows.specs.Bits.{has_bit, marked, place_of, with_word, words_of}
+use Rattle.plan_num.proofs.Common.{◌≡◌, ◌∙◌, ◌⊎◌, inl, inr, ℕ, ◌+◌, ◌*◌, ◌/◌, ◌%◌, ◌<◌, ◌≤◌, ◌==◌}
+use Rattle.plan_num.proofs.Common.{nat_lt, bit_and, Bool, true, false, not, ◌&&◌, ◌||◌, List}
+use Rattle.plan_num.proofs.Common.{get_or, length, refl, ap, sym, arith, IfOk, Result, Ok, Err}
+use Rattle.plan_num.proofs.Common.{cases_Bool, cases_eq, cases_lt, cases_order, le-ltb, lt-ltb}
+use Rattle.plan_num.proofs.Common.{ltb-true, ne_eqb, or_cases, or_parts, or_right}
+use Rattle.bit_rows.specs.Bits.{has_bit, marked, with_word, words_of}
 use Rattle.bit_rows.proofs.RowBits.{other_word, place_low, same_row, this_word}
 use Rattle.bit_rows.proofs.WordBits.{and_bit}
 use Rattle.pesp.specs.Marks.{AreMarks, KeepsBits, Marks, Prunes, Tracked, is_left}
@@ -39,23 +39,13 @@ module _ (now : Marks) (event index keep : ℕ) (are : AreMarks now) (inside : e
         ap (λ word. nat_lt t now.columns && has_bit word (t % 64))
         (other_word now place kept there e t (λ same.
         let both = same_row (words_of now.columns) e (t / 64) event index (omega (arith, low))
-        within same in
-        apart both.0 both.1))
+        within same in grind arith))
     | inr high ↦ rw (le-ltb t now.columns high) refl
   ]
 
   left_here : (t : ℕ) → t / 64 ≡ index
       → is_left less event t ≡ (is_left now event t && has_bit keep (t % 64))
-  left_here t at =
-      let here : place_of now.columns event t ≡ place =
-      ap (λ index. event * words_of now.columns + index) at in
-      ap (λ word. nat_lt t now.columns && has_bit word (t % 64))
-      (this_word now place kept there event t here)
-      ∙ ap (λ b. nat_lt t now.columns && b)
-      (and_bit (word_at now event index) keep (t % 64)
-      ∙ ap (λ place. has_bit (get_or now.words place 0) (t % 64) && has_bit keep (t % 64)) (sym
-      here))
-      ∙ and_assoc (nat_lt t now.columns) _ _
+  left_here t at = grind (arith, nat_lt, this_word, there, and_bit, get_or, and_assoc)
 
   fewer_left : kept < word_at now event index → marks_left less < marks_left now
   fewer_left small = sum_less now.words place kept small
@@ -107,10 +97,7 @@ prune_word before now after event index keep changes is inside within so turn = 
 }
   where
     less_here : is ≡ true → marks_left after.sets < marks_left now.sets
-    less_here some =
-        subst (λ (tracked : Tracked). marks_left tracked.sets < marks_left now.sets) (sym turn.is)
-        (fewer_left now.sets event index (get_or keep index 0) turn.sound inside within
-        (turn.fewer some))
+    less_here some = grind (arith, fewer_left, get_or)
 
     no_more : (is ≡ true) ⊎ (is ≡ false) → marks_left after.sets ≤ marks_left now.sets
     no_more (inl some) = let less = less_here some in omega (arith, less)
@@ -186,10 +173,7 @@ prune_ended before after event keep end changes so all = record {
     last : (e t : ℕ) → (nat_lt t before.sets.columns ≡ true) ⊎ (nat_lt t before.sets.columns ≡ false)
         → both (is_left before.sets) (stays_below event keep end) e t
         ≡ both (is_left before.sets) (stays event keep) e t
-    last e t (inl is) =
-        let h = ltb-true _ _ is in
-        ap (λ b. is_left before.sets e t && (not (e == event) || (not b || marked keep t)))
-        (lt-ltb t end (omega (arith, h, all)))
+    last e t (inl is) = grind (arith, ltb-true, lt-ltb)
     last e t (inr is) = rw (is) refl
 
 -- ---- bits by a test
@@ -213,13 +197,7 @@ prunes_as before after keeps others changes same so = record {
 by_bits : (sets : Marks) (kept : ℕ) (test : ℕ → Bool) (keep : List ℕ)
     → ((t : ℕ) → t < sets.columns → marked keep t ≡ test t) → (e t : ℕ)
     → both (is_left sets) (stays kept keep) e t ≡ both (is_left sets) (kept_by kept test) e t
-by_bits sets kept test keep is e t = one (cases_Bool (nat_lt t sets.columns))
-  where
-    one : (nat_lt t sets.columns ≡ true) ⊎ (nat_lt t sets.columns ≡ false)
-        → both (is_left sets) (stays kept keep) e t ≡ both (is_left sets) (kept_by kept test) e t
-    one (inl low) =
-        ap (λ b. is_left sets e t && (not (e == kept) || b)) (is t (ltb-true _ _ low))
-    one (inr high) = rw (high) refl
+by_bits sets kept test keep is e t = grind (arith, cases_Bool, nat_lt, ltb-true)
 
 pub prunes_by_bits : {E : Type 0} (before after : Tracked) (kept : ℕ) (test : ℕ → Bool)
     (keep : List ℕ) (result : Result Bool E)

@@ -68,14 +68,13 @@ not_noted : (flags : Flags) (event : ℕ) (is : Bool) (e : ℕ) → event < leng
     → has_changed (noted flags event is) e ≡ false
     → (has_changed flags e ≡ false) × (e ≡ event → is ≡ false)
 not_noted flags event false e inside none = (none, λ _. refl)
-not_noted flags event true e inside none = elim (cases_eq e event) [
-  | inl same ↦
-      absurd (false≢true (sym none ∙ get_or-set_at flags event e true false same inside))
-  | inr other ↦ (
-    sym (get_or-set_other flags event e true false other) ∙ none,
-    λ same. absurd (other same),
-  )
-]
+not_noted flags event true e inside none = grind (
+  arith,
+  cases_eq,
+  false≢true,
+  get_or-set_at,
+  get_or-set_other,
+)
 
 is_noted : (flags : Flags) (event : ℕ) (is : Bool) (e : ℕ)
     → has_changed (noted flags event is) e ≡ true → (has_changed flags e ≡ true) ⊎ (is ≡ true)
@@ -203,10 +202,7 @@ module _ (activity : PespActivity) (at : ℕ) (start middle end : Tracked)
         (subst (λ period. IsRevised period left activity) (sym one.0.period) revised)
         (one.0.keeps left revised within);
     each = two.0.each ∙ one.0.each;
-    untouched = λ event none.
-        let later = two.0.untouched event none in
-        let earlier = one.0.untouched event later.0 in
-        (earlier.0, later.1 ∙ earlier.1);
+    untouched = λ event none. grind arith;
     fewer = λ event is. fewer_marks event (two.0.fewer event is);
     no_more = omega (arith, one.0.no_more, two.0.no_more);
   }
@@ -215,17 +211,11 @@ module _ (activity : PespActivity) (at : ℕ) (start middle end : Tracked)
           → (has_changed some event ≡ true) ⊎ (marks_left end.sets < marks_left middle.sets)
           → (has_changed flags event ≡ true) ⊎ (marks_left end.sets < marks_left start.sets)
       fewer_marks event (inr less) = inr (omega (arith, less, one.0.no_more))
-      fewer_marks event (inl was) = elim (one.0.fewer event was) [
-        | inl first ↦ inl first
-        | inr less ↦ inr (omega (arith, less, two.0.no_more))
-      ]
+      fewer_marks event (inl was) = grind arith
 
   last_here : PartneredUnless start.sets.columns (is_left middle.sets) (either at some) activity ends.Second
       → PartneredUnless start.sets.columns (is_left end.sets) (has_changed more) activity ends.Second
-  last_here = subst (λ period.
-      PartneredUnless period (is_left middle.sets) (either at some) activity ends.Second
-      → PartneredUnless period (is_left end.sets) (has_changed more) activity ends.Second)
-      one.0.period two.1
+  last_here = grind (arith, at)
 
   each_end : RevisedUnless start.sets.columns (is_left start.sets) (either at flags) activity
       → RevisedUnless start.sets.columns (is_left end.sets) (has_changed more) activity
@@ -235,9 +225,7 @@ module _ (activity : PespActivity) (at : ℕ) (start middle end : Tracked)
   each_end so ends.Second = last_here (carried_end start.sets.columns (is_left start.sets)
       (is_left middle.sets) (either at flags) (either at some) activity ends.Second one.0.within
       (λ event none.
-      let parts = or_parts (event == at) _ none in
-      let same = one.0.untouched event parts.1 in
-      (or_from (event == at) _ parts.0 same.0, same.1)) (so ends.Second))
+      let parts = or_parts (event == at) _ none in grind (arith, or_from, at)) (so ends.Second))
 
   pub both_revised : Revises activity at start end flags more
   both_revised = (both_touched, each_end)

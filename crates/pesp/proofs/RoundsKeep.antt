@@ -22,21 +22,21 @@ Holds sets times = AllZip (λ time left. is_in time left ≡ true) times sets
 pub any_of : (test : ℕ → Bool) (x : ℕ) (xs : List ℕ) → is_in x xs ≡ true → test x ≡ true
     → list_any test xs ≡ true
 any_of test x xs is holds =
-    let at = Any-from_list_any (nat_eq x) xs is in
-    list_any_at test xs at.0 at.1 at.2 (ap test (at.3 ∙ sym (eqb-true x at.1 at.4)) ∙ holds)
+    let at = Any-from_list_any (nat_eq x) xs is in grind (arith, list_any_at, eqb-true)
 
 pub filter_keeps : (test : ℕ → Bool) (x : ℕ) (xs : List ℕ) → is_in x xs ≡ true → test x ≡ true
     → is_in x (filter test xs) ≡ true
 filter_keeps test x [] is holds = absurd (cc)
 filter_keeps test x (y ∷ xs) is holds = elim (cases_Bool (nat_eq x y)) [
-  | inl same ↦ rw (ap test (sym (eqb-true x y same)) ∙ holds)
-      (ap (λ b. b || is_in x (filter test xs)) same)
-  | inr other ↦
-      let rest = filter_keeps test x xs (rw other at is) holds in
-      elim (cases_Bool (test y)) [
-        | inl own ↦ rw own (or_right (nat_eq x y) (is_in x (filter test xs)) rest)
-        | inr own ↦ rw own rest
-      ]
+  | inl same ↦ grind (arith, eqb-true)
+  | inr other ↦ grind (
+    arith,
+    cases_Bool,
+    or_right,
+    nat_eq,
+    filter_keeps test x xs (rw other at is)
+        holds,
+  )
 ]
 
 -- the time of an event is left to it

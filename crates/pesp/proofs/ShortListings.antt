@@ -23,8 +23,7 @@ powers_cons period from count =
 
 next_power : (period from : ℕ) → period ^ (from + 1) ≡ period * period ^ from
 next_power period from =
-    let next : from + 1 ≡ suc from = omega arith in
-    ap (λ n. period ^ n) next ∙ pow-succ' period from
+    let next : from + 1 ≡ suc from = omega arith in grind (arith, pow-succ')
 
 times_both : (period a b : ℕ) → period * a + period * b ≡ period * (a + b)
 times_both period a b = omega arith
@@ -59,16 +58,13 @@ no_less period a some = omega (arith, mul-le 1 a period a some (omega arith))
 
 pub most_grows : (period fewer more : ℕ) → 1 ≤ period → most period fewer ≤ most period (fewer + more)
 most_grows period fewer zero some = grind arith
-most_grows period fewer (suc more) some =
-    let next : fewer + suc more ≡ fewer + more + 1 = omega arith in
-    let all = ap (most period) next in
-    omega (
-      arith,
-      all,
-      most_grows period fewer more some,
-      most_more period (fewer + more),
-      no_less period (most period (fewer + more)) some,
-    )
+most_grows period fewer (suc more) some = grind (
+  arith,
+  most_more,
+  no_less,
+  most_grows period fewer
+      more some,
+)
 
 -- ---- listings
 
@@ -76,16 +72,7 @@ turn_short : (visit : ℕ → Listing) (xs : List ℕ) (few : ℕ) → ((x : ℕ
     → (in_turn visit xs).entries ≤ length xs * few
 unfolding in_turn
 turn_short visit [] few each = omega arith
-turn_short visit (x ∷ xs) few each =
-    by (is_some (visit x).found) (each x) (turn_short visit xs few each)
-  where
-    by : (b : Bool) → (visit x).entries ≤ few → (in_turn visit xs).entries ≤ length xs * few
-        → (elim b as (λ _. Listing) [
-          | true ↦ visit x
-          | false ↦ record { entries = (visit x).entries + (in_turn visit xs).entries; found = (in_turn visit xs).found }
-        ]).entries ≤ suc (length xs) * few
-    by true here rest = omega (arith, here)
-    by false here rest = omega (arith, here, rest)
+turn_short visit (x ∷ xs) few each = grind (arith, is_some, turn_short visit xs few each)
 
 -- no event has more times than a period
 abbrev pub AreFew : ℕ → List (List ℕ) → Type 0

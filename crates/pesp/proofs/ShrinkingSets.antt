@@ -5,7 +5,7 @@ use Rattle.plan_num.proofs.Common.{subst, arith, AllByRecursion, enumerate_from,
 use Rattle.plan_num.proofs.Common.{eqb-false, ltb-true, ltb-false, cases_Bool, sum_by-cons}
 use Rattle.plan_num.proofs.Common.{length-filter, count_by-le-length}
 use Rattle.pesp.specs.Timetables.{Problem}
-use Rattle.pesp.specs.Listings.{has_several, several_in}
+use Rattle.pesp.specs.Listings.{several_in}
 use Rattle.pesp.specs.TimeSets.{has_partners, left_to, reduced, round, rounds, times_left}
 
 pub filter_short : (test : ℕ → Bool) (xs : List ℕ) → length (filter test xs) ≤ length xs
@@ -55,12 +55,8 @@ module _ (problem : Problem) where
             → (times_left left ≤ times_left (rounded (n + 1) left) → (k : ℕ) → k < length left
             → list_all (has_partners problem sets (n + 1 + k)) (get_or left k []) ≡ true)
             → list_all (has_partners problem sets (n + k)) (get_or (set ∷ left) k []) ≡ true
-        one zero inside here there more =
-            subst (λ m. list_all (has_partners problem sets m) set ≡ true) (omega arith)
-            (filter_all (has_partners problem sets n) set here)
-        one (suc k) inside here there more =
-            subst (λ m. list_all (has_partners problem sets m) (get_or left k []) ≡ true) (omega arith)
-            (more there k (omega (arith, inside)))
+        one zero inside here there more = grind (arith, filter_all)
+        one (suc k) inside here there more = grind (arith, get_or)
 
     -- what holds of each set and of some of its times holds behind a round
     each_rounded : (P : List ℕ → Type 0) → ((test : ℕ → Bool) (xs : List ℕ) → P xs → P (filter test xs))
@@ -71,24 +67,14 @@ module _ (problem : Problem) where
 
     fewer_several : (n : ℕ) (left : List (List ℕ)) → several_in (rounded n left) ≤ several_in left
     fewer_several n [] = omega arith
-    fewer_several n (set ∷ left) =
-        let test = has_partners problem sets n in
-        let rest = fewer_several (n + 1) left in
-        elim (cases_Bool (has_several (filter test set))) [
-          | inl some ↦ elim (cases_Bool (has_several set)) [
-            | inl many ↦ rw (some, many) (omega (arith, rest))
-            | inr few ↦ absurd (omega (
-              arith,
-              ltb-true 1 (length (filter test set)) some,
-              ltb-false 1 (length set) few,
-              filter_short test set,
-            ))
-          ]
-          | inr none ↦ elim (cases_Bool (has_several set)) [
-            | inl many ↦ rw (none, many) (omega (arith, rest))
-            | inr few ↦ rw (none, few) rest
-          ]
-        ]
+    fewer_several n (set ∷ left) = grind (
+      arith,
+      cases_Bool,
+      ltb-true,
+      ltb-false,
+      filter_short,
+      fewer_several (n + 1) left,
+    )
 
     rounded_length : (n : ℕ) (left : List (List ℕ)) → length (rounded n left) ≡ length left
     rounded_length n [] = refl
@@ -127,12 +113,8 @@ module _ (problem : Problem) where
             | true ↦ sets
             | false ↦ rounds more problem (round problem sets)
           ])
-      by true same rest =
-          let own : times_left (round problem sets) ≡ times_left sets = eqb-true _ _ same in
-          omega (arith, own)
-      by false other rest =
-          let fewer = fewer_times sets 0 sets in
-          rest (omega (arith, few, fewer, eqb-false _ _ other))
+      by true same rest = grind (arith, eqb-true)
+      by false other rest = grind (arith, fewer_times, eqb-false)
 
   module _ (sets : List (List ℕ)) where
     -- each time that is left has its partners

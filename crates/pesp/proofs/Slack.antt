@@ -1,6 +1,6 @@
 -- The slack of an activity on plain numbers: what it turns to, and that no smaller one does.
 use Rattle.plan_num.proofs.Common.{◌≡◌, ℕ, ◌+◌, ◌-◌, ◌*◌, ◌/◌, ◌%◌, ◌<◌, ◌≤◌, ◌+ℤ◌, ◌-ℤ◌, pos, refl}
-use Rattle.plan_num.proofs.Common.{ap, ◌∙◌, arith, mod-add-div', ints, mod-mul-add}
+use Rattle.plan_num.proofs.Common.{arith, mod-add-div', ints, mod-mul-add}
 use Rattle.std.proofs.Math.Nat.{add-mul}
 use Rattle.std.proofs.lemmas.Int.{int_rem_euclid_is}
 use Rattle.pesp.specs.Timetables.{slack}
@@ -35,9 +35,7 @@ slack_leads a period to within enough =
     rw (sum) (mod-mul-add (a - (to + a * period - a) / period) period to within)
   where
     parts : (a q period : ℕ) → q ≤ a → a * period ≡ (a - q) * period + q * period
-    parts a q period few =
-        let whole : a ≡ (a - q) + q = omega arith in
-        ap (λ n. n * period) whole ∙ add-mul (a - q) q period
+    parts a q period few = grind (arith, add-mul)
 
     quotient_few : (a period to : ℕ) → to < period → a ≤ a * period
         → (to + a * period - a) / period ≤ a

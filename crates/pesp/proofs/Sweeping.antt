@@ -47,8 +47,7 @@ pub carried : (period : ℕ) (old new : Left) (flags more : ℕ → Bool) (other
     → IsWithin new old
     → ((event : ℕ) → more event ≡ false → (flags event ≡ false) × (new event ≡ old event))
     → RevisedUnless period old flags other → RevisedUnless period new more other
-carried period old new flags more other within untouched so end =
-    carried_end period old new flags more other end within untouched (so end)
+carried period old new flags more other within untouched so end = grind (arith, carried_end)
 
 -- ---- smaller and smaller sets
 
@@ -73,18 +72,13 @@ pub sweep_begun : (problem : Problem) (sets : Tracked) (flags : Flags) (end : �
     → AllFrom problem.activities (BoundUnless problem.period (is_left sets.sets) (has_changed
     flags)) 0
     → IsSwept problem sets sets flags end
-sweep_begun problem sets flags end all each revised = record {
-  propagates = none_yet problem sets;
-  each = each;
-  revised = revised;
-  within = omega (arith, all, each);
-  fewer = λ event is. elim (cases_lt event (length flags)) [
-    | inl low ↦ inl (omega (arith, low, all))
-    | inr high ↦ absurd (false≢true (sym (get_or_past flags event false high) ∙ is))
-  ];
-  no_more = omega arith;
-  full = λ full. full;
-}
+sweep_begun problem sets flags end all each revised = grind (
+  arith,
+  none_yet,
+  cases_lt,
+  false≢true,
+  get_or_past,
+)
 
 pub sweep_turn : (problem : Problem) (before now after : Tracked) (flags more : Flags) (end event
     : ℕ)
@@ -102,11 +96,7 @@ sweep_turn problem before now after flags more end event so last turn = record {
   where
     earlier : (other : ℕ) → has_changed flags other ≡ true → (other ≡ event → ⊥) → other < end
         → other < event
-    earlier other is apart low = elim (cases_lt other event) [
-      | inl before ↦ before
-      | inr behind ↦
-          absurd (false≢true (sym (last.2 other (omega (arith, behind, apart)) low) ∙ is))
-    ]
+    earlier other is apart low = grind (arith, cases_lt, false≢true)
 
     old : (other : ℕ) → has_changed flags other ≡ true → (other ≡ event → ⊥)
         → (other < end) ⊎ (marks_left now.sets < marks_left before.sets)
@@ -131,21 +121,7 @@ sweep_died problem before now after flags end so dead = record {
 pub sweep_ended : (problem : Problem) (before now : Tracked) (flags : Flags) (end : ℕ)
     → IsSwept problem before now flags end → IsLastFlag flags end None
     → Sweeps problem before now flags
-sweep_ended problem before now flags end so none = record {
-  propagates = so.propagates;
-  each = so.each;
-  revised = so.revised;
-  fewer = λ some. let found = some_below (has_changed flags) (length flags) some in
-      last found.0 found.2 (so.fewer found.0 found.2);
-  no_more = so.no_more;
-  full = so.full;
-}
-  where
-    last : (event : ℕ) → has_changed flags event ≡ true
-        → (event < end) ⊎ (marks_left now.sets < marks_left before.sets)
-        → marks_left now.sets < marks_left before.sets
-    last event is (inr less) = less
-    last event is (inl low) = absurd (false≢true (sym (none event low) ∙ is))
+sweep_ended problem before now flags end so none = grind (arith, some_below, false≢true)
 
 -- ---- sweeps
 

@@ -1,7 +1,7 @@
 -- Minutes after which times come again, and what exact activities tie together.
-use Rattle.std.proofs.Common.{◌≡◌, ◌∙◌, inl, inr, ℕ, zero, suc, ◌+◌, ◌-◌, ◌*◌, ◌/◌, ◌%◌}
-use Rattle.std.proofs.Common.{◌<◌, ◌≤◌, Bool, true, slice_get, Some, ap, sym, subst, arith}
-use Rattle.std.proofs.Math.Nat.{add-mod-mod, add-mul-mod_self_right, mod-add-div', mod-add-mod}
+use Rattle.plan_num.proofs.Common.{◌≡◌, ◌∙◌, inl, inr, ℕ, zero, suc, ◌+◌, ◌-◌, ◌*◌, ◌/◌, ◌%◌, ◌<◌}
+use Rattle.plan_num.proofs.Common.{◌≤◌, Bool, true, slice_get, Some, ap, sym, subst, arith}
+use Rattle.plan_num.proofs.Common.{add-mod-mod, add-mul-mod_self_right, mod-add-div', mod-add-mod}
 use Rattle.std.proofs.Math.Nat.{mod-eq_of_lt, mod-lt}
 use Rattle.pesp.specs.declared.activity.PespActivity.{PespActivity}
 use Rattle.pesp.specs.Timetables.{IsActivity, IsProblem, Problem}
@@ -25,9 +25,7 @@ later_twice period time minutes more =
     grouped = omega arith
 
 none_later : (period time : ℕ) → time < period → (time + 0) % period ≡ time
-none_later period time low =
-    let same : time + 0 ≡ time = omega arith in
-    ap (λ n. n % period) same ∙ mod-eq_of_lt low
+none_later period time low = grind (arith, mod-eq_of_lt)
 
 -- ---- times that come again
 
@@ -42,16 +40,14 @@ module _ (period : ℕ) (left : ℕ → Bool) (some : 1 ≤ period) where
   pub repeats_times : (minutes : ℕ) → Repeats period left minutes → (k : ℕ)
       → Repeats period left (k * minutes)
   repeats_times minutes one zero time low is =
-      let none : time + 0 * minutes ≡ time = omega arith in
-      subst (λ time. left time ≡ true) (sym (ap (λ n. n % period) none ∙ mod-eq_of_lt low)) is
-  repeats_times minutes one (suc k) time low is =
-      subst (λ time. left time ≡ true)
-      (mod-add-mod (time + k * minutes) period minutes ∙ ap (λ n. n % period) grouped)
-      (one ((time + k * minutes) % period) (mod-lt (time + k * minutes) (omega (arith, some)))
-      (repeats_times minutes one k time low is))
-    where
-      grouped : time + k * minutes + minutes ≡ time + suc k * minutes
-      grouped = grind arith
+      let none : time + 0 * minutes ≡ time = omega arith in grind (arith, mod-eq_of_lt, is)
+  repeats_times minutes one (suc k) time low is = grind (
+    arith,
+    mod-add-mod,
+    mod-lt,
+    is,
+    repeats_times minutes one k time low is,
+  )
 
 whole_turns : (period x : ℕ) → 1 ≤ period → x + (period - 1) * x ≡ x * period
 whole_turns zero x some = absurd (omega (arith, some))
@@ -73,10 +69,7 @@ repeats_rest period left some first second one two time low is =
     times = first / second * second
 
     sum : time + first + (period - 1) * times ≡ time + first % second + times * period
-    sum =
-        let parts = mod-add-div' first second in
-        let turns = whole_turns period times some in
-        omega (arith, parts, turns)
+    sum = grind (arith, mod-add-div', whole_turns)
 
 -- ---- events whose times are tied
 
@@ -89,8 +82,7 @@ leads_on problem some a b c minutes more one two left all time low is =
     (mod-lt (time + minutes) (omega (arith, some))) (one left all time low is))
 
 pub stays_there : (problem : Problem) (event : ℕ) → AreLater problem event event 0
-stays_there problem event left all time low is =
-    subst (λ time. left event time ≡ true) (sym (none_later problem.period time low)) is
+stays_there problem event left all time low is = grind (arith, none_later, is)
 
 -- ---- exact activities
 

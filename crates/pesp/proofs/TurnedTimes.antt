@@ -1,12 +1,12 @@
 -- A timetable may be turned, so that its first event is at time 0.
-use Rattle.std.proofs.Common.{◌≡◌, ◌∙◌, ℕ, zero, suc, ◌+◌, ◌-◌, ◌%◌, ◌<◌, ◌≤◌, nat_eq, true, false, inl, inr}
-use Rattle.std.proofs.Common.{cond, ◌||◌, List, [], ◌∷◌, get_or, length, map, All, refl, ap, sym, subst, arith}
-use Rattle.std.specs.List.{range_with_len}
-use Rattle.std.proofs.lemmas.Bool.{eq-eqb, eqb-false, ne_eqb, cases_Bool}
-use Rattle.std.proofs.lemmas.List.{get_or_default, length-map}
-use Rattle.std.proofs.Math.Nat.{add-mod_right, mod-add-mod, mod-eq_of_lt, mod-lt}
+use Rattle.plan_num.proofs.Common.{◌≡◌, ◌∙◌, ℕ, zero, suc, ◌+◌, ◌-◌, ◌%◌, ◌<◌, ◌≤◌, nat_eq, true}
+use Rattle.plan_num.proofs.Common.{false, inl, inr, cond, ◌||◌, List, [], ◌∷◌, get_or, length, map}
+use Rattle.plan_num.proofs.Common.{All, refl, ap, sym, subst, arith, range_with_len, eq-eqb}
+use Rattle.plan_num.proofs.Common.{eqb-false, ne_eqb, cases_Bool, get_or_default, length-map}
+use Rattle.plan_num.proofs.Common.{add-mod_right, mod-add-mod}
+use Rattle.std.proofs.Math.Nat.{mod-eq_of_lt, mod-lt}
 use Rattle.pesp.specs.declared.activity.PespActivity.{PespActivity}
-use Rattle.pesp.specs.Timetables.{IsActivity, IsKept, IsProblem, IsTimetable, Leads, Problem, time_of}
+use Rattle.pesp.specs.Timetables.{IsKept, IsProblem, IsTimetable, Leads, Problem, time_of}
 use Rattle.pesp.specs.Listings.{first_sets, times_at_first}
 use Rattle.pesp.proofs.RoundsKeep.{Holds, is_in}
 
@@ -42,20 +42,7 @@ module _ (problem : Problem) (sound : IsProblem problem) (times : List ℕ)
 
   turned_kept : (by k : ℕ) (d : PespActivity) → k < length problem.activities
       → IsKept problem.period (turned problem.period by times) (get_or problem.activities k d)
-  turned_kept by k d inside =
-      let activity = get_or problem.activities k d in
-      let own : IsActivity problem.events activity = sound.sound k d inside in
-      let kept : IsKept problem.period times activity = is.kept k d inside in
-      let from = turned_at problem.period by times activity.from (omega (arith, own.from, is.each)) in
-      let to = turned_at problem.period by times activity.to (omega (arith, own.to, is.each)) in
-      record {
-        minutes = kept.minutes;
-        leads = (λ i. (from i + kept.minutes) % problem.period)
-            ∙ turned_leads problem.period (time_of times activity.from) (time_of times activity.to) kept.minutes by kept.leads
-            ∙ sym to;
-        enough = kept.enough;
-        short = kept.short;
-      }
+  turned_kept by k d inside = grind (arith, get_or, turned_at, turned_leads)
 
   turned_timetable : (by : ℕ) → IsTimetable problem (turned problem.period by times)
   turned_timetable by = record {

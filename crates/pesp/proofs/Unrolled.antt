@@ -1,6 +1,6 @@
 -- A listing does not depend on how many branches it is given, as long as there are enough.
-use Rattle.plan_num.proofs.Common.{◌≡◌, ◌∙◌, ℕ, zero, suc, ◌+◌, ◌<◌, true, false, List, position}
-use Rattle.plan_num.proofs.Common.{Option, Some, None, refl, ap, sym, arith, list_any}
+use Rattle.plan_num.proofs.Common.{◌≡◌, ◌∙◌, ℕ, zero, suc, ◌<◌, true, false, List, position, Option}
+use Rattle.plan_num.proofs.Common.{Some, None, refl, ap, sym, arith, list_any}
 use Rattle.pesp.specs.Timetables.{Problem}
 use Rattle.pesp.specs.Listings.{Listing, branches, entry, has_several, in_turn, is_empty}
 use Rattle.pesp.specs.Listings.{listing_from}
@@ -13,9 +13,7 @@ use Rattle.pesp.proofs.ShrinkingSets.{reduced_several}
 
 branch_several : (sets : List (List ℕ)) (event time : ℕ) → position has_several sets ≡ Some event
     → several_in (with_time sets event time) < several_in sets
-branch_several sets event time is =
-    let at = several_at sets event is in
-    fewer_settled sets event time at.0 at.1
+branch_several sets event time is = grind (arith, several_at, fewer_settled)
 
 -- ---- what is listed in turn
 
@@ -71,11 +69,4 @@ module _ (problem : Problem) where
   -- what is listed from sets on, by the listings of their children
   pub unrolls : (sets : List (List ℕ)) → listing_of problem sets ≡ entry (reduced problem sets)
       (λ event time. listing_of problem (with_time (reduced problem sets) event time))
-  unrolls sets =
-      let next : several_in sets + 1 ≡ suc (several_in sets) = omega arith in
-      let all = reduced_several problem sets in
-      ap (λ n. listing_from n problem sets) next ∙ step (several_in sets) sets
-      ∙ entry_same (reduced problem sets) _ _ (λ event is time.
-      let less = branch_several (reduced problem sets) event time is in
-      enough (several_in sets) _ (with_time (reduced problem sets) event time)
-      (omega (arith, all, less)) (omega arith))
+  unrolls sets = grind (arith, reduced_several, step, entry_same, branch_several, enough)

@@ -1,8 +1,8 @@
 -- The activities at an event, one after the other, and what they leave.
-use Rattle.plan_num.proofs.Common.{◌≡◌, ◌∙◌, ◌⊎◌, inl, inr, ℕ, ◌+◌, ◌<◌, ◌≤◌, ◌==◌, true, false}
-use Rattle.plan_num.proofs.Common.{List, length, get_or, slice_set, slice_get, Some, Contains, ap}
-use Rattle.plan_num.proofs.Common.{sym, subst, arith, cases_eq, eq-eqb, false≢true, or_from}
-use Rattle.plan_num.proofs.Common.{or_parts, get_or_default_zero, same_Some, get_or-set_other}
+use Rattle.plan_num.proofs.Common.{◌≡◌, ◌∙◌, ◌⊎◌, inl, inr, ℕ, ◌+◌, ◌<◌, ◌≤◌, true, false, List}
+use Rattle.plan_num.proofs.Common.{length, get_or, slice_set, slice_get, Some, Contains, ap, sym}
+use Rattle.plan_num.proofs.Common.{subst, arith, cases_eq, eq-eqb, false≢true, or_from, or_parts}
+use Rattle.plan_num.proofs.Common.{get_or_default_zero, same_Some, get_or-set_other}
 use Rattle.plan_num.proofs.Common.{get_or-set_same, length-set}
 use Rattle.pesp.specs.declared.activity.PespActivity.{PespActivity}
 use Rattle.pesp.specs.Timetables.{Problem}
@@ -41,15 +41,7 @@ pub record IsVisited (problem : Problem) (event : ℕ) (indexes : List ℕ) (bef
   pub full : StaysFull before now
 
 awaited : (indexes : List ℕ) (index : ℕ) → Contains indexes index → Awaits indexes 0 index
-awaited indexes index there = (
-  there.0,
-  omega arith,
-  there.1,
-  get_or-any indexes there.0 index there.1 ∙ there.2,
-)
-  where
-    get_or-any : (xs : List ℕ) (i x : ℕ) → i < length xs → get_or xs i 0 ≡ get_or xs i x
-    get_or-any xs i x low = sym (get_or_default_zero xs i x low)
+awaited indexes index there = grind (arith, there, get_or, get_or_default_zero)
 
 -- the event has lost its flag
 module _ (problem : Problem) (event : ℕ) (indexes : List ℕ) (sets : Tracked) (old : Flags)
@@ -93,15 +85,7 @@ module _ (problem : Problem) (event : ℕ) (indexes : List ℕ) (sets : Tracked)
       → slice_get problem.activities index ≡ Some activity
       → is_free problem.period activity ≡ false
       → RevisedUnless problem.period (is_left sets.sets) (either event left_out) activity
-  begun_rest index activity at bound =
-      λ end none. revised index activity at (omega arith) bound end
-      (neither (event_at activity (other_end end))
-      (or_parts (event_at activity (other_end end) == event) _ none))
-    where
-      neither : (other : ℕ) → ((other == event) ≡ false) × (has_changed left_out other ≡ false)
-          → has_changed old other ≡ false
-      neither other parts =
-          unset other (λ same. absurd (false≢true (sym parts.0 ∙ eq-eqb other event same))) parts.1
+  begun_rest index activity at bound = grind (arith, or_parts, unset, false≢true, eq-eqb)
 
   pub visit_begun : IsVisited problem event indexes sets sets old left_out 0
   visit_begun = record {
@@ -109,10 +93,7 @@ module _ (problem : Problem) (event : ℕ) (indexes : List ℕ) (sets : Tracked)
     each = length-set old event false;
     done = begun_done;
     rest = begun_rest;
-    fewer = λ other is. elim (cases_eq other event) [
-      | inl own ↦ absurd (false≢true (sym gone ∙ ap (has_changed left_out) (sym own) ∙ is))
-      | inr apart ↦ inl (sym (there other apart) ∙ is, apart)
-    ];
+    fewer = λ other is. grind (arith, cases_eq, false≢true, gone, there);
     no_more = omega arith;
     full = λ full. full;
   }
@@ -149,9 +130,7 @@ module _ (problem : Problem) (event : ℕ) (indexes : List ℕ) (before now afte
       → is_free problem.period one ≡ false → Awaits indexes (from + 1) other
       ⊎ RevisedUnless problem.period (is_left after.sets) (has_changed more) one
   done other one is bound = elim (so.done other one is bound) [
-    | inr revised ↦
-        inr (carried problem.period (is_left now.sets) (is_left after.sets) (has_changed flags)
-        (has_changed more) one turn.0.within turn.0.untouched revised)
+    | inr revised ↦ grind (arith, carried)
     | inl waits ↦ elim (cases_eq waits.0 from) [
       | inr apart ↦
           inl (waits.0, (let low = waits.1 in omega (arith, low, apart)), waits.2, waits.3)
@@ -168,14 +147,7 @@ module _ (problem : Problem) (event : ℕ) (indexes : List ℕ) (before now afte
   rest : (other : ℕ) (one : PespActivity) → slice_get problem.activities other ≡ Some one
       → is_free problem.period one ≡ false
       → RevisedUnless problem.period (is_left after.sets) (either event more) one
-  rest other one is bound =
-      carried problem.period (is_left now.sets) (is_left after.sets) (either event flags)
-      (either event more) one turn.0.within
-      (λ place none.
-      let parts = or_parts (place == event) _ none in
-      let same = turn.0.untouched place parts.1 in
-      (or_from (place == event) _ parts.0 same.0, same.1))
-      (so.rest other one is bound)
+  rest other one is bound = grind (arith, carried, or_parts, or_from)
 
   fewer : (other : ℕ) → (has_changed flags other ≡ true) ⊎ (marks_left after.sets < marks_left
       now.sets)
@@ -202,18 +174,9 @@ module _ (problem : Problem) (event : ℕ) (indexes : List ℕ) (before now afte
 pub visit_ended : (problem : Problem) (event : ℕ) (indexes : List ℕ) (before now : Tracked)
     (old flags : Flags) (from : ℕ) → IsVisited problem event indexes before now old flags from
     → length indexes ≤ from → Visits problem event before now old flags
-visit_ended problem event indexes before now old flags from so all = record {
-  propagates = so.propagates;
-  each = so.each;
-  revised = λ index activity at _ bound. last index activity (so.done index activity at bound);
-  fewer = so.fewer;
-  no_more = so.no_more;
-  full = so.full;
-}
-  where
-    last : (index : ℕ) (activity : PespActivity) → Awaits indexes from index
-        ⊎ RevisedUnless problem.period (is_left now.sets) (has_changed flags) activity
-        → RevisedUnless problem.period (is_left now.sets) (has_changed flags) activity
-    last index activity (inr revised) = revised
-    last index activity (inl waits) =
-        let low = waits.1 in let high = waits.2 in absurd (omega (arith, low, high, all))
+visit_ended problem event indexes before now old flags from so all = grind (
+  arith,
+  propagates,
+  done,
+  fewer,
+)

@@ -54,8 +54,7 @@ next_waits before restored saved after sets branch time is same next save keep =
     was = is.0;
     now = saved_are;
     here = (refl, refl);
-    within = λ e t is.
-        ap (λ (tracked : Tracked). is_left tracked.sets e t) (sym save) ∙ keep.within e t is;
+    within = λ e t is. grind arith;
     others = λ e other. keep.others e other
         ∙ ap (λ (tracked : Tracked). is_left tracked.sets e) save;
     one = time;
@@ -67,8 +66,7 @@ next_waits before restored saved after sets branch time is same next save keep =
     events_are = ap (λ (tracked : Tracked). tracked.sets.rows) save
 
     sets_are : sets_of after.sets ≡ with_time (sets_of restored.sets) branch.event time
-    sets_are = keep.sets
-        ∙ ap (λ (tracked : Tracked). with_time (sets_of tracked.sets) branch.event time) save
+    sets_are = grind arith
 
     saved_are : after.saved ≡ saved_at restored.sets (tried branch time) ∷ restored.saved
     saved_are = keep.saved ∙ ap (λ (tracked : Tracked). tracked.saved) save
@@ -90,9 +88,7 @@ next_from first before after passed event same period events all next = (
     earlier = next.3.earlier;
     inside = next.3.inside;
     period = next.3.period;
-    was = all ∙ ap (λ saved. passed ++ saved) next.3.was
-        ∙ sym (append_assoc passed next.3.passed (saved_at next.3.branched next.3.from ∷
-        next.3.earlier));
+    was = grind (arith, append_assoc);
     now = next.3.now;
     here = next.3.here;
     within = next.3.within;

@@ -1,9 +1,9 @@
 -- Sums over a period that is gone through twice, and the windows in which they differ.
-use Rattle.std.proofs.Common.{◌≡◌, ◌∙◌, inl, inr, ℕ, zero, suc, ◌+◌, ◌-◌, ◌%◌, ◌<◌, ◌≤◌, ◌==◌, cond}
-use Rattle.std.proofs.Common.{Bool, true, false, not, ◌||◌, filter, length, refl, ap, sym, arith}
-use Rattle.std.specs.List.{range_with_len}
-use Rattle.std.proofs.Math.Nat.{add-mod_left, mod-add-mod, mod-eq_of_lt, mod-lt}
-use Rattle.std.proofs.lemmas.Bool.{cases_Bool, eq-eqb, ne_eqb, or_right}
+use Rattle.plan_num.proofs.Common.{◌≡◌, ◌∙◌, inl, inr, ℕ, zero, suc, ◌+◌, ◌-◌, ◌%◌, ◌<◌, ◌≤◌, ◌==◌}
+use Rattle.plan_num.proofs.Common.{cond, Bool, true, false, not, ◌||◌, filter, length, refl, ap}
+use Rattle.plan_num.proofs.Common.{sym, arith, range_with_len, mod-add-mod, cases_Bool, eq-eqb}
+use Rattle.plan_num.proofs.Common.{ne_eqb, or_right}
+use Rattle.std.proofs.Math.Nat.{add-mod_left, mod-eq_of_lt, mod-lt}
 use Rattle.pesp.specs.Revising.{count_below, reaches}
 use Rattle.pesp.specs.Marks.{any_below}
 
@@ -28,10 +28,7 @@ count_more test n is =
 
 pub count_same : (test : ℕ → Bool) (n : ℕ) → test n ≡ false
     → count_below test (n + 1) ≡ count_below test n
-count_same test n is =
-    let same : count_below test (n + 1) ≡ count_below test n + 0 =
-    count_step test n ∙ ap (λ b. count_below test n + cond b 1 0) is in
-    omega (arith, same)
+count_same test n is = grind (arith, count_step)
 
 -- ---- windows
 
@@ -63,14 +60,8 @@ module _ (test : ℕ → Bool) (start : ℕ) where
       let so = rises n in
       ap (λ end. not (count_below test end == count_below test start)) (one_passed n)
       ∙ elim (cases_Bool (test (start + n))) [
-        | inl is ↦
-            let more = count_more test (start + n) is in
-            ap not (ne_eqb (count_below test (start + n + 1)) (count_below test start)
-            (λ same. absurd (omega (arith, so, more, same))))
-            ∙ sym (or_right (any_below (λ k. test (start + k)) n) _ is)
-        | inr is ↦
-            ap (λ n. not (n == count_below test start)) (count_same test (start + n) is)
-            ∙ differs n ∙ or_none (any_below (λ k. test (start + k)) n) _ is
+        | inl is ↦ grind (arith, count_more, ne_eqb, or_right)
+        | inr is ↦ grind (arith, count_same, or_none, differs n)
       ]
 
 -- ---- sums of a period that is gone through again
@@ -80,10 +71,7 @@ module _ (period : ℕ) (left : ℕ → Bool) where
   shown time = left (time % period)
 
   again : (k : ℕ) → count_below shown (period + k) ≡ count_below shown period + count_below shown k
-  again zero =
-      let none : period + 0 ≡ period = omega arith in
-      let all = ap (count_below shown) none in
-      omega (arith, all, count_start shown)
+  again zero = grind (arith, count_start)
   again (suc k) =
       let rest = again k in
       let next : period + suc k ≡ period + k + 1 = omega arith in
@@ -107,26 +95,27 @@ module _ (period : ℕ) (left : ℕ → Bool) where
   slow from zero = grind arith
   slow from (suc n) =
       let rest = slow from n in
-      let next : from + suc n ≡ from + n + 1 = omega arith in
-      let all = ap (count_below shown) next in
-      elim (cases_Bool (shown (from + n))) [
-        | inl is ↦ let more = count_more shown (from + n) is in omega (arith, rest, all, more)
-        | inr is ↦ let same = count_same shown (from + n) is in omega (arith, rest, all, same)
-      ]
+      let next : from + suc n ≡ from + n + 1 = omega arith in grind (
+        arith,
+        next,
+        cases_Bool,
+        count_more,
+        count_same,
+      )
 
   all_counted : (from n : ℕ) → from + n ≤ period
       → count_below shown from + length (filter left (range_with_len from n)) ≡ count_below shown
       (from + n)
   all_counted from zero few = grind arith
-  all_counted from (suc n) few =
-      let rest = all_counted (from + 1) n (omega (arith, few)) in
-      let next : from + 1 + n ≡ from + suc n = omega arith in
-      let end = ap (count_below shown) next in
-      let own : shown from ≡ left from = ap left (mod-eq_of_lt (omega (arith, few))) in
-      elim (cases_Bool (left from)) [
-        | inl is ↦ rw is (omega (arith, rest, end, count_more shown from (own ∙ is)))
-        | inr is ↦ rw is (omega (arith, rest, end, count_same shown from (own ∙ is)))
-      ]
+  all_counted from (suc n) few = grind (
+    arith,
+    next,
+    mod-eq_of_lt,
+    cases_Bool,
+    count_more,
+    count_same,
+    all_counted (from + 1) n (omega (arith, few)),
+  )
 
   pub crowded : (width : ℕ) → 1 ≤ period → width < period
       → period ≤ length (filter left (range_with_len 0 period)) + width → (offset time : ℕ)

@@ -56,8 +56,7 @@ cut_short fault writes i write old mid new before noted now inside is h torn tol
   made = take i writes;
   next = write;
   rest = drop (suc i) writes;
-  split = split_at writes i write inside
-      ∙ ap (λ w. take i writes ++ w ∷ drop (suc i) writes) (sym is);
+  split = grind (arith, split_at);
   noted = told ∙ h.noted;
   folder = subst (λ folder. LeftBy fault write folder new) h.folder torn;
 }

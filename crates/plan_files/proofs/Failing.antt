@@ -1,6 +1,6 @@
 -- What a failed write to a sink leaves, as the trait says it.
-use Rattle.std.proofs.Common.{◌≡◌, ℕ, List, ◌++◌, Option, Some, None, ap, sym, ◌∙◌, take, arith}
-use Rattle.std.proofs.Common.{append-nil, ⊎_elim}
+use Rattle.plan_num.proofs.Common.{◌≡◌, ℕ, List, ◌++◌, Option, Some, None, ap, sym, ◌∙◌, take}
+use Rattle.plan_num.proofs.Common.{arith, append-nil, ⊎_elim}
 use Rattle.plan_files.specs.Planned.{Planned, LeavesFront}
 
 -- it appends a front part of the piece

@@ -1,16 +1,13 @@
 -- Pieces at the front of bytes, one after the other.
-use Rattle.plan_num.proofs.Common.{◌≡◌, ℕ, ◌<◌, ◌+◌, List, ◌∷◌, ◌++◌, length, drop, get_or}
-use Rattle.plan_num.proofs.Common.{flat_map, ap, ◌∙◌, arith, suc, append_assoc, Option, Some, None}
-use Rattle.plan_num.proofs.Common.{IfSome, IfNone, MatchOption, append_cancel_left}
+use Rattle.plan_num.proofs.Common.{◌≡◌, ℕ, ◌<◌, ◌+◌, List, ◌++◌, length, drop, get_or, flat_map}
+use Rattle.plan_num.proofs.Common.{arith, append_assoc, Option, Some, None, IfSome, IfNone}
+use Rattle.plan_num.proofs.Common.{MatchOption, append_cancel_left}
 use Rattle.std.proofs.Math.Seq.{drop-cons}
 
 module _ {X : Type 0} (f : X → List ℕ) (xs : List X) (i : ℕ) (d : X) (inside : i < length xs) where
   -- the pieces from one on
   pieces_at : flat_map f (drop i xs) ≡ f (get_or xs i d) ++ flat_map f (drop (i + 1) xs)
-  pieces_at = ap (flat_map f) (drop-cons xs i d inside ∙ ap (λ n. get_or xs i d ∷ drop n xs) (next i))
-    where
-      next : (n : ℕ) → suc n ≡ n + 1
-      next n = omega arith
+  pieces_at = grind (arith, flat_map, drop-cons, get_or)
 
   -- what stands behind the pieces behind one stands behind those from it on, and the other way round
   pub passed : (rest more behind : List ℕ) → rest ≡ f (get_or xs i d) ++ more

@@ -1,5 +1,5 @@
 -- Calls that only read, one after the other.
-use Rattle.std.proofs.Common.{ℕ, Bool, false, List, Option, refl, arith}
+use Rattle.plan_num.proofs.Common.{ℕ, Bool, false, List, Option, refl, arith}
 use Rattle.plan_files.specs.declared.write.Write.{Write}
 use Rattle.plan_files.specs.Folder.{Folder}
 use Rattle.plan_files.specs.Reads.{OnlyReads}

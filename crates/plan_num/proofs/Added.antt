@@ -44,10 +44,4 @@ added_numbered f xs i d now after h so_far more =
 pub parts_size : {X : Type 0} (f : ℕ → List X) (size : ℕ) → ((j : ℕ) → length (f j) ≡ size)
     → (a n : ℕ) → length (flat_map f (range_with_len a n)) ≡ n * size
 parts_size f size same a zero = omega arith
-parts_size f size same a (suc n) =
-    length-append (f a) (flat_map f (range_with_len (a + 1) n))
-    ∙ ap (λ m. m + length (flat_map f (range_with_len (a + 1) n))) (same a)
-    ∙ ap (λ m. size + m) (parts_size f size same (a + 1) n) ∙ more n size
-  where
-    more : (n size : ℕ) → size + n * size ≡ suc n * size
-    more n size = grind arith
+parts_size f size same a (suc n) = grind (arith, length-append, parts_size f size same (a + 1) n)

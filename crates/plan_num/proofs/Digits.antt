@@ -25,14 +25,6 @@ value_of-push (d ∷ ds) digit =
 pub digit_range : (digit : ℕ) → is_ascii_digit digit ≡ true → (48 ≤ digit) × (digit ≤ 57)
 digit_range digit h = grind (arith, nat_tests, and_parts (leb 48 digit) (leb digit 57) h)
 
--- each of the digits is one
-pub digit_in : (digits : List ℕ) (i : ℕ) → all_digits digits ≡ true → i < length digits
-    → (48 ≤ get_or digits i 0) × (get_or digits i 0 ≤ 57)
-digit_in [] i h lt = absurd (omega arith)
-digit_in (d ∷ ds) zero h lt = digit_range d (and_parts (is_ascii_digit d) (all_digits ds) h).0
-digit_in (d ∷ ds) (suc i) h lt =
-    digit_in ds i (and_parts (is_ascii_digit d) (all_digits ds) h).1 (omega arith)
-
 -- the digit at a place, and what those behind it are worth
 pub value_at-turn : (ps digits : List ℕ) (i place digit : ℕ) → i < length ps → i < length digits
     → place ≡ get_or ps i 0 → digit ≡ get_or digits i 0

@@ -1,7 +1,7 @@
 -- What holds of all parts, of numbered things, and of their numbers.
 use Rattle.plan_num.proofs.Common.{◌≡◌, ℕ, ◌+◌, ◌<◌, ◌≤◌, arith, All, List, [], ◌∷◌, length, map}
-use Rattle.plan_num.proofs.Common.{get_or, refl, subst, sym, range_with_len, enumerate_from}
-use Rattle.plan_num.proofs.Common.{All-map, length-range_with_len, get_or-range_with_len}
+use Rattle.plan_num.proofs.Common.{get_or, refl, range_with_len, enumerate_from, All-map}
+use Rattle.plan_num.proofs.Common.{length-range_with_len, get_or-range_with_len}
 use Rattle.plan_num.proofs.Common.{length-enumerate_from, get_or-enumerate_from}
 
 -- what holds of each number from one on
@@ -15,9 +15,11 @@ pub all_numbered : {X Y : Type 0} (P : X → Type 0) (Q : Y → Type 0) (f : ℕ
     → All Q (map f (enumerate_from 1 xs))
 all_numbered P Q f xs step all =
     All-map Q f (enumerate_from 1 xs) (λ k d h.
-    let within : k < length xs = omega (arith, h, length-enumerate_from 1 xs) in
-    subst (λ at. Q (f at)) (sym (get_or-enumerate_from 1 xs k d within))
-    (step (1 + k) (get_or xs k d.1) (omega arith) (omega (arith, within)) (all k d.1 within)))
+    let within : k < length xs = omega (arith, h, length-enumerate_from 1 xs) in grind (
+      arith,
+      get_or-enumerate_from,
+      get_or,
+    ))
 
 -- the numbers are those in order
 pub numbers_are : {X Y : Type 0} (id : Y → ℕ) (f : ℕ × X → Y)

@@ -65,9 +65,7 @@ pub range_parts : (a m n : ℕ) → range_with_len a (m + n) ≡ range_with_len 
     ++ range_with_len (a + m) n
 range_parts a zero n = grind arith
 range_parts a (suc m) n =
-    let e : suc m + n ≡ suc (m + n) = omega arith in
-    let f : a + 1 + m ≡ a + suc m = omega arith in
-    rw (e, ← f) (ap (λ rest. a ∷ rest) (range_parts (a + 1) m n))
+    let e : suc m + n ≡ suc (m + n) = omega arith in grind (arith, range_parts (a + 1) m n)
 
 -- the numbers of a window
 pub window : (p : ℕ → Bool) (from count all : ℕ) → from + count ≤ all

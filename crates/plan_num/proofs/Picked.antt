@@ -1,8 +1,8 @@
 -- Parts of lists of events that are numbered in their order: what one event or two of them give.
 use Rattle.plan_num.proofs.Common.{◌≡◌, ℕ, zero, suc, ◌+◌, ◌<◌, ◌≤◌, arith, Bool, ◌&&◌, false, cond}
-use Rattle.plan_num.proofs.Common.{List, [], ◌∷◌, ◌++◌, length, map, filter, get_or, refl, ap, sym}
-use Rattle.plan_num.proofs.Common.{◌∙◌, flat_map, range_with_len, enumerate_from, count_by}
-use Rattle.plan_num.proofs.Common.{append-nil, sum_by-cons, cases_Bool}
+use Rattle.plan_num.proofs.Common.{List, [], ◌∷◌, length, map, filter, get_or, refl, ap, sym, ◌∙◌}
+use Rattle.plan_num.proofs.Common.{flat_map, range_with_len, enumerate_from, count_by, append-nil}
+use Rattle.plan_num.proofs.Common.{sum_by-cons, cases_Bool}
 
 -- numbers change nothing of how many things pass a test that does not look at them
 pub numbered_count : {X : Type 0} (f : ℕ × X → X) (p : X → Bool)
@@ -39,9 +39,10 @@ module _ {X Y : Type 0} (id : X → ℕ) (g : X → List Y) where
   later_none a [] are none = refl
   later_none a (x ∷ xs) are none =
       let first : id x ≡ a = let e = are in cc in
-      let rest : map id xs ≡ range_with_len (a + 1) (length xs) = let e = are in cc in
-      ap (λ ys. ys ++ flat_map g xs) (none x (omega (arith, first)))
-      ∙ later_none (a + 1) xs rest (λ y h. none y (omega (arith, h)))
+      let rest : map id xs ≡ range_with_len (a + 1) (length xs) = let e = are in cc in grind (
+        arith,
+        later_none (a + 1) xs rest (λ y h. none y (omega (arith, h))),
+      )
 
   -- where the thing of one number alone gives something, all things together give that
   pub picked : (a j : ℕ) (xs : List X) (d : X) → map id xs ≡ range_with_len a (length xs)
@@ -51,7 +52,8 @@ module _ {X Y : Type 0} (id : X → ℕ) (g : X → List Y) where
   picked a zero (x ∷ xs) d are h none = grind (arith, later_none, append-nil)
   picked a (suc j) (x ∷ xs) d are h none =
       let first : id x ≡ a = let e = are in cc in
-      let rest : map id xs ≡ range_with_len (a + 1) (length xs) = let e = are in cc in
-      ap (λ ys. ys ++ flat_map g xs) (none x (λ e. omega (arith, e, first)))
-      ∙ picked (a + 1) j xs d rest (omega (arith, h)) (λ y other. none y (λ e. other (omega
-      (arith, e))))
+      let rest : map id xs ≡ range_with_len (a + 1) (length xs) = let e = are in cc in grind (
+        arith,
+        picked (a + 1) j xs d rest (omega (arith, h)) (λ y other. none y (λ e. other (omega
+            (arith, e)))),
+      )

@@ -131,10 +131,13 @@ fraction_bytes : (fraction : ℕ) → fraction < 1000000
 fraction_bytes fraction small =
     let digits =
     digits_bytes (digits_at places fraction) []
-    (digits_at-digits places 1000000 fraction tens small) refl in
-    ⊎_elim (λ more. rw (ne_eqb fraction 0 (omega arith)) (rw append-nil at digits))
-    (λ none. let zero_fraction : fraction ≡ 0 = omega arith in rw zero_fraction refl)
-    (cases_lt 0 fraction)
+    (digits_at-digits places 1000000 fraction tens small) refl in grind (
+      arith,
+      ⊎_elim,
+      ne_eqb,
+      append-nil,
+      cases_lt,
+    )
 
 -- a printed number of millionths without a sign has digits and a point
 pub magnitude_bytes : (millionths : ℕ) → millionths < 10 ^ 64

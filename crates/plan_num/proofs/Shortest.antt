@@ -2,10 +2,10 @@
 use Rattle.plan_num.proofs.Common.{◌≡◌, ℕ, ℤ, pos, neg_ℤ, ◌≤ℤ◌, ◌+◌, ◌-◌, ◌*◌, ◌^◌, ◌<◌, ◌≤◌, zero}
 use Rattle.plan_num.proofs.Common.{suc, Bool, true, false, List, [], ◌∷◌, length, length-append}
 use Rattle.plan_num.proofs.Common.{cond, Option, Some, None, option_map, refl, arith, add-one}
-use Rattle.plan_num.proofs.Common.{⊎_elim, decimal, eqb, subst, if◌then◌else◌, ◌==◌, before_first}
-use Rattle.plan_num.proofs.Common.{after_first, is_ascii_digit, length-take, length-drop}
-use Rattle.plan_num.proofs.Common.{prefix_len-le-length, cond_some, ints, cases_lt, lt-ltb}
-use Rattle.plan_num.proofs.Common.{and_parts, div-mul-add, mod-mul-add, digits_value_short}
+use Rattle.plan_num.proofs.Common.{⊎_elim, decimal, eqb, if◌then◌else◌, before_first, after_first}
+use Rattle.plan_num.proofs.Common.{is_ascii_digit, length-take, length-drop, prefix_len-le-length}
+use Rattle.plan_num.proofs.Common.{cond_some, ints, cases_lt, lt-ltb, and_parts, div-mul-add}
+use Rattle.plan_num.proofs.Common.{mod-mul-add, digits_value_short}
 use Rattle.std.proofs.Math.Nat.{mul-le-mul_right}
 use Rattle.std.proofs.Math.ListN.{drop_of_length-le}
 use Rattle.std.proofs.lemmas.Fmt.{length-decimal-le_wide}
@@ -36,10 +36,13 @@ unfolding value_at
 value_at-limit [] limit ds tens h = omega arith
 value_at-limit (p ∷ ps) limit [] tens h = omega (arith, tens.0, tens.1)
 value_at-limit (p ∷ ps) limit (d ∷ ds) tens h =
-    let b = and_parts (is_ascii_digit d) (all_digits ds) h in
-    let range = digit_range d b.0 in
-    let less : d - 48 ≤ 9 = omega (arith, range) in
-    omega (arith, tens.0, mul-le-mul_right p less, value_at-limit ps p ds tens.2 b.1)
+    let b = and_parts (is_ascii_digit d) (all_digits ds) h in grind (
+      arith,
+      digit_range,
+      tens,
+      mul-le-mul_right,
+      value_at-limit ps p ds tens.2 b.1,
+    )
 
 -- a list with a first digit, or none, is no longer
 one_longer : (value : ℕ) (first : ℕ) (more : List ℕ) (n : ℕ) → length more ≤ n
@@ -52,10 +55,14 @@ unfolding digits_at value_at
 digits_at-short [] limit ds tens h = omega arith
 digits_at-short (p ∷ ps) limit [] tens h = omega arith
 digits_at-short (p ∷ ps) limit (d ∷ ds) tens h =
-    let b = and_parts (is_ascii_digit d) (all_digits ds) h in
-    one_longer ((d - 48) * p + value_at ps ds) _ _ (length ds)
-    (rw (mod-mul-add (d - 48) p (value_at ps ds) (value_at-limit ps p ds tens.2 b.1))
-    (digits_at-short ps p ds tens.2 b.1))
+    let b = and_parts (is_ascii_digit d) (all_digits ds) h in grind (
+      arith,
+      one_longer,
+      mod-mul-add,
+      value_at-limit,
+      tens,
+      digits_at-short ps p ds tens.2 b.1,
+    )
 
 -- the whole part is no longer than the digits that spell it
 decimal_short : (whole : List ℕ) → all_digits whole ≡ true → 0 < length whole
@@ -105,22 +112,21 @@ parts_in : (bytes whole fraction : List ℕ) → parts_of bytes ≡ Some (whole,
 parts_in bytes whole fraction e =
     let found =
     cond_some (is_magnitude bytes) (before_first is_point bytes, after_first is_point bytes)
-    (whole, fraction) e in
-    subst (λ (p : List ℕ × List ℕ). Parts bytes p.0 p.1) found.1 (magnitude_parts bytes found.0)
+    (whole, fraction) e in grind (arith, magnitude_parts)
 
 -- the text of a magnitude is no longer than its parts
 magnitude_short : (bytes whole fraction : List ℕ) → Parts bytes whole fraction
     → value_of whole < 10 ^ 64
     → length (magnitude_text (value_of whole * 1000000 + value_at places fraction)) ≤ length bytes
 magnitude_short bytes whole fraction parts fits =
-    let small = value_at-limit places 1000000 fraction tens parts.behind in
-    let front = decimal_short whole parts.digits parts.some fits in
-    let back = fraction_short fraction parts.behind in
-    let joined =
-    length-append (decimal (value_of whole)) (fraction_text (value_at places fraction)) in
-    let quotient = div-mul-add (value_of whole) 1000000 (value_at places fraction) small in
-    let rest = mod-mul-add (value_of whole) 1000000 (value_at places fraction) small in
-    rw (quotient, rest) (omega (arith, joined, front, back, parts.long))
+    let small = value_at-limit places 1000000 fraction tens parts.behind in grind (
+      arith,
+      decimal_short,
+      fraction_short,
+      length-append,
+      div-mul-add,
+      mod-mul-add,
+    )
 
 -- nor is it with a sign
 signed_short : (minus : Bool) (magnitude n : ℕ) → length (magnitude_text magnitude) ≤ n
@@ -134,13 +140,7 @@ field_long : (field : List ℕ)
     → (if has_minus field then suc (length (magnitude_of field)) else length (magnitude_of field))
     ≡ length field
 field_long [] = refl
-field_long (byte ∷ bytes) = by_sign (byte == 45) byte bytes
-  where
-    by_sign : (minus : Bool) (byte : ℕ) (bytes : List ℕ)
-        → (let rest = (if minus then bytes else byte ∷ bytes) in
-        (if minus then suc (length rest) else length rest)) ≡ suc (length bytes)
-    by_sign true byte bytes = refl
-    by_sign false byte bytes = refl
+field_long (byte ∷ bytes) = grind arith
 
 -- a magnitude is within a limit where it is with its sign
 signed_within : (minus : Bool) (n : ℕ) → neg_ℤ (pos (10 ^ 37)) ≤ℤ signed minus n
@@ -163,15 +163,11 @@ spelling_short text s is fits =
     let parts = spelled_parts (parts_of (magnitude_of text)) (has_minus text) s is in
     let short =
     magnitude_short (magnitude_of text) s.whole s.fraction
-    (parts_in (magnitude_of text) s.whole s.fraction parts.0) fits in
-    let signed_text =
-    signed_short s.minus (value_of s.whole * 1000000 + value_at places s.fraction)
-    (length (magnitude_of text)) short in
-    subst (λ (k : ℕ). length (fixed_text (worth_of s)) ≤ k) (field_long text)
-    (subst
-    (λ (b : Bool). length (fixed_text (worth_of s)) ≤
-    (if b then suc (length (magnitude_of text)) else length (magnitude_of text))) parts.1
-    signed_text)
+    (parts_in (magnitude_of text) s.whole s.fraction parts.0) fits in grind (
+      arith,
+      signed_short,
+      field_long,
+    )
 
 -- a spelling of a number
 spelling_with : (spelling : Option Spelling) (n : ℤ) → option_map worth_of spelling ≡ Some n

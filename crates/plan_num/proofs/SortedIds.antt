@@ -1,10 +1,10 @@
 -- Ids that rise, and the index of one of them.
 use Rattle.plan_num.proofs.Common.{◌≡◌, ℕ, ℤ, zero, suc, ◌+◌, ◌<◌, ◌≤◌, arith, Bool, true, false}
 use Rattle.plan_num.proofs.Common.{cond, List, [], ◌∷◌, ◌++◌, length, map, take, get_or, slice_get}
-use Rattle.plan_num.proofs.Common.{option_map, append_assoc, position, refl, ap, subst, sym, ◌∙◌}
-use Rattle.plan_num.proofs.Common.{Some, None, nat_lt, int_lt, inl, inr, pos, AllByRecursion}
-use Rattle.plan_num.proofs.Common.{HoldsAt, IsNonDecreasingBy, IsPartitionPoint, int_cmp, int_eq}
-use Rattle.plan_num.proofs.Common.{lt-ltb, le-ltb, cases_lt, Decides-int_eq, position-Some}
+use Rattle.plan_num.proofs.Common.{option_map, append_assoc, position, refl, ap, sym, ◌∙◌, Some}
+use Rattle.plan_num.proofs.Common.{None, nat_lt, int_lt, inl, inr, pos, AllByRecursion, HoldsAt}
+use Rattle.plan_num.proofs.Common.{IsNonDecreasingBy, IsPartitionPoint, int_cmp, int_eq, lt-ltb}
+use Rattle.plan_num.proofs.Common.{le-ltb, cases_lt, Decides-int_eq, position-Some}
 use Rattle.plan_num.proofs.Common.{position_or_len_is, exact_signed, int_cmp_total, tied_itself}
 use Rattle.std.specs.List.Sorted.{IsStrictlySortedBy}
 use Rattle.std.specs.Ordering.{ordering_index}
@@ -88,10 +88,7 @@ module _ (ids : List ℤ) (id : ℤ) (up : IsStrictlySortedBy int_cmp ids) where
   non_decreasing i j d l h =
       elim (cases_lt i j) [
         | inl less ↦ in_order _ _ (rises ids up i j d less h) _ _ refl refl
-        | inr more ↦
-            let same : i ≡ j = omega arith in
-            subst (λ k. ordering_index (int_cmp (get_or ids i d) id)
-            ≤ ordering_index (int_cmp (get_or ids k d) id)) same (omega arith)
+        | inr more ↦ grind (arith, get_or)
       ]
 
   -- one that ends elsewhere tells that there is none
@@ -151,23 +148,10 @@ found_twice ids x y i j up first second =
     ])
   where
     less_tells : (x y : ℤ) → int_cmp x y ≡ Less → int_lt x y ≡ true
-    less_tells x y e = shown (int_lt x y) (int_lt y x) e
-      where
-        shown : (a b : Bool) → cond a Less (cond b Greater Equal) ≡ Less → a ≡ true
-        shown true b h = refl
-        shown false true h = cc
-        shown false false h = cc
+    less_tells x y e = grind (arith, int_lt)
 
     greater_tells : (x y : ℤ) → int_cmp y x ≡ Less → int_lt x y ≡ false
-    greater_tells x y e = shown (int_lt x y) (int_lt y x) (turned_less y x e)
-      where
-        shown : (a b : Bool) → cond a Less (cond b Greater Equal) ≡ Greater → a ≡ false
-        shown true b h = cc
-        shown false b h = refl
+    greater_tells x y e = grind (arith, int_lt, turned_less)
 
     equal_tells : (x : ℤ) → int_lt x x ≡ false
-    equal_tells x = shown (int_lt x x) (int_lt x x) (tied_itself int_cmp_total x)
-      where
-        shown : (a b : Bool) → cond a Less (cond b Greater Equal) ≡ Equal → a ≡ false
-        shown true b h = cc
-        shown false b h = refl
+    equal_tells x = grind (arith, int_lt, tied_itself, int_cmp_total)

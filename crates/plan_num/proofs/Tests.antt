@@ -64,10 +64,4 @@ less_is x y e = subst (λ o. MatchOrdering o (x <ℤ y) (x ≡ y) (y <ℤ x)) e 
 
 -- a number above another one is not that one
 pub above_differs : (x y : ℤ) → int_cmp x y ≡ Less → int_eq y x ≡ false
-above_differs x y less = by (int_eq y x) refl
-  where
-    by : (b : Bool) → int_eq y x ≡ b → b ≡ false
-    by true is =
-        let same : y ≡ x = (Decides-int_eq y x).0 is in
-        absurd (cc)
-    by false is = refl
+above_differs x y less = grind (arith, int_eq, Decides-int_eq)

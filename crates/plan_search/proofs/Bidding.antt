@@ -38,20 +38,11 @@ module _ (links : Links) (potentials : PotentialParts) (i : ℕ) (row : List Lin
       low = high;
       small = omega (arith, rest_is, (is.right done link here).small);
       best = (done, (here, omega (arith, rest_is, some)));
-      others = λ k other before e. by_number k done
-          (λ same. inl (ap Some (same_link k other same e)))
-          (λ apart. elim (are.others k other (omega (arith, before, apart)) e)
-          as (λ _. (Some link ≡ Some other) ⊎ (other.gain ≤ offer.most + at potentials.v other.to)) [
-            | inl was ↦ inr (old_best other was)
-            | inr low ↦ inr (omega (arith, low, are.low))
-          ]);
+      others = λ k other before e. grind (arith, by_number, same_link);
     }
       where
         old_best : (other : Link) → offer.best ≡ Some other → Below offer.most other
-        old_best other was =
-            let at_best = subst (λ it. IfSome it (λ link. (k : ℕ) × ((slice_get row k ≡ Some link)
-            × (link.gain ≡ offer.most + at potentials.v link.to)))) was are.best in
-            omega (arith, at_best.1.1)
+        old_best other was = grind (arith, slice_get)
 
     offer_lost : rest ≤ offer.most → IsOffer row potentials (done + 1) (next_offer offer link rest false)
     offer_lost low = grind arith
@@ -128,13 +119,7 @@ module _ (links : Links) (before : PotentialParts) (plan : List (Option ℕ)) (i
   after_other i apart = ap (λ p. next p i) after_is ∙ get_or-set_other plan other i no_place no_place apart
 
   old : (i j : ℕ) → next after i ≡ Some j → (i ≢ other) × (next plan i ≡ Some j)
-  old i j e = (
-    apart,
-    sym (after_other i apart) ∙ e,
-  )
-    where
-      apart : i ≢ other
-      apart same = none-some j (sym after_same ∙ ap (next after) (sym same) ∙ e)
+  old i j e = grind (arith, after_other, none-some, after_same)
 
   u_same : at now.u other ≡ 0
   u_same = ap (λ p. at p.u other) now_is
@@ -157,10 +142,7 @@ module _ (links : Links) (before : PotentialParts) (plan : List (Option ℕ)) (i
 
   pub released : IsTakenBut links now place after
   released = record {
-    over = record {
-      each_u = ap (λ p. length p.u) now_is ∙ length-set before.u other 0 ∙ is.over.each_u;
-      each_v = ap (λ p. length p.v) now_is ∙ is.over.each_v;
-    };
+    over = grind (arith, length-set);
     tight = record {
       each = ap length after_is ∙ length-set plan other no_place ∙ is.tight.each;
       within = λ i j e. is.tight.within i j (old i j e).1;
@@ -229,34 +211,14 @@ module _ (links : Links) (before : PotentialParts) (plan : List (Option ℕ)) (t
   both_own = omega (arith, own_u, own_v, low)
 
   covers_own : Covers links now trip
-  covers_own k = split (worth (links.gain trip k)) refl
-    where
-      split : (it : Option ℕ) → worth (links.gain trip k) ≡ it
-          → IfSome (worth (links.gain trip k)) (λ gain. gain ≤ at now.u trip + at now.v k)
-      split None e = subst (λ it. IfSome it (λ gain. gain ≤ at now.u trip + at now.v k)) (sym e) tt
-      split (Some gain) e = subst (λ it. IfSome it (λ gain. gain ≤ at now.u trip + at now.v k)) (sym e)
-          (by_number k link.to
-          (λ same.
-          let gain_is : gain ≡ link.gain = same_Some gain link.gain
-          (sym e ∙ ap (λ j. worth (links.gain trip j)) same ∙ link_is.is) in
-          let v_is : at now.v k ≡ at now.v link.to = ap (at now.v) same in
-          omega (arith, gain_is, v_is, both_own))
-          (λ apart. omega (arith, others k gain e apart, own_u, other_v k apart)))
+  covers_own k = grind (arith, by_number, same_Some, both_own, own_u, other_v)
 
   covers_other : (i : ℕ) → i ≢ trip → Covers links before i → Covers links now i
-  covers_other i apart was k = lift (worth (links.gain i k)) (was k)
-    where
-      lift : (it : Option ℕ) → IfSome it (λ gain. gain ≤ at before.u i + at before.v k)
-          → IfSome it (λ gain. gain ≤ at now.u i + at now.v k)
-      lift None h = tt
-      lift (Some gain) h = omega (arith, h, other_u i apart, v_no_less k)
+  covers_other i apart was k = grind (arith, other_u, v_no_less)
 
   pub engaged : IsTaken links now after
   engaged = record {
-    over = record {
-      each_u = ap (λ p. length p.u) now_is ∙ length-set before.u trip rest ∙ is.over.each_u;
-      each_v = ap (λ p. length p.v) now_is ∙ length-set before.v link.to (link.gain - rest) ∙ is.over.each_v;
-    };
+    over = grind (arith, length-set);
     tight = record {
       each = ap length after_is ∙ length-set plan trip (successor_at (length plan) link.to) ∙ is.tight.each;
       within = λ i j e. elim (has i j e) as (λ _. j < links.count) [

@@ -62,21 +62,8 @@ module _ (claims : ClaimsParts) (are : AreClaims claims) (place : ℕ) (found : 
             (get_last claims.order place ∙ ap Some (sym here)))
             (λ apart. get_sooner claims.order place other.step at
             (are.placed at other (sym (get_or-set_other claims.at place at (Some found) None apart) ∙ e)));
-        claimed = λ at other e. elim (get_pushed claims.order place at other e) as
-            (λ _. other < length (slice_set claims.at place (Some found))) [
-              | inl last ↦ omega (arith, inside, last.1, length-set claims.at place (Some found))
-              | inr sooner ↦ omega (
-                arith,
-                are.claimed at other sooner,
-                length-set claims.at place (Some found),
-              )
-            ];
-        counted = omega (
-          arith,
-          counted_more,
-          length_push claims.order place,
-          length-set claims.at place (Some found),
-        );
+        claimed = λ at other e. grind (arith, get_pushed, slice_set, length-set);
+        counted = grind (arith, counted_more, length_push, length-set);
       })
 
   pub few_claims : length claims.order < length claims.at

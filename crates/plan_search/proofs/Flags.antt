@@ -37,13 +37,15 @@ pub flagged_more : (claims : ClaimsParts) (flags : List Bool) → AreFlagged cla
 flagged_more claims flags are place found inside open_place step order is = record {
   claims_are = claimed_more claims are.claims_are place found inside open_place step order is;
   each = length-set flags place true ∙ are.each ∙ sym (length-set claims.at place (Some found));
-  flag = λ other. by_number other place
-      (λ here. ap (λ k. get_or (slice_set flags place true) k false) here
-      ∙ get_or-set_same flags place true false (omega (arith, inside, are.each))
-      ∙ ap is_some (sym (ap (λ k. get_or (slice_set claims.at place (Some found)) k None) here
-      ∙ get_or-set_same claims.at place (Some found) None inside)))
-      (λ apart. get_or-set_other flags place other true false apart ∙ are.flag other
-      ∙ ap is_some (sym (get_or-set_other claims.at place other (Some found) None apart)));
+  flag = λ other. grind (
+    arith,
+    by_number,
+    get_or,
+    slice_set,
+    get_or-set_same,
+    is_some,
+    get_or-set_other,
+  );
 }
 
 -- the claims that stand in an order from a step on are left
@@ -62,12 +64,15 @@ pub left_more : (size : ℕ) (order : List ℕ) (step place : ℕ) (claims : Lis
 left_more size order step place claims flags are at_step inside = record {
   each = length-set claims place None ∙ are.each;
   flags_each = length-set flags place false ∙ are.flags_each;
-  flag = λ other. by_number other place
-      (λ here. ap (λ k. get_or (slice_set flags place false) k false) here
-      ∙ get_or-set_same flags place false false (omega (arith, inside, are.flags_each))
-      ∙ ap is_some (sym (gone other here)))
-      (λ apart. get_or-set_other flags place other false false apart ∙ are.flag other
-      ∙ ap is_some (sym (get_or-set_other claims place other None None apart)));
+  flag = λ other. grind (
+    arith,
+    by_number,
+    get_or,
+    slice_set,
+    get_or-set_same,
+    is_some,
+    get_or-set_other,
+  );
   later = λ other found e. by_number other place
       (λ here. absurd (none-some found (sym (gone other here) ∙ e)))
       (λ apart.
@@ -80,8 +85,7 @@ left_more size order step place claims flags are at_step inside = record {
 }
   where
     gone : (other : ℕ) → other ≡ place → get_or (slice_set claims place None) other None ≡ None
-    gone other here = ap (λ k. get_or (slice_set claims place None) k None) here
-        ∙ get_or-set_same claims place None None (omega (arith, inside, are.each))
+    gone other here = grind (arith, get_or, slice_set, get_or-set_same)
 
 -- in the end none is
 pub left_none : (size : ℕ) (order : List ℕ) (step : ℕ) (claims : List (Option Claim))
@@ -99,5 +103,4 @@ left_none size order step claims flags are past = (
         → get_or claims place None ≡ None
     none place None e = e
     none place (Some found) e =
-        let old = are.later place found e in
-        absurd (omega (arith, past, old.0, slice_get_within order found.step place old.1))
+        let old = are.later place found e in grind (arith, slice_get_within)

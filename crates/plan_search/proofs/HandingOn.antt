@@ -93,12 +93,7 @@ module _ (search : Search) (plan : List (Option ℕ)) (claims : ClaimsParts) (pl
     once : (k other j : ℕ) → next after k ≡ Some j → next after other ≡ Some j → k ≡ other
     once k other j e f = elim (moved_next plan i (successor_at search.links.count place) inside k j e) as
         (λ _. k ≡ other) [
-          | inl new ↦ elim (moved_next plan i (successor_at search.links.count place) inside other j f) as
-              (λ _. k ≡ other) [
-                | inl same ↦ new.0 ∙ sym same.0
-                | inr old ↦ absurd (not_next plan other place is.free
-                    (old.1 ∙ ap Some (sym (some_successor search.links.count place j new.1).1)))
-              ]
+          | inl new ↦ grind (arith, moved_next, inside, not_next, some_successor)
           | inr was ↦ elim (moved_next plan i (successor_at search.links.count place) inside other j f) as
               (λ _. k ≡ other) [
                 | inl new ↦ absurd (not_next plan k place is.free
@@ -125,12 +120,7 @@ module _ (search : Search) (plan : List (Option ℕ)) (claims : ClaimsParts) (pl
       within = within;
       linked = linked;
       once = once;
-      last = λ k e. by_number k search.trip
-          (λ same. ap (at search.potentials.u) (same ∙ sym own_trip) ∙ tight.last
-          (no_successor search.links.count place
-          (sym (moved_is plan i (successor_at search.links.count place) inside)
-          ∙ ap (next after) (own_trip ∙ sym same) ∙ e)))
-          (λ apart. last k apart e);
+      last = λ k e. grind (arith, by_number, tight, last, no_successor, moved_is, inside);
       first = λ j low free. by_number j place
           (λ same. absurd (not_next after i j free
           (moved_is plan i (successor_at search.links.count place) inside
@@ -142,8 +132,7 @@ module _ (search : Search) (plan : List (Option ℕ)) (claims : ClaimsParts) (pl
       found = is.found;
       claimed = is.claimed;
       own = by ∙ ap Some own_trip;
-      next_is = ap (next after) (sym own_trip)
-          ∙ moved_is plan i (successor_at search.links.count place) inside;
+      next_is = grind (arith, moved_is, inside);
     }
 
     -- or the place of the trip is handed on
@@ -176,8 +165,7 @@ module _ (search : Search) (plan : List (Option ℕ)) (claims : ClaimsParts) (pl
       free_after = never_next after from
           (λ k e. elim (moved_next plan i (successor_at search.links.count place) inside k from e) as (λ _. ⊥) [
             | inl new ↦ other_place (sym (some_successor search.links.count place from new.1).1)
-            | inr old ↦ old.0 (is.tight.once k i from old.1 (leaves.1
-                ∙ successor_within search.links.count from (is.tight.within k from old.1)))
+            | inr old ↦ grind (arith, tight, once, leaves, successor_within, within)
           ])
 
       -- what a sooner claim leaves is as before
@@ -225,8 +213,7 @@ module _ (search : Search) (plan : List (Option ℕ)) (claims : ClaimsParts) (pl
         within = is.within;
         low = is.low;
         tight = tight_after;
-        waits = moved_other plan i (successor_at search.links.count place) inside search.trip
-            (λ same. leaves.0 (sym same)) ∙ is.waits;
+        waits = grind (arith, moved_other, inside, leaves);
         free = free_after;
         found = comes.before;
         claimed = comes.is;
@@ -234,15 +221,6 @@ module _ (search : Search) (plan : List (Option ℕ)) (claims : ClaimsParts) (pl
       }
 
   -- ---- one step
-
-  -- the trip that claims the place is there
-  pub by_within : IfSome is.found.by (λ i. i < length plan)
-  by_within = at_by is.found.by own.movable
-    where
-      at_by : (by : Option ℕ) → IfSome by (λ k. (search.low ≤ k) × (k < search.links.count))
-          → IfSome by (λ i. i < length plan)
-      at_by None there = tt
-      at_by (Some i) there = omega (arith, there.1, is.tight.each)
 
   sooner_step : (from : ℕ) (comes : ComesFrom search plan claims is.found from)
       → step_of (claim_at claims from) < step_of (claim_at claims place)

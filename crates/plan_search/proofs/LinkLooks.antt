@@ -1,7 +1,7 @@
 -- A look from a trip along its links, up to the place that the next link leads to.
-use Rattle.plan_num.proofs.Common.{◌≡◌, ℕ, zero, suc, ◌<◌, ◌≤◌, ◌+◌, ◌-◌, if◌then◌else◌, false}
-use Rattle.plan_num.proofs.Common.{List, length, slice_get, get_or, Option, Some, None, refl, ap}
-use Rattle.plan_num.proofs.Common.{sym, ◌∙◌, subst, arith, false≢true}
+use Rattle.plan_num.proofs.Common.{◌≡◌, ℕ, zero, suc, ◌<◌, ◌≤◌, ◌+◌, ◌-◌, false, List, length}
+use Rattle.plan_num.proofs.Common.{slice_get, get_or, Option, Some, None, refl, ap, sym, ◌∙◌, subst}
+use Rattle.plan_num.proofs.Common.{arith, false≢true}
 use Rattle.link_plans.proofs.Common.{Links, PotentialParts, at, Link, end_of, link_to, reached}
 use Rattle.link_plans.proofs.Common.{IsRow, slack_to, Covers, gap_first, gap_next, item}
 use Rattle.link_plans.proofs.Common.{reached_last, reached_next, reached_within, gap_slack}
@@ -25,20 +25,14 @@ module _ (links : Links) (potentials : PotentialParts) (claims : ClaimsParts) (i
   -- at a place to which no link leads nothing is nearer
   told_gap : (place : ℕ) → place < links.count → slack_to links potentials i place ≡ None
       → told place ≡ get_or before place None
-  told_gap place within none = ap (λ slack. looked (claim_at claims place) slack i from (get_or before place None)) none
-      ∙ unlooked (claim_at claims place)
-    where
-      unlooked : (claim : Option _) → looked claim None i from (get_or before place None) ≡ get_or before place None
-      unlooked None = refl
-      unlooked (Some found) = refl
+  told_gap place within none = grind (arith, get_or)
 
   pub looked_start : IsTold None told before before (reached links.count row 0)
   looked_start = told_up None told before before 0 (reached links.count row 0) (told_start None told before)
       (omega arith)
       (λ place low high.
       let within : place < links.count = omega (arith, high, reached_within links i row is 0) in
-      told_gap place within
-      (gap_slack links i row is potentials place within (gap_first links i row is place high)))
+      grind (arith, told_gap, gap_slack, gap_first))
 
   -- a link more
   pub looked_more : (now after : List (Option Near)) (k : ℕ) (link : Link)
@@ -56,20 +50,14 @@ module _ (links : Links) (potentials : PotentialParts) (claims : ClaimsParts) (i
       (reached_next links i row is k link e)
       (λ place low high.
       let within : place < links.count = omega (arith, high, reached_within links i row is (k + 1)) in
-      told_gap place within
-      (gap_slack links i row is potentials place within
-      (gap_next links i row is k link e place (omega (arith, low)) high)))
+      grind (arith, told_gap, gap_slack, gap_next))
 
   -- links at which the trip is not nearer
   looked_past : (now : List (Option Near)) (k more : ℕ)
       → IsTold None told before now (reached links.count row k) → k + more ≤ length row
       → ArePassed row (at potentials.u i) potentials.v now k (k + more)
       → IsTold None told before now (reached links.count row (k + more))
-  looked_past now k zero are fits passed =
-      subst (λ n. IsTold None told before now (reached links.count row n)) (no_more k) are
-    where
-      no_more : (k : ℕ) → k ≡ k + 0
-      no_more k = omega arith
+  looked_past now k zero are fits passed = grind (arith, IsTold)
   looked_past now k (suc more) are fits passed =
       let link = get_or row (k + more) (link_to 0 0) in
       let here : slice_get row (k + more) ≡ Some (get_or row (k + more) (link_to 0 0)) =
@@ -89,8 +77,7 @@ module _ (links : Links) (potentials : PotentialParts) (claims : ClaimsParts) (i
           → is_nearer slack old ≡ false → old ≡ looked claim (Some slack) i from old
       not_nearer (Some found) slack old e = refl
       not_nearer None slack None e = absurd (false≢true (sym e))
-      not_nearer None slack (Some old) e = ap (λ b. Some (if b
-          then record { slack = slack; by = i; from = from } else old)) (sym e)
+      not_nearer None slack (Some old) e = grind arith
 
   module _ (own : ℕ) (own_is : own ≡ at potentials.u i) where
     pub looked_to : (now : List (Option Near)) (k end : ℕ)

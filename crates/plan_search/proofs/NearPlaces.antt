@@ -1,7 +1,7 @@
 -- The nearest place among those that were looked at.
-use Rattle.plan_num.proofs.Common.{◌≡◌, inl, inr, ℕ, ◌<◌, ◌≤◌, ◌+◌, List, length, get_or, replicate}
-use Rattle.plan_num.proofs.Common.{Option, Some, None, MatchOption, IfSome, refl, ap, sym, ◌∙◌}
-use Rattle.plan_num.proofs.Common.{subst, arith, false≢true, none-some}
+use Rattle.plan_num.proofs.Common.{◌≡◌, ℕ, ◌<◌, ◌≤◌, ◌+◌, List, length, get_or, replicate, Option}
+use Rattle.plan_num.proofs.Common.{Some, None, MatchOption, IfSome, refl, ap, sym, ◌∙◌, subst}
+use Rattle.plan_num.proofs.Common.{arith, false≢true, none-some}
 use Rattle.link_plans.proofs.Common.{by_number}
 use Rattle.plan_search.specs.declared.claim.Claim.{Claim}
 use Rattle.plan_search.specs.declared.near.Near.{Near}
@@ -54,24 +54,7 @@ module _ (claims : ClaimsParts) (nears : List (Option Near)) (place : ℕ) where
   best_of : (best found : ℕ × Near) (near : Near) → IsBestBefore claims nears place best.0 best.1
       → near_at place ≡ Some near → IsNearerOf best (place, near) found
       → IsBestBefore claims nears (place + 1) found.0 found.1
-  best_of best found near are is nearer = record {
-    within = elim nearer.one as (λ _. found.0 < place + 1) [
-      | inl same ↦ omega (arith, are.within, ap (λ x. x.0) same)
-      | inr other ↦ omega (arith, ap (λ x. x.0) other)
-    ];
-    is = elim nearer.one as (λ _. near_at found.0 ≡ Some found.1) [
-      | inl same ↦ subst (λ x. near_at x.0 ≡ Some x.1) (sym same) are.is
-      | inr other ↦ subst (λ x. near_at x.0 ≡ Some x.1) (sym other) is
-    ];
-    least = λ other before. by_number other place
-        (λ same. subst (λ it. IfSome it (λ x. found.1.slack ≤ x.slack)) (sym is ∙ ap near_at (sym same)) nearer.after)
-        (λ apart. lower (near_at other) (are.least other (omega (arith, before, apart))));
-  }
-    where
-      lower : (it : Option Near) → IfSome it (λ x. best.1.slack ≤ x.slack)
-          → IfSome it (λ x. found.1.slack ≤ x.slack)
-      lower None h = tt
-      lower (Some x) h = omega (arith, h, nearer.before)
+  best_of best found near are is nearer = grind (arith, by_number)
 
   -- one place more
   pub best_more : (best : Option (ℕ × Near)) (near : Option Near) (found : Option (ℕ × Near))
@@ -95,18 +78,7 @@ pub exact_is_nearest : (claims : ClaimsParts) (nears : List (Option Near)) (plac
     → place < length nears → near.slack ≡ 0
     → open_near (claim_at claims place) (get_or nears place None) ≡ Some near
     → IsNearestPlace claims nears place near
-exact_is_nearest claims nears place near within exact is =
-    let there = open_is (claim_at claims place) (get_or nears place None) near is in
-    record {
-      within = within;
-      open_place = there.0;
-      is = there.1;
-      least = λ other inside free. any (get_or nears other None);
-    }
-  where
-    any : (it : Option Near) → IfSome it (λ x. near.slack ≤ x.slack)
-    any None = tt
-    any (Some x) = omega (arith, exact)
+exact_is_nearest claims nears place near within exact is = grind (arith, open_is, get_or)
 
 -- the nearest of all places
 pub best_all : (claims : ClaimsParts) (nears : List (Option Near)) (done : ℕ) (best : Option (ℕ × Near))

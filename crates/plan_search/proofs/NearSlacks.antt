@@ -1,8 +1,7 @@
 -- The slacks at all places, as they are kept.
 use Rattle.plan_num.proofs.Common.{◌≡◌, ℕ, zero, suc, ◌<◌, ◌≤◌, nat_lt, List, length, get_or}
-use Rattle.plan_num.proofs.Common.{slice_set, replicate, Option, Some, None, refl, ap, ◌∙◌, arith}
-use Rattle.plan_num.proofs.Common.{get_or-set_same, get_or-set_other, lt-ltb, length-set}
-use Rattle.plan_num.proofs.Common.{length-replicate}
+use Rattle.plan_num.proofs.Common.{slice_set, replicate, Option, None, refl, arith, get_or-set_same}
+use Rattle.plan_num.proofs.Common.{get_or-set_other, lt-ltb, length-set, length-replicate}
 use Rattle.link_plans.proofs.Common.{by_number}
 use Rattle.plan_search.specs.declared.near.Near.{Near}
 use Rattle.plan_search.specs.Growing.{is_nearer}
@@ -36,9 +35,4 @@ slacks_set nears slacks place near are inside =
 pub nearer_by_slack : (nears : List (Option Near)) (slacks : List ℕ) (place slack : ℕ)
     → AreSlacks nears slacks → place < length nears → slack ≤ 2000000000000000000
     → nat_lt slack (get_or slacks place 0) ≡ is_nearer slack (get_or nears place None)
-nearer_by_slack nears slacks place slack are inside small =
-    ap (nat_lt slack) (are.slack place inside) ∙ split (get_or nears place None)
-  where
-    split : (near : Option Near) → nat_lt slack (slack_or_most near) ≡ is_nearer slack near
-    split None = lt-ltb slack 18446744073709551615 (omega (arith, small))
-    split (Some near) = refl
+nearer_by_slack nears slacks place slack are inside small = grind (arith, nat_lt, get_or, lt-ltb)

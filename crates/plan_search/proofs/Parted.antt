@@ -1,8 +1,8 @@
 -- Other potentials that meet the plan of a search.
-use Rattle.plan_num.proofs.Common.{◌≡◌, ℕ, pos, ◌<◌, ◌≤◌, ◌+◌, List, length, slice_get, Option}
-use Rattle.plan_num.proofs.Common.{Some, None, IfSome, MatchOption, refl, sym, ◌∙◌, subst, arith}
-use Rattle.plan_num.proofs.Common.{get_or-eq_default, none-some, slice_get_within}
-use Rattle.link_plans.proofs.Common.{next, Links, PotentialParts, at, Link, link_to, worth, IsRow}
+use Rattle.plan_num.proofs.Common.{◌≡◌, ℕ, ◌<◌, ◌≤◌, ◌+◌, List, length, slice_get, Option, Some}
+use Rattle.plan_num.proofs.Common.{None, IfSome, refl, sym, subst, arith, get_or-eq_default}
+use Rattle.plan_num.proofs.Common.{none-some, slice_get_within}
+use Rattle.link_plans.proofs.Common.{Links, PotentialParts, at, Link, link_to, worth, IsRow}
 use Rattle.link_plans.proofs.Common.{by_bound, Covers}
 use Rattle.plan_search.specs.Growing.{IsTaken}
 use Rattle.plan_search.specs.Parting.{AreMet}
@@ -33,8 +33,7 @@ row_covers links potentials i done row is are past none j = by_bound j links.cou
   where
     split : j < links.count → (it : Option ℕ) → worth (links.gain i j) ≡ it
         → IfSome (worth (links.gain i j)) (λ gain. gain ≤ at potentials.u i + at potentials.v j)
-    split within None e = subst
-        (λ it. IfSome it (λ gain. gain ≤ at potentials.u i + at potentials.v j)) (sym e) tt
+    split within None e = grind arith
     split within (Some gain) e =
         let found = is.all j gain within e in
         let there : found.0 < length row = slice_get_within row found.0 (link_to j gain) found.1 in
@@ -44,26 +43,4 @@ row_covers links potentials i done row is are past none j = by_bound j links.cou
 -- potentials that meet the plan take the place of those of the search
 pub met_taken : (links : Links) (before after : PotentialParts) (plan : List (Option ℕ))
     → IsTaken links before plan → AreMet links after plan → IsTaken links after plan
-met_taken links before after plan is met = record {
-  over = met.over;
-  tight = record {
-    each = is.tight.each;
-    within = is.tight.within;
-    linked = λ i j e. subst (λ it. MatchOption it (at after.u i ≡ 0)
-        (λ j. links.gain i j ≡ Some (pos (at after.u i + at after.v j)))) e
-        (met.each i (inside i j e)).exact;
-    once = is.tight.once;
-    last = λ i apart e. by_bound i links.count
-        (λ within. subst (λ it. MatchOption it (at after.u i ≡ 0)
-        (λ j. links.gain i j ≡ Some (pos (at after.u i + at after.v j)))) e
-        (met.each i within).exact)
-        (λ past. get_or-eq_default after.u 0 (omega (arith, past, met.over.each_u)));
-    first = λ j within apart free. (met.each j within).free free;
-  };
-  covered = λ i j e. (met.each i (inside i j e)).covered;
-}
-  where
-    inside : (i j : ℕ) → next plan i ≡ Some j → i < links.count
-    inside i j e = by_bound i links.count (λ within. within)
-        (λ past. absurd (none-some j (sym (get_or-eq_default plan no_next
-        (omega (arith, past, is.tight.each))) ∙ e)))
+met_taken links before after plan is met = grind (arith, by_bound, get_or-eq_default, none-some)

@@ -1,6 +1,6 @@
 -- Potentials that are lowered and raised one by one.
-use Rattle.std.proofs.Common.{◌≡◌, ℕ, ◌<◌, ◌+◌, ◌-◌, cond, List, length, slice_set, Option, sym}
-use Rattle.std.proofs.Common.{subst, arith}
+use Rattle.plan_num.proofs.Common.{◌≡◌, ℕ, ◌<◌, ◌+◌, ◌-◌, cond, List, length, slice_set, Option}
+use Rattle.plan_num.proofs.Common.{sym, subst, arith}
 use Rattle.link_plans.proofs.Common.{PotentialParts, at, AreOver}
 use Rattle.plan_search.specs.Claims.{ClaimsParts}
 use Rattle.plan_search.specs.Growing.{in_tree, is_claimed, AreShifted}

@@ -1,10 +1,9 @@
 -- Potentials of a tree that are shifted: it stays one, and each place without a claim is nearer.
-use Rattle.plan_num.proofs.Common.{◌≡◌, ◌≢◌, ◌⊎◌, inl, inr, ℕ, ℤ, pos, negsuc, ◌<◌, ◌≤◌, ◌+◌, ◌-◌}
-use Rattle.plan_num.proofs.Common.{◌||◌, nat_lt, nat_eq, is_some, Bool, true, false, cond, List}
-use Rattle.plan_num.proofs.Common.{length, get_or, Option, Some, None, option_map, MatchOption}
-use Rattle.plan_num.proofs.Common.{IfSome, refl, ap, sym, ◌∙◌, subst, arith, eq-eqb}
-use Rattle.plan_num.proofs.Common.{get_or-eq_default, false≢true, ne_eqb, ltb-true, ltb-false}
-use Rattle.plan_num.proofs.Common.{none-some, same_Some}
+use Rattle.plan_num.proofs.Common.{◌≡◌, ◌≢◌, ◌⊎◌, ℕ, ℤ, pos, negsuc, ◌<◌, ◌≤◌, ◌+◌, ◌-◌, ◌||◌}
+use Rattle.plan_num.proofs.Common.{nat_lt, nat_eq, is_some, Bool, true, false, cond, List, length}
+use Rattle.plan_num.proofs.Common.{get_or, Option, Some, None, option_map, MatchOption, IfSome}
+use Rattle.plan_num.proofs.Common.{refl, ap, sym, ◌∙◌, subst, arith, eq-eqb, get_or-eq_default}
+use Rattle.plan_num.proofs.Common.{false≢true, ne_eqb, ltb-true, ltb-false, none-some, same_Some}
 use Rattle.link_plans.proofs.Common.{next, is_next, Links, by_number, not_next, PotentialParts, at}
 use Rattle.link_plans.proofs.Common.{by_bound, worth, slack_of, slack_to, has_next}
 use Rattle.plan_search.specs.declared.claim.Claim.{Claim}
@@ -13,19 +12,14 @@ use Rattle.plan_search.specs.Claims.{ClaimsParts, claim_at}
 use Rattle.plan_search.specs.Growing.{links_from, looking, is_placed, StillCovers, is_claimed}
 use Rattle.plan_search.specs.Growing.{is_claimed_at, in_tree, moved_near, shifted, IsFrom, IsNear}
 use Rattle.plan_search.specs.Growing.{AreNear, IsTreeClaim, IsGrowing, AreShifted}
-use Rattle.plan_search.specs.Searches.{IsTightAt, IsTightBy, IsTightBut, IsLeft, ComesFrom, AreClaimsBefore}
+use Rattle.plan_search.specs.Searches.{IsTightAt, IsTightBy, IsTightBut, ComesFrom, AreClaimsBefore}
 use Rattle.plan_num.proofs.Tests.{or_true}
 
 -- ---- the links from some trips
 
 pub gain_of_some : (links : Links) (some : ℕ → Bool) (i j : ℕ) (gain : ℤ)
     → (links_from links some).gain i j ≡ Some gain → (some i ≡ true) × (links.gain i j ≡ Some gain)
-gain_of_some links some i j gain e = split (some i) refl e
-  where
-    split : (b : Bool) → some i ≡ b → cond b (links.gain i j) None ≡ Some gain
-        → (some i ≡ true) × (links.gain i j ≡ Some gain)
-    split true is f = (is, f)
-    split false is f = absurd (none-some gain f)
+gain_of_some links some i j gain e = grind (arith, none-some)
 
 pub some_gain : (links : Links) (some : ℕ → Bool) (i j : ℕ) → some i ≡ true
     → (links_from links some).gain i j ≡ links.gain i j
@@ -37,12 +31,7 @@ placed_next trip plan i j e = ap (λ it. nat_eq i trip || is_some it) e ∙ or_t
 
 pub placed_is : (trip : ℕ) (plan : List (Option ℕ)) (i : ℕ) → is_placed trip plan i ≡ true
     → (i ≡ trip) ⊎ ((j : ℕ) × (next plan i ≡ Some j))
-placed_is trip plan i e = by_number i trip (λ same. inl same)
-    (λ apart. inr (at_next (next plan i) refl (sym (ap (λ b. b || is_some (next plan i)) (ne_eqb i trip apart)) ∙ e)))
-  where
-    at_next : (it : Option ℕ) → next plan i ≡ it → is_some it ≡ true → (j : ℕ) × (next plan i ≡ Some j)
-    at_next None is f = absurd (false≢true f)
-    at_next (Some j) is f = (j, is)
+placed_is trip plan i e = grind (arith, by_number, is_some, ne_eqb, false≢true)
 
 -- ---- what a link is worth
 
@@ -56,23 +45,10 @@ pos_worth (Some (negsuc m)) n e = absurd (none-some n e)
 module _ (links : Links) (potentials : PotentialParts) (i place : ℕ) where
   pub slack_inside : place < links.count → slack_to links potentials i place
       ≡ slack_of (at potentials.u i + at potentials.v place) (worth (links.gain i place))
-  slack_inside within = split (nat_lt place links.count) refl
-    where
-      split : (b : Bool) → nat_lt place links.count ≡ b
-          → cond b (slack_of (at potentials.u i + at potentials.v place) (worth (links.gain i place)))
-          (Some (at potentials.u i))
-          ≡ slack_of (at potentials.u i + at potentials.v place) (worth (links.gain i place))
-      split true is = refl
-      split false is = absurd (omega (arith, within, ltb-false place links.count is))
+  slack_inside within = grind (arith, nat_lt, ltb-false)
 
   pub slack_past : links.count ≤ place → slack_to links potentials i place ≡ Some (at potentials.u i)
-  slack_past past = split (nat_lt place links.count) refl
-    where
-      split : (b : Bool) → nat_lt place links.count ≡ b
-          → cond b (slack_of (at potentials.u i + at potentials.v place) (worth (links.gain i place)))
-          (Some (at potentials.u i)) ≡ Some (at potentials.u i)
-      split true is = absurd (omega (arith, past, ltb-true place links.count is))
-      split false is = refl
+  slack_past past = grind (arith, nat_lt, ltb-true)
 
 -- a slack of a link, by what it is worth
 pub slack_is : (links : Links) (potentials : PotentialParts) (i place gain : ℕ) → place < links.count
@@ -98,32 +74,16 @@ module _ (trip : ℕ) (plan : List (Option ℕ)) (claims : ClaimsParts) where
   -- a trip of the tree looks for a place, or has a claimed one
   pub tree_is : (i : ℕ) → in_tree trip plan claims i ≡ true
       → (i ≡ trip) ⊎ ((j : ℕ) × ((next plan i ≡ Some j) × (is_claimed claims j ≡ true)))
-  tree_is i e = by_number i trip (λ same. inl same)
-      (λ apart. inr (at_place (next plan i) refl (sym (tree_next i apart) ∙ e)))
-    where
-      at_place : (it : Option ℕ) → next plan i ≡ it → is_claimed_at claims it ≡ true
-          → (j : ℕ) × ((next plan i ≡ Some j) × (is_claimed claims j ≡ true))
-      at_place None is f = absurd (false≢true f)
-      at_place (Some j) is f = (j, (is, f))
+  tree_is i e = grind (arith, by_number, tree_next, false≢true)
 
 -- a claimed place has a claim
 pub claim_there : (claims : ClaimsParts) (place : ℕ) → is_claimed claims place ≡ true
     → (found : Claim) × (claim_at claims place ≡ Some found)
-claim_there claims place e = split (claim_at claims place) refl e
-  where
-    split : (it : Option Claim) → claim_at claims place ≡ it → is_some it ≡ true
-        → (found : Claim) × (claim_at claims place ≡ Some found)
-    split None is f = absurd (false≢true f)
-    split (Some found) is f = (found, is)
+claim_there claims place e = grind (arith, is_some, false≢true)
 
 pub is_open : (claims : ClaimsParts) (place : ℕ) → is_claimed claims place ≡ false
     → claim_at claims place ≡ None
-is_open claims place e = split (claim_at claims place) refl e
-  where
-    split : (it : Option Claim) → claim_at claims place ≡ it → is_some it ≡ false
-        → claim_at claims place ≡ None
-    split None is f = is
-    split (Some found) is f = absurd (false≢true (sym f))
+is_open claims place e = grind (arith, is_some, false≢true)
 
 -- ---- a tree
 
@@ -141,16 +101,11 @@ module _ (links : Links) (potentials : PotentialParts) (trip : ℕ) (plan : List
   pub claimed_inside : (place : ℕ) → is_claimed claims place ≡ true → place < links.count
   claimed_inside place e =
       let found = claim_there claims place e in
-      let tree = is.tree place found.0 found.1 in
-      is.tight.within tree.owner place tree.owns
+      let tree = is.tree place found.0 found.1 in grind arith
 
   -- the place behind all trips is not claimed
   pub last_open : claim_at claims links.count ≡ None
-  last_open = split (is_claimed claims links.count) refl
-    where
-      split : (b : Bool) → is_claimed claims links.count ≡ b → claim_at claims links.count ≡ None
-      split true e = absurd (omega (arith, claimed_inside links.count e))
-      split false e = is_open claims links.count e
+  last_open = grind (arith, claimed_inside, is_open)
 
   module _ (nears : List (Option Near)) (are : AreNear links potentials trip plan claims nears) (slack : ℕ)
       (least : (place : ℕ) → place < length nears → claim_at claims place ≡ None
@@ -158,13 +113,7 @@ module _ (links : Links) (potentials : PotentialParts) (trip : ℕ) (plan : List
     -- the slack of each trip of the tree at a place without a claim is no less
     pub slack_least : (i place known : ℕ) → in_tree trip plan claims i ≡ true → place < links.count + 1
         → claim_at claims place ≡ None → slack_to links potentials i place ≡ Some known → slack ≤ known
-    slack_least i place known e within free at_place = split (get_or nears place None)
-        (are.near place within free) (least place (omega (arith, within, are.each)) free)
-      where
-        split : (it : Option Near) → IsNear links potentials (in_tree trip plan claims) place it
-            → IfSome it (λ x. slack ≤ x.slack) → slack ≤ known
-        split None near low = absurd (none-some known (sym (near i e) ∙ at_place))
-        split (Some x) near low = omega (arith, low, subst (λ s. IfSome s (λ y. x.slack ≤ y)) at_place (near.least i e))
+    slack_least i place known e within free at_place = grind (arith, get_or, none-some)
 
     -- so is its potential
     pub tree_least : (i : ℕ) → in_tree trip plan claims i ≡ true → slack ≤ at potentials.u i
@@ -216,32 +165,7 @@ module _ (links : Links) (potentials : PotentialParts) (trip : ℕ) (plan : List
 
         -- the potentials still cover what they covered
         pub covered_after : StillCovers links potentials after
-        covered_after i was j = split (worth (links.gain i j)) refl (was j)
-          where
-            -- by both tests
-            by_tests : (gain : ℕ) → worth (links.gain i j) ≡ Some gain
-                → gain ≤ at potentials.u i + at potentials.v j → (a b : Bool) → in_tree trip plan claims i ≡ a
-                → is_claimed claims j ≡ b → gain ≤ at after.u i + at after.v j
-            by_tests gain e low true true p q =
-                let there = worth_inside i j gain e in
-                omega (arith, low, (moved i j there.0 there.1).both p q)
-            by_tests gain e low true false p q =
-                let there = worth_inside i j gain e in
-                let room = slack_least i j (at potentials.u i + at potentials.v j - gain) p (omega (arith, there.1))
-                (is_open claims j q) (slack_is links potentials i j gain there.1 e) in
-                omega (arith, low, room, (moved i j there.0 there.1).near p q)
-            by_tests gain e low false true p q =
-                let there = worth_inside i j gain e in
-                omega (arith, low, (moved i j there.0 there.1).far p q)
-            by_tests gain e low false false p q =
-                let there = worth_inside i j gain e in
-                omega (arith, low, (moved i j there.0 there.1).none p q)
-
-            split : (it : Option ℕ) → worth (links.gain i j) ≡ it
-                → IfSome it (λ gain. gain ≤ at potentials.u i + at potentials.v j)
-                → IfSome it (λ gain. gain ≤ at after.u i + at after.v j)
-            split None e low = tt
-            split (Some gain) e low = by_tests gain e low (in_tree trip plan claims i) (is_claimed claims j) refl refl
+        covered_after i was j = grind (arith, worth_inside, moved, slack_least, is_open, slack_is)
 
         -- a trip of the tree has as much less as its place has more
         linked_same : (i j : ℕ) → next plan i ≡ Some j
@@ -266,10 +190,7 @@ module _ (links : Links) (potentials : PotentialParts) (trip : ℕ) (plan : List
           within = is.tight.within;
           linked = λ i j e. is.tight.linked i j e ∙ ap (λ n. Some (pos n)) (sym (linked_same i j e));
           once = is.tight.once;
-          last = λ i apart e. by_bound i links.count
-              (λ within. u_out i within (tree_next trip plan claims i apart ∙ ap (is_claimed_at claims) e)
-              ∙ is.tight.last i apart e)
-              (λ past. get_or-eq_default after.u 0 (omega (arith, past, shift.over.each_u)));
+          last = λ i apart e. grind (arith, by_bound, u_out, tree_next, get_or-eq_default);
           first = λ j within apart free. v_out j within (not_claimed j free (is_claimed claims j) refl)
               ∙ is.tight.first j within apart free;
         }
@@ -314,17 +235,7 @@ module _ (links : Links) (potentials : PotentialParts) (trip : ℕ) (plan : List
                 → MatchOption it (found.by ≡ Some trip)
                 (λ from. ComesFrom (looking links after plan trip) plan claims found from)
             from_after None own = own
-            from_after (Some from) comes = record {
-              before = comes.before;
-              is = comes.is;
-              sooner = comes.sooner;
-              left = left_same found.by comes.left;
-            }
-              where
-                left_same : (by : Option ℕ) → IsLeft (looking links potentials plan trip) plan from by
-                    → IsLeft (looking links after plan trip) plan from by
-                left_same None left = left
-                left_same (Some i) left = left
+            from_after (Some from) comes = grind arith
 
         pub growing_after : IsGrowing links after trip plan claims
         growing_after = record {
@@ -342,20 +253,18 @@ module _ (links : Links) (potentials : PotentialParts) (trip : ℕ) (plan : List
         slack_after : (i place : ℕ) → in_tree trip plan claims i ≡ true → place < links.count + 1
             → claim_at claims place ≡ None
             → slack_to links after i place ≡ option_map (λ known. known - slack) (slack_to links potentials i place)
-        slack_after i place e within free = by_bound place links.count
-            (λ inside_place. inside_is inside_place (worth (links.gain i place)) refl)
-            (λ past. slack_past links after i place past ∙ ap Some (u_in i (tree_inside i e) e)
-            ∙ ap (option_map (λ known. known - slack)) (sym (slack_past links potentials i place past)))
-          where
-            not_claimed : is_claimed claims place ≡ false
-            not_claimed = ap is_some free
-
-            inside_is : place < links.count → (it : Option ℕ) → worth (links.gain i place) ≡ it
-                → slack_to links after i place
-                ≡ option_map (λ known. known - slack) (slack_to links potentials i place)
-            inside_is inside_place None f = grind arith
-            inside_is inside_place (Some gain) f =
-                grind (arith, slack_is, moved, tree_inside, tree_least, option_map)
+        slack_after i place e within free = grind (
+          arith,
+          by_bound,
+          slack_past,
+          u_in,
+          tree_inside,
+          option_map,
+          is_some,
+          slack_is,
+          moved,
+          tree_least,
+        )
 
         -- so the nearest trips are those that were
         pub nears_after : (now : List (Option Near)) → length now ≡ length nears
@@ -374,19 +283,13 @@ module _ (links : Links) (potentials : PotentialParts) (trip : ℕ) (plan : List
           where
             by_tree : (place : ℕ) (near : Near) → place < links.count + 1 → claim_at claims place ≡ None
                 → get_or nears place None ≡ Some near → in_tree trip plan claims near.by ≡ true
-            by_tree place near within free e = from_tree near.from (are.from place near free e)
-              where
-                from_tree : (it : Option ℕ) → IsFrom trip plan claims near.by it
-                    → in_tree trip plan claims near.by ≡ true
-                from_tree None own = ap (in_tree trip plan claims) own ∙ tree_trip trip plan claims
-                from_tree (Some from) left = tree_linked trip plan claims near.by from left.0 left.1 ∙ left.2
+            by_tree place near within free e = grind (arith, tree_trip, tree_linked)
 
             near_after : (place : ℕ) → place < links.count + 1 → claim_at claims place ≡ None
                 → (it : Option Near) → get_or nears place None ≡ it
                 → IsNear links potentials (in_tree trip plan claims) place it
                 → IsNear links after (in_tree trip plan claims) place (option_map (moved_near slack) it)
-            near_after place within free None is_it none = λ i e. slack_after i place e within free
-                ∙ ap (option_map (λ known. known - slack)) (none i e)
+            near_after place within free None is_it none = grind (arith, slack_after, option_map)
             near_after place within free (Some near) is_it nearest =
                 grind (arith, slack_after, by_tree, option_map)
 
@@ -395,12 +298,10 @@ module _ (links : Links) (potentials : PotentialParts) (trip : ℕ) (plan : List
             told_it place free within it is_it = grind arith
 
             place_there : (place : ℕ) (near : Near) → get_or now place None ≡ Some near → place < length nears
-            place_there place near e = by_bound place (length nears) (λ within. within)
-                (λ past. absurd (none-some near (sym (get_or-eq_default now None (omega (arith, past, each))) ∙ e)))
+            place_there place near e = grind (arith, by_bound, none-some, get_or-eq_default)
 
             from_at : (place : ℕ) (near : Near) → claim_at claims place ≡ None → place < length nears
                 → get_or now place None ≡ Some near → (it : Option Near) → get_or nears place None ≡ it
                 → IsFrom trip plan claims near.by near.from
-            from_at place near free within e None is_it =
-                absurd (none-some near (sym (told_it place free within None is_it) ∙ e))
+            from_at place near free within e None is_it = grind (arith, none-some)
             from_at place near free within e (Some old) is_it = grind arith

@@ -1,7 +1,7 @@
 -- How a tree begins over a tight plan, and what is left where it is augmented.
-use Rattle.std.proofs.Common.{◌≡◌, ℕ, ◌<◌, ◌+◌, List, [], length, slice_set, replicate, Option, None}
-use Rattle.std.proofs.Common.{Result, Ok, Err, IfOk, refl, ap, sym, ◌∙◌, subst}
-use Rattle.std.proofs.lemmas.List.{length-replicate, length-set}
+use Rattle.plan_num.proofs.Common.{arith, ◌≡◌, ℕ, ◌<◌, ◌+◌, List, [], length, slice_set, replicate}
+use Rattle.plan_num.proofs.Common.{Option, None, Result, Ok, Err, IfOk, refl, ap, sym, ◌∙◌, subst}
+use Rattle.plan_num.proofs.Common.{length-replicate, length-set}
 use Rattle.link_plans.proofs.Common.{links_in, next, PotentialParts, Covers}
 use Rattle.plan_search.specs.declared.near.Member.{Member}
 use Rattle.plan_search.specs.declared.near.Near.{Near}
@@ -83,26 +83,14 @@ module _ (tree : TreeParts) (is : IsTree tree) (end : ℕ × Member) (at_end : I
     }
 
     pub is_augmented : IsAugmented tree augmented
-    is_augmented = record {
-      links = refl;
-      potentials = refl;
-      own = member_covered tree is tree.root (root_inside tree is);
-    }
+    is_augmented = grind (arith, member_covered, root_inside)
 
 -- so one trip more is taken in
 pub takes_in : (tight : PlanParts) (trip : ℕ) (tree grown : TreeParts) (after : PlanParts)
     → IsRooted tight trip tree → AreOverOne tree grown
     → StillCovers (links_in tree.links) tree.potentials grown.potentials
     → IsAugmented grown after → TakesIn tight trip after
-takes_in tight trip tree grown after rooted one kept is = record {
-  links = is.links ∙ one.links ∙ rooted.links;
-  own = subst (λ p. Covers (links_in tight.links) p trip) (sym is.potentials)
-      (subst (λ i. Covers (links_in tight.links) grown.potentials i) (one.root ∙ rooted.root_is)
-      (subst (λ links. Covers (links_in links) grown.potentials grown.root) (one.links ∙ rooted.links) is.own));
-  kept = λ i was. subst (λ p. Covers (links_in tight.links) p i) (sym is.potentials)
-      (subst (λ links. StillCovers (links_in links) tree.potentials grown.potentials) rooted.links kept i
-      (rooted.kept i was));
-}
+takes_in tight trip tree grown after rooted one kept is = grind arith
 
 -- what holds of each value that is made
 pub ok_each : {T E : Type 0} (P Q : T → Type 0) (result : Result T E) → ((x : T) → P x → Q x) → IfOk result P

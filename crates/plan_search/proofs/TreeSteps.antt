@@ -1,23 +1,22 @@
 -- What one step of a tree leaves: a look, a shift, a claim, and the end.
-use Rattle.plan_num.proofs.Common.{◌≡◌, inl, inr, ℕ, pos, ◌<◌, ◌≤◌, ◌≤ℤ◌, ◌+◌, ◌-◌, true, false}
-use Rattle.plan_num.proofs.Common.{List, length, get_or, Option, Some, None, option_map}
-use Rattle.plan_num.proofs.Common.{MatchOption, IfSome, refl, ap, sym, ◌∙◌, subst, arith, is_some}
-use Rattle.plan_num.proofs.Common.{get_or-set_same, ints, length_push, none-some}
+use Rattle.plan_num.proofs.Common.{◌≡◌, ℕ, pos, ◌<◌, ◌≤◌, ◌≤ℤ◌, ◌+◌, ◌-◌, true, false, List, length}
+use Rattle.plan_num.proofs.Common.{get_or, Option, Some, None, option_map, MatchOption, IfSome}
+use Rattle.plan_num.proofs.Common.{refl, ap, sym, ◌∙◌, subst, arith, is_some, get_or-set_same, ints}
+use Rattle.plan_num.proofs.Common.{length_push, none-some}
 use Rattle.link_plans.proofs.Common.{next, is_next, Links, links_in, PotentialParts, at, Covers}
 use Rattle.plan_search.specs.declared.near.Member.{Member}
 use Rattle.plan_search.specs.declared.near.Near.{Near}
 use Rattle.plan_search.specs.Claims.{claim_at, AreClaims}
 use Rattle.plan_search.specs.Growing.{is_claimed, is_placed, in_tree, looking, moved_near, shifted}
-use Rattle.plan_search.specs.Growing.{IsFrom, IsFreeAt, IsNear, AreLooked}
+use Rattle.plan_search.specs.Growing.{IsFrom, IsNear, AreLooked}
 use Rattle.plan_search.specs.Growing.{IsNearestPlace, AreShifted}
 use Rattle.plan_search.specs.Searches.{IsFound}
-use Rattle.plan_search.specs.Trees.{TreeParts, with_claim, IsTree, IsLooked, IsBare, IsReached}
-use Rattle.plan_search.specs.Trees.{IsEnd, IsLeast, IsShifted, HasGrown}
+use Rattle.plan_search.specs.Trees.{TreeParts, with_claim, IsTree, IsLooked, IsReached}
+use Rattle.plan_search.specs.Trees.{IsLeast, IsShifted, HasGrown}
 use Rattle.plan_search.proofs.Claiming.{place_found, grown, nears_grown}
 use Rattle.plan_search.proofs.ShiftedTrees.{gain_of_some, slack_past, tree_trip, tree_linked, tree_is}
 use Rattle.plan_search.proofs.ShiftedTrees.{tree_placed, tree_inside, claim_there, last_open, tree_least}
 use Rattle.plan_search.proofs.ShiftedTrees.{growing_after, covered_after, nears_after}
-use Rattle.plan_search.proofs.TakenIn.{near_started}
 
 module _ (tree : TreeParts) (is : IsTree tree) where
   abbrev links : Links
@@ -30,61 +29,20 @@ module _ (tree : TreeParts) (is : IsTree tree) where
     member_within = tree_inside links tree.potentials tree.root tree.plan tree.claims is.growing by inside
 
     pub member_covered : Covers links tree.potentials by
-    member_covered = is.growing.covered by
-        (tree_placed links tree.potentials tree.root tree.plan tree.claims is.growing by inside)
+    member_covered = grind (arith, tree_placed)
 
     -- it leaves the place that it has
     pub member_from : IsFrom tree.root tree.plan tree.claims by (next tree.plan by)
-    member_from = elim (tree_is tree.root tree.plan tree.claims by inside) as
-        (λ _. IsFrom tree.root tree.plan tree.claims by (next tree.plan by)) [
-          | inl same ↦ subst (IsFrom tree.root tree.plan tree.claims by)
-              (sym (ap (next tree.plan) same ∙ is.growing.waits)) same
-          | inr linked ↦ subst (IsFrom tree.root tree.plan tree.claims by) (sym linked.1.0) (
-            (λ same. none-some linked.0
-                (sym is.growing.waits ∙ ap (next tree.plan) (sym same) ∙ linked.1.0)),
-            linked.1.0,
-            linked.1.1,
-          )
-        ]
+    member_from = grind (arith, tree_is, none-some)
 
   -- the tree with other slacks
   pub with_nears : (nears : List (Option Near)) → length nears ≡ length tree.nears
       → IsTree (record tree { nears = nears })
-  with_nears nears each = record {
-    sound = is.sound;
-    growing = is.growing;
-    near_each = each ∙ is.near_each;
-  }
-
-  -- a free place that was found by a look is an end
-  pub end_found : (by place : ℕ) (from : Option ℕ) (nears : List (Option Near))
-      → IsFrom tree.root tree.plan tree.claims by from
-      → IsFreeAt links tree.potentials tree.plan tree.claims by place
-      → IsEnd (record tree { nears = nears }) (place, record { by = by; from = from })
-  end_found by place from nears comes free = record {
-    reached = record {
-      within = free.within;
-      unclaimed = free.open_place;
-      slack = free.slack;
-      comes = comes;
-    };
-    free = free.free;
-  }
+  with_nears nears each = grind arith
 
   -- the root is in the tree
   pub root_inside : in_tree tree.root tree.plan tree.claims tree.root ≡ true
   root_inside = tree_trip tree.root tree.plan tree.claims
-
-  -- the first look
-  pub looked_first : (after : TreeParts) → IsBare tree → after ≡ record tree { nears = after.nears }
-      → length after.nears ≡ length tree.nears
-      → AreLooked links tree.potentials tree.claims tree.root (next tree.plan tree.root) tree.nears after.nears
-      → IsLooked after
-  looked_first after bare same each told = subst IsLooked (sym same)
-      (near_started links tree.potentials tree.root tree.plan tree.claims bare.unclaimed tree.nears
-      after.nears bare.unseen each
-      (subst (λ from. AreLooked links tree.potentials tree.claims tree.root from tree.nears after.nears)
-      is.growing.waits told))
 
   -- ---- shifting
 
@@ -94,10 +52,7 @@ module _ (tree : TreeParts) (is : IsTree tree) where
         → get_or tree.nears place None ≡ None) → ⊥
     never_none none =
         let free = last_open links tree.potentials tree.root tree.plan tree.claims is.growing in
-        let near = subst (IsNear links tree.potentials (in_tree tree.root tree.plan tree.claims) links.count)
-        (none links.count (omega (arith, is.near_each)) free) (looked.near links.count (omega arith) free) in
-        none-some (at tree.potentials.u tree.root) (sym (near tree.root root_inside)
-        ∙ slack_past links tree.potentials tree.root links.count (omega arith))
+        grind (arith, none-some, root_inside, slack_past)
 
     module _ (slack : ℕ) (least : IsLeast tree slack) where
       -- potentials of claimed places stay in their range
@@ -169,10 +124,7 @@ module _ (tree : TreeParts) (is : IsTree tree) where
       }
 
       pub left_inside : in_tree tree.root tree.plan (with_claim tree.claims place member) left ≡ true
-      left_inside = tree_linked tree.root tree.plan (with_claim tree.claims place member) left place
-          (λ same. none-some place (sym is.growing.waits ∙ ap (next tree.plan) (sym same) ∙ has)) has
-          ∙ ap is_some (get_or-set_same tree.claims.at place _ None
-          (omega (arith, reached.within, is.growing.places)))
+      left_inside = grind (arith, tree_linked, none-some, is_some, get_or-set_same)
 
       pub looked_on : IsLooked tree → (now after : TreeParts)
           → now ≡ record tree { claims = with_claim tree.claims place member }
@@ -192,12 +144,7 @@ module _ (tree : TreeParts) (is : IsTree tree) where
       pub grown_more : (now after : TreeParts) → length tree.claims.order < length tree.links + 1
           → now ≡ record tree { claims = with_claim tree.claims place member }
           → after ≡ record now { nears = after.nears } → HasGrown tree after
-      grown_more now after few now_is after_is = record {
-        one = ap (λ (t : TreeParts). length t.claims.order)
-            (after_is ∙ ap (λ (t : TreeParts). record t { nears = after.nears }) now_is)
-            ∙ length_push tree.claims.order place;
-        few = few;
-      }
+      grown_more now after few now_is after_is = grind (arith, length_push)
 
 -- the nearest place is reached after the shift
 pub reached_after : (before after : TreeParts) (place : ℕ) (near : Near)
@@ -217,15 +164,11 @@ reached_after before after place near best shift = record {
     unclaimed = ap (λ (t : TreeParts). claim_at t.claims place) shift.same ∙ best.open_place
 
     nearer : get_or after.nears place None ≡ Some (moved_near near.slack near)
-    nearer = shift.nearer place best.within
-        ∙ ap (λ claim. shifted claim near.slack (get_or before.nears place None)) best.open_place
-        ∙ ap (option_map (moved_near near.slack)) best.is
+    nearer = grind (arith, get_or, option_map)
 
     is_near : IsNear (links_in after.links) after.potentials (in_tree after.root after.plan after.claims)
         place (Some (moved_near near.slack near))
-    is_near = subst (IsNear (links_in after.links) after.potentials
-        (in_tree after.root after.plan after.claims) place) nearer
-        (shift.looked.near place within unclaimed)
+    is_near = grind arith
 
     none_left : (n : ℕ) → n - n ≡ 0
     none_left n = omega arith
@@ -240,5 +183,4 @@ pub nearest_is : (tree : TreeParts) → IsTree tree → IsLooked tree → (resul
     (λ best. IsNearestPlace tree.claims tree.nears best.0 best.1)
     → MatchOption result ⊥ (λ best. IsNearestPlace tree.claims nears best.0 best.1)
 nearest_is tree is looked None nears same none = never_none tree is looked none
-nearest_is tree is looked (Some best) nears same there =
-    subst (λ n. IsNearestPlace tree.claims n best.0 best.1) (sym same) there
+nearest_is tree is looked (Some best) nears same there = grind arith

@@ -1,7 +1,7 @@
 -- What a turn of a growing tree leaves: a look, a shift and a claim together.
-use Rattle.plan_num.proofs.Common.{⊤, ◌≡◌, ℕ, length, Option, Some, None, Result, Ok, Err, OnOk}
-use Rattle.plan_num.proofs.Common.{OnErr, MatchOption, IfOk, ap, sym, ◌∙◌, subst, arith}
-use Rattle.link_plans.proofs.Common.{links_in, Covers}
+use Rattle.plan_num.proofs.Common.{⊤, ◌≡◌, ℕ, Option, Some, None, Result, Ok, Err, OnOk, OnErr}
+use Rattle.plan_num.proofs.Common.{MatchOption, IfOk, ap, sym, ◌∙◌, subst, arith}
+use Rattle.link_plans.proofs.Common.{links_in}
 use Rattle.plan_search.specs.Claims.{ClaimsParts}
 use Rattle.plan_search.specs.Growing.{StillCovers}
 use Rattle.plan_search.specs.Trees.{TreeParts, IsLooked, AreOverOne, IsShifted, HasGrown}
@@ -19,11 +19,7 @@ module _ (tree now after : TreeParts) (claims : ClaimsParts) (now_is : now ≡ r
   after_look = after_is ∙ ap (λ (t : TreeParts). record t { nears = after.nears }) now_is
 
   pub look_one : AreOverOne tree after
-  look_one = record {
-    links = ap (λ (t : TreeParts). t.links) after_look;
-    plan = ap (λ (t : TreeParts). t.plan) after_look;
-    root = ap (λ (t : TreeParts). t.root) after_look;
-  }
+  look_one = grind (arith, after_look)
 
   pub look_potentials : after.potentials ≡ tree.potentials
   look_potentials = ap (λ (t : TreeParts). t.potentials) after_look
@@ -32,26 +28,14 @@ module _ (tree now after : TreeParts) (claims : ClaimsParts) (now_is : now ≡ r
 module _ (before mid shifted : TreeParts) (slack : ℕ) (same : mid ≡ before) (shift : IsShifted mid slack shifted)
     (after : TreeParts) where
   pub turn_one : AreOverOne shifted after → AreOverOne before after
-  turn_one one = record {
-    links = one.links ∙ ap (λ (t : TreeParts). t.links) shift.same ∙ ap (λ (t : TreeParts). t.links) same;
-    plan = one.plan ∙ ap (λ (t : TreeParts). t.plan) shift.same ∙ ap (λ (t : TreeParts). t.plan) same;
-    root = one.root ∙ ap (λ (t : TreeParts). t.root) shift.same ∙ ap (λ (t : TreeParts). t.root) same;
-  }
+  turn_one one = grind arith
 
   pub turn_kept : after.potentials ≡ shifted.potentials
       → StillCovers (links_in before.links) before.potentials after.potentials
-  turn_kept is i was = subst (λ p. Covers (links_in before.links) p i) (sym is)
-      (subst (λ t. StillCovers (links_in t.links) t.potentials shifted.potentials) same shift.kept i was)
+  turn_kept is i was = grind arith
 
   pub turn_more : HasGrown shifted after → HasGrown before after
-  turn_more more =
-      let claims = ap (λ (t : TreeParts). length t.claims.order) shift.same
-      ∙ ap (λ (t : TreeParts). length t.claims.order) same in
-      let links = ap (λ (t : TreeParts). length t.links) shift.same ∙ ap (λ (t : TreeParts). length t.links) same in
-      record {
-        one = omega (arith, more.one, claims);
-        few = omega (arith, more.few, claims, links);
-      }
+  turn_more more = grind arith
 
 -- what a look leaves, by whether it found an end
 pub none_then : {X A B : Type 0} (P : X → Type 0) (result : Option X) → (A → B) → MatchOption result A P

@@ -1,8 +1,8 @@
 -- Items key by key: they are all items, in the order of their keys.
-use Rattle.plan_num.proofs.Common.{◌≡◌, ◌∙◌, ℕ, suc, ◌-◌, ◌<◌, ◌≤◌, ◌||◌, Bool, true, false, not}
-use Rattle.plan_num.proofs.Common.{cond, eqb, List, [], ◌∷◌, ◌++◌, length, filter, flat_map, get_or}
-use Rattle.plan_num.proofs.Common.{All, refl, ap, sym, subst, arith, AllByRecursion, IsDistinct}
-use Rattle.plan_num.proofs.Common.{list_any, IsNonDecreasingBy, IsPermutation, eqb-true, false≢true}
+use Rattle.plan_num.proofs.Common.{◌≡◌, ◌∙◌, ℕ, suc, ◌-◌, ◌≤◌, ◌||◌, Bool, true, false, not, eqb}
+use Rattle.plan_num.proofs.Common.{List, [], ◌∷◌, ◌++◌, filter, flat_map, get_or, All, refl, ap}
+use Rattle.plan_num.proofs.Common.{subst, arith, AllByRecursion, IsDistinct, list_any}
+use Rattle.plan_num.proofs.Common.{IsNonDecreasingBy, IsPermutation, eqb-true, false≢true}
 use Rattle.plan_num.proofs.Common.{get_or_append_left, length-append, All-append, All-filter}
 use Rattle.plan_num.proofs.Common.{All-nil, All-tail, filter_passes, IsDistinct-head}
 use Rattle.plan_num.proofs.Common.{IsDistinct-tail}
@@ -27,16 +27,7 @@ module _ {X : Type 0} (key : X → ℕ) where
   kept : (k other : ℕ) → eqb k other ≡ false → (xs : List X)
       → with_key (without_key k xs) other ≡ with_key xs other
   kept k other apart [] = refl
-  kept k other apart (x ∷ xs) = by (eqb (key x) k) refl (kept k other apart xs)
-    where
-      by : (b : Bool) → eqb (key x) k ≡ b → with_key (without_key k xs) other ≡ with_key xs other
-          → with_key (cond (not b) (x ∷ without_key k xs) (without_key k xs)) other
-          ≡ cond (eqb (key x) other) (x ∷ with_key xs other) (with_key xs other)
-      by true is rest =
-          rest ∙ sym (ap (λ t. cond t (x ∷ with_key xs other) (with_key xs other))
-          (ap (λ n. eqb n other) (eqb-true (key x) k is) ∙ apart))
-      by false is rest =
-          ap (λ some. cond (eqb (key x) other) (x ∷ some) some) rest
+  kept k other apart (x ∷ xs) = grind (arith, eqb-true, kept k other apart xs)
 
   all_kept : (k : ℕ) (xs : List X) (keys : List ℕ) → AllByRecursion (λ other. eqb k other ≡ false) keys
       → by_keys (without_key k xs) keys ≡ by_keys xs keys
@@ -94,31 +85,13 @@ module _ {X : Type 0} (key : X → ℕ) where
     -- items of one rank before those of no lesser one
     joined : (v : ℕ) (some more : List X) → All (λ x. n x ≡ v) some → All (λ x. v ≤ n x) more
         → IsNonDecreasingBy n more → IsNonDecreasingBy n (some ++ more)
-    joined v some more same high_more rise i j d le inside =
-        let long = length-append some more in
-        by_less j (length some)
-        (λ low.
-        let of_i = ap n (get_or_append_left some more d i (omega (arith, le, low))) in
-        let of_j = ap n (get_or_append_left some more d j low) in
-        omega (arith, of_i, of_j, same i d (omega (arith, le, low)), same j d low))
-        (λ high.
-        let of_j = ap n (get_or-append_right some more j d high) in
-        let there : j - length some < length more = omega (arith, high, inside, long) in
-        by_less i (length some)
-        (λ low. omega (
-          arith,
-          ap n (get_or_append_left some more d i low),
-          of_j,
-          same i d low,
-          high_more
-              (j - length some) d there,
-        ))
-        (λ also. omega (
-          arith,
-          ap n (get_or-append_right some more i d also),
-          of_j,
-          rise (i - length some) (j - length some) d (omega (arith, le, high, also)) there,
-        )))
+    joined v some more same high_more rise i j d le inside = grind (
+      arith,
+      length-append,
+      by_less,
+      get_or_append_left,
+      get_or-append_right,
+    )
 
     pub by_keys_rise : (keys : List ℕ) → IsNonDecreasingBy rank keys
         → IsNonDecreasingBy n (by_keys xs keys)

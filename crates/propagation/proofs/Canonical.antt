@@ -1,8 +1,8 @@
 -- The reasons of a problem that are made are the canonical ones, and name ids that are not too
 -- great.
-use Rattle.plan_num.proofs.Common.{◌≡◌, ◌∙◌, ℕ, ◌+◌, ◌<◌, ◌≤◌, Bool, true, false, cond, nat_eq, ltb}
+use Rattle.plan_num.proofs.Common.{◌≡◌, ◌∙◌, ℕ, ◌+◌, ◌<◌, ◌≤◌, Bool, true, false, cond, nat_eq}
 use Rattle.plan_num.proofs.Common.{List, [], ◌∷◌, ◌++◌, length, map, filter, get_or, All, Result}
-use Rattle.plan_num.proofs.Common.{Ok, Err, IfOk, refl, sym, subst, arith, fold, items_where_true}
+use Rattle.plan_num.proofs.Common.{Ok, Err, IfOk, sym, subst, arith, fold, items_where_true}
 use Rattle.plan_num.proofs.Common.{range_with_len, reduce, ltb-true, All-append, All-contains}
 use Rattle.plan_num.proofs.Common.{All-filter, All-map, get_or-map-range_with_len}
 use Rattle.plan_num.proofs.Common.{length-map-range_with_len}
@@ -44,15 +44,7 @@ kept_all P problem kept rides changes view (Err error) told = tt
 -- the least of some ids is no greater than the first one
 below_first : (first : ℕ) (ids : List ℕ) → fold lesser first ids ≤ first
 below_first first [] = omega arith
-below_first first (id ∷ ids) = let rest =
-    below_first (lesser first id) ids in omega (arith, rest, lesser_below first id)
-  where
-    lesser_below : (a b : ℕ) → lesser a b ≤ a
-    lesser_below a b =
-        elim (ltb b a) as (λ t. ltb b a ≡ t → cond t b a ≤ a) [
-          | true ↦ λ is. let less : b < a = ltb-true b a is in omega (arith, less)
-          | false ↦ λ is. omega arith
-        ] refl
+below_first first (id ∷ ids) = grind (arith, ltb-true, below_first (lesser first id) ids)
 
 module _ (most : ℕ) where
   named_below : (ids : List ℕ) → All (λ id. id ≤ most) ids → named_activity (by_activity (reduce lesser ids)) ≤ most

@@ -22,21 +22,8 @@ module _ (problem : DelayProblem) (day : IsDay problem) where
       (turn_steps problem (GoesForward problem.events) problem.changes day.forward.steps k d inside).from
 
   few_links : length (links_of problem) ≤ 502000
-  few_links =
-      let few = day.few_steps in grind (arith, length-append, length-map, length-enumerate_from)
+  few_links = grind (arith, length-append, length-map, length-enumerate_from)
 
   pub day_linked : (links : List Link) → IsPermutation (links_of problem) links
       → IsNonDecreasingBy (λ link. link.rank) links → IsLinked problem links
-  day_linked links all in_order = record {
-    numbered = day.numbered;
-    few = day.few;
-    forward = day.forward;
-    ids = day.ids;
-    rise = day.rise;
-    late = day.late;
-    soon = day.soon;
-    gains = day.gains;
-    few_links = omega (arith, length_permutation (links_of problem) links all, few_links);
-    all = all;
-    in_order = in_order;
-  }
+  day_linked links all in_order = grind (arith, few_links, length_permutation)

@@ -1,7 +1,7 @@
 -- The first event that marks tell of.
-use Rattle.std.proofs.Common.{◌≡◌, ◌∙◌, ℕ, ◌<◌, ◌&&◌, ◌||◌, ◌==◌, not, Bool, false, nat_eq, nat_lt, List, length, map}
-use Rattle.std.proofs.Common.{filter, get_or, slice_get, All, Option, ap}
-use Rattle.std.specs.List.{list_any, range_with_len}
+use Rattle.plan_num.proofs.Common.{◌≡◌, ◌∙◌, ℕ, ◌<◌, ◌&&◌, ◌||◌, ◌==◌, not, Bool, false, nat_eq}
+use Rattle.plan_num.proofs.Common.{nat_lt, List, length, map, filter, get_or, slice_get, All}
+use Rattle.plan_num.proofs.Common.{Option, ap, list_any, range_with_len}
 use Rattle.propagation.specs.declared.reason.Reason.{Reason}
 use Rattle.propagation.specs.declared.step.Activity.{Activity}
 use Rattle.propagation.specs.declared.step.Step.{Step}

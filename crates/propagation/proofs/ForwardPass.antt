@@ -148,8 +148,7 @@ module _ (kept : List Bool) (n : ℕ) (ranks : ℕ → ℕ) where
       let first = All-head (Joins n ranks) link links joins in
       let other = All-tail (Joins n ranks) link links joins k d inside in
       let up : link.rank ≤ (get_or links k d).rank = sorted 0 (suc k) d (omega arith) (omega (arith, inside)) in
-      let rank : ranks (get_or links k d).step.to ≡ ranks link.step.from = ap ranks same in
-      omega (arith, up, rank, first.own, other.own, other.rises)
+      grind (arith, get_or)
 
   -- each link holds in the end
   pub closed : (links : List Link) (times : List ℕ) → IsNonDecreasingBy (λ link. link.rank) links

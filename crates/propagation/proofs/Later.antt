@@ -1,6 +1,6 @@
 -- The latest of some times, and the least of some ids.
-use Rattle.plan_num.proofs.Common.{◌≡◌, ℕ, ◌≤◌, suc, List, [], ◌∷◌, arith, refl, sym, ◌∙◌, ◌⊎◌, inl}
-use Rattle.plan_num.proofs.Common.{inr, All, Contains, fold, All-cons, All-nil}
+use Rattle.plan_num.proofs.Common.{◌≡◌, ℕ, ◌≤◌, suc, List, [], ◌∷◌, arith, refl, ◌⊎◌, inl, All}
+use Rattle.plan_num.proofs.Common.{Contains, fold, All-cons, All-nil}
 use Rattle.propagation.specs.LeastTimes.{later, latest}
 use Rattle.propagation.specs.Reasons.{lesser}
 
@@ -27,13 +27,7 @@ latest_bounds a (x ∷ xs) = grind (arith, later_is, All-cons, latest_bounds (la
 reached_by : (f : ℕ → ℕ → ℕ) → ((a b : ℕ) → (f a b ≡ a) ⊎ (f a b ≡ b)) → (a : ℕ) (xs : List ℕ)
     → (fold f a xs ≡ a) ⊎ Contains xs (fold f a xs)
 reached_by f one a [] = inl refl
-reached_by f one a (x ∷ xs) = by (one a x) (reached_by f one (f a x) xs)
-  where
-    by : (f a x ≡ a) ⊎ (f a x ≡ x) → (fold f (f a x) xs ≡ f a x) ⊎ Contains xs (fold f (f a x) xs)
-        → (fold f (f a x) xs ≡ a) ⊎ Contains (x ∷ xs) (fold f (f a x) xs)
-    by (inl first) (inl is) = inl (is ∙ first)
-    by (inr second) (inl is) = inr (0, omega arith, sym (is ∙ second))
-    by some (inr there) = inr (shifted x xs (fold f (f a x) xs) there)
+reached_by f one a (x ∷ xs) = grind (arith, shifted, reached_by f one (f a x) xs)
 
 -- and one of them; so is a least one
 pub latest_reached : (a : ℕ) (xs : List ℕ) → (latest a xs ≡ a) ⊎ Contains xs (latest a xs)

@@ -9,7 +9,6 @@ use Rattle.plan_num.proofs.Common.{IsPermutation-map, list_any-IsPermutation, Is
 use Rattle.plan_num.proofs.Common.{IsDistinct-IsPermutation, mod-mul-add}
 use Rattle.std.specs.List.Sorted.{IsNonDecreasing}
 use Rattle.propagation.specs.declared.day_event.DayEvent.{DayEvent}
-use Rattle.propagation.specs.DayEvents.{no_event}
 use Rattle.propagation.specs.DayEvents.{forward_rank}
 use Rattle.propagation.specs.declared.links.Link.{Link}
 use Rattle.propagation.specs.declared.step.Activity.{Activity}
@@ -34,9 +33,7 @@ event_back_by false time event small =
 
 event_back : (events : List DayEvent) (event : ℕ) → event < 2147483648
     → event_of (forward_rank events event) ≡ event
-event_back events event small =
-    event_back_by ((get_or events event no_event).arrives)
-    (get_or events event no_event).time event small
+event_back events event small = grind (arith, event_back_by, get_or)
 
 eqb_flips : (a b : ℕ) → eqb a b ≡ eqb b a
 eqb_flips a b =
@@ -46,13 +43,14 @@ eqb_flips a b =
 
 -- the first numbers differ
 apart_range : (n : ℕ) → IsDistinct eqb (range_with_len 0 n)
-apart_range n =
-    IsDistinct-from_apart eqb (range_with_len 0 n) (λ i j d less inside.
-    let within : j < n = omega (arith, inside, length-range_with_len 0 n) in
-    let first = get_or-range_with_len 0 n i d (omega (arith, less, within)) in
-    let second = get_or-range_with_len 0 n j d within in
-    ne_eqb (get_or (range_with_len 0 n) i d) (get_or (range_with_len 0 n) j d)
-    (λ same. absurd (omega (arith, first, second, same, less))))
+apart_range n = grind (
+  arith,
+  IsDistinct-from_apart,
+  length-range_with_len,
+  get_or-range_with_len,
+  ne_eqb,
+  get_or,
+)
 
 module _ (events : List DayEvent) (ranks : List ℕ) (few : length events ≤ 100000)
     (are : IsPermutation (map (forward_rank events) (range_with_len 0 (length events))) ranks) where
@@ -68,9 +66,11 @@ module _ (events : List DayEvent) (ranks : List ℕ) (few : length events ≤ 10
   ranks_all P each =
       All-permutation P all_ranks ranks are
       (All-map P (forward_rank events) (range_with_len 0 n) (λ k d inside.
-      let within : k < n = omega (arith, inside, length-range_with_len 0 n) in
-      let at : get_or (range_with_len 0 n) k d ≡ k = get_or-range_with_len 0 n k d within ∙ (omega arith) in
-      subst (λ event. P (forward_rank events event)) (sym at) (each k within)))
+      let within : k < n = omega (arith, inside, length-range_with_len 0 n) in grind (
+        arith,
+        get_or,
+        get_or-range_with_len,
+      )))
 
   pub events_there : All (λ rank. event_of rank < n) ranks
   events_there =
@@ -85,9 +85,7 @@ module _ (events : List DayEvent) (ranks : List ℕ) (few : length events ≤ 10
       ∙ told_alike (λ event. event_of (forward_rank events event)) (λ event. event) n
       (λ event there. event_back events event (omega (arith, there, few)))
       ∙ map-id (range_with_len 0 n)
-      in
-      subst (λ some. IsPermutation some (map event_of ranks)) back
-      (IsPermutation-map event_of all_ranks ranks are)
+      in grind (arith, IsPermutation-map)
 
   events_rise : IsNonDecreasing ranks → IsNonDecreasingBy (forward_rank events) (map event_of ranks)
   events_rise rise i j d le inside =

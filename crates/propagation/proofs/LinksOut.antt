@@ -1,21 +1,10 @@
 -- The links out of each event, found one behind the other.
-use Rattle.std.proofs.Common.{◌≡◌, ◌≢◌, ◌∙◌, ℕ, ◌+◌, ◌<◌, cond, List, ◌∷◌, length, drop, get_or}
-use Rattle.std.proofs.Common.{slice_set, refl, ap, sym, arith}
-use Rattle.std.proofs.lemmas.Bool.{eq-eqb, ne_eqb}
-use Rattle.std.proofs.lemmas.List.{drop_more, get_or-set_same, get_or-set_other, get_or_default, length-set}
+use Rattle.plan_num.proofs.Common.{◌≡◌, ◌≢◌, ◌∙◌, ℕ, ◌+◌, ◌<◌, cond, List, ◌∷◌, length, drop}
+use Rattle.plan_num.proofs.Common.{get_or, slice_set, refl, ap, arith, ne_eqb, drop_more}
+use Rattle.plan_num.proofs.Common.{get_or-set_same, get_or-set_other, get_or_default, length-set}
 use Rattle.propagation.specs.declared.links.Link.{Link}
 use Rattle.propagation.specs.Outgoing.{AreChained, IsNextOut, out_of}
 use Rattle.bit_rows.proofs.Cases.{by_same}
-
--- a link out of an event, and the next ones
-pub own_first : (links : List Link) (event at next : ℕ) (d : Link) → at < length links
-    → (get_or links at d).step.from ≡ event → IsNextOut links event (at + 1) next
-    → out_of (drop at links) event ≡ get_or links at d ∷ out_of (drop next links) event
-own_first links event at next d inside own is =
-    ap (λ left. out_of left event) (drop_more links at d inside)
-    ∙ ap (λ b. cond b (get_or links at d ∷ out_of (drop (at + 1) links) event) (out_of (drop (at + 1) links) event))
-    (eq-eqb (get_or links at d).step.from event own)
-    ∙ ap (λ left. get_or links at d ∷ left) is.same
 
 -- a link out of another event
 passed : (links : List Link) (event at : ℕ) (d : Link) → at < length links
@@ -48,23 +37,20 @@ module _ (links : List Link) (from : ℕ) (firsts nexts : List ℕ) (d : Link)
   }
 
   others : (e : ℕ) → e < length firsts → e ≢ event → IsNextOut links e from (get_or firsts e 0)
-  others e known other =
-      let is = old.first e known in
-      record {
-        least = omega (arith, is.least);
-        most = is.most;
-        own = is.own;
-        same = passed links e from d inside (λ same. other (sym same)) ∙ is.same;
-      }
+  others e known other = grind (arith, passed)
 
   pub more_chained : AreChained links from new_firsts new_nexts
   more_chained = record {
     each = length-set nexts from (get_or firsts event 0) ∙ old.each;
-    first = λ e known.
-        let among : e < length firsts = omega (arith, known, length-set firsts event from) in
-        by_same e event
-        (λ same. rw (same, get_or-set_same firsts event from 0 there) itself)
-        (λ other. rw (get_or-set_other firsts event e from 0 other) (others e among other));
+    first = λ e known. grind (
+      arith,
+      length-set,
+      by_same,
+      get_or-set_same,
+      itself,
+      get_or-set_other,
+      others,
+    );
     next = λ k e low high.
         by_same k from
         (λ same. rw (

@@ -1,7 +1,7 @@
 -- What the pass along the links of a problem gives are its least times.
 use Rattle.plan_num.proofs.Common.{◌≡◌, ◌∙◌, ℕ, zero, suc, ◌+◌, ◌<◌, ◌≤◌, Bool, true, false, List}
 use Rattle.plan_num.proofs.Common.{[], ◌∷◌, ◌++◌, length, map, get_or, All, Option, Some, None}
-use Rattle.plan_num.proofs.Common.{Result, Ok, Err, IfOk, refl, ap, sym, subst, arith, Contains}
+use Rattle.plan_num.proofs.Common.{Result, Ok, Err, IfOk, refl, sym, subst, arith, Contains}
 use Rattle.plan_num.proofs.Common.{enumerate_from, items_where_true, get_or-map, get_or-append-add}
 use Rattle.plan_num.proofs.Common.{length-append, length-map, get_or-append, All-append, All-cons}
 use Rattle.plan_num.proofs.Common.{All-map, All-nil, Contains-get_or, get_or-enumerate_from}
@@ -221,9 +221,7 @@ module _ (whole problem : DelayProblem) (links seen : List Link)
   ends_there =
       subst (All (λ link. (link.step.from < length earliest) × (link.step.to < length earliest))) (sym is)
       (λ k d inside.
-      let joins = all_join whole links linked k d inside in
-      let size : length earliest ≡ length whole.events = ap length from ∙ linked.forward.each in
-      (omega (arith, joins.from, size), omega (arith, joins.to, size)))
+      let joins = all_join whole links linked k d inside in grind arith)
 
   passed : pushed_along kept seen earliest ≡ pushed_along kept links whole.earliest
   passed = λ i. pushed_along kept (is i) (from i)

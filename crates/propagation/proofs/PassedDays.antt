@@ -29,30 +29,20 @@ module _ (events : List DayEvent) where
 
     on : (stands_before (event_at events step.from) (event_at events step.to) ≡ true)
         × (nat_le (planned_at events step.from + minutes step) (planned_at events step.to + 1100000) ≡ true)
-    on = and_parts (stands_before (event_at events step.from) (event_at events step.to))
-        (nat_le (planned_at events step.from + minutes step) (planned_at events step.to + 1100000))
-        both.1
+    on = grind (arith, and_parts, nat_le, both)
 
     step_forward : GoesForward events step
-    step_forward = record {
-      from = ltb-true step.from (length events) ends.0;
-      to = ltb-true step.to (length events) ends.1;
-      before = on.0;
-    }
+    step_forward = grind (arith, ltb-true, ends, on)
 
     step_gains : GainsLittle events step
-    step_gains = leb-true (planned_at events step.from + minutes step)
-        (planned_at events step.to + 1100000) on.1
+    step_gains = grind (arith, leb-true, on)
 
   module _ (activities : List Activity)
       (are : list_all (is_activity events) activities ≡ true) where
     parts : (k : ℕ) (d : Activity) → k < length activities
         → (nat_le (get_or activities k d).id 500000 ≡ true)
         × (is_step events (get_or activities k d).step ≡ true)
-    parts k d inside =
-        and_parts (nat_le (get_or activities k d).id 500000)
-        (is_step events (get_or activities k d).step)
-        (AllPass-from_list_all (is_activity events) activities are k d inside)
+    parts k d inside = grind (arith, and_parts, nat_le, get_or, activities, AllPass-from_list_all)
 
     some_ids : All (λ activity. activity.id ≤ 500000) activities
     some_ids k d inside = leb-true (get_or activities k d).id 500000 (parts k d inside).0
@@ -99,22 +89,15 @@ module _ (problem : DelayProblem) (passes : is_day problem ≡ true) where
   counted : ((nat_le (length problem.events) 100000 && nat_eq (length problem.earliest) (length problem.events)) ≡ true)
       × ((nat_le (length problem.changes) 500000
       && nat_le (length problem.rides + (length problem.turns + length problem.changes)) 502000) ≡ true)
-  counted = and_parts
-      (nat_le (length problem.events) 100000 && nat_eq (length problem.earliest) (length problem.events))
-      (nat_le (length problem.changes) 500000 && nat_le
-      (length problem.rides + (length problem.turns + length problem.changes)) 502000)
-      all.0
+  counted = grind (arith, and_parts, nat_le, nat_eq, all)
 
   few : (nat_le (length problem.events) 100000 ≡ true)
       × (nat_eq (length problem.earliest) (length problem.events) ≡ true)
-  few = and_parts (nat_le (length problem.events) 100000)
-      (nat_eq (length problem.earliest) (length problem.events)) counted.0
+  few = grind (arith, and_parts, nat_le, nat_eq, counted)
 
   few_more : (nat_le (length problem.changes) 500000 ≡ true)
       × (nat_le (length problem.rides + (length problem.turns + length problem.changes)) 502000 ≡ true)
-  few_more = and_parts (nat_le (length problem.changes) 500000)
-      (nat_le (length problem.rides + (length problem.turns + length problem.changes)) 502000)
-      counted.1
+  few_more = grind (arith, and_parts, nat_le, counted)
 
   abbrev n : ℕ
   n = length problem.events
@@ -155,14 +138,11 @@ module _ (problem : DelayProblem) (passes : is_day problem ≡ true) where
   kinds : ((list_all (is_activity problem.events) problem.rides
       && list_all (is_activity problem.events) problem.changes) ≡ true)
       × ((list_all (is_step problem.events) problem.turns && is_rising problem.changes) ≡ true)
-  kinds = and_parts
-      (list_all (is_activity problem.events) problem.rides && list_all (is_activity problem.events) problem.changes)
-      (list_all (is_step problem.events) problem.turns && is_rising problem.changes) others.1
+  kinds = grind (arith, and_parts, others)
 
   activities : (list_all (is_activity problem.events) problem.rides ≡ true)
       × (list_all (is_activity problem.events) problem.changes ≡ true)
-  activities = and_parts (list_all (is_activity problem.events) problem.rides)
-      (list_all (is_activity problem.events) problem.changes) kinds.0
+  activities = grind (arith, and_parts, kinds)
 
   rest : (list_all (is_step problem.events) problem.turns ≡ true) × (is_rising problem.changes ≡ true)
   rest = and_parts (list_all (is_step problem.events) problem.turns) (is_rising problem.changes) kinds.1
@@ -188,13 +168,11 @@ module _ (problem : DelayProblem) (passes : is_day problem ≡ true) where
     rise = rises problem.changes rest.1;
     late = λ event inside. leb-true (planned_at problem.events event) (time_at problem.earliest event)
         (place_parts event inside).1;
-    soon = λ k d inside. leb-true (get_or problem.earliest k d) 8589934590
-        (AllPass-from_list_all is_soon problem.earliest timed.1 k d inside);
+    soon = λ k d inside. grind (arith, leb-true, get_or, AllPass-from_list_all, timed);
     gains = steps_all problem (GainsLittle problem.events) problem.changes
         (some_gain problem.events problem.rides activities.0)
         (some_gain problem.events problem.changes activities.1)
         (λ k d inside. step_gains problem.events (get_or problem.turns k d) (turn k d inside));
     few_changes = leb-true (length problem.changes) 500000 few_more.0;
-    few_steps = leb-true (length problem.rides + (length problem.turns + length problem.changes)) 502000
-        few_more.1;
+    few_steps = grind (arith, leb-true, few_more);
   }

@@ -17,10 +17,7 @@ told_alike f g n same =
     ext_get_or (f 0) (map f (range_with_len 0 n)) (map g (range_with_len 0 n))
     (long ∙ sym (length-map-range_with_len g 0 n))
     (λ k within.
-    let inside : k < n = omega (arith, within, long) in
-    let here : 0 + k ≡ k = omega arith in
-    get_or-map-range_with_len f 0 n k k (f 0) inside here ∙ same k inside
-    ∙ sym (get_or-map-range_with_len g 0 n k k (f 0) inside here))
+    let inside : k < n = omega (arith, within, long) in grind (arith, get_or-map-range_with_len))
 
 -- what is pushed behind what is told of the first places
 pub told_more : {X : Type 0} (f : ℕ → X) (i : ℕ) (old new : List X) (one : X) → new ≡ old ++ one ∷ []

@@ -1,13 +1,12 @@
 -- Feasible times with a right reason for each event are the least ones.
-use Rattle.plan_num.proofs.Common.{◌≡◌, ℕ, zero, suc, ◌<◌, ◌+◌, ◌&&◌, ◌≤◌, cond, nat_eq, Bool, true}
+use Rattle.plan_num.proofs.Common.{◌≡◌, ℕ, zero, suc, ◌<◌, ◌+◌, ◌&&◌, ◌≤◌, nat_eq, Bool, true}
 use Rattle.plan_num.proofs.Common.{false, List, [], ◌∷◌, ◌++◌, length, map, get_or, ap, sym, ◌∙◌}
 use Rattle.plan_num.proofs.Common.{refl, arith, ◌⊎◌, inl, inr, subst, slice_cmp, All, Contains}
-use Rattle.plan_num.proofs.Common.{list_any, filter, nat_cmp, is_lt, ordering_reverse, Decides-eqb}
-use Rattle.plan_num.proofs.Common.{length-map, get_or-map, All-filter, All-contains_itself}
-use Rattle.plan_num.proofs.Common.{All-contains, filter_passes, Contains-append_left}
-use Rattle.plan_num.proofs.Common.{Contains-append_right, Contains-get_or, All-append, All-map}
-use Rattle.plan_num.proofs.Common.{All-weaker, Any-from_list_any, length-filter, count_by-le-length}
-use Rattle.plan_num.proofs.Common.{and_parts}
+use Rattle.plan_num.proofs.Common.{list_any, filter, nat_cmp, is_lt, Decides-eqb, length-map}
+use Rattle.plan_num.proofs.Common.{get_or-map, All-filter, All-contains_itself, All-contains}
+use Rattle.plan_num.proofs.Common.{filter_passes, Contains-append_left, Contains-append_right}
+use Rattle.plan_num.proofs.Common.{Contains-get_or, All-append, All-map, All-weaker}
+use Rattle.plan_num.proofs.Common.{Any-from_list_any, length-filter, count_by-le-length, and_parts}
 use Rattle.std.specs.declared.cmp.Ordering.{Ordering}
 use Rattle.std.specs.declared.cmp.Ordering.TheVariants.{Less, Equal, Greater}
 use Rattle.std.proofs.lemmas.Cmp.{lists_total, nat_cmp_total}
@@ -76,20 +75,7 @@ module _ (problem : DelayProblem) (kept : List Activity) (times : List ℕ) wher
             (time_at times event ≡ earliest_at problem event) ⊎ Tight (steps_with problem kept) times event →
             time_at times event ≤ time_at others event
         by before (inl e) = subst (λ t. t ≤ time_at others event) (sym e) (fits.earliest event within)
-        by before (inr t) =
-            let up : rank t.step.from < rank event =
-            subst (λ e. rank t.step.from < rank e) t.to
-            (All-contains (λ step. rank step.from < rank step.to)
-            (steps_with problem kept) t.step rises t.there) in
-            let tail =
-            before t.step.from (omega (arith, up, h))
-            (All-contains (λ step. step.from < length problem.events)
-            (steps_with problem kept) t.step from t.there) in
-            let step : asked others t.step ≤ time_at others event = subst
-            (λ e. asked others t.step ≤ time_at others e) t.to
-            (All-contains (λ step. asked others step ≤ time_at others step.to)
-            (steps_with problem kept) t.step fits.steps t.there) in
-            omega (arith, tail, step, t.just)
+        by before (inr t) = grind (arith, rank, All-contains)
 
 pub right_is_least : (problem : DelayProblem) (kept : List Activity) (times : List ℕ) (rank : ℕ → ℕ) →
     All (λ step. rank step.from < rank step.to) (steps_with problem kept)
@@ -108,11 +94,6 @@ is_less Less h = refl
 is_less Equal h = grind arith
 is_less Greater h = grind arith
 
-not_less : (o : Ordering) → o ≡ ordering_reverse o → is_lt o ≡ false
-not_less Less h = ap is_lt h
-not_less Equal h = refl
-not_less Greater h = refl
-
 before_before : (a b c : DayEvent) → stands_before a b ≡ true → stands_before b c ≡ true →
     stands_before a c ≡ true
 before_before a b c h g =
@@ -126,27 +107,13 @@ not_before_itself a = grind arith
 module _ {X : Type 0} (p q : X → Bool) (implies : (x : X) → p x ≡ true → q x ≡ true) where
   no_more : (xs : List X) → length (filter p xs) ≤ length (filter q xs)
   no_more [] = omega arith
-  no_more (x ∷ xs) = by (p x) (q x) (implies x) (no_more xs)
-    where
-      by : (a b : Bool) → (a ≡ true → b ≡ true) → length (filter p xs) ≤ length (filter q xs) →
-          length (cond a (x ∷ filter p xs) (filter p xs)) ≤ length (cond b (x ∷ filter q xs) (filter q xs))
-      by true true h less = omega arith
-      by true false h less = grind (arith, h refl)
-      by false true h less = omega arith
-      by false false h less = less
+  no_more (x ∷ xs) = grind (arith, no_more xs)
 
   fewer : (xs : List X) (k : ℕ) (d : X) → k < length xs → p (get_or xs k d) ≡ false →
       q (get_or xs k d) ≡ true → length (filter p xs) < length (filter q xs)
   fewer [] k d within isnt is = absurd (omega arith)
   fewer (x ∷ xs) zero d within isnt is = rw isnt (rw is (omega (arith, no_more xs)))
-  fewer (x ∷ xs) (suc k) d within isnt is = by (p x) (q x) (implies x) (fewer xs k d (omega arith) isnt is)
-    where
-      by : (a b : Bool) → (a ≡ true → b ≡ true) → length (filter p xs) < length (filter q xs) →
-          length (cond a (x ∷ filter p xs) (filter p xs)) < length (cond b (x ∷ filter q xs) (filter q xs))
-      by true true h less = omega arith
-      by true false h less = grind (arith, h refl)
-      by false true h less = omega arith
-      by false false h less = less
+  fewer (x ∷ xs) (suc k) d within isnt is = grind (arith, fewer xs k d (omega arith) isnt is)
 
 pub rank : List DayEvent → ℕ → ℕ
 rank events event = length (filter (λ other. stands_before other (event_at events event)) events)

@@ -22,11 +22,7 @@ use Rattle.propagation.proofs.ReasonsProve.{mapped, rank, rising, few_before, fo
 pub in_filter : {X : Type 0} (p : X → Bool) (xs : List X) (k : ℕ) (x : X) → k < length xs → get_or xs k x ≡ x →
     p x ≡ true → Contains (filter p xs) x
 in_filter p [] k x within is passes = absurd (omega arith)
-in_filter p (y ∷ ys) zero x within is passes = by (p y) (ap p is ∙ passes)
-  where
-    by : (b : Bool) → b ≡ true → Contains (cond b (y ∷ filter p ys) (filter p ys)) x
-    by true e = (0, omega arith, is)
-    by false e = grind arith
+in_filter p (y ∷ ys) zero x within is passes = grind arith
 in_filter p (y ∷ ys) (suc k) x within is passes = by (p y) (in_filter p ys k x (omega arith) is passes)
   where
     by : (b : Bool) → Contains (filter p ys) x → Contains (cond b (y ∷ filter p ys) (filter p ys)) x

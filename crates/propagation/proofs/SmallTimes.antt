@@ -27,9 +27,7 @@ module _ (problem : DelayProblem) (steps : List Step) (each : length problem.ear
       by : (pushed_at problem steps times event ≡ earliest_at problem event)
           ⊎ Contains (map (asked times) (filter (λ step. step.to == event) steps)) (pushed_at problem steps times event)
           → pushed_at problem steps times event ≤ 2000000000 + (k + 1) * 2000000000
-      by (inl is) =
-          let at : earliest_at problem event ≤ 2000000000 = soon event 0 (omega (arith, within, each)) in
-          omega (arith, is, at)
+      by (inl is) = grind arith
       by (inr there) =
           let xs = filter (λ step. step.to == event) steps in
           let inside : there.0 < length xs = omega (arith, length-map xs (asked times), there.1) in

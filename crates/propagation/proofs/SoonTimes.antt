@@ -1,9 +1,9 @@
 -- Times behind links that gain little are not much later than planned.
-use Rattle.plan_num.proofs.Common.{◌≡◌, ℕ, suc, ◌+◌, ◌*◌, ◌<◌, ◌≤◌, ◌⊎◌, inl, inr, Bool, true}
-use Rattle.plan_num.proofs.Common.{false, cond, eqb, List, [], ◌∷◌, length, All, Result, Ok, Err}
-use Rattle.plan_num.proofs.Common.{IfOk, refl, sym, subst, arith, eqb-true, eqb-false}
-use Rattle.plan_num.proofs.Common.{get_or_default, get_or-set_same, get_or-set_other, length-set}
-use Rattle.plan_num.proofs.Common.{All-head, All-tail, All-permutation}
+use Rattle.plan_num.proofs.Common.{◌≡◌, ℕ, suc, ◌+◌, ◌*◌, ◌<◌, ◌≤◌, Bool, true, false, cond, List}
+use Rattle.plan_num.proofs.Common.{[], ◌∷◌, length, All, Result, Ok, Err, IfOk, sym, subst, arith}
+use Rattle.plan_num.proofs.Common.{eqb-true, eqb-false, get_or_default, get_or-set_same}
+use Rattle.plan_num.proofs.Common.{get_or-set_other, length-set, All-head, All-tail}
+use Rattle.plan_num.proofs.Common.{All-permutation}
 use Rattle.propagation.specs.declared.day_event.DayEvent.{DayEvent}
 use Rattle.propagation.specs.DayEvents.{forward_rank}
 use Rattle.propagation.specs.declared.links.Link.{Link}
@@ -23,31 +23,15 @@ module _ (events : List DayEvent) where
   head_late : (most : ℕ) (times : List ℕ) (step : Step) → GainsLittle events step
       → step.from < length times → step.to < length times → LateBy most times
       → LateBy (most + 1100000) (head_pushed times step)
-  head_late most times step gains from to late event inside =
-      elim (eqb step.to event) as (λ b. eqb step.to event ≡ b
-      → time_at (head_pushed times step) event ≤ planned_at events event + (most + 1100000)) [
-        | true ↦ λ is. subst (λ e. time_at (head_pushed times step) e ≤ planned_at events e + (most + 1100000))
-            (eqb-true step.to event is)
-            (by (later_is (time_at times step.to) (asked times step)).one)
-        | false ↦ λ is. let stays = get_or-set_other times step.to event
-            (later (time_at times step.to) (asked times step)) 0 (λ e. eqb-false step.to event is (sym e)) in
-            let old = late event (omega (
-              arith,
-              inside,
-              length-set times step.to
-                  (later (time_at times step.to) (asked times step)),
-            )) in
-            omega (arith, stays, old)
-      ] refl
-    where
-      same : time_at (head_pushed times step) step.to ≡ later (time_at times step.to) (asked times step)
-      same = get_or-set_same times step.to (later (time_at times step.to) (asked times step)) 0 to
-
-      by : (later (time_at times step.to) (asked times step) ≡ time_at times step.to)
-          ⊎ (later (time_at times step.to) (asked times step) ≡ asked times step)
-          → time_at (head_pushed times step) step.to ≤ planned_at events step.to + (most + 1100000)
-      by (inl is) = let old = late step.to to in omega (arith, same, is, old)
-      by (inr is) = let old = late step.from from in omega (arith, same, is, old, gains)
+  head_late most times step gains from to late event inside = grind (
+    arith,
+    eqb-true,
+    later_is,
+    get_or-set_other,
+    eqb-false,
+    length-set,
+    get_or-set_same,
+  )
 
   -- a link between two of so many events that gains little
   abbrev pub IsSlow : ℕ → Link → Type 0

@@ -1,9 +1,9 @@
 -- One tight activity more.
-use Rattle.plan_num.proofs.Common.{◌≡◌, ◌∙◌, ℕ, suc, ◌+◌, ◌<◌, ◌≤◌, ◌&&◌, Bool, true, false, cond}
-use Rattle.plan_num.proofs.Common.{eqb, nat_eq, List, [], ◌∷◌, ◌++◌, append_assoc, length, map}
-use Rattle.plan_num.proofs.Common.{take, get_or, slice_set, Option, Some, None, refl, ap, sym}
-use Rattle.plan_num.proofs.Common.{subst, arith, items_where_true, range_with_len, reduce, eq-eqb}
-use Rattle.plan_num.proofs.Common.{eqb-true, false≢true, ne_eqb, and_parts, append-nil, take_all}
+use Rattle.plan_num.proofs.Common.{◌≡◌, ◌∙◌, ℕ, ◌+◌, ◌<◌, ◌≤◌, ◌&&◌, Bool, true, false, cond}
+use Rattle.plan_num.proofs.Common.{nat_eq, List, [], ◌∷◌, ◌++◌, append_assoc, length, map, take}
+use Rattle.plan_num.proofs.Common.{get_or, slice_set, Option, Some, None, refl, ap, sym, arith}
+use Rattle.plan_num.proofs.Common.{items_where_true, range_with_len, reduce, eq-eqb, eqb-true}
+use Rattle.plan_num.proofs.Common.{false≢true, ne_eqb, and_parts, append-nil, take_all}
 use Rattle.plan_num.proofs.Common.{filter-append, get_or-map-range_with_len, fold_push}
 use Rattle.propagation.specs.declared.step.Activity.{Activity}
 use Rattle.propagation.specs.LeastTimes.{asked, time_at}
@@ -62,16 +62,7 @@ module _ (times : List ℕ) (n : ℕ) (some : List Activity) (at : Activity) whe
 
   pub slack_passed : nat_eq (asked times at.step) (time_at times at.step.to) ≡ false
       → map (least_id some) (range_with_len 0 n) ≡ map (least_id (some ++ at ∷ [])) (range_with_len 0 n)
-  slack_passed slack = λ i. map (λ event. sym (without event (by event)) i) (range_with_len 0 n)
-    where
-      by : (event : ℕ) → is_tight times event at.step ≡ false
-      by event =
-          elim (eqb at.step.to event) as (λ b. eqb at.step.to event ≡ b
-          → (b && nat_eq (asked times at.step) (time_at times event)) ≡ false) [
-            | true ↦ λ is. subst (λ e. nat_eq (asked times at.step) (time_at times e) ≡ false)
-                (eqb-true at.step.to event is) slack
-            | false ↦ λ is. refl
-          ] refl
+  slack_passed slack = grind (arith, without, nat_eq, eqb-true)
 
 -- ---- a chosen change more
 
@@ -102,12 +93,7 @@ module _ (times : List ℕ) (n : ℕ) (rides : List Activity) (kept : List Bool)
 
       counted_more : (b : Bool) → get_or kept i false ≡ b
           → counted (i + 1) ≡ counted i ++ cond b (change ∷ []) []
-      counted_more b is =
-          let next : i + 1 ≡ suc i = omega arith in
-          ap counted next
-          ∙ ap (λ some. rides ++ some) (taken_at i kept changes d inside
-          ∙ ap (λ b. items_where_true kept (take i changes) ++ cond b (change ∷ []) []) is)
-          ∙ sym (append_assoc rides (items_where_true kept (take i changes)) (cond b (change ∷ []) []))
+      counted_more b is = grind (arith, taken_at, append_assoc)
 
       pub change_noted : change.step.to < n → (get_or kept i false && is_just) ≡ true
           → slice_set (least_ids (counted i)) change.step.to

@@ -1,11 +1,10 @@
 -- The reasons that are written of least times are right.
-use Rattle.plan_num.proofs.Common.{◌≡◌, ℕ, ◌<◌, ◌==◌, cond, nat_eq, Bool, true, false, List, []}
-use Rattle.plan_num.proofs.Common.{◌∷◌, ◌++◌, length, map, get_or, ap, sym, ◌∙◌, refl, arith, ◌⊎◌}
-use Rattle.plan_num.proofs.Common.{inl, inr, subst, Option, true≢false, Contains, list_any, filter}
-use Rattle.plan_num.proofs.Common.{fold, reduce, Decides-eqb, nat_eq_equiv, length-map, get_or-map}
-use Rattle.plan_num.proofs.Common.{Contains-get_or, Contains-append_cases, list_any_at}
-use Rattle.plan_num.proofs.Common.{get_or-map-range_with_len, length-map-range_with_len}
-use Rattle.plan_num.proofs.Common.{list_any-from_Contains}
+use Rattle.plan_num.proofs.Common.{◌≡◌, ℕ, ◌<◌, ◌==◌, nat_eq, true, false, List, [], ◌∷◌, ◌++◌}
+use Rattle.plan_num.proofs.Common.{length, map, get_or, sym, ◌∙◌, refl, arith, ◌⊎◌, inl, inr, subst}
+use Rattle.plan_num.proofs.Common.{Option, Contains, list_any, filter, fold, reduce, Decides-eqb}
+use Rattle.plan_num.proofs.Common.{nat_eq_equiv, length-map, get_or-map, Contains-get_or}
+use Rattle.plan_num.proofs.Common.{Contains-append_cases, list_any_at, get_or-map-range_with_len}
+use Rattle.plan_num.proofs.Common.{length-map-range_with_len, list_any-from_Contains}
 use Rattle.propagation.specs.declared.reason.Reason.TheVariants as reason
 use Rattle.propagation.specs.declared.step.Activity.{Activity}
 use Rattle.propagation.specs.declared.step.Step.{Step}
@@ -40,15 +39,7 @@ module _ (problem : DelayProblem) (kept : List Activity) (times : List ℕ) wher
   written_right : (event : ℕ) → (is_right problem kept times event reason.Source ≡ false →
       tight_ids problem kept times event ≡ [] → is_right problem kept times event reason.Turn ≡ true)
       → is_right problem kept times event (canonical_reason problem kept times event) ≡ true
-  written_right event turn = by (is_right problem kept times event reason.Source) refl
-    where
-      by : (b : Bool) → is_right problem kept times event reason.Source ≡ b →
-          is_right problem kept times event
-          (cond b reason.Source (by_activity (reduce lesser (tight_ids problem kept times event)))) ≡ true
-      by true e = e
-      by false e =
-          by_least event (tight_ids problem kept times event)
-          (reduce lesser (tight_ids problem kept times event)) refl refl (turn e)
+  written_right event turn = grind (arith, by_least)
 
   module _ (event : ℕ) (equal : time_at times event ≡ pushed_at problem
       (steps_with problem kept) times event) where
@@ -62,15 +53,7 @@ module _ (problem : DelayProblem) (kept : List Activity) (times : List ℕ) wher
     no_ids a there tight nil =
         let inside =
         in_filter (λ a. is_tight times event a.step)
-        (problem.rides ++ kept) there.0 a there.1 there.2 tight in
-        omega (
-          arith,
-          inside.1,
-          length-map
-              (filter (λ a. is_tight times event a.step) (problem.rides ++ kept)) (λ a. a.id),
-          ap
-              (λ (ids : List ℕ). length ids) nil,
-        )
+        (problem.rides ++ kept) there.0 a there.1 there.2 tight in grind (arith, length-map)
 
     by_step : (step : Step) → Contains (steps_with problem kept) step → is_tight times event step ≡ true →
         tight_ids problem kept times event ≡ [] → is_right problem kept times event reason.Turn ≡ true
@@ -86,9 +69,7 @@ module _ (problem : DelayProblem) (kept : List Activity) (times : List ℕ) wher
             let is : a.step ≡ step = sym (get_or-map (λ (at : Activity). at.step) xs at.0 none step within) ∙ at.2 in
             absurd (no_ids a (Contains-get_or xs at.0 none within)
             (subst (λ s. is_tight times event s ≡ true) (sym is) tight) nil)
-        by (inr at) =
-            list_any_at (is_tight times event) problem.turns at.0 step at.1
-            (subst (λ s. is_tight times event s ≡ true) (sym at.2) tight)
+        by (inr at) = grind (arith, list_any_at)
 
     by_turn : is_right problem kept times event reason.Source ≡ false →
         tight_ids problem kept times event ≡ [] → is_right problem kept times event reason.Turn ≡ true
@@ -100,9 +81,7 @@ module _ (problem : DelayProblem) (kept : List Activity) (times : List ℕ) wher
             (map (asked times) (filter (λ step. step.to == event) (steps_with problem kept)))
             (pushed_at problem (steps_with problem kept) times event) →
             is_right problem kept times event reason.Turn ≡ true
-        by (inl e) =
-            absurd (true≢false (sym ((Decides-eqb (time_at times event) (earliest_at problem event)).1
-            (equal ∙ e)) ∙ not_source))
+        by (inl e) = grind (arith, Decides-eqb)
         by (inr at) =
             let xs = filter (λ step. step.to == event) (steps_with problem kept) in
             let within : at.0 < length xs = omega (arith, length-map xs (asked times), at.1) in

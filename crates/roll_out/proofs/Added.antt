@@ -1,11 +1,11 @@
 -- Lists to which parts are added one by one.
 use Rattle.std.proofs.Common.{◌≡◌, ℕ, ◌+◌, ◌<◌, ◌≤◌, arith, Bool, true, false, cond, List, [], ◌∷◌}
-use Rattle.std.proofs.Common.{◌++◌, length, map, filter, take, get_or, refl, ap, sym, ◌∙◌}
+use Rattle.std.proofs.Common.{◌++◌, length, map, filter, take, get_or, ap, sym, ◌∙◌}
 use Rattle.std.specs.List.{flat_map, range_with_len, enumerate_from}
 use Rattle.std.proofs.lemmas.List.{append_assoc, append-nil, map-append, map-id, flat_map_more, take_more, take_all, length-take-le}
 use Rattle.std.proofs.lemmas.List.Elements.{filter-append}
 use Rattle.std.proofs.lemmas.List.FromFn.{map-range_with_len_more, get_or-enumerate_from, length-enumerate_from}
-use Rattle.event_tables.proofs.Common.{PeriodicEvent}
+use Rattle.event_tables.specs.declared.periodic_event.PeriodicEvent.{PeriodicEvent}
 use Rattle.plan_num.proofs.Added.{added_numbered}
 
 -- the ids of the events of the things that pass a test
@@ -49,20 +49,7 @@ module _ {X : Type 0} (old now after : List ℕ) (test : X → Bool) (event : X 
   where_more : (b : Bool) → test x ≡ b
       → ids_where test event (xs ++ x ∷ [])
       ≡ ids_where test event xs ++ cond b ((event x).id ∷ []) []
-  where_more b is =
-      ap (λ ys. map (λ (one : PeriodicEvent). one.id) (map event ys))
-      (filter-append test xs (x ∷ []) ∙ ap (λ c. filter test xs ++ cond c (x ∷ []) []) is)
-      ∙ ap (map (λ (one : PeriodicEvent). one.id))
-      (map-append event (filter test xs) (cond b (x ∷ []) []))
-      ∙ map-append (λ (one : PeriodicEvent). one.id) (map event (filter test xs))
-      (map event (cond b (x ∷ []) []))
-      ∙ by b
-    where
-      by : (b : Bool) → ids_where test event xs
-          ++ map (λ (one : PeriodicEvent). one.id) (map event (cond b (x ∷ []) []))
-          ≡ ids_where test event xs ++ cond b ((event x).id ∷ []) []
-      by true = refl
-      by false = refl
+  where_more b is = grind (arith, filter-append, map-append)
 
   -- the id of the event of a thing that passes is added
   pub added_where : test x ≡ true → after ≡ now ++ (event x).id ∷ []
@@ -85,12 +72,3 @@ module _ {X : Type 0} (old now after : List ℕ) (test : X → Bool) (event : X 
       → after ≡ old ++ ids_where test event (xs ++ x ∷ [])
   added_test true is more = added_where (sym is) more
   added_test false is more = passed_over (sym is) (more ∙ append-nil now)
-
--- one thing more with its number
-numbered_more : {X Y : Type 0} (f : ℕ × X → Y) (a : ℕ) (xs : List X) (x : X) (j : ℕ)
-    → a + length xs ≡ j
-    → map f (enumerate_from a (xs ++ x ∷ [])) ≡ map f (enumerate_from a xs) ++ f (j, x) ∷ []
-numbered_more f a [] x j e =
-    let same : a ≡ j = omega (arith, e) in ap (λ n. f (n, x) ∷ []) same
-numbered_more f a (y ∷ xs) x j e =
-    ap (λ rest. f (a, y) ∷ rest) (numbered_more f (a + 1) xs x j (omega (arith, e)))

@@ -1,17 +1,15 @@
 -- The cells of the files of a day are in their columns.
 use Rattle.plan_num.proofs.Common.{ℕ, pos, ◌+◌, ◌-◌, ◌<◌, ◌≤◌, ◌≤ℤ◌, arith, All, IfSome, List, []}
-use Rattle.plan_num.proofs.Common.{◌∷◌, ◌++◌, length, filter, get_or, refl, Option, Some, None}
-use Rattle.plan_num.proofs.Common.{subst, sym, flat_map, enumerate_from, ints, All-nil, All-cons}
+use Rattle.plan_num.proofs.Common.{◌∷◌, ◌++◌, length, filter, get_or, Option, Some, None, subst}
+use Rattle.plan_num.proofs.Common.{sym, flat_map, enumerate_from, ints, All-nil, All-cons}
 use Rattle.plan_num.proofs.Common.{All-append, All-head, All-tail, All-map, All-filter, All-weaker}
 use Rattle.plan_num.proofs.Common.{All-from_recursion, recursion_from_All, length-map}
 use Rattle.plan_num.proofs.Common.{length-enumerate_from, get_or-enumerate_from}
-use Rattle.tables.specs.declared.words.WordTable.TheVariants as table
 use Rattle.tables.proofs.Common.{activities_p_columns, activities_x_columns, events_x_columns}
-use Rattle.tables.proofs.Common.{trips_columns, word, InColumn, InColumns}
+use Rattle.tables.proofs.Common.{trips_columns, InColumns}
 use Rattle.event_tables.proofs.Common.{ActivityKind, EventKind, ExpandedActivity, ExpandedEvent}
 use Rattle.event_tables.proofs.Common.{PeriodicActivity, expanded_activity_cells}
 use Rattle.event_tables.proofs.Common.{expanded_event_cells, periodic_activity_cells, trip_cells}
-use Rattle.event_tables.proofs.Common.{activity_kind_place}
 use Rattle.event_tables.specs.declared.activity_kind.ActivityKind.TheVariants as day_kind
 use Rattle.roll_out.specs.declared.timed_event.TimedEvent.{TimedEvent}
 use Rattle.roll_out.specs.DayActivities.{change_copies, change_copy, changes_from, copy_of, day_activities, day_changes, day_ways, is_change, is_copy, is_head, trip_ways, way_from, way_kind, with_number}
@@ -80,12 +78,6 @@ module _ (trip : TripParts) (is : IsTrip trip) where
   trip_events_fit =
       All-map EventFits (day_event trip.start) (enumerate_from trip.first trip.run)
       (run_fits (λ at. EventFits (day_event trip.start at)) event_fits)
-
-kind_in : (kind : ActivityKind) → InColumn (word table.ActivityKind) (pos (activity_kind_place kind))
-kind_in day_kind.Drive = (0, omega arith, refl)
-kind_in day_kind.Wait = (1, omega arith, refl)
-kind_in day_kind.Change = (2, omega arith, refl)
-kind_in day_kind.Sync = (3, omega arith, refl)
 
 copy_fits : (kind : ActivityKind) (activity : PeriodicActivity) → InColumns activities_p_columns
     (periodic_activity_cells activity)

@@ -89,11 +89,12 @@ module _ (network : TimedParts) (plans : List PlanParts) (are : ArePlans network
       ))
       (range_with_len 0 (copies_with copies id).count)
   places_at id low high =
-      let e : id ≡ 1 + (id - 1) = omega (arith, low) in
-      let size = ap length are.placed ∙ length-range_with_len 1 (length network.events) in
-      ap (λ k. map place_of (filter (is_copy k) events)) e
-      ∙ copies_are network.period 1 1 (id - 1) plans (are.placed ∙ ap (range_with_len 1) (sym size))
-      (omega (arith, size, low, high))
+      let e : id ≡ 1 + (id - 1) = omega (arith, low) in grind (
+        arith,
+        length-range_with_len,
+        place_of,
+        copies_are,
+      )
 
   one_change : (activity : PeriodicActivity) → IsBetween network activity
       → changes_if network copies activity

@@ -1,9 +1,8 @@
 -- The changes of a day go forward between its events.
-use Rattle.std.proofs.Common.{◌≡◌, ℕ, ◌+◌, ◌-◌, ◌≤◌, arith, Bool, true, false, All, List, [], ◌∷◌}
-use Rattle.std.proofs.Common.{map, filter, get_or, refl, ap, sym, ◌∙◌}
-use Rattle.std.specs.List.{flat_map, enumerate_from, AllByRecursion}
-use Rattle.std.proofs.lemmas.Bool.{eqb-true, and_parts as both_true, cases_Bool}
-use Rattle.std.proofs.lemmas.List.Elements.{recursion_from_All}
+use Rattle.plan_num.proofs.Common.{◌≡◌, ℕ, ◌+◌, ◌-◌, ◌≤◌, arith, Bool, true, false, All, List, []}
+use Rattle.plan_num.proofs.Common.{◌∷◌, map, filter, get_or, ◌∙◌, flat_map, enumerate_from}
+use Rattle.plan_num.proofs.Common.{AllByRecursion, eqb-true, cases_Bool, recursion_from_All}
+use Rattle.std.proofs.lemmas.Bool.{and_parts as both_true}
 use Rattle.event_tables.proofs.Common.{ExpandedEvent, PeriodicActivity, PeriodicEvent, PeriodicKind}
 use Rattle.event_tables.proofs.Common.{IsExpandedActivity, is_arrival, joins, AreNumbered}
 use Rattle.event_tables.proofs.Common.{same_kind}
@@ -107,23 +106,13 @@ module _ (network : TimedParts) (some : 1 ≤ network.period) (short : network.p
       let joined = joins_as way.kind (get_or network.events (way.from - 1) no_event)
       (get_or network.events (way.to - 1) no_event) changes
       (known_ends_is network.events numbered way no_event (sound.from.0, sound.from.1)
-      (sound.to.0, sound.to.1) ∙ is.placed) in
-      let ends = change_ends (get_or network.events (way.from - 1) no_event)
-      (get_or network.events (way.to - 1) no_event) joined in
-      let arrives : is_arrival tail.kind ≡ true =
-      ap is_arrival (from.1.kind ∙ ap (λ (event : PeriodicEvent). event.kind) (sym from.1.is)
-      ∙ ap (λ k. (get_or network.events (k - 1) no_event).kind) is_from) ∙ ends.0 in
-      let departs : is_arrival head.kind ≡ false =
-      ap is_arrival (to.1.kind ∙ ap (λ (event : PeriodicEvent). event.kind) (sym to.1.is)
-      ∙ ap (λ k. (get_or network.events (k - 1) no_event).kind) is_to) ∙ ends.1 in
-      record {
-        from = from.0.id;
-        to = to.0.id;
-        in_order = sound.in_order;
-        no_sync = refl;
-        forward = forward_between events tail.id head.id tail head from.0.found to.0.found
-            (changes_stand tail head arrives departs (omega (arith, later)));
-      }
+      (sound.to.0, sound.to.1) ∙ is.placed) in grind (
+        arith,
+        change_ends,
+        get_or,
+        forward_between,
+        changes_stand,
+      )
 
   change_all : (way : PeriodicActivity) → IsFit network way → same_kind way.kind kind.Change
       ≡ true
@@ -134,9 +123,7 @@ module _ (network : TimedParts) (some : 1 ≤ network.period) (short : network.p
       mapped_from (IsExpandedActivity events)
       (λ head. Known head × (is_head network way tail head ≡ true))
       (λ (head : ExpandedEvent). change_copy way tail.id head.id) (λ head to.
-      let parts = both_true (is_copy way.to head) _ to.1 in
-      one_change way is changes tail from.0 (eqb-true _ _ from.1) head to.0 (eqb-true _ _ parts.0)
-      (eqb-true _ _ parts.1))
+      let parts = both_true (is_copy way.to head) _ to.1 in grind (arith, one_change, eqb-true))
       (filter (is_head network way tail) events)
       (passing_all Known (is_head network way tail) events known))
       (filter (is_copy way.from) events) (passing_all Known (is_copy way.from) events known)

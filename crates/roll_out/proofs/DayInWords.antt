@@ -1,11 +1,11 @@
 -- The trips and the changes of a day are those that the words say.
-use Rattle.std.proofs.Common.{◌≡◌, ℕ, zero, suc, ◌+◌, ◌*◌, ◌/◌, ◌%◌, ◌<◌, ◌==◌, nat_le, arith, true}
-use Rattle.std.proofs.Common.{◌&&◌, Contains, List, [], ◌∷◌, length, map, filter, get_or, refl, ap}
-use Rattle.std.proofs.Common.{subst, sym, ◌∙◌}
-use Rattle.std.specs.List.{flat_map, range_with_len, AllByRecursion}
-use Rattle.std.proofs.lemmas.Bool.{eq-eqb, eqb-true, le-leb, leb-true, and_parts as both_true}
-use Rattle.std.proofs.lemmas.List.Elements.{All-contains_itself, All-from_recursion, recursion_from_All}
-use Rattle.std.proofs.lemmas.Nat.{div-add-mod', mod-mul-add}
+use Rattle.plan_num.proofs.Common.{◌≡◌, ℕ, zero, suc, ◌+◌, ◌*◌, ◌/◌, ◌<◌, ◌==◌, nat_le, arith, true}
+use Rattle.plan_num.proofs.Common.{◌&&◌, Contains, List, [], ◌∷◌, length, map, filter, get_or, refl}
+use Rattle.plan_num.proofs.Common.{ap, subst, sym, ◌∙◌, flat_map, range_with_len, AllByRecursion}
+use Rattle.plan_num.proofs.Common.{eq-eqb, eqb-true, le-leb, leb-true, All-contains_itself}
+use Rattle.plan_num.proofs.Common.{All-from_recursion, recursion_from_All, div-add-mod'}
+use Rattle.plan_num.proofs.Common.{mod-mul-add}
+use Rattle.std.proofs.lemmas.Bool.{and_parts as both_true}
 use Rattle.event_tables.proofs.Common.{ExpandedActivity, ExpandedEvent, PeriodicEvent, runs_of}
 use Rattle.roll_out.specs.declared.day.Day.{Day}
 use Rattle.roll_out.specs.declared.timed_event.TimedEvent.{TimedEvent}
@@ -44,13 +44,7 @@ module _ (network : TimedParts) (timed : IsTimed network) (day : Day) (in_week :
   start_is run within time whole inside =
       let first = first_time network run in
       let e : first + whole.0 * network.period ≡ whole.0 * network.period + first = omega arith in
-      let parts = both_true (nat_le day.earliest time) (nat_le time day.latest) inside in
-      record {
-        due = ap (λ n. n % network.period) (whole.1 ∙ e)
-            ∙ mod-mul-add whole.0 network.period first within;
-        not_early = leb-true day.earliest time parts.0;
-        not_late = leb-true time day.latest parts.1;
-      }
+      grind (arith, both_true, nat_le, mod-mul-add, leb-true)
 
   run_starts : (run : List PeriodicEvent) → Contains (runs_of network.events) run
       → AllByRecursion Sound (departures_of network day run)
@@ -162,18 +156,8 @@ module _ (network : TimedParts) (events : List ExpandedEvent) where
       mapped_from (IsChangeOf network events)
       (λ head. Contains events head × (is_head network way tail head ≡ true))
       (λ (head : ExpandedEvent). change_copy way tail.id head.id) (λ head to.
-      let parts = both_true (is_copy way.to head) _ to.1 in
-      record {
-        change = way;
-        tail = tail;
-        head = head;
-        there = is.0;
-        kind = is.1;
-        leaves = (from.0, eqb-true _ _ from.1);
-        comes = (to.0, eqb-true _ _ parts.0);
-        apart = eqb-true _ _ parts.1;
-        is = refl;
-      }) (filter (is_head network way tail) events)
+      let parts = both_true (is_copy way.to head) _ to.1 in grind (arith, eqb-true)) (filter
+      (is_head network way tail) events)
       (passing_all (Contains events) (is_head network way tail) events (contained events)))
       (filter (is_copy way.from) events) (passing_all (Contains events) (is_copy way.from) events
       (contained events)))

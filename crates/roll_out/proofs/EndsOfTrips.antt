@@ -45,15 +45,7 @@ module _ (network : TimedParts) (events : List ExpandedEvent) (trip : TripParts)
       let size = length-enumerate_from trip.first trip.run in
       let own = subst (λ at. IsListed events (day_event trip.start at))
       (get_or-enumerate_from trip.first trip.run i (0, no_timed) here)
-      (each i (0, no_timed) (omega (arith, here, size))) in
-      record {
-        event = day_event trip.start (trip.first + i, get_or trip.run i no_timed);
-        there = own.found;
-        is = is;
-        periodic = refl;
-        stop = refl;
-        time = refl;
-      }
+      (each i (0, no_timed) (omega (arith, here, size))) in grind (arith, get_or)
 
   -- a trip of a good run
   trip_over : IsRolled network trip → IsTripOver events (trip_row trip)

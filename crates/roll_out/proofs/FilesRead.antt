@@ -1,5 +1,5 @@
 -- The timetable of a bundle, from what each of its inputs gives.
-use Rattle.std.proofs.Common.{◌≡◌, ℕ, List, [], subst, sym, ◌∙◌, arith}
+use Rattle.plan_num.proofs.Common.{◌≡◌, ℕ, List, [], subst, sym, ◌∙◌, arith}
 use Rattle.tables.specs.declared.file_id.FileId.TheVariants as file
 use Rattle.tables.proofs.Common.{StageFault, Refuses, input_faults, records_of, refused_append}
 use Rattle.tables.proofs.Common.{front_none, back_none}

@@ -1,30 +1,8 @@
 -- Events that stand before others in the forward order.
-use Rattle.plan_num.proofs.Common.{◌≡◌, ℕ, ◌<◌, ◌≤◌, ◌⊎◌, inl, inr, cond, arith, true, false, List}
-use Rattle.plan_num.proofs.Common.{[], ◌∷◌, Some, refl, sym, nat_cmp_is, slice_cmp, nat_cmp, is_lt}
-use Rattle.plan_num.proofs.Common.{cases_lt}
-use Rattle.std.specs.declared.cmp.Ordering.TheVariants.{Less, Equal}
+use Rattle.plan_num.proofs.Common.{◌≡◌, ℕ, ◌<◌, ◌≤◌, cond, arith, true, false, List, Some}
 use Rattle.event_tables.proofs.Common.{EventKind, ExpandedEvent, event_with, goes_forward}
 use Rattle.event_tables.proofs.Common.{stands_before, is_arrival}
 use Rattle.event_tables.specs.declared.event_kind.EventKind.TheVariants as kinds
-
-less : (x y : ℕ) → x < y → nat_cmp x y ≡ Less
-less x y h = sym (nat_cmp_is x y Less h)
-
-same : (x y : ℕ) → x ≡ y → nat_cmp x y ≡ Equal
-same x y h = sym (nat_cmp_is x y Equal h)
-
-keys : (t r i u s j : ℕ) → t ≤ u → (t ≡ u → (r < s) ⊎ ((r ≡ s) × (i < j)))
-    → is_lt (slice_cmp nat_cmp (t ∷ r ∷ i ∷ []) (u ∷ s ∷ j ∷ [])) ≡ true
-keys t r i u s j soon then_more = by (cases_lt t u)
-  where
-    by_rank : t ≡ u → (r < s) ⊎ ((r ≡ s) × (i < j))
-        → is_lt (slice_cmp nat_cmp (t ∷ r ∷ i ∷ []) (u ∷ s ∷ j ∷ [])) ≡ true
-    by_rank e (inl below) = rw (same t u e, less r s below) refl
-    by_rank e (inr more) = rw (same t u e, same r s more.0, less i j more.1) refl
-
-    by : (t < u) ⊎ (u ≤ t) → is_lt (slice_cmp nat_cmp (t ∷ r ∷ i ∷ []) (u ∷ s ∷ j ∷ [])) ≡ true
-    by (inl early) = rw (less t u early) refl
-    by (inr late) = let e : t ≡ u = omega (arith, soon, late) in by_rank e (then_more e)
 
 abbrev rank : EventKind → ℕ
 rank kind = cond (is_arrival kind) 0 1

@@ -159,10 +159,10 @@ module _ (network : TimedParts) (is : IsTimed network)
       sym (get_or-map (λ (event : PeriodicEvent). event.id) network.events i d 0 h)
       ∙ ap (λ ids. get_or ids i 0) is.events_are.numbered
       ∙ get_or-range_with_len 1 (length network.events) i 0 h in
-      let e : (get_or network.events i d).id - 1 ≡ i = omega (arith, at) in (
-        (omega (arith, at), omega (arith, at, h)),
-        ap (λ k. get_or network.events k no_event) e
-            ∙ get_or_default network.events i no_event d h,
+      let e : (get_or network.events i d).id - 1 ≡ i = omega (arith, at) in grind (
+        arith,
+        get_or,
+        get_or_default,
       )
 
   all_in : AllByRecursion (λ (run : List PeriodicEvent). AllByRecursion (IsIn network) run)

@@ -46,11 +46,12 @@ module _ (network : TimedParts) (some : 1 ≤ network.period) (short : network.p
       let passes = subst (λ way. IfSome way (λ way. leads (event, next) way ≡ true)) found.1
       (found_passes (leads (event, next)) network.activities) in
       let is = subst (λ way. IfSome way (IsFit network)) found.1
-      (found_has (IsFit network) (leads (event, next)) network.activities fit) in
-      let takes = departure_drives event.kind found.0 departs
-      (leads_kind (event, next) found.0 passes) is.takes_time in
-      let low = (minutes_are network some short found.0).0 in
-      subst (λ way. 1 ≤ minutes_on network way) (sym found.1) (omega (arith, takes, low))
+      (found_has (IsFit network) (leads (event, next)) network.activities fit) in grind (
+        arith,
+        departure_drives,
+        leads_kind,
+        minutes_are,
+      )
 
   run_takes : (run : List PeriodicEvent) → IsGoodRun network run
       → (get_or (timed_from network 0 run) 0 no_timed).minutes

@@ -1,7 +1,7 @@
 -- Trips, copies and timed events that are added one by one.
-use Rattle.std.proofs.Common.{◌≡◌, ℕ, ◌+◌, ◌*◌, ◌<◌, ◌≤◌, arith, List, [], ◌∷◌, ◌++◌, length, drop}
-use Rattle.std.proofs.Common.{get_or, refl, ap, sym, ◌∙◌, Option}
-use Rattle.std.proofs.lemmas.List.{append_assoc, append-nil, at_drop_more, at_drop_all}
+use Rattle.plan_num.proofs.Common.{◌≡◌, ℕ, ◌+◌, ◌*◌, ◌<◌, ◌≤◌, arith, List, [], ◌∷◌, ◌++◌, length}
+use Rattle.plan_num.proofs.Common.{drop, get_or, refl, ap, sym, ◌∙◌, Option, append_assoc}
+use Rattle.plan_num.proofs.Common.{append-nil, at_drop_more, at_drop_all}
 use Rattle.std.proofs.lemmas.List.Sums.{sum_by-drop_more}
 use Rattle.event_tables.proofs.Common.{PeriodicEvent, PeriodicActivity}
 use Rattle.roll_out.specs.declared.timed_event.TimedEvent.{TimedEvent}

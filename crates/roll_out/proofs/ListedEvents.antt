@@ -32,11 +32,7 @@ day_ids n (at ∷ departures) =
     let trip : TripParts = record { first = n; start = at.0; run = at.1 } in
     let rest = day_events (numbered_trips (n + length at.1) departures) in
     let size = length-append (trip_events trip) rest ∙ ap (λ k. k + length rest) (trip_size trip) in
-    map-append id_of (trip_events trip) rest
-    ∙ ap (λ ids. ids ++ map id_of rest) (trip_ids at.0 n at.1)
-    ∙ ap (λ ids. range_with_len n (length at.1) ++ ids) (day_ids (n + length at.1) departures)
-    ∙ sym (range_parts n (length at.1) (length rest))
-    ∙ ap (range_with_len n) (sym size)
+    grind (arith, map-append, trip_ids, range_parts, day_ids (n + length at.1) departures)
 
 -- their ids are their places
 pub events_placed : (network : TimedParts) (day : Day)

@@ -1,7 +1,7 @@
 -- Neighbours in a run, one after the other.
-use Rattle.std.proofs.Common.{◌≡◌, ℕ, zero, suc, ◌+◌, ◌-◌, ◌<◌, ◌≤◌, arith, List, [], ◌∷◌, ◌++◌, length, take, get_or, refl, ap, ◌∙◌}
-use Rattle.std.specs.List.{zip}
-use Rattle.std.proofs.lemmas.List.{take_all, take_more}
+use Rattle.plan_num.proofs.Common.{◌≡◌, ℕ, zero, suc, ◌+◌, ◌-◌, ◌<◌, ◌≤◌, arith, List, [], ◌∷◌}
+use Rattle.plan_num.proofs.Common.{◌++◌, length, take, get_or, refl, ap, ◌∙◌, zip, take_all}
+use Rattle.plan_num.proofs.Common.{take_more}
 use Rattle.event_tables.proofs.Common.{PeriodicEvent, neighbours}
 
 -- an event with the one behind it

@@ -1,12 +1,9 @@
 -- The drives and waits at the events that they leave.
-use Rattle.plan_num.proofs.Common.{◌≡◌, ◌∙◌, ◌==◌, ◌||◌, not, Bool, arith, true, false, List, []}
-use Rattle.plan_num.proofs.Common.{◌∷◌, Some, filter, find, length, slice_get, refl, ap, sym}
-use Rattle.plan_num.proofs.Common.{cases_Bool, false≢true, false_from_ne_true, or_left, or_right}
-use Rattle.plan_num.proofs.Common.{length-filter, none-some, same_Some}
-use Rattle.event_tables.proofs.Common.{EventKind, PeriodicActivity, PeriodicEvent, PeriodicKind}
-use Rattle.event_tables.proofs.Common.{lacks_way, leads, same_kind, way_on}
-use Rattle.event_tables.specs.declared.event_kind.EventKind.TheVariants as event
-use Rattle.event_tables.specs.declared.periodic_kind.PeriodicKind.TheVariants as kind
+use Rattle.plan_num.proofs.Common.{◌≡◌, ◌∙◌, ◌==◌, not, Bool, arith, true, false, List, [], ◌∷◌}
+use Rattle.plan_num.proofs.Common.{Some, filter, find, length, slice_get, refl, ap, sym, cases_Bool}
+use Rattle.plan_num.proofs.Common.{false≢true, false_from_ne_true, length-filter, none-some}
+use Rattle.plan_num.proofs.Common.{same_Some}
+use Rattle.event_tables.proofs.Common.{PeriodicActivity, PeriodicEvent, lacks_way, leads}
 use Rattle.roll_out.specs.TimedRuns.{TimedParts}
 use Rattle.roll_out.specs.TimedRuns.{way_on as way_from}
 use Rattle.roll_out.specs.Plans.{leaves}
@@ -25,11 +22,6 @@ filter_within : {X : Type 0} (test other : X → Bool)
 filter_within test other more [] = refl
 filter_within test other more (x ∷ xs) =
     grind (arith, cases_Bool, fails, filter_within test other more xs)
-
-way_kind : (of : EventKind) (at : PeriodicKind) → same_kind at (way_on of) ≡ true
-    → (same_kind at kind.Drive || same_kind at kind.Wait) ≡ true
-way_kind event.Departure at is = or_left _ _ is
-way_kind event.Arrival at is = or_right _ _ is
 
 leads_on : (pair : PeriodicEvent × PeriodicEvent) (activity : PeriodicActivity)
     → leads pair activity ≡ true → leaves pair.0.id activity ≡ true

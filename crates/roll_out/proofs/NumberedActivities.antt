@@ -1,6 +1,6 @@
 -- Activities with their places as ids.
-use Rattle.std.proofs.Common.{◌≡◌, ℕ, ◌+◌, List, [], ◌∷◌, length, map, refl, ap, arith}
-use Rattle.std.specs.List.{AllByRecursion, enumerate_from, range_with_len}
+use Rattle.plan_num.proofs.Common.{◌≡◌, ℕ, ◌+◌, List, [], ◌∷◌, length, map, refl, ap, arith}
+use Rattle.plan_num.proofs.Common.{AllByRecursion, enumerate_from, range_with_len}
 use Rattle.event_tables.proofs.Common.{ExpandedActivity, ExpandedEvent, IsExpandedActivity}
 use Rattle.roll_out.specs.DayActivities.{with_number}
 

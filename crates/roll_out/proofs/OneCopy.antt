@@ -1,8 +1,8 @@
 -- The copies of a periodic event among the events of a day.
 use Rattle.plan_num.proofs.Common.{◌≡◌, ℕ, zero, suc, ◌+◌, ◌-◌, ◌*◌, ◌<◌, ◌≤◌, ◌⊎◌, inl, inr, arith}
-use Rattle.plan_num.proofs.Common.{cond, List, [], ◌∷◌, ◌++◌, length, map, filter, get_or, refl, ap}
-use Rattle.plan_num.proofs.Common.{sym, ◌∙◌, flat_map, range_with_len, enumerate_from, eq-eqb}
-use Rattle.plan_num.proofs.Common.{ne_eqb, cases_lt, get_or-map, get_or_append_left, length-append}
+use Rattle.plan_num.proofs.Common.{List, [], ◌∷◌, ◌++◌, length, map, filter, get_or, refl, ap, sym}
+use Rattle.plan_num.proofs.Common.{◌∙◌, flat_map, range_with_len, enumerate_from, eq-eqb, ne_eqb}
+use Rattle.plan_num.proofs.Common.{cases_lt, get_or-map, get_or_append_left, length-append}
 use Rattle.plan_num.proofs.Common.{length-map, append-nil, filter-append, flat_map-map}
 use Rattle.plan_num.proofs.Common.{get_or-enumerate_from, length-enumerate_from, flat_map-append}
 use Rattle.std.proofs.lemmas.List.{get_or-append_right}
@@ -31,11 +31,8 @@ module _ (id start : ℕ) where
   no_copy n f [] are out = refl
   no_copy n f (at ∷ run) are out =
       let first : at.event.id ≡ f = let e = are in cc in
-      let rest : run_ids run ≡ range_with_len (f + 1) (length run) = let e = are in cc in
-      let others = filter (is_copy id) (map (day_event start) (enumerate_from (n + 1) run)) in
-      ap (λ b. cond b (day_event start (n, at) ∷ others) others)
-      (ne_eqb at.event.id id (differs first out))
-      ∙ no_copy (n + 1) (f + 1) run rest (further out)
+      let rest : run_ids run ≡ range_with_len (f + 1) (length run) = let e = are in cc in grind
+      (arith, ne_eqb, no_copy (n + 1) (f + 1) run rest (further out))
     where
       differs : at.event.id ≡ f → ((id < f) ⊎ (f + suc (length run) ≤ id)) → at.event.id ≡ id → ⊥
       differs first (inl low) e = omega (arith, first, low, e)
@@ -55,13 +52,13 @@ module _ (id start : ℕ) where
   one_copy n f zero (at ∷ run) are is h = grind (arith, eq-eqb, no_copy)
   one_copy n f (suc i) (at ∷ run) are is h =
       let first : at.event.id ≡ f = let e = are in cc in
-      let rest : run_ids run ≡ range_with_len (f + 1) (length run) = let e = are in cc in
-      let others = filter (is_copy id) (map (day_event start) (enumerate_from (n + 1) run)) in
-      let e : n + 1 + i ≡ n + suc i = omega arith in
-      ap (λ b. cond b (day_event start (n, at) ∷ others) others)
-      (ne_eqb at.event.id id (λ e. omega (arith, first, is, e)))
-      ∙ one_copy (n + 1) (f + 1) i run rest (omega (arith, is)) (omega (arith, h))
-      ∙ ap (λ k. day_event start (k, get_or run i no_timed) ∷ []) e
+      let rest : run_ids run ≡ range_with_len (f + 1) (length run) = let e = are in cc in grind (
+        arith,
+        ne_eqb,
+        get_or,
+        one_copy (n + 1) (f + 1) i run rest (omega (arith, is)) (omega
+            (arith, h)),
+      )
 
 -- ids in order are those of a first part and of a second one
 first_ids : (xs ys : List ℕ) (f n : ℕ) → xs ++ ys ≡ range_with_len f n → length xs + length ys ≡ n
@@ -70,11 +67,10 @@ first_ids [] ys f n are sized = grind arith
 first_ids (x ∷ xs) ys f zero are sized = absurd (omega (arith, sized))
 first_ids (x ∷ xs) ys f (suc n) are sized =
     let first : x ≡ f = let e = are in cc in
-    let rest : xs ++ ys ≡ range_with_len (f + 1) n = let e = are in cc in
-    let parts = first_ids xs ys (f + 1) n rest (omega (arith, sized)) in
-    let g : f + 1 + length xs ≡ f + suc (length xs) = omega arith in (
-      ap (λ y. y ∷ xs) first ∙ ap (λ some. f ∷ some) parts.0,
-      parts.1 ∙ ap (λ a. range_with_len a (length ys)) g,
+    let rest : xs ++ ys ≡ range_with_len (f + 1) n = let e = are in cc in grind (
+      arith,
+      first_ids xs
+          ys (f + 1) n rest (omega (arith, sized)),
     )
 
 module _ (period : ℕ) where
@@ -107,14 +103,7 @@ module _ (period : ℕ) where
             copy_id (copies_at n plan (i, get_or plan.run i no_timed)) k,
             copy_time period (copies_at n plan (i, get_or plan.run i no_timed)) k,
           ) ∷ []
-      one k =
-          let at = get_or plan.run i no_timed in
-          let e : n + k * length plan.run + i ≡ n + i + k * length plan.run = omega arith in
-          let g : plan.start + k * period + at.minutes
-          ≡ plan.start + at.minutes + k * period = omega arith in
-          ap (map place_of) (one_copy (f + i) (plan.start + k * period) (n + k * length plan.run) f
-          i plan.run are refl h)
-          ∙ (λ j. (e j, g j) ∷ [])
+      one k = grind (arith, get_or, one_copy)
 
   -- no copy of an event that is not of the plan
   plan_lacks : (n f id : ℕ) (plan : PlanParts) → run_ids plan.run
@@ -152,8 +141,7 @@ module _ (period : ℕ) where
       are
       (sym (length-append (run_ids plan.run) (all_ids plans))) in
       let size = length-map plan.run (λ (at : TimedEvent). at.event.id) in
-      let mine : run_ids plan.run ≡ range_with_len f (length plan.run) = parts.0
-      ∙ ap (range_with_len f) size in
+      let mine : run_ids plan.run ≡ range_with_len f (length plan.run) = grind (arith, size) in
       let later = n + plan.trips * length plan.run in
       ap (filter (is_copy id)) (flat_map-append trip_events (plan_trips period n plan)
       (trips_by period later plans))
@@ -192,10 +180,12 @@ module _ (period : ℕ) where
         ∙ get_or-map (copies_at n plan) (enumerate_from 0 plan.run) i (0, no_timed) no_copies
         (omega (arith, length-enumerate_from 0 plan.run, h))
         ∙ ap (copies_at n plan) (get_or-enumerate_from 0 plan.run i (0, no_timed) h)
-        ∙ ap (λ k. copies_at n plan (k, get_or plan.run i no_timed)) e in
-        ap (λ ys. map place_of (firsts ++ ys))
-        (plans_lack later (f + length plan.run) (f + i) plans theirs (omega (arith, h)))
-        ∙ ap (map place_of) (append-nil firsts) ∙ plan_has n f i plan mine h ∙ ap told (sym here)
+        ∙ ap (λ k. copies_at n plan (k, get_or plan.run i no_timed)) e in grind (
+          arith,
+          plans_lack,
+          append-nil,
+          plan_has,
+        )
 
     outside : length plan.run ≤ i
         → map place_of (filter (is_copy (f + length plan.run + (i - length plan.run)))

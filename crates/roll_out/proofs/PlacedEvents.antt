@@ -1,6 +1,6 @@
 -- Events whose ids are their places, and activities between them.
 use Rattle.plan_num.proofs.Common.{◌≡◌, ℕ, zero, suc, ◌+◌, ◌-◌, ◌<◌, ◌≤◌, ◌==◌, ◌⊎◌, inl, inr}
-use Rattle.plan_num.proofs.Common.{arith, Bool, true, false, ◌&&◌, ◌||◌, List, [], ◌∷◌, length, map}
+use Rattle.plan_num.proofs.Common.{arith, Bool, false, ◌&&◌, ◌||◌, List, [], ◌∷◌, length, map}
 use Rattle.plan_num.proofs.Common.{get_or, refl, ap, sym, ◌∙◌, list_any, range_with_len, eq-eqb}
 use Rattle.plan_num.proofs.Common.{ne_eqb, get_or-map, get_or-range_with_len}
 use Rattle.std.proofs.Math.Bool.{or-false as or_false}
@@ -20,9 +20,11 @@ module _ (p : PeriodicEvent → Bool) (k : ℕ) (only : (x : PeriodicEvent) → 
   none_with a (x ∷ xs) are out =
       let first : x.id ≡ a = let e = are in cc in
       let rest : map (λ (x : PeriodicEvent). x.id) xs
-      ≡ range_with_len (a + 1) (length xs) = let e = are in cc in
-      ap (λ b. b || list_any p xs) (only x (differs first out))
-      ∙ none_with (a + 1) xs rest (further out)
+      ≡ range_with_len (a + 1) (length xs) = let e = are in cc in grind (
+        arith,
+        none_with (a + 1) xs
+            rest (further out),
+      )
     where
       differs : x.id ≡ a → ((k < a) ⊎ (a + suc (length xs) ≤ k)) → x.id ≡ k → ⊥
       differs first (inl low) e = omega (arith, first, low, e)
@@ -40,9 +42,11 @@ module _ (p : PeriodicEvent → Bool) (k : ℕ) (only : (x : PeriodicEvent) → 
   any_with a (suc i) (x ∷ xs) d are at h =
       let first : x.id ≡ a = let e = are in cc in
       let rest : map (λ (x : PeriodicEvent). x.id) xs
-      ≡ range_with_len (a + 1) (length xs) = let e = are in cc in
-      ap (λ b. b || list_any p xs) (only x (λ e. omega (arith, first, at, e)))
-      ∙ any_with (a + 1) i xs d rest (omega (arith, at)) (omega (arith, h))
+      ≡ range_with_len (a + 1) (length xs) = let e = are in cc in grind (
+        arith,
+        any_with (a + 1) i
+            xs d rest (omega (arith, at)) (omega (arith, h)),
+      )
 
 module _ (events : List PeriodicEvent) (are : AreNumbered (λ event. event.id) events)
     (at : PeriodicActivity)
@@ -55,13 +59,7 @@ module _ (events : List PeriodicEvent) (are : AreNumbered (λ event. event.id) e
 
   other_to : (event next : PeriodicEvent) → (next.id ≡ at.to → ⊥) → goes_between at event next
       ≡ false
-  other_to event next other =
-      ap (λ b. at.from == event.id && b && joins at.kind event next)
-      (ne_eqb at.to next.id (λ e. other (sym e))) ∙ by (at.from == event.id)
-    where
-      by : (b : Bool) → (b && false && joins at.kind event next) ≡ false
-      by true = refl
-      by false = refl
+  other_to event next other = grind (arith, ne_eqb)
 
   -- an activity from no event is not placed
   pub unknown_from : ((at.from < 1) ⊎ (length events < at.from)) → false ≡ is_placed events at

@@ -1,7 +1,7 @@
 -- Each trip is of a run that goes on by drives and waits, and what follows for its events.
-use Rattle.std.proofs.Common.{◌≡◌, ℕ, ◌+◌, ◌≤◌, arith, true, false, All, IfSome, List, [], ◌∷◌}
-use Rattle.std.proofs.Common.{◌++◌, length, map, Option, Some, None, refl, ap, subst, sym}
-use Rattle.std.specs.List.{flat_map, enumerate_from, AllByRecursion}
+use Rattle.plan_num.proofs.Common.{◌≡◌, ℕ, ◌+◌, ◌≤◌, arith, true, false, All, IfSome, List, [], ◌∷◌}
+use Rattle.plan_num.proofs.Common.{◌++◌, length, map, Option, Some, None, refl, ap, subst, sym}
+use Rattle.plan_num.proofs.Common.{flat_map, enumerate_from, AllByRecursion}
 use Rattle.event_tables.proofs.Common.{EventKind, ExpandedEvent, PeriodicActivity, PeriodicEvent}
 use Rattle.event_tables.proofs.Common.{IsExpandedActivity, stands_before, is_arrival, is_sync}
 use Rattle.event_tables.proofs.Common.{runs_of, leads, same_kind}

@@ -88,13 +88,15 @@ module _ (stops : Option (List ℤ)) where
       → input_faults (trip_input stops) text ≡ []
   trips_accepted trips text few rise good back =
       let rows = rows_by trip_cells trips in
-      let same = records_back trip trip_cells trip_same trips in
-      accepted (trip_input stops) rows text back
-      (under_limit counted.Trips 2000 (records (trip_input stops) rows)
-      (subst (λ some. length some ≤ 2000) (sym same) few))
-      (subst (KeepRules (trip_rules stops) []) (sym same)
-      (all_keep (trip_rules stops) start_id TripGood trip_keeps trips rise good))
-      (λ at is. refl)
+      let same = records_back trip trip_cells trip_same trips in grind (
+        arith,
+        accepted,
+        under_limit,
+        KeepRules,
+        all_keep,
+        start_id,
+        trip_keeps,
+      )
 
 -- ---- texts that are read again
 

@@ -1,7 +1,6 @@
 -- Which files the stage of the roll-out makes, and which it names where it refuses a row.
-use Rattle.std.proofs.Common.{arith, ◌≡◌, ℕ, Bool, true, List, [], ◌∷◌, Err, Ok, ap, lit<}
-use Rattle.tables.proofs.Common.{ColumnKind, Counted, FileId, Refusal, RowWhy, limit_faults}
-use Rattle.tables.proofs.Common.{row_limit, NamesInput, AllName}
+use Rattle.plan_num.proofs.Common.{arith, ◌≡◌, ℕ, Bool, true, List, [], ◌∷◌, Err, Ok, ap, lit<}
+use Rattle.tables.proofs.Common.{ColumnKind, FileId, Refusal, RowWhy, NamesInput, AllName}
 use Rattle.tables.specs.declared.counted.Counted.TheVariants as counted
 use Rattle.giv_files.proofs.Common.{Made, MakesAs, ids_of, BundleParts, made_unless}
 use Rattle.tables.specs.declared.refusal.Refusal.TheVariants as refusal
@@ -14,11 +13,6 @@ pub rollout_stage_makes : (bundle : BundleParts) (made : Made) → rollout_stage
 unfolding rollout_stage
 rollout_stage_makes bundle made is =
     (0, lit< tt, ap (λ (made : Made). ids_of made.files) (made_unless _ _ made is))
-
--- a list that is too long names no file
-length_names : {X : Type 0} (test : FileId → Bool) (what : Counted) (most : ℕ) (rows : List X)
-    → AllName test (limit_faults (row_limit what most ∷ []) rows)
-length_names {X} test what most rows = grind arith
 
 -- rules of runs name the file of the rows
 pub rows_name : (test : FileId → Bool) (file : FileId) → test file ≡ true

@@ -1,8 +1,8 @@
 -- Runs that are read from the left.
-use Rattle.std.proofs.Common.{◌≡◌, ℕ, suc, ◌==◌, ◌-◌, ◌+◌, ◌<◌, ◌≤◌, arith, true, false, cond, List}
-use Rattle.std.proofs.Common.{[], ◌∷◌, ◌++◌, length, take, drop, get_or, refl, ap}
-use Rattle.std.proofs.lemmas.List.{append_assoc, drop_more, drop_all, take_more, take_all}
-use Rattle.std.proofs.lemmas.Bool.{eqb-true, cases_Bool}
+use Rattle.plan_num.proofs.Common.{◌≡◌, ℕ, suc, ◌==◌, ◌-◌, ◌+◌, ◌<◌, ◌≤◌, arith, true, false, cond}
+use Rattle.plan_num.proofs.Common.{List, [], ◌∷◌, ◌++◌, length, take, drop, get_or, refl, ap}
+use Rattle.plan_num.proofs.Common.{append_assoc, drop_more, drop_all, take_more, take_all, eqb-true}
+use Rattle.plan_num.proofs.Common.{cases_Bool}
 use Rattle.event_tables.proofs.Common.{PeriodicEvent, same_run, before_runs}
 use Rattle.event_tables.specs.PeriodicRuns.{runs_of}
 

@@ -1,10 +1,9 @@
 -- The plans of the runs of a timetable.
-use Rattle.plan_num.proofs.Common.{◌≡◌, ℕ, suc, ◌+◌, ◌*◌, ◌-◌, ◌/◌, ◌<◌, ◌≤◌, ◌≤ℤ◌, pos, nat_le}
-use Rattle.plan_num.proofs.Common.{arith, Bool, true, false, cond, All, IfSome, List, [], ◌∷◌}
-use Rattle.plan_num.proofs.Common.{length, map, get_or, Option, Some, None, refl, ap, subst, sym}
-use Rattle.plan_num.proofs.Common.{◌∙◌, flat_map, AllByRecursion, length-map, map-append}
-use Rattle.plan_num.proofs.Common.{recursion_from_All, All-from_recursion, ints, div-add-mod'}
-use Rattle.plan_num.proofs.Common.{mul-le, get_or-map, get_or-range_with_len}
+use Rattle.plan_num.proofs.Common.{◌≡◌, ℕ, suc, ◌+◌, ◌*◌, ◌-◌, ◌<◌, ◌≤◌, ◌≤ℤ◌, pos, nat_le, arith}
+use Rattle.plan_num.proofs.Common.{All, IfSome, List, [], ◌∷◌, length, map, get_or, Option, Some}
+use Rattle.plan_num.proofs.Common.{None, refl, ap, subst, sym, ◌∙◌, flat_map, AllByRecursion}
+use Rattle.plan_num.proofs.Common.{length-map, map-append, recursion_from_All, All-from_recursion}
+use Rattle.plan_num.proofs.Common.{ints, div-add-mod', mul-le, get_or-map, get_or-range_with_len}
 use Rattle.tables.proofs.Common.{events_p_columns, activities_p_columns, InColumns}
 use Rattle.event_tables.proofs.Common.{PeriodicActivity, PeriodicEvent, periodic_event_cells}
 use Rattle.event_tables.proofs.Common.{periodic_activity_cells, runs_of, leads, IsOneOf}
@@ -80,10 +79,11 @@ module _ (network : TimedParts) (some : 1 ≤ network.period) (short : network.p
     timely (event ∷ run) minutes n soon few fit =
         let way = way_on network event run in
         let is = way_between event run in
-        let more = way_short way is in (
-          record { fits = fit.0; way_fits = way_fits way is; soon = omega (arith, soon, few) },
-          timely run (minutes + minutes_on network way) (n + 1) (omega (arith, soon, more))
-              (omega (arith, few)) fit.1,
+        let more = way_short way is in grind (
+          arith,
+          way_fits,
+          timely run (minutes + minutes_on
+              network way) (n + 1) (omega (arith, soon, more)) (omega (arith, few)) fit.1,
         )
 
 -- ---- plans
@@ -109,8 +109,7 @@ module _ (network : TimedParts) (is : IsTimed network) where
   whole = runs_whole network.events
 
   pub runs_in : AllByRecursion (λ (run : List PeriodicEvent). length run ≤ 4000) all_runs
-  runs_in = runs_short all_runs 4000 (let few = is.events_are.few in omega
-      (arith, ap length whole, few))
+  runs_in = runs_short all_runs 4000 (let few = is.events_are.few in grind (arith, whole))
 
   pub ids_in : AllByRecursion (λ (run : List PeriodicEvent). AllByRecursion
       (λ (event : PeriodicEvent). IsOneOf (length network.events) event.id) run) all_runs
@@ -145,17 +144,7 @@ module _ (network : TimedParts) (is : IsTimed network) (day : Day) (in_week : Is
   start_early time within = grind arith
 
   count_few : (start : ℕ) → start_count network.period day start ≤ 10081
-  count_few start = by (nat_le start day.latest)
-    where
-      by : (b : Bool) → cond b ((day.latest - start) / network.period + 1) 0 ≤ 10081
-      by true =
-          let parts = div-add-mod' (day.latest - start) network.period in
-          let more = mul-le ((day.latest - start) / network.period) 1
-          ((day.latest - start) / network.period)
-          network.period (omega arith) is.some in
-          let end = in_week.1 in
-          omega (arith, parts, more, end)
-      by false = omega arith
+  count_few start = grind (arith, nat_le, div-add-mod', mul-le)
 
   plan_sound : (run : List PeriodicEvent) → 1 ≤ length run → length run ≤ 4000
       → AllByRecursion (λ (event : PeriodicEvent). InColumns events_p_columns

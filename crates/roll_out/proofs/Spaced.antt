@@ -123,30 +123,30 @@ module _ (period : ℕ) (some : 1 ≤ period) (day : Day) (time : ℕ) where
     room : skipped + (last + 1) ≤ all
     room =
         let low = last_is in
-        let at = later_ones last in
-        let inside : (skipped + last) * period ≤ day.latest = omega (arith, low, at, within) in
-        let few = div_low (skipped + last) day.latest period some inside in
-        omega (arith, few)
+        let at = later_ones last in grind (arith, div_low)
 
     inside_test : (k : ℕ) → skipped ≤ k → k < skipped + (last + 1) → tests k ≡ true
     inside_test k low high =
         let j : ℕ = k - skipped in
-        let e : k ≡ skipped + j = omega (arith, low) in
-        let at : at_time k ≡ start + j * period = ap at_time e ∙ later_ones j in
-        let far = mul-le j period last period (omega (arith, e, high)) (omega arith) in
-        let most = last_is in
-        let first = first_in in
-        in_time day (at_time k) (omega (arith, at, first)) (omega (arith, at, far, most, within))
+        let e : k ≡ skipped + j = omega (arith, low) in grind (
+          arith,
+          later_ones,
+          mul-le,
+          last_is,
+          first_in,
+          in_time,
+        )
 
     above_test : (k : ℕ) → skipped + (last + 1) ≤ k → tests k ≡ false
     above_test k high =
         let j : ℕ = k - skipped in
-        let e : k ≡ skipped + j = omega (arith, high) in
-        let at : at_time k ≡ start + j * period = ap at_time e ∙ later_ones j in
-        let far = mul-le (last + 1) period j period (omega (arith, e, high)) (omega arith) in
-        let one : (last + 1) * period ≡ last * period + period = grind arith in
-        let past = past_last in
-        not_late day (at_time k) (omega (arith, at, far, one, past, within))
+        let e : k ≡ skipped + j = omega (arith, high) in grind (
+          arith,
+          later_ones,
+          mul-le,
+          past_last,
+          not_late,
+        )
 
     some_starts : filter tests (range_with_len 0 all) ≡ range_with_len skipped (last + 1)
     some_starts = window tests skipped (last + 1) all room early_test inside_test above_test
@@ -166,10 +166,7 @@ module _ (period : ℕ) (some : 1 ≤ period) (day : Day) (time : ℕ) where
   from_first : (n : ℕ) → map at_time (range_with_len skipped n)
       ≡ map (λ k. start + k * period) (range_with_len 0 n)
   from_first n =
-      let e : skipped ≡ skipped + 0 = omega arith in
-      ap (λ a. map at_time (range_with_len a n)) e ∙ shifted at_time skipped 0 n
-      ∙ same_map (λ k. at_time (skipped + k)) (λ k. start + k * period) later_ones
-      (range_with_len 0 n)
+      let e : skipped ≡ skipped + 0 = omega arith in grind (arith, shifted, same_map, later_ones)
 
   passing : (b : Bool) → nat_le start day.latest ≡ b
       → filter tests (range_with_len 0 all) ≡ range_with_len skipped (start_count period day start)

@@ -6,7 +6,7 @@ use Rattle.event_tables.proofs.Common.{PeriodicEvent, runs_of}
 use Rattle.roll_out.specs.declared.day.Day.{Day}
 use Rattle.roll_out.specs.declared.timed_event.TimedEvent.{TimedEvent}
 use Rattle.roll_out.specs.DayTrips.{departures_of, numbered_trips, trips_of}
-use Rattle.roll_out.specs.Plans.{PlanParts, plan_of, plan_trips, trip_after, trips_by}
+use Rattle.roll_out.specs.Plans.{PlanParts, plan_of, trip_after, trips_by}
 use Rattle.roll_out.specs.TimedRuns.{TimedParts}
 use Rattle.roll_out.proofs.Spaced.{starts_are}
 
@@ -23,11 +23,10 @@ unfolding numbered_trips
 numbered_append n [] others =
     let e : n ≡ n + size_of [] = omega arith in ap (λ k. numbered_trips k others) e
 numbered_append n (at ∷ some) others =
-    let step = sum_by-cons (λ (at : ℕ × List TimedEvent). length at.1) at some in
-    let e : n + length at.1 + size_of some ≡ n + size_of (at ∷ some) = omega (arith, step) in
-    ap (λ rest. record { first = n; start = at.0; run = at.1 } ∷ rest)
-    (numbered_append (n + length at.1) some others
-    ∙ ap (λ k. numbered_trips (n + length at.1) some ++ numbered_trips k others) e)
+    let step = sum_by-cons (λ (at : ℕ × List TimedEvent). length at.1) at some in grind (
+      arith,
+      numbered_append (n + length at.1) some others,
+    )
 
 module _ (network : TimedParts) (day : Day) (some : 1 ≤ network.period) where
   module _ (plan : PlanParts) where
@@ -46,11 +45,7 @@ module _ (network : TimedParts) (day : Day) (some : 1 ≤ network.period) where
     spread_size a zero = omega arith
     spread_size a (suc count) =
         let step = sum_by-cons (λ (at : ℕ × List TimedEvent). length at.1) (departs a)
-        (map departs (range_with_len (a + 1) count)) in
-        let one : suc count * length plan.run
-        ≡ length plan.run + count * length plan.run = grind arith in
-        let rest = spread_size (a + 1) count in
-        omega (arith, step, one, rest)
+        (map departs (range_with_len (a + 1) count)) in grind (arith, spread_size (a + 1) count)
 
   departures_are : (run : List PeriodicEvent)
       → departures_of network day run
@@ -66,17 +61,13 @@ module _ (network : TimedParts) (day : Day) (some : 1 ≤ network.period) where
       let plan = plan_of network day run in
       let size : size_of (departures_of network day run) ≡ plan.trips * length plan.run =
       ap size_of (departures_are run) ∙ spread_size plan 0 plan.trips in
-      let e : n ≡ n + 0 * length plan.run = omega arith in
-      numbered_append n (departures_of network day run) (flat_map (departures_of network day) runs)
-      ∙ ap (λ k. numbered_trips n (departures_of network day run)
-      ++ numbered_trips (n + k) (flat_map (departures_of network day) runs)) size
-      ∙ ap (λ trips. trips ++ numbered_trips (n + plan.trips * length plan.run)
-      (flat_map (departures_of network day) runs))
-      (ap (numbered_trips n) (departures_are run)
-      ∙ ap (λ k. numbered_trips k (map (departs plan) (range_with_len 0 plan.trips))) e
-      ∙ spread plan n 0 plan.trips)
-      ∙ ap (λ rest. plan_trips network.period n plan ++ rest)
-      (day_trips (n + plan.trips * length plan.run) runs)
+      let e : n ≡ n + 0 * length plan.run = omega arith in grind (
+        arith,
+        numbered_append,
+        departures_are,
+        spread,
+        day_trips (n + plan.trips * length plan.run) runs,
+      )
 
   -- the trips of the plans of all runs
   pub trips_are : trips_by network.period 1 (map (plan_of network day) (runs_of network.events))

@@ -37,9 +37,7 @@ fresh_hand folder =
     by : (name : List ℕ) (kept : Bool) → is_among name keep_names ≡ kept
         → cond (is_hand name) (cond (not kept) (files.get folder name) None) None
         ≡ cond (is_hand name) (files.get folder name) None
-    by name true is =
-        ap (λ hand. cond hand None None) (kept_no_hand name is)
-        ∙ sym (ap (λ hand. cond hand (files.get folder name) None) (kept_no_hand name is))
+    by name true is = grind (arith, kept_no_hand)
     by name false is = refl
 
 pub fresh_none : (folder : Folder) (at : Stage) → files.get (without_keep folder) (keep_name at) ≡ None

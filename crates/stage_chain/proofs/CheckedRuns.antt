@@ -6,9 +6,6 @@ use Rattle.plan_num.proofs.Common.{ap, subst, sym, ◌∙◌, arith, option_or}
 use Rattle.plan_files.proofs.Common.{Folder}
 use Rattle.giv_files.proofs.Common.{Made, MadeFile, Stage, BundleParts, stage_makes}
 use Rattle.tables.proofs.Common.{Refusal}
-use Rattle.tables.specs.declared.refusal.Refusal.TheVariants as refusal
-use Rattle.stage_chain.specs.declared.cause.Cause.{Cause}
-use Rattle.stage_chain.specs.declared.cause.Cause.TheVariants as cause
 use Rattle.stage_chain.specs.declared.finding.Finding.{Finding}
 use Rattle.command_line.specs.declared.ends.RunEnd.TheVariants as end
 use Rattle.stage_chain.specs.Built.{cause_of, files_of, made, trace_of, trace_under}
@@ -17,7 +14,7 @@ use Rattle.stage_chain.specs.Chain.{stage_place, to_run, visit_of}
 use Rattle.stage_chain.specs.Checks.{check_of, first_found, found_under, judge, lacks_file, standing}
 use Rattle.stage_chain.specs.Hand.{hand_of}
 use Rattle.stage_chain.specs.Passing.{RunsPass}
-use Rattle.stage_chain.specs.Reports.{end_of, end_of_refusal}
+use Rattle.stage_chain.specs.Reports.{end_of}
 use Rattle.stage_chain.specs.Right.{AllStandRight, files_by, text_in}
 use Rattle.stage_chain.specs.Kept.{IsKeptHonest}
 use Rattle.stage_chain.specs.Runs.{Trusts, after, run_over, started}
@@ -134,19 +131,7 @@ module _ (S : StageParts) (laws : AreStages S) where
 
 no_cause : (halt : Option Halt) → end_of (cause_of halt) ≡ end.Done → halt ≡ None
 no_cause None done = refl
-no_cause (Some halt) done = absurd (ends halt.cause done)
-  where
-    refused : (reason : Refusal) → end_of_refusal reason ≡ end.Done → ⊥
-    refused (refusal.BadRow file row why) done = absurd (cc)
-    refused (refusal.TooMany what count) done = absurd (cc)
-    refused refusal.NoSolution done = absurd (cc)
-    refused (refusal.Spent entries) done = absurd (cc)
-
-    ends : (why : Cause) → end_of (Some why) ≡ end.Done → ⊥
-    ends (cause.BadConfig reason) done = absurd (cc)
-    ends (cause.Missing file) done = absurd (cc)
-    ends (cause.TooLong file) done = absurd (cc)
-    ends (cause.Refused at reason) done = refused reason done
+no_cause (Some halt) done = grind arith
 
 module _ (S : StageParts) (laws : AreStages S) where
   module _ (folder : Folder) (values : List ℤ) where

@@ -1,7 +1,7 @@
 -- Names that differ from one another.
-use Rattle.plan_num.proofs.Common.{◌≡◌, ℕ, Bool, true, false, cond, not, ◌||◌, List, [], ◌∷◌, ◌++◌}
-use Rattle.plan_num.proofs.Common.{filter, refl, ap, sym, ◌∙◌, list_all, bytes_eq, and_parts}
-use Rattle.plan_num.proofs.Common.{and_from, not-true, list_all-append, bytes_eq-Decides}
+use Rattle.plan_num.proofs.Common.{arith, ◌≡◌, ℕ, Bool, true, false, cond, not, List, [], ◌∷◌, ◌++◌}
+use Rattle.plan_num.proofs.Common.{filter, refl, sym, ◌∙◌, list_all, bytes_eq, and_parts, and_from}
+use Rattle.plan_num.proofs.Common.{not-true, list_all-append, bytes_eq-Decides}
 use Rattle.stage_chain.specs.Hand.{is_among}
 use Rattle.stage_chain.specs.StageLists.{differing, differs_from}
 
@@ -18,8 +18,7 @@ pub all_filter : {X : Type 0} (p q : X → Bool) (xs : List X) → list_all p xs
     → list_all p (filter q xs) ≡ true
 all_filter p q [] h = refl
 all_filter p q (x ∷ xs) h =
-    let parts = and_parts _ _ h in
-    by (q x) parts.0 (all_filter p q xs parts.1)
+    let parts = and_parts _ _ h in grind (arith, all_filter p q xs parts.1)
   where
     by : (b : Bool) → p x ≡ true → list_all p (filter q xs) ≡ true
         → list_all p (cond b (x ∷ filter q xs) (filter q xs)) ≡ true
@@ -31,23 +30,14 @@ abbrev pub Differ : List (List ℕ) → List (List ℕ) → Type 0
 Differ names others = list_all (differs_from others) names ≡ true
 
 pub same_way : (name other : List ℕ) → bytes_eq name other ≡ bytes_eq other name
-same_way name other = by (bytes_eq name other) (bytes_eq other name) refl refl
-  where
-    by : (b c : Bool) → bytes_eq name other ≡ b → bytes_eq other name ≡ c → b ≡ c
-    by true true h k = refl
-    by true false h k =
-        sym (sym k ∙ (bytes_eq-Decides other name).1 (sym ((bytes_eq-Decides name other).0 h)))
-    by false true h k =
-        sym h ∙ (bytes_eq-Decides name other).1 (sym ((bytes_eq-Decides other name).0 k))
-    by false false h k = refl
+same_way name other = grind (arith, bytes_eq-Decides)
 
 -- a name that differs from each of some is not among them
 pub not_among : (names : List (List ℕ)) (name : List ℕ) → differs_from names name ≡ true
     → is_among name names ≡ false
 not_among [] name h = refl
 not_among (other ∷ names) name h =
-    let parts = and_parts _ _ h in
-    ap (λ b. b || is_among name names) (not-true (bytes_eq name other) parts.0) ∙ not_among names name parts.1
+    let parts = and_parts _ _ h in grind (arith, not-true, not_among names name parts.1)
 
 pub none_differ : (names : List (List ℕ)) → Differ names []
 none_differ [] = refl
@@ -58,15 +48,18 @@ front_differ : (names others : List (List ℕ)) (other : List ℕ) → differs_f
 front_differ [] others other h k = refl
 front_differ (name ∷ names) others other h k =
     let first = and_parts _ _ h in
-    let rest = and_parts _ _ k in
-    and_from _ _ (and_from _ _ (ap not (same_way name other) ∙ first.0) rest.0)
-    (front_differ names others other first.1 rest.1)
+    let rest = and_parts _ _ k in grind (
+      arith,
+      and_from,
+      same_way,
+      front_differ names others other
+          first.1 rest.1,
+    )
 
 pub differ_swap : (names others : List (List ℕ)) → Differ names others → Differ others names
 differ_swap [] others h = none_differ others
 differ_swap (name ∷ names) others h =
-    let parts = and_parts _ _ h in
-    front_differ others names name parts.0 (differ_swap names others parts.1)
+    let parts = and_parts _ _ h in grind (arith, front_differ, differ_swap names others parts.1)
 
 pub differ_both : (names others more : List (List ℕ)) → Differ names others → Differ names more
     → Differ names (others ++ more)
@@ -84,16 +77,23 @@ pub differing_parts : (names others : List (List ℕ)) → differing (names ++ o
     → Parts names others
 differing_parts [] others h = record { front = refl; back = h; apart = refl }
 differing_parts (name ∷ names) others h =
-    let parts = and_parts _ _ h in
-    let rest = differing_parts names others parts.1 in
-    let own = all_parts (λ other. not (bytes_eq name other)) names others parts.0 in
-    record { front = and_from _ _ own.0 rest.front; back = rest.back; apart = and_from _ _ own.1 rest.apart }
+    let parts = and_parts _ _ h in grind (
+      arith,
+      all_parts,
+      and_from,
+      differing_parts names others
+          parts.1,
+    )
 
 pub parts_differing : (names others : List (List ℕ)) → Parts names others
     → differing (names ++ others) ≡ true
 parts_differing [] others h = h.back
 parts_differing (name ∷ names) others h =
     let own = and_parts _ _ h.front in
-    let out = and_parts _ _ h.apart in
-    and_from _ _ (all_both (λ other. not (bytes_eq name other)) names others own.0 out.0)
-    (parts_differing names others (record { front = own.1; back = h.back; apart = out.1 }))
+    let out = and_parts _ _ h.apart in grind (
+      arith,
+      and_from,
+      all_both,
+      parts_differing names
+          others (record { front = own.1; back = h.back; apart = out.1 }),
+    )

@@ -1,7 +1,7 @@
 -- A chain ends at a refusal exactly where a stage refuses what it is handed: one from scratch, and one over
 -- what a folder keeps.
-use Rattle.plan_num.proofs.Common.{◌≡◌, ℕ, ℤ, Bool, true, false, cond, All, Contains, List, [], ◌∷◌}
-use Rattle.plan_num.proofs.Common.{◌++◌, Option, Some, None, IfErr, Result, Ok, Err, refl, sym, ◌∙◌}
+use Rattle.plan_num.proofs.Common.{◌≡◌, ℕ, ℤ, Bool, true, false, All, Contains, List, [], ◌∷◌, ◌++◌}
+use Rattle.plan_num.proofs.Common.{Option, Some, None, IfErr, Result, Ok, Err, refl, sym, ◌∙◌}
 use Rattle.plan_num.proofs.Common.{arith, All-cons, Contains-append_right, ⊤}
 use Rattle.plan_files.proofs.Common.{Got, Bytes, Absent, Folder}
 use Rattle.plan_files.specs.declared.store.Got.TheVariants.{TooLong as Long}
@@ -14,7 +14,7 @@ use Rattle.stage_chain.specs.declared.origin.Origin.{Origin}
 use Rattle.stage_chain.specs.declared.origin.Origin.TheVariants as origin
 use Rattle.stage_chain.specs.Built.{cause_of, trace_of}
 use Rattle.stage_chain.specs.Chain.{Halt, Trace, Visit, bundle_told, chain_from, go_on, hand_text, handed}
-use Rattle.stage_chain.specs.Chain.{input_text, is_file, made_text, solved, text_from, texts_of, tried}
+use Rattle.stage_chain.specs.Chain.{input_text, made_text, solved, text_from, texts_of, tried}
 use Rattle.stage_chain.specs.Chain.{visit_of, with_text}
 use Rattle.stage_chain.specs.Kept.{solve_over, trace_over}
 use Rattle.stage_chain.specs.StageParts.{StageParts}
@@ -39,12 +39,7 @@ hand_free optional file Long = tt
 
 made_free : (made : List MadeFile) (file : FileId) → NoneRefused (made_text made file)
 made_free [] file = tt
-made_free (other ∷ made) file = by (is_file other.file file) (made_free made file)
-  where
-    by : (here : Bool) → NoneRefused (made_text made file)
-        → NoneRefused (cond here (Ok other.text) (made_text made file))
-    by true rest = tt
-    by false rest = rest
+made_free (other ∷ made) file = grind (arith, made_free made file)
 
 from_free : (from : Origin) (hand : Folder) (made : List MadeFile) (file : FileId)
     → NoneRefused (text_from from hand made file)
@@ -100,8 +95,7 @@ module _ (run : BundleParts → Result Made Refusal) where
         → EndsAtRefusals rest
         → EndsAtRefusals (go_on (Ok (record { bundle = bundle; made = made })) (λ _. rest))
     made_more bundle made rest fits is ends = record {
-      all = All-cons (IsHanded rest.halt) bundle (handed rest)
-          (record { fits = fits; refused = λ reason e. absurd (never bundle made reason is e) }) ends.all;
+      all = grind (arith, All-cons, never);
       one = λ at reason halt.
           let more = ends.one at reason halt in
           record {
@@ -164,8 +158,7 @@ module _ (run : BundleParts → Result Made Refusal) where
 -- a chain whose settings are refused handed nothing to a stage
 unsettled : (run : BundleParts → Result Made Refusal) (reason : ConfigFault)
     → EndsAtRefusals run (record { visits = []; halt = Some (record { cause = cause.BadConfig reason; given = None }) })
-unsettled run reason =
-    record { all = λ k d inside. absurd (omega (arith, inside)); one = λ at why halt. absurd (cc) }
+unsettled run reason = grind arith
 
 module _ (S : StageParts) (laws : AreStages S) where
   pub ends_at_refusals : (hand : Folder) → EndsAtRefusals S.run (trace_of S hand)

@@ -105,9 +105,12 @@ between : (before own later : List MadeFile) (files : List FileId)
 between before own later [] h k = tt
 between before own later (file ∷ files) h k =
     let first = and_parts _ _ h in
-    let second = and_parts _ _ k in (
-      text_behind before (own ++ later) file (not_among (names_of before) (file_name file) first.0)
-          ∙ text_front own later file (not_among (names_of later) (file_name file) second.0),
+    let second = and_parts _ _ k in grind (
+      arith,
+      text_behind,
+      not_among,
+      names_of,
+      text_front,
       between before own later files first.1 second.1,
     )
 
@@ -131,11 +134,16 @@ module _ (solve : BundleParts → Result Made Refusal)
   visits_within p before [] (visit ∷ visits) halt are h = absurd are
   visits_within p before (stage ∷ stages) (visit ∷ visits) halt are h =
       let parts = all_parts p (map file_name (stage_makes stage)) (names_made_by stages)
-      (ap (list_all p) (sym (names_more stage stages)) ∙ h) in
-      ap (list_all p) (map-append name_of visit.made.files (files_of visits))
-      ∙ all_both p (names_of visit.made.files) (names_of (files_of visits))
-      (own_within stage visit.made.files (own_makes before stage visit are.0) p parts.0)
-      (visits_within p (before ++ visit.made.files) stages visits halt are.1 parts.1)
+      (ap (list_all p) (sym (names_more stage stages)) ∙ h) in grind (
+        arith,
+        map-append,
+        all_both,
+        names_of,
+        own_within,
+        own_makes,
+        visits_within p (before ++ visit.made.files) stages
+            visits halt are.1 parts.1,
+      )
 
   -- and they differ where these do
   pub visits_differ : (before : List MadeFile) (stages : List Stage) (visits : List Visit)

@@ -1,8 +1,8 @@
 -- The inputs of a stage, one after the other.
-use Rattle.std.proofs.Common.{arith, ◌≡◌, ℕ, ℤ, ◌+◌, ◌<◌, ◌≤◌, List, [], ◌∷◌, ◌++◌, length, get_or}
-use Rattle.std.proofs.Common.{drop, Option, Some, None, IfSome, Result, Ok, Err, refl, ap, sym, ◌∙◌}
-use Rattle.std.proofs.Common.{append-nil, append_assoc}
-use Rattle.std.proofs.lemmas.List.{at_drop_more, at_drop_all}
+use Rattle.plan_num.proofs.Common.{arith, ◌≡◌, ℕ, ℤ, ◌+◌, ◌<◌, ◌≤◌, List, [], ◌∷◌, ◌++◌, length}
+use Rattle.plan_num.proofs.Common.{get_or, drop, Option, Some, None, IfSome, Result, Ok, Err, refl}
+use Rattle.plan_num.proofs.Common.{ap, sym, ◌∙◌, append-nil, append_assoc, at_drop_more}
+use Rattle.plan_num.proofs.Common.{at_drop_all}
 use Rattle.plan_files.proofs.Common.{Folder}
 use Rattle.tables.proofs.Common.{FileId}
 use Rattle.giv_files.proofs.Common.{Stage, BundleParts}

@@ -1,5 +1,5 @@
 -- People write the files that no stage makes.
-use Rattle.std.proofs.Common.{◌≡◌, refl}
+use Rattle.plan_num.proofs.Common.{◌≡◌, refl}
 use Rattle.tables.proofs.Common.{FileId}
 use Rattle.tables.specs.declared.file_id.FileId.TheVariants as file
 use Rattle.stage_chain.specs.Chain.{origin_of}

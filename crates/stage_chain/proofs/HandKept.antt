@@ -1,8 +1,8 @@
 -- The files that people write stay as they are.
 use Rattle.plan_num.proofs.Common.{arith, ◌≡◌, ℕ, true, not, List, [], ◌∷◌, ◌++◌, map, Option, Ok}
 use Rattle.plan_num.proofs.Common.{refl, list_all, and_parts, not-true, map-append, list_all-map}
-use Rattle.plan_files.proofs.Common.{Write, Removal, FileFault, write_name, Folder, AreApplied}
-use Rattle.plan_files.proofs.Common.{AreCutShort, AreOutside, outside_both, applied_part, cut_part}
+use Rattle.plan_files.proofs.Common.{Write, Removal, FileFault, Folder, AreApplied, AreCutShort}
+use Rattle.plan_files.proofs.Common.{AreOutside, outside_both, applied_part, cut_part}
 use Rattle.giv_files.proofs.Common.{Made, MadeFile, Stage, MakesAs, ids_of, BundleParts}
 use Rattle.giv_files.proofs.Common.{stage_makes}
 use Rattle.giv_files.specs.declared.stage.Stage.TheVariants as stage
@@ -13,7 +13,7 @@ use Rattle.stage_chain.specs.Built.{files_of}
 use Rattle.stage_chain.specs.Kept.{entry_put, made_over, new_entries, trace_over}
 use Rattle.stage_chain.specs.Progress.{NamesNoHand, SoFar, nothing, with_made}
 use Rattle.stage_chain.specs.Runs.{IsOnce, SameHand, entries_over, is_met, name_of}
-use Rattle.stage_chain.specs.Runs.{put_of, unmet, writes_for, writes_of}
+use Rattle.stage_chain.specs.Runs.{put_of, writes_for, writes_of}
 use Rattle.stage_chain.proofs.Differing.{all_both, all_filter}
 use Rattle.stage_chain.proofs.MadeLists.{made_list}
 use Rattle.stage_chain.proofs.Wishes.{names_in, once_some, outside_some}
@@ -71,15 +71,13 @@ puts_outside : (files : List MadeFile) → AreNoHandFiles files
     → AreOutside is_hand (map put_of files)
 puts_outside [] h = tt
 puts_outside (file ∷ files) h =
-    let parts = and_parts _ _ h in
-    (not-true (is_hand (name_of file)) parts.0, puts_outside files parts.1)
+    let parts = and_parts _ _ h in grind (arith, not-true, puts_outside files parts.1)
 
 pub removals_outside : (names : List (List ℕ)) → list_all (λ name. not (is_hand name)) names ≡ true
     → AreOutside is_hand (map Removal names)
 removals_outside [] h = tt
 removals_outside (name ∷ names) h =
-    let parts = and_parts _ _ h in
-    (not-true (is_hand name) parts.0, removals_outside names parts.1)
+    let parts = and_parts _ _ h in grind (arith, not-true, removals_outside names parts.1)
 
 module _ (S : StageParts) (laws : AreStages S) where
   -- whatever of their files the stages made
@@ -97,20 +95,21 @@ entries_outside : (entries : List Write) → list_all is_kept_name (names_in ent
     → AreOutside is_hand entries
 entries_outside [] h = tt
 entries_outside (entry ∷ entries) h =
-    let parts = and_parts _ _ h in
-    (kept_no_hand (write_name entry) parts.0, entries_outside entries parts.1)
+    let parts = and_parts _ _ h in grind (arith, kept_no_hand, entries_outside entries parts.1)
 
 module _ (S : StageParts) (laws : AreStages S) where
   pub writes_outside : (folder : Folder) → AreOutside is_hand (writes_of S folder)
   unfolding writes_of made_over entries_over
   writes_outside folder =
       let visits = (trace_over S folder (hand_of folder)).visits in
-      let apart = are_apart S laws folder (hand_of folder) in
-      outside_both is_hand (unmet folder (writes_for S (files_of visits))) (new_entries folder visits)
-      (outside_some (λ write. not (is_met folder write)) is_hand (writes_for S (files_of visits))
-      (made_outside S laws (files_of visits)
-      (files_no_hand (files_of visits) (apart.within (λ name. not (is_hand name)) laws.list.no_hand))))
-      (entries_outside (new_entries folder visits) apart.kept)
+      let apart = are_apart S laws folder (hand_of folder) in grind (
+        arith,
+        outside_both,
+        outside_some,
+        made_outside,
+        files_no_hand,
+        entries_outside,
+      )
 
   -- and none two files by one name
   pub writes_once : (folder : Folder) → IsOnce (writes_of S folder)

@@ -1,15 +1,14 @@
 -- Where each stage of a folder is kept, or off without files, the next run has nothing to do.
 use Rattle.plan_num.proofs.Common.{◌≡◌, ℕ, ℤ, Bool, true, false, cond, not, is_some, List, [], ◌∷◌}
 use Rattle.plan_num.proofs.Common.{◌++◌, map, Option, Some, None, Result, Ok, Err, refl, ap, sym}
-use Rattle.plan_num.proofs.Common.{subst, ◌∙◌, append_assoc, append-nil, IfOk, arith, fold, ◌+◌}
-use Rattle.plan_num.proofs.Common.{◌||◌, list_all, list_any, sum_by, and_parts, or_parts}
-use Rattle.plan_num.proofs.Common.{map-append, filter-append}
+use Rattle.plan_num.proofs.Common.{subst, ◌∙◌, append_assoc, append-nil, arith, fold, ◌+◌, ◌||◌}
+use Rattle.plan_num.proofs.Common.{list_all, sum_by, and_parts, or_parts, map-append, filter-append}
 use Rattle.std.specs.FinMap as files
 use Rattle.plan_files.proofs.Common.{Write, Removal, Folder}
 use Rattle.tables.proofs.Common.{FileId, file_name}
 use Rattle.giv_files.proofs.Common.{Made, MadeFile, Stage, MakesAs, ids_of, BundleParts}
 use Rattle.giv_files.proofs.Common.{stage_inputs, stage_makes}
-use Rattle.config_keys.proofs.Common.{ConfigFault, look_in, effective}
+use Rattle.config_keys.proofs.Common.{look_in, effective}
 use Rattle.stage_chain.specs.declared.cause.Cause.{Cause}
 use Rattle.stage_chain.specs.declared.holding.Holding.{Holding}
 use Rattle.stage_chain.specs.declared.holding.Holding.TheVariants as holding
@@ -18,7 +17,7 @@ use Rattle.stage_chain.specs.Chain.{Trace, Visit, bundle_told, chain_from, go_on
 use Rattle.stage_chain.specs.Chain.{is_to_run, made_text, solved, texts_of, to_run, tried, visit_of}
 use Rattle.stage_chain.specs.Hand.{hand_of, is_among, names_made_by}
 use Rattle.stage_chain.specs.Kept.{kept_in, made_over, new_entries, solve_over, trace_over, work_over}
-use Rattle.stage_chain.specs.NextRuns.{AllTell, AreSettled, HasNoFile, IsIdle, IsSettled, TellsNext}
+use Rattle.stage_chain.specs.NextRuns.{AreSettled, HasNoFile, IsIdle, IsSettled, TellsNext}
 use Rattle.stage_chain.specs.Reports.{end_of}
 use Rattle.stage_chain.specs.Runs.{entries_over, names_besides, put_of, unmet, writes_for, writes_of}
 use Rattle.stage_chain.specs.StageParts.{StageParts}
@@ -108,20 +107,12 @@ module _ (folder : Folder) (made : List MadeFile) where
             (cond (not kept) (file_name file ∷ names_besides all (map file_name ids))
             (names_besides all (map file_name ids))))
         by true is stands rest = rest
-        by false is stands rest = (
-          same_is (files.get folder (file_name file)) (text_among made file) stands
-              ∙ among_by made file _ (text_nowhere made file (own (file_name file) is)),
-          rest,
-        )
+        by false is stands rest = grind (arith, same_is, among_by, text_nowhere)
 
 -- ---- the chain over such a folder
 
 none_lost : (values : List ℤ) (at : Stage) → lacks_input values [] at ≡ false
-none_lost values at = none (stage_inputs at)
-  where
-    none : (inputs : List FileId) → list_any (λ file. false) inputs ≡ false
-    none [] = refl
-    none (file ∷ inputs) = none inputs
+none_lost values at = grind arith
 
 module _ (S : StageParts) (laws : AreStages S) (folder : Folder) (values : List ℤ) where
   abbrev kept_so : List MadeFile → KnownFiles
@@ -173,20 +164,7 @@ module _ (S : StageParts) (laws : AreStages S) (folder : Folder) (values : List 
       stand : list_all (stands_as folder made.files) (stage_makes place) ≡ true
 
     settled_held : is_to_run values at ≡ true → IsSettled folder place (state_by folder place here) → IsHeld
-    settled_held runs settled = by told refl
-      where
-        kept_by : (bundle : BundleParts) (found : Option Made) → told ≡ Ok bundle → kept_in folder bundle ≡ found
-            → IsHeld
-        kept_by bundle None given is =
-            absurd (subst (λ h. IsSettled folder place (state_by folder place h))
-            (held_here runs ∙ ap (λ told. held (kept_of folder told)) given ∙ ap held is) settled)
-        kept_by bundle (Some made) given is = grind (arith, held_here)
-
-        by : (found : Result BundleParts Cause) → told ≡ found → IsHeld
-        by (Err why) is =
-            absurd (subst (λ h. IsSettled folder place (state_by folder place h))
-            (held_here runs ∙ ap (λ told. held (kept_of folder told)) is) settled)
-        by (Ok bundle) is = kept_by bundle (kept_in folder bundle) is refl
+    settled_held runs settled = grind (arith, held_here)
 
   -- with one stage more that is held
   held_more : (before : List MadeFile) (place : Stage) (places : List Stage) (held : IsHeld before place)
@@ -307,21 +285,4 @@ module _ (S : StageParts) (laws : AreStages S) (folder : Folder) (values : List 
 module _ (S : StageParts) (laws : AreStages S) where
   pub tells_next : (folder : Folder) → TellsNext S folder
   unfolding trace_over
-  tells_next folder =
-      record { stages = tell (effective (look_in folder)) refl; idle = idle (effective (look_in folder)) refl }
-    where
-      tell : (settings : Result (List ℤ) ConfigFault) → effective (look_in folder) ≡ settings
-          → IfOk settings
-          (λ values. AllTell S folder values (handed (trace_over S folder (hand_of folder))) nothing_known S.places)
-      tell (Err reason) is = tt
-      tell (Ok values) is =
-          subst (λ (trace : Trace). AllTell S folder values (handed trace) nothing_known S.places)
-          (sym (over_alone S laws folder folder
-          ∙ ap (λ settings. chain_under S (solve_over S folder) settings folder) is))
-          (all_tell S laws folder values S.places nothing_known [] (laws.lists values).rise
-          (record { same = λ file out. refl }))
-
-      idle : (settings : Result (List ℤ) ConfigFault) → effective (look_in folder) ≡ settings
-          → IfOk settings (λ values. AreSettled S folder values nothing_known S.places → IsIdle S folder)
-      idle (Err reason) is = tt
-      idle (Ok values) is = idle_run S laws folder values is
+  tells_next folder = grind (arith, over_alone, all_tell, idle_run)

@@ -1,23 +1,19 @@
 -- What a chain over a keep makes: files of its stages, and over an honest keep what is made from scratch.
-use Rattle.std.proofs.Common.{arith, ◌≡◌, ℕ, ℤ, cond, is_some, List, [], ◌∷◌, ◌++◌, Option, Some}
-use Rattle.std.proofs.Common.{None, Result, Ok, Err, refl, ap, sym, ◌∙◌}
-use Rattle.stage_chain.specs.StageParts.{staged}
-use Rattle.std.specs.FinMap as files
+use Rattle.plan_num.proofs.Common.{arith, ◌≡◌, ℤ, cond, is_some, List, [], ◌∷◌, ◌++◌, None, Result}
+use Rattle.plan_num.proofs.Common.{Ok, Err, refl, ap, ◌∙◌}
 use Rattle.plan_files.proofs.Common.{Folder}
 use Rattle.giv_files.proofs.Common.{Made, MadeFile, Stage, MakesAs, ids_of, BundleParts, Fits}
 use Rattle.giv_files.proofs.Common.{stage_inputs}
-use Rattle.config_keys.proofs.Common.{ConfigFault, AreSettings, look_in, effective}
-use Rattle.config_keys.proofs.Common.{effective_settings}
-use Rattle.stage_keep.specs.Entries.{keep_name}
+use Rattle.config_keys.proofs.Common.{AreSettings, effective_settings}
 use Rattle.stage_keep.specs.Honest.{kept_for}
 use Rattle.stage_keep.proofs.Honesty.{honest_is_made, kept_makes}
 use Rattle.stage_chain.specs.declared.cause.Cause.{Cause}
-use Rattle.stage_chain.specs.Built.{chain_under, made}
+use Rattle.stage_chain.specs.Built.{made}
 use Rattle.stage_chain.specs.Built.{trace_of}
-use Rattle.stage_chain.specs.Chain.{bundle_told, chain_from, go_on, input_text, texts_of, to_run}
+use Rattle.stage_chain.specs.Chain.{bundle_told, chain_from, go_on, texts_of}
 use Rattle.stage_chain.specs.Chain.{tried, visit_of}
 use Rattle.stage_chain.specs.Hand.{hand_of}
-use Rattle.stage_chain.specs.Kept.{IsKeptHonest, KeepsNothing, kept_in, kept_or, made_over}
+use Rattle.stage_chain.specs.Kept.{IsKeptHonest, KeepsNothing, kept_in, made_over}
 use Rattle.stage_chain.specs.Kept.{solve_over, trace_over, work_over}
 use Rattle.stage_chain.specs.Runs.{IsFromScratch, run_over}
 use Rattle.stage_chain.proofs.MadeRight.{given_fits}
@@ -29,26 +25,13 @@ module _ (S : StageParts) (laws : AreStages S) where
   pub solve_makes : (keep : Folder) (bundle : BundleParts) (made : Made)
       → solve_over S keep bundle ≡ Ok made → MakesAs bundle.stage (ids_of made.files)
   unfolding solve_over
-  solve_makes keep bundle made = by (kept_in keep bundle) refl
-    where
-      by : (kept : Option Made) → kept_in keep bundle ≡ kept → kept_or kept (S.run bundle) ≡ Ok made
-          → MakesAs bundle.stage (ids_of made.files)
-      by (Some some) is e =
-          let same : some ≡ made = cc in
-          kept_makes bundle (files.get keep (keep_name bundle.stage)) made (is ∙ ap Some same)
-      by None is e = laws.makes bundle made e
+  solve_makes keep bundle made = grind (arith, kept_makes)
 
   -- over an honest keep a stage gives what it makes
   honest_solve : (keep : Folder) → IsKeptHonest S keep → (bundle : BundleParts) → Fits bundle
       → solve_over S keep bundle ≡ S.run bundle
   unfolding solve_over
-  honest_solve keep honest bundle fits = by (kept_in keep bundle) refl
-    where
-      by : (kept : Option Made) → kept_in keep bundle ≡ kept
-          → kept_or kept (S.run bundle) ≡ S.run bundle
-      by (Some some) is =
-          sym (honest_is_made S.run (λ stage. files.get keep (keep_name stage)) honest bundle some fits is)
-      by None is = refl
+  honest_solve keep honest bundle fits = grind (arith, honest_is_made)
 
   module _ (keep : Folder) (honest : IsKeptHonest S keep) (hand : Folder) where
     module _ (values : List ℤ) (are : AreSettings values) where
@@ -62,9 +45,7 @@ module _ (S : StageParts) (laws : AreStages S) where
               → bundle_told values stage (texts_of values hand before (stage_inputs stage)) ≡ told
               → tried (solve_over S keep) values hand told ≡ tried S.run values hand told
           by (Err why) is = refl
-          by (Ok bundle) is =
-              ap (λ result. tried (λ _. result) values hand (Ok bundle))
-              (honest_solve keep honest bundle (given_fits (input_text hand before) values stage bundle are is))
+          by (Ok bundle) is = grind (arith, honest_solve, given_fits)
 
       honest_chain : (before : List MadeFile) (stages : List Stage)
           → chain_from (solve_over S keep) values hand before stages ≡ chain_from S.run values hand before stages
@@ -79,13 +60,7 @@ module _ (S : StageParts) (laws : AreStages S) where
     -- The chain over an honest keep does what is done from scratch.
     pub honest_trace : trace_over S keep hand ≡ trace_of S hand
     unfolding trace_over trace_of
-    honest_trace = by (effective (look_in hand)) refl
-      where
-        by : (settings : Result (List ℤ) ConfigFault) → effective (look_in hand) ≡ settings
-            → chain_under S (solve_over S keep) settings hand ≡ chain_under S S.run settings hand
-        by (Err reason) is = refl
-        by (Ok values) is =
-            honest_chain values (effective_settings (look_in hand) values is) [] (to_run values (staged S values))
+    honest_trace = grind (arith, honest_chain, effective_settings)
 
   -- a run over a folder whose keep is honest makes what is made from scratch
   pub from_scratch : (folder : Folder) → IsKeptHonest S folder
@@ -97,10 +72,7 @@ module _ (S : StageParts) (laws : AreStages S) where
 
   -- what keeps nothing is honest
   pub nothing_honest : (folder : Folder) → KeepsNothing folder → IsKeptHonest S folder
-  nothing_honest folder none = λ stage bytes there. absurd (never bytes (sym (none stage) ∙ there))
-    where
-      never : (bytes : List ℕ) → None ≡ Some bytes → ⊥
-      never bytes is = cc
+  nothing_honest folder none = grind arith
 
   module _ (folder : Folder) (none : KeepsNothing folder) where
     none_kept : (bundle : BundleParts) → kept_in folder bundle ≡ None

@@ -1,7 +1,7 @@
 -- What a run keeps is honest, and a further run over it makes the same and writes nothing.
 use Rattle.plan_num.proofs.Common.{arith, ◌≡◌, ℕ, ℤ, Bool, true, false, cond, not, is_some, List}
 use Rattle.plan_num.proofs.Common.{[], ◌∷◌, ◌++◌, map, Option, Some, None, Result, Ok, Err, refl}
-use Rattle.plan_num.proofs.Common.{ap, sym, subst, ◌∙◌, inl, inr, ⊎_elim, ⊤, bytes_eq, and_parts}
+use Rattle.plan_num.proofs.Common.{ap, sym, subst, ◌∙◌, inl, ⊎_elim, ⊤, bytes_eq, and_parts}
 use Rattle.plan_num.proofs.Common.{bytes_eq-Decides, and_from}
 use Rattle.std.specs.FinMap as files
 use Rattle.plan_files.proofs.Common.{after_write, folder_after, Folder, get_part, folder_after_both}
@@ -19,10 +19,10 @@ use Rattle.stage_keep.proofs.Honesty.{own_kept, read_is_honest}
 use Rattle.stage_chain.specs.Built.{chain_under, files_of}
 use Rattle.stage_chain.specs.Chain.{Halt, Visit, chain_from, input_text}
 use Rattle.stage_chain.specs.Chain.{visit_of}
-use Rattle.stage_chain.specs.Hand.{hand_of, is_among, names_made_by}
+use Rattle.stage_chain.specs.Hand.{hand_of, names_made_by}
 use Rattle.stage_chain.specs.Kept.{HaveEntries, IsKeptHonest, HasEntry, entry_put, kept_in}
 use Rattle.stage_chain.specs.Kept.{kept_or, made_over, new_entries, new_entry, solve_over, trace_over}
-use Rattle.stage_chain.specs.Runs.{after, entries_over, name_of, unmet, with_files}
+use Rattle.stage_chain.specs.Runs.{after, entries_over, name_of, with_files}
 use Rattle.stage_chain.specs.Runs.{without_made, writes_for, writes_of}
 use Rattle.stage_chain.proofs.Differing.{not_among}
 use Rattle.stage_chain.proofs.Keeping.{solve_makes}
@@ -78,11 +78,8 @@ module _ (S : StageParts) (laws : AreStages S) where
     base_keeps at =
         let apart = are_apart S laws folder (hand_of folder) in
         let out = not_among (map name_of (files_of run_visits)) (keep_name at)
-        (apart.within (λ name. not (bytes_eq (keep_name at) name)) (built_apart_of at)) in
-        other_with (files_of run_visits) (without_made S folder) (keep_name at) out
-        ∙ get_part (λ name. not (is_among name (names_made_by S.places))) folder (keep_name at)
-        ∙ ap (λ b. cond (not b) (files.get folder (keep_name at)) None)
-        (not_among (names_made_by S.places) (keep_name at) (built_apart_of at))
+        (apart.within (λ name. not (bytes_eq (keep_name at) name)) (built_apart_of at)) in grind
+        (arith, other_with, get_part, not_among, built_apart_of)
 
     alike_base : (stages : List Stage) → Alike made_base folder (map keep_name stages)
     alike_base [] = tt
@@ -253,14 +250,7 @@ module _ (S : StageParts) (laws : AreStages S) where
               ≡ cond (is_some (kept_in keep visit.bundle)) (files.get keep (keep_name visit.bundle.stage))
               (Some (bytes_for visit))
               → kept_in left visit.bundle ≡ Some visit.made
-          by (Some made) kept gives there =
-              let same : made ≡ visit.made =
-              ok_same made visit.made (kept_or (kept_in keep visit.bundle) (S.run visit.bundle))
-              (ap (λ kept. kept_or kept (S.run visit.bundle)) kept) gives in
-              ap (kept_for visit.bundle)
-              (there ∙ ap (λ kept. cond (is_some kept) (files.get keep (keep_name visit.bundle.stage))
-              (Some (bytes_for visit))) kept)
-              ∙ kept ∙ ap Some same
+          by (Some made) kept gives there = grind (arith, ok_same, is_some)
           by None kept gives there =
               ap (kept_for visit.bundle)
               (there ∙ ap (λ kept. cond (is_some kept) (files.get keep (keep_name visit.bundle.stage))
@@ -282,15 +272,7 @@ module _ (S : StageParts) (laws : AreStages S) where
           ⊎_elim (λ none. inl none)
           (λ refused.
           let own : refused.bundle.stage ≡ at = bundle_stage values at _ refused.bundle refused.given in
-          let same : kept_in left refused.bundle ≡ kept_in keep refused.bundle = ap (kept_for refused.bundle)
-          (ap (λ s. files.get left (keep_name s)) own ∙ there ∙ ap (λ s. files.get keep (keep_name s)) (sym own)) in
-          inr (record {
-            bundle = refused.bundle;
-            reason = refused.reason;
-            given = refused.given;
-            solved = ap (λ kept. kept_or kept (S.run refused.bundle)) same ∙ refused.solved;
-            cause = refused.cause;
-          }))
+          grind arith)
           h
 
       -- so the same stages are made
@@ -385,10 +367,4 @@ module _ (S : StageParts) (laws : AreStages S) where
   pub none_again : (folder : Folder) → HaveEntries folder (trace_over S folder (hand_of folder)).visits
       → writes_of S (after S folder) ≡ []
   unfolding writes_of made_over entries_over
-  none_again folder back =
-      let made = files_of (run_visits S laws folder) in
-      let still = still_under folder back in
-      ap (λ some. unmet (after S folder) (writes_for S (files_of some)) ++ new_entries (after S folder) some) still.same
-      ∙ ap (λ some. unmet (after S folder) (writes_for S made) ++ some)
-      (kept_none (after S folder) (run_visits S laws folder) still.kept)
-      ∙ ap (λ some. some ++ []) (none_unmet (writes_for S made) (after S folder) (met_left folder))
+  none_again folder back = grind (arith, still_under, kept_none, none_unmet, met_left)

@@ -8,10 +8,9 @@ use Rattle.stage_chain.specs.declared.cause.Cause.{Cause}
 use Rattle.stage_chain.specs.declared.outcome.ChainFault.{ChainFault}
 use Rattle.stage_chain.specs.declared.outcome.ChainFault.TheVariants as fault
 use Rattle.stage_chain.specs.declared.outcome.Outcome.{Outcome}
-use Rattle.stage_chain.specs.Chain.{Trace}
 use Rattle.stage_chain.specs.Ends.{has_failed}
 use Rattle.stage_chain.specs.Hand.{hand_of}
-use Rattle.stage_chain.specs.Kept.{HaveEntries, IsKeptHonest, trace_over}
+use Rattle.stage_chain.specs.Kept.{HaveEntries, trace_over}
 use Rattle.stage_chain.specs.Progress.{EndGives, SoFar}
 use Rattle.stage_chain.specs.Reports.{last_line, end_of}
 use Rattle.stage_chain.specs.RunSays.{Finished, KeptRunSays, LeavesBy, SeenFiles, StaysSafe}
@@ -59,12 +58,10 @@ module _ (S : StageParts) (laws : AreStages S) where
         steps = steps;
         scratch = both_scratch S laws mode.Make folder;
         right = λ honest. left_in S laws folder new.contents honest left;
-        keep = λ honest. subst (λ contents. IfSome contents (IsKeptHonest S)) (sym left)
-            (honest_after S laws folder have honest);
+        keep = λ honest. grind (arith, honest_after);
         passes = passes_left S laws mode.Make folder new.contents left;
         fresh = fresh_left S laws mode.Make folder new.contents left;
-        again = subst (λ contents. IfSome contents (λ left. writes_of S left ≡ [])) (sym left)
-            (none_again S laws folder have);
+        again = grind (arith, none_again);
       }
 
   module _ (old new : SeenFiles) where
@@ -81,17 +78,7 @@ module _ (S : StageParts) (laws : AreStages S) where
         → SameHand old.contents new.contents → AddsNoHandFile old.writes new.writes
         → old.steps ≤ new.steps → Counts (has_failed result) old.faults new.faults
         → KeptRunSays S old new result
-    said result left hand apart steps counts = record {
-      says = record {
-        leaves = IfSome_then old.contents left (λ folder left. left.leaves);
-        safe = IfSome_then old.contents left (λ folder left. left.safe);
-        hand = hand;
-        writes_no_hand_file = apart;
-        no_less_steps = steps;
-        faults = counts;
-      };
-      harmless = IfSome_then old.contents left (λ folder left. left.harmless);
-    }
+    said result left hand apart steps counts = grind (arith, IfSome_then)
 
     module _ (so_far : SoFar) where
       abbrev Ended : Folder → Result (Option Cause) ChainFault → Type 0
@@ -147,8 +134,7 @@ module _ (S : StageParts) (laws : AreStages S) where
           most = omega (arith, work)
 
           entries : HaveEntries folder (trace_over S folder (hand_of folder)).visits
-          entries = subst (λ (trace : Trace). HaveEntries folder trace.visits)
-              (sym (over_alone S laws folder folder)) ends.1.have
+          entries = grind (arith, over_alone)
 
           left_by : (result : Result Outcome ChainFault) → Told result → AllMade folder old.writes result
               → SomeMade folder old.writes result → Left folder result

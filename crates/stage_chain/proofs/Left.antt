@@ -8,7 +8,7 @@ use Rattle.plan_files.proofs.Common.{same_folder, folder_after_both, get_written
 use Rattle.giv_files.proofs.Common.{MadeFile}
 use Rattle.stage_chain.specs.Hand.{hand_of, is_among, keep_names, names_made_by}
 use Rattle.stage_chain.specs.Built.{files_of}
-use Rattle.stage_chain.specs.Kept.{made_over, new_entries, trace_over}
+use Rattle.stage_chain.specs.Kept.{made_over, trace_over}
 use Rattle.stage_chain.specs.Runs.{after, entries_over, name_of, with_files, without_keep}
 use Rattle.stage_chain.specs.Runs.{without_made, put_of, names_besides, unmet, writes_for}
 use Rattle.stage_chain.specs.Runs.{writes_of}
@@ -96,11 +96,7 @@ among_kept name other rest false = refl
 
 among_besides : (made : List MadeFile) (names : List (List ℕ)) (name : List ℕ)
     → is_among name (names_besides made names) ≡ cond (is_among name (map name_of made)) false (is_among name names)
-among_besides made [] name = nothing (is_among name (map name_of made))
-  where
-    nothing : (among : Bool) → false ≡ cond among false false
-    nothing true = refl
-    nothing false = refl
+among_besides made [] name = grind arith
 among_besides made (other ∷ names) name =
     grind (arith, among_kept, picked, bytes_eq-Decides, among_besides made names name)
 
@@ -131,8 +127,7 @@ module _ (S : StageParts) (laws : AreStages S) where
       by : (name : List ℕ) (among : Bool) → is_among name (map name_of made) ≡ among
           → cond (cond among false (is_among name (names_made_by S.places))) None
           (files.get (with_files made folder) name) ≡ files.get (with_files made (without_made S folder)) name
-      by name true is =
-          same_with made folder (without_made S folder) name (λ out. absurd (false≢true (sym out ∙ is)))
+      by name true is = grind (arith, same_with, false≢true)
       by name false is = grind (arith, other_with, none_or, get_part)
 
   -- The writes of a run over a folder leave what is there after it.
@@ -141,10 +136,13 @@ module _ (S : StageParts) (laws : AreStages S) where
   after_is folder =
       let visits = (trace_over S folder (hand_of folder)).visits in
       let made = files_of visits in
-      let apart = are_apart S laws folder (hand_of folder) in
-      folder_after_both (unmet folder (writes_for S made)) (new_entries folder visits) folder
-      ∙ ap (folder_after (new_entries folder visits))
-      (unmet_leaves (writes_for S made) folder (files_differ S laws made apart.differ) ∙ writes_leave made folder)
+      let apart = are_apart S laws folder (hand_of folder) in grind (
+        arith,
+        folder_after_both,
+        unmet_leaves,
+        files_differ,
+        writes_leave,
+      )
 
 -- ---- a fresh run
 

@@ -1,11 +1,12 @@
 -- One look of texts, in which each file has one.
-use Rattle.std.proofs.Common.{◌≡◌, ℕ, ℤ, List, [], ◌∷◌, ◌++◌, map, Result, Ok, Err, refl, ap, sym, ◌∙◌}
+use Rattle.plan_num.proofs.Common.{arith, ◌≡◌, ℕ, ℤ, List, [], ◌∷◌, ◌++◌, map, Result, Ok, Err}
+use Rattle.plan_num.proofs.Common.{refl, ap, sym, ◌∙◌}
 use Rattle.tables.proofs.Common.{FileId}
 use Rattle.giv_files.proofs.Common.{Stage, ids_of, BundleParts, stage_inputs}
 use Rattle.stage_chain.specs.declared.cause.Cause.{Cause}
 use Rattle.stage_chain.specs.Chain.{bundle_for, bundle_told, bundle_by, chosen, texts_by, with_text}
 use Rattle.stage_chain.specs.Laws.{bundle_over, files_over}
-use Rattle.stage_chain.specs.Right.{files_by, found_file}
+use Rattle.stage_chain.specs.Right.{files_by}
 
 pub text_or : Result (List ℕ) Cause → List ℕ
 text_or (Ok text) = text
@@ -53,16 +54,7 @@ module _ (look : FileId → Result (List ℕ) Cause) where
       → files_over looked (ids_of (files_by look some)) ≡ files_by look some
   unfolding text_or
   files_looked [] = refl
-  files_looked (file ∷ some) = by (look file) refl (files_looked some)
-    where
-      by : (found : Result (List ℕ) Cause) → look file ≡ found
-          → files_over looked (ids_of (files_by look some)) ≡ files_by look some
-          → files_over looked (ids_of (found_file file found (files_by look some)))
-          ≡ found_file file found (files_by look some)
-      by (Ok text) is rest =
-          ap (λ t. record { file = file; text = text_or t } ∷ files_over looked (ids_of (files_by look some))) is
-          ∙ ap (λ more. record { file = file; text = text } ∷ more) rest
-      by (Err why) is rest = rest
+  files_looked (file ∷ some) = grind (arith, text_or, files_looked some)
 
   -- ---- the first inputs of a stage
 

@@ -1,6 +1,6 @@
 -- What holds of each list of files that a stage may make.
-use Rattle.plan_num.proofs.Common.{◌≡◌, ℕ, zero, suc, ◌<◌, Bool, true, List, [], ◌∷◌, length, map}
-use Rattle.plan_num.proofs.Common.{filter, refl, arith, slice_index_or, list_all, Contains}
+use Rattle.plan_num.proofs.Common.{◌≡◌, Bool, true, List, [], ◌∷◌, map, filter, refl, arith}
+use Rattle.plan_num.proofs.Common.{list_all, Contains}
 use Rattle.tables.proofs.Common.{FileId, file_name}
 use Rattle.giv_files.proofs.Common.{Stage, MakesAs, stage_makes}
 use Rattle.giv_files.specs.declared.stage.Stage.TheVariants as stage
@@ -17,12 +17,7 @@ pub record IsMadeList (stage : Stage) (files : List FileId) : Type 0 where
   pub kept : filter (λ file. is_among (file_name file) (map file_name files)) (stage_makes stage) ≡ files
 
 pub only_one : (list files : List FileId) → Contains (list ∷ []) files → list ≡ files
-only_one list files at = by at.0 at.1 at.2
-  where
-    by : (k : ℕ) → k < length (list ∷ []) → slice_index_or (list ∷ []) k files ≡ files
-        → list ≡ files
-    by zero inside is = is
-    by (suc k) inside is = absurd (omega (arith, inside))
+only_one list files at = grind arith
 
 -- the one list of a stage that has one
 the_list : (stage : Stage) (files : List FileId) → Contains (stage_makes stage ∷ []) files

@@ -76,18 +76,7 @@ found_kept : (made : List MadeFile) (files : List FileId)
     → files_by (made_text made) files
     ≡ files_by (made_text made) (filter (λ file. is_among (file_name file) (names_of made)) files)
 found_kept made [] = refl
-found_kept made (file ∷ files) =
-    by (is_among (file_name file) (names_of made)) refl (found_kept made files)
-  where
-    kept : List FileId
-    kept = filter (λ file. is_among (file_name file) (names_of made)) files
-
-    by : (b : Bool) → is_among (file_name file) (names_of made) ≡ b
-        → files_by (made_text made) files ≡ files_by (made_text made) kept
-        → found_file file (made_text made file) (files_by (made_text made) files)
-        ≡ files_by (made_text made) (cond b (file ∷ kept) kept)
-    by true is rest = ap (found_file file (made_text made file)) rest
-    by false is rest = grind (arith, text_nowhere)
+found_kept made (file ∷ files) = grind (arith, text_nowhere, found_kept made files)
 
 found_from : (front made : List MadeFile) → differing (names_of (front ++ made)) ≡ true
     → files_by (made_text (front ++ made)) (ids_of made) ≡ made
@@ -97,9 +86,11 @@ found_from front (file ∷ made) h =
     (ap differing (sym (map-append name_of front (file ∷ made))) ∙ h) in
     let out = not_among (names_of front) (name_of file) (and_parts (differs_from (names_of front) (name_of file)) _
     (differ_swap (names_of front) (name_of file ∷ names_of made) parts.apart)).0 in
-    let here : made_text (front ++ file ∷ made) file.file ≡ Ok file.text = text_behind front (file ∷ made) file.file
-    out ∙ ap (λ b. cond b (Ok file.text) (made_text made file.file))
-    ((bytes_eq-Decides (name_of file) (name_of file)).1 refl) in
+    let here : made_text (front ++ file ∷ made) file.file ≡ Ok file.text = grind (
+      arith,
+      text_behind,
+      bytes_eq-Decides,
+    ) in
     let joined : (front ++ file ∷ []) ++ made ≡ front ++ file ∷ made = append_assoc front (file ∷ []) made in
     ap (λ found. found_file file.file found (files_by (made_text (front ++ file ∷ made)) (ids_of made))) here
     ∙ ap (λ more. file ∷ more)

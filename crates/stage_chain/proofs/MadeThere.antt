@@ -86,8 +86,4 @@ told_all (Some folder) stage files i there past own so_far =
 pub told_none : (contents : Option Folder) (files : List FileId)
     → IfSome contents (λ folder. joined [] (all_there folder files) ≡ all_there folder files)
 told_none None files = tt
-told_none (Some folder) files = by (all_there folder files)
-  where
-    by : (found : Option (List MadeFile)) → joined [] found ≡ found
-    by None = refl
-    by (Some found) = refl
+told_none (Some folder) files = grind arith

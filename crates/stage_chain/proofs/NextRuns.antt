@@ -1,10 +1,10 @@
 -- What the states of stages tell of the next run.
-use Rattle.plan_num.proofs.Common.{◌≡◌, ◌<◌, ◌⊎◌, inl, inr, ⊎_elim, ℕ, ℤ, zero, suc, ◌&&◌, Bool}
-use Rattle.plan_num.proofs.Common.{true, false, cond, not, ltb, All, Contains, List, [], ◌∷◌, ◌++◌}
-use Rattle.plan_num.proofs.Common.{map, Option, Some, None, Result, Ok, Err, refl, ap, sym, subst}
-use Rattle.plan_num.proofs.Common.{◌∙◌, arith, list_all, list_any, bytes_eq, and_parts, ltb-true}
-use Rattle.plan_num.proofs.Common.{or_parts, All-cons, All-contains, Contains-append_cases}
-use Rattle.plan_num.proofs.Common.{list_all-map, list_any-append}
+use Rattle.plan_num.proofs.Common.{◌≡◌, ◌<◌, ◌⊎◌, ⊎_elim, ℕ, ℤ, zero, suc, ◌&&◌, Bool, true, false}
+use Rattle.plan_num.proofs.Common.{cond, not, ltb, All, Contains, List, [], ◌∷◌, ◌++◌, map, Option}
+use Rattle.plan_num.proofs.Common.{Some, None, Result, Ok, Err, refl, ap, sym, subst, ◌∙◌, arith}
+use Rattle.plan_num.proofs.Common.{list_all, list_any, bytes_eq, and_parts, ltb-true, or_parts}
+use Rattle.plan_num.proofs.Common.{All-cons, All-contains, Contains-append_cases, list_all-map}
+use Rattle.plan_num.proofs.Common.{list_any-append}
 use Rattle.plan_files.proofs.Common.{Folder}
 use Rattle.tables.proofs.Common.{FileId, Refusal, file_name}
 use Rattle.giv_files.proofs.Common.{Made, MadeFile, Stage, MakesAs, ids_of, BundleParts}
@@ -15,15 +15,14 @@ use Rattle.stage_chain.specs.declared.holding.Holding.{Holding}
 use Rattle.stage_chain.specs.declared.holding.Holding.TheVariants as holding
 use Rattle.stage_chain.specs.declared.origin.Origin.{Origin}
 use Rattle.stage_chain.specs.declared.origin.Origin.TheVariants as origin
-use Rattle.stage_chain.specs.Chain.{Trace, Visit, bundle_by, bundle_told, chain_from, chosen, go_on, handed, input_text}
-use Rattle.stage_chain.specs.Chain.{is_file, is_to_run, made_text, origin_of, solved, stage_place, text_from, texts_by}
-use Rattle.stage_chain.specs.Chain.{texts_of, to_run, tried, visit_of, with_text}
+use Rattle.stage_chain.specs.Chain.{Trace, Visit, bundle_told, chain_from, chosen, go_on, handed, input_text}
+use Rattle.stage_chain.specs.Chain.{is_file, is_to_run, made_text, solved, stage_place, text_from, texts_by}
+use Rattle.stage_chain.specs.Chain.{texts_of, to_run, tried, visit_of}
 use Rattle.stage_chain.specs.Kept.{kept_in, solve_over}
 use Rattle.stage_chain.specs.NextRuns.{AllTell, Tells}
 use Rattle.stage_chain.specs.StageLists.{rising}
 use Rattle.stage_chain.specs.StageParts.{StageParts}
-use Rattle.stage_chain.specs.States.{KnownFiles, held, holding_at, holding_in, is_one_of, kept_of, known_with}
-use Rattle.stage_chain.specs.States.{lacks_input}
+use Rattle.stage_chain.specs.States.{KnownFiles, held, holding_at, holding_in, is_one_of, known_with}
 use Rattle.stage_chain.specs.Laws.{AreStages}
 use Rattle.stage_chain.proofs.Differing.{all_filter, not_among}
 use Rattle.stage_chain.proofs.Keeping.{solve_makes}
@@ -35,8 +34,7 @@ none_all : {X : Type 0} (p : X → Bool) (xs : List X) → list_any p xs ≡ fal
     → list_all (λ x. not (p x)) xs ≡ true
 none_all p [] none = refl
 none_all p (x ∷ xs) none =
-    let parts = or_parts _ _ none in
-    by (p x) parts.0 (none_all p xs parts.1)
+    let parts = or_parts _ _ none in grind (arith, none_all p xs parts.1)
   where
     by : (b : Bool) → b ≡ false → list_all (λ x. not (p x)) xs ≡ true
         → (not b && list_all (λ x. not (p x)) xs) ≡ true
@@ -73,11 +71,12 @@ module _ (folder : Folder) where
       → texts_by (input_text folder known.kept) values inputs ≡ texts_of values folder before inputs
   texts_alike values known before alike [] none = refl
   texts_alike values known before alike (file ∷ inputs) none =
-      let parts = or_parts _ _ none in
-      let input = chosen values file in
-      ap (λ text. with_text text (texts_by (input_text folder known.kept) values inputs))
-      (from_same (origin_of input) known.kept before input (alike.same input parts.0))
-      ∙ ap (with_text (input_text folder before input)) (texts_alike values known before alike inputs parts.1)
+      let parts = or_parts _ _ none in grind (
+        arith,
+        from_same,
+        texts_alike values known before
+            alike inputs parts.1,
+      )
 
   held_alike : (known : KnownFiles) (before made : List MadeFile) → IsAlike known before
       → IsAlike (record { kept = known.kept ++ made; lost = known.lost }) (before ++ made)
@@ -125,17 +124,7 @@ module _ (solve : BundleParts → Result Made Refusal) (values : List ℤ) (fold
           → ((made : List MadeFile) → All IsLater (handed (chain_from solve values folder (before ++ made) stages)))
           → All IsLater (handed (go_on (tried solve values folder told) rest))
       by (Err why) is here more = λ k d inside. absurd (omega (arith, inside))
-      by (Ok bundle) is here more =
-          let own : bundle.stage ≡ at = bundle_stage values at _ bundle is in
-          let later : IsLater bundle =
-          subst (λ own. place < stage_place own) (sym own) (ltb-true place (stage_place at) here) in
-          tries later (solve bundle)
-        where
-          tries : IsLater bundle → (result : Result Made Refusal)
-              → All IsLater (handed (go_on (solved solve values folder bundle result) rest))
-          tries later (Ok made) =
-              All-cons IsLater bundle (handed (rest (record { bundle = bundle; made = made }))) later (more made.files)
-          tries later (Err reason) = All-cons IsLater bundle [] later (λ k d inside. absurd (omega (arith, inside)))
+      by (Ok bundle) is here more = grind (arith, bundle_stage, ltb-true, All-cons)
 
 module _ (S : StageParts) (laws : AreStages S) (folder : Folder) (values : List ℤ) where
   abbrev placed : List Stage → List Stage
@@ -152,10 +141,10 @@ module _ (S : StageParts) (laws : AreStages S) (folder : Folder) (values : List 
 
   no_bundle : (known : KnownFiles) (places : List Stage) → AllTell S folder values [] known places
   no_bundle known [] = tt
-  no_bundle known (place ∷ places) = (
-    (λ bundle given own. absurd (omega (arith, given.1))),
-    no_bundle
-        (known_with known place (holding_in S folder values known place)) places,
+  no_bundle known (place ∷ places) = grind (
+    arith,
+    no_bundle (known_with known place (holding_in S
+        folder values known place)) places,
   )
 
   -- a bundle more, of a stage before them
@@ -193,15 +182,7 @@ module _ (S : StageParts) (laws : AreStages S) (folder : Folder) (values : List 
         → bundle_told values at (texts_of values folder before (stage_inputs at)) ≡ Ok bundle
         → (here ≡ holding.Unknown) ⊎ (here ≡ held (kept_in folder bundle))
     unfolding holding_at
-    held_here bundle runs given = by (lacks_input values known.lost at) refl
-      where
-        by : (lacks : Bool) → lacks_input values known.lost at ≡ lacks
-            → (here ≡ holding.Unknown) ⊎ (here ≡ held (kept_in folder bundle))
-        by true is = inl (rw (runs, is) refl)
-        by false is =
-            let told : bundle_by (input_text folder known.kept) values at ≡ Ok bundle = ap (bundle_told values at)
-            (texts_alike folder values known before alike (stage_inputs at) is) ∙ given in
-            inr (rw (runs, is) (ap (λ told. held (kept_of folder told)) told))
+    held_here bundle runs given = grind (arith, texts_alike)
 
     -- it tells of that bundle, and of what the next run makes of it
     record IsTold (bundle : BundleParts) (made : List MadeFile) : Type 0 where
@@ -232,11 +213,7 @@ module _ (S : StageParts) (laws : AreStages S) (folder : Folder) (values : List 
     -- where the stage refuses it
     refused_here : (bundle : BundleParts) (reason : Refusal) → solve bundle ≡ Err reason
         → (here ≡ holding.Unknown) ⊎ (here ≡ held (kept_in folder bundle)) → Tells folder here bundle
-    refused_here bundle reason is = ⊎_elim (λ h. rw h tt) (by (kept_in folder bundle) refl)
-      where
-        by : (kept : Option Made) → kept_in folder bundle ≡ kept → here ≡ held kept → Tells folder here bundle
-        by None none h = rw h none
-        by (Some some) some_is h = absurd (let both = sym (kept_solves bundle some some_is) ∙ is in cc)
+    refused_here bundle reason is = grind (arith, ⊎_elim, kept_solves)
 
   pub all_tell : (places : List Stage) (known : KnownFiles) (before : List MadeFile)
       → rising (placed places) ≡ true → IsAlike folder known before
@@ -257,8 +234,7 @@ module _ (S : StageParts) (laws : AreStages S) (folder : Folder) (values : List 
 
       later_run : AreLater at places
           → list_all (λ other. ltb (stage_place at) (stage_place other)) (to_run values (placed places)) ≡ true
-      later_run later =
-          all_filter (λ other. ltb (stage_place at) (stage_place other)) (is_to_run values) (placed places) later
+      later_run later = grind (arith, all_filter)
 
       -- no bundle of the stages behind is its own
       not_own : AreLater at places → (before : List MadeFile) (bundle : BundleParts)

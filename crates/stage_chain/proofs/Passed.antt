@@ -63,8 +63,7 @@ module _ (S : StageParts) (laws : AreStages S) where
     rest_next contents now stages i d (Some found) inside same stands none rest = absurd (cc)
     rest_next None now stages i d None inside same stands none rest = tt
     rest_next (Some folder) now stages i d None inside same stands none rest =
-        let here : RunsStand S folder values (get_or stages i d) =
-        subst (λ now. IfSome now (λ folder. RunsStand S folder values (get_or stages i d))) same stands in
+        let here : RunsStand S folder values (get_or stages i d) = grind (arith, get_or) in
         λ more. rest
         (subst (AllStand S folder values) (sym (at_drop_more (λ rest. rest) stages i d inside)) (here, more))
 

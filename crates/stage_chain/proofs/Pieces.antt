@@ -1,5 +1,5 @@
 -- Pieces that are put behind one another.
-use Rattle.std.proofs.Common.{◌≡◌, List, ◌++◌, ap, ◌∙◌, append_assoc}
+use Rattle.plan_num.proofs.Common.{◌≡◌, List, ◌++◌, ap, ◌∙◌, append_assoc}
 
 pub two_pieces : {X : Type 0} (old a b first second : List X) → first ≡ old ++ a
     → second ≡ first ++ b → second ≡ old ++ (a ++ b)

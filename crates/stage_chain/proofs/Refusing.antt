@@ -13,7 +13,6 @@ use Rattle.tables.specs.declared.file_id.FileId.TheVariants as file
 use Rattle.config_keys.proofs.Common.{last_stage_of, look_in, ConfigNames, config_names}
 use Rattle.config_keys.proofs.Common.{effective_settings}
 use Rattle.stage_chain.specs.declared.cause.Cause.{Cause}
-use Rattle.stage_chain.specs.declared.cause.Cause.TheVariants as cause
 use Rattle.stage_chain.specs.Hand.{is_among, is_hand, is_hand_file}
 use Rattle.stage_chain.specs.Chain.{Visit, Halt, origin_of, hand_text, made_text, input_text}
 use Rattle.stage_chain.specs.Chain.{chosen, with_text, texts_by, bundle_told}
@@ -61,8 +60,7 @@ there_text (other ∷ made) file h =
         → (bytes_eq (file_name file) (name_of other) || is_among (file_name file) (names_of made)) ≡ true
         → NoText (cond here (Ok other.text) (made_text made file))
     by true is rest h = tt
-    by false is rest h =
-        rest (sym (ap (λ b. b || is_among (file_name file) (names_of made)) is) ∙ h)
+    by false is rest h = grind (arith, names_of)
 
 -- people write a file, or it was made
 abbrev is_there : List MadeFile → FileId → Bool
@@ -148,14 +146,7 @@ module _ (S : StageParts) (laws : AreStages S) where
       → IsEnded values hand before stages visits halt
   ended_by values hand before [] [] halt are = absurd are
   ended_by values hand before [] (visit ∷ visits) halt are = absurd are
-  ended_by values hand before (stage ∷ stages) [] halt are =
-      record {
-        stage = stage;
-        rest = stages;
-        split = refl;
-        halts =
-            subst (λ made. IsHalt S.run values hand made stage halt) (sym (append-nil before)) are;
-      }
+  ended_by values hand before (stage ∷ stages) [] halt are = grind (arith, IsHalt, append-nil)
   ended_by values hand before (stage ∷ stages) (visit ∷ visits) halt are =
       grind (
         arith,
@@ -231,8 +222,7 @@ module _ (values : List ℤ) where
           → (done : List Stage) → cond b (first ∷ kept) kept ≡ done ++ stage ∷ rest
           → ((done : List Stage) → kept ≡ done ++ stage ∷ rest → before ≡ done)
           → cond (ltb (stage_place first) (stage_place stage)) (first ∷ before) before ≡ done
-      by false is above done e more =
-          absurd (false≢true (sym is ∙ (not_late first stages done stage rest above e).1))
+      by false is above done e more = grind (arith, false≢true, not_late)
       by true is above [] e more = grind (arith, le-ltb, before, none_before)
       by true is above (other ∷ done) e more = grind (arith, before, not_late)
 
@@ -264,13 +254,7 @@ module _ (S : StageParts) (laws : AreStages S) where
     is_made file = is_among (file_name file) (names_of all)
 
     text_made : (file : FileId) (text : List ℕ) → made_text all file ≡ Ok text → is_made file ≡ true
-    text_made file text e = by (is_made file) refl
-      where
-        by : (b : Bool) → is_made file ≡ b → b ≡ true
-        by true is = refl
-        by false is =
-            let none : Err (cause.Missing file) ≡ Ok text = sym (text_nowhere all file is)
-            ∙ e in absurd (cc)
+    text_made file text e = grind (arith, text_nowhere)
 
     found_made : (some : List FileId)
         → list_all is_made (ids_of (files_by (made_text all) some)) ≡ true
@@ -309,8 +293,7 @@ among_through (file ∷ some) names name h k =
         → (b || is_among name (map file_name some)) ≡ true → is_among (file_name file) names ≡ true
         → (is_among name (map file_name some) ≡ true → is_among name names ≡ true)
         → is_among name names ≡ true
-    by true is h here rest =
-        ap (λ n. is_among n names) ((bytes_eq-Decides name (file_name file)).0 is) ∙ here
+    by true is h here rest = grind (arith, bytes_eq-Decides)
     by false is h here rest = rest h
 
 all_there : (made : List MadeFile) (some inputs : List FileId)
@@ -320,10 +303,14 @@ all_there : (made : List MadeFile) (some inputs : List FileId)
     → list_all (is_there made) inputs ≡ true
 all_there made some [] h k = refl
 all_there made some (file ∷ inputs) h k =
-    let parts = and_parts _ _ h in
-    and_from _ _
-    (either (not (is_earlier (origin_of file))) (λ h. among_through some (names_of made) (file_name file) h k)
-    parts.0) (all_there made some inputs parts.1 k)
+    let parts = and_parts _ _ h in grind (
+      arith,
+      and_from,
+      among_through,
+      names_of,
+      all_there made
+          some inputs parts.1 k,
+    )
   where
     either : {b c : Bool} (a : Bool) → (b ≡ true → c ≡ true) → (a || b) ≡ true → (a || c) ≡ true
     either true h e = refl
@@ -345,9 +332,10 @@ module _ (S : StageParts) (laws : AreStages S) where
       (all_there all (flat_map always_made (before_stage (staged S values) stage)) (stage_inputs stage) need there))
       none)
       (λ refused.
-      let same = bundle_looked look values stage refused.bundle refused.given in
-      let names = laws.refuses values (looked look) stage refused.reason right (ap S.run same ∙ refused.solved) in
-      subst (λ why. NamesHand (Some why)) (sym refused.cause) names)
+      let same = bundle_looked look values stage refused.bundle refused.given in grind (
+        arith,
+        looked,
+      ))
       halts
 
   chain_names : (values : List ℤ) (hand : Folder) (visits : List Visit) (halt : Option Halt)

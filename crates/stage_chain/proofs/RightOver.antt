@@ -1,7 +1,6 @@
 -- What is right over one look of texts, stage by stage.
-use Rattle.plan_num.proofs.Common.{◌≡◌, ℕ, ℤ, Bool, true, false, cond, ltb, ◌||◌, List, [], ◌∷◌}
-use Rattle.plan_num.proofs.Common.{map, refl, ap, subst, list_any, bytes_eq, false≢true}
-use Rattle.plan_num.proofs.Common.{bytes_eq-Decides}
+use Rattle.plan_num.proofs.Common.{arith, ◌≡◌, ℕ, ℤ, Bool, true, false, ◌||◌, List, [], ◌∷◌, map}
+use Rattle.plan_num.proofs.Common.{refl, subst, list_any, bytes_eq, false≢true, bytes_eq-Decides}
 use Rattle.tables.proofs.Common.{FileId}
 use Rattle.giv_files.proofs.Common.{Stage}
 use Rattle.stage_keep.specs.Entries.{keep_name}
@@ -36,19 +35,7 @@ module _ (S : StageParts) (values : List ℤ) (look : FileId → List ℕ) where
     before_placed : (at : Stage) (places : List Stage)
         → before_stage (map (S.placed values) places) at ≡ map (S.placed values) (before_stage places at)
     before_placed at [] = refl
-    before_placed at (place ∷ places) =
-        by (ltb (stage_place (S.placed values place)) (stage_place at)) (ltb (stage_place place) (stage_place at))
-        (ap (λ n. ltb n (stage_place at)) (point place)) (before_placed at places)
-      where
-        by : (b c : Bool) → b ≡ c
-            → before_stage (map (S.placed values) places) at ≡ map (S.placed values) (before_stage places at)
-            → cond b (S.placed values place ∷ before_stage (map (S.placed values) places) at)
-            (before_stage (map (S.placed values) places) at)
-            ≡ map (S.placed values) (cond c (place ∷ before_stage places at) (before_stage places at))
-        by true true e rest = ap (λ more. S.placed values place ∷ more) rest
-        by false false e rest = rest
-        by true false e rest = absurd (cc)
-        by false true e rest = absurd (cc)
+    before_placed at (place ∷ places) = grind (arith, before_placed at places)
 
     -- where the stages before one are right, that in each place before it is
     pub right_before : (at : Stage) → AreRightOver S values look (before_stage (staged S values) at)

@@ -1,17 +1,15 @@
 -- What a run says: the removals of a fresh one, and then a run over what is kept.
 use Rattle.plan_num.proofs.Common.{arith, ◌≡◌, ◌+◌, ◌≤◌, List, ◌++◌, Option, Some, IfSome, Result}
-use Rattle.plan_num.proofs.Common.{Ok, Err, ap, sym, subst, ◌∙◌, inl, inr, option_map, IfSome_then}
+use Rattle.plan_num.proofs.Common.{Ok, Err, ap, sym, subst, ◌∙◌, inl, option_map, IfSome_then}
 use Rattle.plan_files.proofs.Common.{Write, AreApplied, Counts, Folder}
 use Rattle.command_line.specs.declared.mode.Mode.{Mode}
 use Rattle.command_line.specs.declared.mode.Mode.TheVariants as mode
 use Rattle.stage_chain.specs.declared.outcome.ChainFault.{ChainFault}
 use Rattle.stage_chain.specs.declared.outcome.Outcome.{Outcome}
-use Rattle.stage_chain.specs.Built.{trace_of}
 use Rattle.stage_chain.specs.Ends.{has_failed}
-use Rattle.stage_chain.specs.Right.{StandRightIn}
 use Rattle.stage_chain.specs.RunSays.{KeptRunSays, LeavesBy, RunSays, SeenFiles, StaysSafe}
 use Rattle.stage_chain.specs.Runs.{AddsNoHandFile, AreNotAll, IsUnfinished, SameHand, removed}
-use Rattle.stage_chain.specs.Runs.{run_over, started, without_keep, writes_of}
+use Rattle.stage_chain.specs.Runs.{run_over, started, writes_of}
 use Rattle.stage_chain.specs.Stopped.{AddsHarmless}
 use Rattle.stage_chain.proofs.BothModes.{both_scratch, honest_start, no_writes, none_cut, started_hand}
 use Rattle.stage_chain.proofs.BothModes.{started_is}
@@ -33,10 +31,7 @@ module _ (S : StageParts) (laws : AreStages S) where
   unfinished mode.Make failed folder left before noted now is cut =
       subst (λ noted. AreNotAll failed (writes_of S folder) (Some folder) left noted now)
       (is ∙ no_writes before) cut
-  unfinished mode.Fresh failed folder left before noted now is cut =
-      inr (subst
-      (λ noted. AreNotAll failed (writes_of S (without_keep folder)) (Some (without_keep folder)) left noted now)
-      is cut)
+  unfinished mode.Fresh failed folder left before noted now is cut = grind arith
 
   cut_short : (by : Mode) (failed : ChainFault) (folder : Folder) (left : Option Folder)
       (before now : Option (List Write)) → AreNotAll failed (removed by folder) (Some folder) left before now
@@ -54,8 +49,7 @@ module _ (S : StageParts) (laws : AreStages S) where
       → Counts (has_failed {T = T} (Err failed)) old.faults new.faults → new.steps ≡ old.steps
       → RunSays S by old new result
   cut_says T by old new failed result is cut hand apart counts steps = subst (RunSays S by old new) (sym is) (record {
-    leaves = IfSome_then old.contents cut (λ folder cut.
-        cut_short by failed folder new.contents old.writes new.writes cut);
+    leaves = grind (arith, IfSome_then, cut_short);
     safe = IfSome_then old.contents cut (λ folder cut.
         stays_safe S laws by old new folder
         (adds_some S laws (removed by folder) folder new.contents old.writes new.writes
@@ -92,17 +86,14 @@ module _ (S : StageParts) (laws : AreStages S) where
           };
           steps = done.steps ∙ ap (λ count. count + (run_over S (started by folder)).work) steps;
           scratch = both_scratch S laws by folder;
-          right = λ trusts. subst
-              (λ hand. IfSome new.contents (λ left. StandRightIn S left (trace_of S hand).visits))
-              (started_hand by folder) (done.right (honest_start S laws by folder trusts));
+          right = λ trusts. grind (arith, started_hand, honest_start);
           keep = λ trusts. done.keep (honest_start S laws by folder trusts);
           passes = λ trusts. done.passes (honest_start S laws by folder trusts);
           fresh = fresh_left S laws by folder new.contents done.files.folder;
           again = done.again;
         },
       )
-      joined steps (Err failed) cut =
-          unfinished by failed folder new.contents old.writes mid.writes new.writes cleared.noted cut
+      joined steps (Err failed) cut = grind (arith, unfinished)
 
       both_safe : mid.steps ≡ old.steps → StaysSafe S mode.Make mid new (started by folder)
           → IfSome mid.contents (λ folder. AddsHarmless S folder new.contents mid.writes new.writes)
@@ -118,9 +109,7 @@ module _ (S : StageParts) (laws : AreStages S) where
         → IfSome old.contents IsCleared → mid.faults ≡ old.faults → mid.steps ≡ old.steps
         → SameHand old.contents mid.contents → AddsNoHandFile old.writes mid.writes → RunSays S by old new result
     both_says result kept cleared counted steps hand apart = record {
-      leaves = IfSome_then old.contents cleared (λ folder cleared.
-          joined folder cleared steps result
-          (over folder cleared (λ read. LeavesBy S mode.Make mid new read result) kept.says.leaves));
+      leaves = grind (arith, IfSome_then, joined, over);
       safe = IfSome_then old.contents cleared (λ folder cleared.
           both_safe folder cleared steps
           (over folder cleared (StaysSafe S mode.Make mid new) kept.says.safe) kept.harmless);

@@ -1,12 +1,12 @@
 -- Writes that change something, one after the other, and which files they name.
-use Rattle.plan_num.proofs.Common.{◌≡◌, ℕ, Bool, true, false, cond, not, ◌⊎◌, List, [], ◌∷◌, ◌++◌}
-use Rattle.plan_num.proofs.Common.{map, length, Option, Some, None, IfSome, refl, ap, sym, subst}
-use Rattle.plan_num.proofs.Common.{◌∙◌, ⊎_elim, append-nil, append_assoc, arith, list_all}
+use Rattle.plan_num.proofs.Common.{◌≡◌, ℕ, Bool, true, not, ◌⊎◌, List, [], ◌∷◌, ◌++◌, map, length}
+use Rattle.plan_num.proofs.Common.{Option, Some, None, IfSome, refl, ap, sym, subst, ◌∙◌, ⊎_elim}
+use Rattle.plan_num.proofs.Common.{append-nil, append_assoc, arith, list_all}
 use Rattle.plan_files.proofs.Common.{FileFault, Write, Removal, AreApplied, AreCutShort, Folder}
 use Rattle.plan_files.proofs.Common.{AreOutside, outside_both, outside_front}
 use Rattle.giv_files.proofs.Common.{MadeFile}
 use Rattle.stage_chain.specs.Hand.{AreNoHandFiles, is_hand, keep_names}
-use Rattle.stage_chain.specs.Runs.{AddsNoHandFile, SameHand, is_met, unmet, writes_for}
+use Rattle.stage_chain.specs.Runs.{AddsNoHandFile, SameHand, unmet, writes_for}
 use Rattle.stage_chain.proofs.HandKept.{applied_hand, cut_hand, made_outside, removals_outside}
 use Rattle.stage_chain.specs.StageParts.{StageParts}
 use Rattle.stage_chain.specs.Laws.{AreStages}
@@ -20,19 +20,10 @@ pub told_wish : (contents now : Option Folder) (all writes new left rest : List 
     → IfSome contents (λ folder. writes ++ unmet folder left ≡ unmet folder all)
     → IfSome contents (λ folder. new ++ unmet folder rest ≡ unmet folder all)
 told_wish None now all writes new left rest wish same is more so_far = tt
-told_wish (Some folder) now all writes new left rest wish same is more so_far =
-    let here : new ≡ writes ++ unmet folder (wish ∷ []) =
-    subst (λ now. IfSome now (λ folder. new ≡ writes ++ unmet folder (wish ∷ []))) same more in
-    ap (λ new. new ++ unmet folder rest) here
-    ∙ append_assoc writes (unmet folder (wish ∷ [])) (unmet folder rest)
-    ∙ ap (λ more. writes ++ more) (by (is_met folder wish))
-    ∙ ap (λ left. writes ++ unmet folder left) (sym is) ∙ so_far
-  where
-    by : (met : Bool)
-        → cond (not met) (wish ∷ []) [] ++ unmet folder rest
-        ≡ cond (not met) (wish ∷ unmet folder rest) (unmet folder rest)
-    by true = refl
-    by false = refl
+told_wish (Some folder) now all writes new left rest wish same is more so_far = grind (
+  arith,
+  append_assoc,
+)
 
 pub outside_wish : (all writes new left rest : List Write) (wish : Write) → left ≡ wish ∷ rest
     → (new ≡ writes) ⊎ (new ≡ writes ++ wish ∷ [])

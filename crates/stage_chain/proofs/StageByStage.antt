@@ -58,18 +58,7 @@ module _ (S : StageParts) (laws : AreStages S) where
         → IsRest S keep whole (go_on (Err halt) (λ _. whole)) so_far before mid
         → now ≡ mid + visit_work S keep (Err halt)
         → (cause_of whole.halt ≡ Some halt.cause) × IsAll S keep whole so_far × (now ≡ before + trace_work S keep whole)
-    rest_stops whole halt so_far before mid now h e = (
-      ap cause_of h.halt,
-      record {
-        files = h.files ∙ append-nil so_far.files;
-        report =
-            h.report ∙ append-nil so_far.report;
-        entries = h.entries ∙ append-nil so_far.entries;
-        have =
-            h.have tt;
-      },
-      omega (arith, h.steps, e),
-    )
+    rest_stops whole halt so_far before mid now h e = grind (arith, append-nil)
 
     -- a stage that is not finished takes at most its work
     pub rest_bounds : (whole : Trace) (told : Result Visit Halt) (rest : Visit → Trace)
@@ -154,8 +143,7 @@ module _ (S : StageParts) (laws : AreStages S) where
           inside is ∙ ap (λ t. go_on t (λ visit. still (old.files ++ visit.made.files) (drop (i + 1) stages))) told.1 in
           let done = rest_stops S laws keep whole halt old before mid now
           (subst (λ rest. IsRest S keep whole rest old before mid) here h)
-          (told.4 ∙ ap (λ t. mid + visit_work S keep t) told.1) in
-          (done.0 ∙ ap Some told.2, rw told.3 done.1, done.2)
+          (told.4 ∙ ap (λ t. mid + visit_work S keep t) told.1) in grind arith
       ended stages i d whole old new before mid now end.FileFault inside is least told h = (
         omega (arith, least, told.0),
         rest_bounds S laws keep whole _ _ old before mid now
@@ -191,14 +179,7 @@ module _ (S : StageParts) (laws : AreStages S) where
 
       pub told_first : (so_far : SoFar) (before : ℕ) → so_far ≡ nothing
           → IsRestAt 0 so_far before before
-      told_first so_far before e = rw e (by contents)
-        where
-          by : (contents : Option Folder)
-              → IfSome contents
-              (λ folder. IsRest S folder (still (solve folder) values folder [] stages)
-              (still (solve folder) values folder [] (drop 0 stages)) nothing before before)
-          by None = tt
-          by (Some folder) = rest_first S laws folder (still (solve folder) values folder [] stages) before
+      told_first so_far before e = grind (arith, IsRest, rest_first)
 
     module _ (values : List ℤ) (stages : List Stage) (i : ℕ) (d : Stage) (inside : i < length stages) where
       pub told_more : (contents now : Option Folder) (old new : SoFar) (before mid count : ℕ)

@@ -1,7 +1,7 @@
 -- A chain starts with the settings of its dataset.
 use Rattle.stage_chain.specs.StageParts.{staged}
-use Rattle.std.proofs.Common.{◌≡◌, ℕ, ℤ, List, [], Option, Some, None, IfSome, Result, Ok, Err}
-use Rattle.std.proofs.Common.{arith}
+use Rattle.plan_num.proofs.Common.{◌≡◌, ℕ, ℤ, List, [], Option, Some, None, IfSome, Result, Ok, Err}
+use Rattle.plan_num.proofs.Common.{arith}
 use Rattle.plan_files.proofs.Common.{Folder}
 use Rattle.config_keys.proofs.Common.{ConfigEnd, ConfigGives, look_in, effective}
 use Rattle.config_keys.specs.declared.config_end.ConfigEnd.TheVariants as config

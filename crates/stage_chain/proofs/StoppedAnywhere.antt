@@ -1,6 +1,6 @@
 -- Where a run is stopped, the files that people write are as before, and what is kept is honest.
-use Rattle.std.proofs.Common.{◌≡◌, ◌+◌, ◌≤◌, List, ◌∷◌, [], ◌++◌, Option, Some, None, refl, ap, subst, ⊎_elim}
-use Rattle.std.proofs.lemmas.Option.{same_Some}
+use Rattle.plan_num.proofs.Common.{◌≡◌, ◌+◌, ◌≤◌, List, ◌∷◌, [], ◌++◌, Option, Some, None, refl, ap}
+use Rattle.plan_num.proofs.Common.{subst, ⊎_elim, same_Some}
 use Rattle.plan_files.proofs.Common.{Failed, Write, folder_after, Folder, AreOutside, outside_front}
 use Rattle.command_line.specs.declared.mode.Mode.{Mode}
 use Rattle.command_line.specs.declared.mode.Mode.TheVariants as mode

@@ -1,8 +1,8 @@
 -- The writes of a run are harmless, and so it may be stopped anywhere.
-use Rattle.plan_num.proofs.Common.{arith, ◌≡◌, ℕ, ℤ, Bool, true, false, cond, not, is_some, List}
-use Rattle.plan_num.proofs.Common.{[], ◌∷◌, ◌++◌, map, filter, take, drop, Option, Some, None}
-use Rattle.plan_num.proofs.Common.{IfSome, Ok, refl, ap, sym, subst, ◌∙◌, inl, ⊎_elim, append-nil}
-use Rattle.plan_num.proofs.Common.{option_map, bytes_eq, and_parts, false≢true, take-append-drop}
+use Rattle.plan_num.proofs.Common.{arith, ◌≡◌, ℕ, ℤ, Bool, true, cond, not, is_some, List, [], ◌∷◌}
+use Rattle.plan_num.proofs.Common.{◌++◌, map, filter, take, drop, Option, Some, None, IfSome, Ok}
+use Rattle.plan_num.proofs.Common.{refl, ap, sym, subst, ◌∙◌, inl, ⊎_elim, append-nil, option_map}
+use Rattle.plan_num.proofs.Common.{bytes_eq, and_parts, false≢true, take-append-drop}
 use Rattle.plan_num.proofs.Common.{bytes_eq-Decides}
 use Rattle.plan_files.proofs.Common.{Write, Removal, AreApplied, AreCutShort, LeftBy, folder_after}
 use Rattle.plan_files.proofs.Common.{Folder, AreOutside, outside_both, outside_front}
@@ -80,18 +80,12 @@ module _ (S : StageParts) (laws : AreStages S) where
   )
     where
       never : (name other : List ℕ) → name ≡ other → not (bytes_eq name other) ≡ true → ⊥
-      never name other same h =
-          false≢true (sym (ap not ((bytes_eq-Decides name other).1 same)) ∙ h)
+      never name other same h = grind (arith, false≢true, bytes_eq-Decides)
 
   some_harmless : (p : Write → Bool) (writes : List Write) → AreHarmless S writes
       → AreHarmless S (filter p writes)
   some_harmless p [] h = tt
-  some_harmless p (write ∷ writes) h = by (p write) (some_harmless p writes h.1)
-    where
-      by : (b : Bool) → AreHarmless S (filter p writes)
-          → AreHarmless S (cond b (write ∷ filter p writes) (filter p writes))
-      by true rest = (h.0, rest)
-      by false rest = rest
+  some_harmless p (write ∷ writes) h = grind (arith, some_harmless p writes h.1)
 
   wishes_harmless : (folder : Folder) (made : List MadeFile)
       → ((at : Stage) → differs_from (map name_of made) (keep_name at) ≡ true)
@@ -192,8 +186,7 @@ module _ (S : StageParts) (laws : AreStages S) where
             → IsHonestAt S laws at (folder_after cut.made folder) → IfSome left (IsHonestAt S laws at)
         by fault.FileFault at next torn honest =
             torn_honest S laws at cut.next (folder_after cut.made folder) left next torn honest
-        by fault.NoMemory at next same honest =
-            subst (λ left. IfSome left (IsHonestAt S laws at)) (sym same) honest
+        by fault.NoMemory at next same honest = grind (arith, IsHonestAt)
 
     pub adds_some : (fault : ChainFault) → AreNotAll fault writes (Some folder) left before now
         → AddsHarmless S folder left before now
@@ -221,11 +214,8 @@ module _ (S : StageParts) (laws : AreStages S) where
       → AddsHarmless S folder left before now
   both_add by folder mid left before noted now first more = record {
     added = removed by folder ++ more.added;
-    noted =
-        more.noted ∙ ap (option_map (λ writes. writes ++ more.added)) first.noted
-        ∙ noted_both before (removed by folder) more.added;
-    harmless =
-        harmless_both S laws (removed by folder) more.added (removed_harmless S laws by folder) more.harmless;
+    noted = grind (arith, noted_both);
+    harmless = grind (arith, harmless_both, removed_harmless);
     apart = outside_both is_hand (removed by folder) more.added (removed_outside by folder) more.apart;
     keep = λ honest. more.keep
         (λ at. made_honest S laws at (removed by folder) folder (removed_harmless S laws by folder)

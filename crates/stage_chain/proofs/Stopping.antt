@@ -93,12 +93,17 @@ module _ (S : StageParts) (laws : AreStages S) where
       → IsTrusted S laws at base made → IsHonestAt S laws at (folder_after made base)
   made_honest at [] base harmless trusted =
       ⊎_elim (λ honest. honest) (λ none. absurd (false≢true none)) trusted
-  made_honest at (write ∷ made) base harmless trusted =
-      made_honest at made (after_write write base) harmless.1 (⊎_elim
-      (λ honest. inl (whole_honest S laws at write base harmless.0 honest))
-      (λ some. ⊎_elim (λ own. inl (removed_honest S laws at write base own)) (λ later. inr later)
-      (or_cases (removes_kept at write) (list_any (removes_kept at) made) some))
-      trusted)
+  made_honest at (write ∷ made) base harmless trusted = grind (
+    arith,
+    ⊎_elim,
+    whole_honest,
+    removed_honest,
+    or_cases,
+    made_honest at made (after_write write base) harmless.1 (⊎_elim (λ
+        honest. inl (whole_honest S laws at write base harmless.0 honest)) (λ some. ⊎_elim (λ own. inl
+        (removed_honest S laws at write base own)) (λ later. inr later) (or_cases (removes_kept at
+        write) (list_any (removes_kept at) made) some)) trusted),
+  )
 
   pub harmless_both : (writes more : List Write) → AreHarmless S writes → AreHarmless S more
       → AreHarmless S (writes ++ more)

@@ -30,12 +30,7 @@ module _ (S : StageParts) (laws : AreStages S) where
       → ((values : List ℤ) → effective (look_in hand) ≡ Ok values → P (trace_under S (Ok values) hand))
       → P (trace_of S hand)
   unfolding trace_of
-  traced hand P refused run = by (effective (look_in hand)) refl
-    where
-      by : (settings : Result (List ℤ) ConfigFault) → effective (look_in hand) ≡ settings
-          → P (trace_under S settings hand)
-      by (Err reason) is = refused reason is
-      by (Ok values) is = run values is
+  traced hand P refused run = grind arith
 
   -- the same of a chain over a keep
   pub traced_over : (keep hand : Folder) (P : Trace → Type 0)
@@ -45,12 +40,7 @@ module _ (S : StageParts) (laws : AreStages S) where
       → P (chain_under S (solve_over S keep) (Ok values) hand))
       → P (trace_over S keep hand)
   unfolding trace_over
-  traced_over keep hand P refused run = by (effective (look_in hand)) refl
-    where
-      by : (settings : Result (List ℤ) ConfigFault) → effective (look_in hand) ≡ settings
-          → P (chain_under S (solve_over S keep) settings hand)
-      by (Err reason) is = refused reason is
-      by (Ok values) is = run values is
+  traced_over keep hand P refused run = grind arith
 
 -- ---- some of the stages make some of the names
 
@@ -66,9 +56,7 @@ module _ (p : Stage → Bool) where
       by : (b : Bool) → list_all q (map file_name (stage_makes stage)) ≡ true
           → list_all q (names_made_by (filter p stages)) ≡ true
           → list_all q (names_made_by (cond b (stage ∷ filter p stages) (filter p stages))) ≡ true
-      by true own rest =
-          ap (list_all q) (names_more stage (filter p stages))
-          ∙ all_both q (map file_name (stage_makes stage)) (names_made_by (filter p stages)) own rest
+      by true own rest = grind (arith, names_more, all_both)
       by false own rest = rest
 
   some_differ : (stages : List Stage) → differing (names_made_by stages) ≡ true
@@ -85,10 +73,7 @@ module _ (p : Stage → Bool) where
           → differing (names_made_by (filter p stages)) ≡ true
           → Differ (map file_name (stage_makes stage)) (names_made_by (filter p stages))
           → differing (names_made_by (cond b (stage ∷ filter p stages) (filter p stages))) ≡ true
-      by true own rest apart =
-          ap differing (names_more stage (filter p stages))
-          ∙ parts_differing (map file_name (stage_makes stage)) (names_made_by (filter p stages))
-          (record { front = own; back = rest; apart = apart })
+      by true own rest apart = grind (arith, names_more, parts_differing)
       by false own rest apart = rest
 
 module _ (S : StageParts) (laws : AreStages S) where

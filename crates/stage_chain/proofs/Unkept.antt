@@ -1,9 +1,9 @@
 -- A keep file that does not begin and end as an entry of a bundle keeps nothing for it, and one that
 -- has its front keeps what stands behind that.
-use Rattle.std.proofs.Common.{◌≡◌, ℕ, List, ◌++◌, arith, refl, sym, subst, ◌∙◌, Bool, false, Option}
-use Rattle.std.proofs.Common.{Some, None, Result, Ok, Err, IfSome, IfOk, option_map}
+use Rattle.plan_num.proofs.Common.{◌≡◌, ℕ, List, ◌++◌, arith, refl, sym, subst, ◌∙◌, Bool, false}
+use Rattle.plan_num.proofs.Common.{Option, Some, None, Result, Ok, Err, IfSome, IfOk, option_map}
 use Rattle.std.specs.FinMap as files
-use Rattle.plan_files.proofs.Common.{FileFault, Folder, FoundBehind, LacksEnds, LacksFront}
+use Rattle.plan_files.proofs.Common.{FileFault, Folder, FoundBehind, LacksEnds}
 use Rattle.giv_files.proofs.Common.{Made, BundleParts, Fits}
 use Rattle.stage_keep.specs.Entries.{entry_front, given_front, keep_name, last_line}
 use Rattle.stage_keep.specs.EntryReading.{read_made}
@@ -48,15 +48,7 @@ part_told (Some folder) now bundle part made fits same found is = grind (arith, 
 pub no_part_told : (told now : Option Folder) (bundle : BundleParts) → now ≡ told
     → IfSome now (BehindFront bundle None) → IfSome told (λ folder. None ≡ kept_in folder bundle)
 no_part_told None now bundle same found = tt
-no_part_told (Some folder) now bundle same found =
-    by (files.get folder (keep_name bundle.stage))
-    (subst (λ now. IfSome now (BehindFront bundle None)) same found)
-  where
-    by : (there : Option (List ℕ)) → IfSome there (LacksFront (given_front bundle))
-        → None ≡ kept_for bundle there
-    by None lacking = refl
-    by (Some bytes) lacking =
-        sym (unfronted_is_unkept bundle bytes (omega (arith, lacking.counted)) lacking.lacks)
+no_part_told (Some folder) now bundle same found = grind (arith, unfronted_is_unkept)
 
 -- what is found behind the pieces of a front, under a name
 pub part_found : {X : Type 0} (told : Option Folder) (bundle : BundleParts) (name front : List ℕ)

@@ -1,6 +1,6 @@
 -- One stage of a chain is run.
-use Rattle.std.proofs.Common.{◌≡◌, ℕ, ℤ, List, [], ◌∷◌, Option, Some, None, IfSome, Result, Ok, Err}
-use Rattle.std.proofs.Common.{refl, ap, sym, ◌∙◌, subst, arith}
+use Rattle.plan_num.proofs.Common.{◌≡◌, ℕ, ℤ, List, [], ◌∷◌, Option, Some, None, IfSome, Result, Ok}
+use Rattle.plan_num.proofs.Common.{Err, refl, ap, sym, ◌∙◌, subst, arith}
 use Rattle.plan_files.proofs.Common.{Folder}
 use Rattle.giv_files.proofs.Common.{Made, MadeFile, Stage, BundleParts, stage_inputs}
 use Rattle.stage_chain.specs.declared.chain_end.ChainEnd.{ChainEnd}
@@ -63,15 +63,8 @@ module _ (S : StageParts) (laws : AreStages S) where
         → VisitGives S folder (visit_in folder) old old count count (Err why)
     unfolding visit_of
     ungiven folder (end.Stopped why) count told =
-        let none : visit_work S folder (visit_in folder) ≡ 0 =
-        ap (λ told. visit_work S folder (tried (solve_over S folder) values folder told)) told in (
-          record { cause = why; given = None },
-          ap (tried (solve_over S folder) values folder) told,
-          refl,
-          refl,
-          omega
-              (arith, none),
-        )
+        let none : visit_work S folder (visit_in folder) ≡ 0 = grind arith in
+        grind arith
     ungiven folder end.FileFault count told = (omega arith, omega arith)
     ungiven folder end.NoMemory count told = (omega arith, omega arith)
 
@@ -94,8 +87,7 @@ module _ (S : StageParts) (laws : AreStages S) where
     is_kept None now files bundle made count same here told kept more = tt
     is_kept (Some folder) now files bundle made count same here given found more =
         let told : told_in folder ≡ Ok bundle = ap (λ files. told_with files folder) (sym same) ∙ given in
-        let kept : kept_in folder bundle ≡ Some made =
-        sym (subst (λ now. IfSome now (λ folder. Some made ≡ kept_in folder bundle)) here found) in
+        let kept : kept_in folder bundle ≡ Some made = grind arith in
         let none : visit_work S folder (visit_in folder) ≡ 0 =
         given_work_is folder bundle told ∙ kept_work folder bundle made kept in
         let old_entry : new_entry folder (record { bundle = bundle; made = made }) ≡ [] = rw kept refl in (
@@ -139,12 +131,10 @@ module _ (S : StageParts) (laws : AreStages S) where
         )
     making folder bundle before now (Err end.FileFault) told none (least, most) =
         let work : visit_work S folder (visit_in folder) ≡ S.work bundle =
-        given_work_is folder bundle told ∙ made_work folder bundle none in
-        (least, omega (arith, work, most))
+        given_work_is folder bundle told ∙ made_work folder bundle none in grind arith
     making folder bundle before now (Err end.NoMemory) told none (least, most) =
         let work : visit_work S folder (visit_in folder) ≡ S.work bundle =
-        given_work_is folder bundle told ∙ made_work folder bundle none in
-        (least, omega (arith, work, most))
+        given_work_is folder bundle told ∙ made_work folder bundle none in grind arith
 
     pub is_making : (contents now : Option Folder) (files : List MadeFile) (bundle : BundleParts)
         (before count : ℕ) (result : Result (Unit {0}) ChainEnd) → files ≡ old.files → now ≡ contents

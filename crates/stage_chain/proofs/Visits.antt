@@ -1,21 +1,19 @@
 -- What a visit of a chain is, and what ends one.
-use Rattle.std.proofs.Common.{◌≡◌, ℕ, ℤ, List, [], ◌∷◌, ◌++◌, ◌⊎◌, inl, inr, Option, Some, None}
-use Rattle.std.proofs.Common.{Result, Ok, Err, refl, ap, sym}
+use Rattle.plan_num.proofs.Common.{arith, ◌≡◌, ℕ, ℤ, List, [], ◌∷◌, ◌++◌, ◌⊎◌, inl, inr, Option}
+use Rattle.plan_num.proofs.Common.{Some, None, Result, Ok, Err, refl}
 use Rattle.plan_files.proofs.Common.{Folder}
 use Rattle.giv_files.proofs.Common.{Made, MadeFile, Stage, BundleParts, stage_inputs}
 use Rattle.tables.proofs.Common.{Refusal}
 use Rattle.stage_chain.specs.declared.cause.Cause.{Cause}
 use Rattle.stage_chain.specs.declared.cause.Cause.TheVariants as cause
-use Rattle.stage_chain.specs.Chain.{Visit, Halt, Trace, texts_of, bundle_for, bundle_told, tried}
+use Rattle.stage_chain.specs.Chain.{Visit, Halt, Trace, texts_of, bundle_told, tried}
 use Rattle.stage_chain.specs.Chain.{solved, go_on, visit_of, chain_from}
 
 -- a bundle has the stage for which it is made
 pub bundle_stage : (values : List ℤ) (stage : Stage) (texts : Result (List (List ℕ)) Cause)
     (bundle : BundleParts) → bundle_told values stage texts ≡ Ok bundle → bundle.stage ≡ stage
 bundle_stage values stage (Err why) bundle e = absurd (cc)
-bundle_stage values stage (Ok texts) bundle e =
-    let same : bundle_for values stage texts ≡ bundle = cc in
-    sym (ap (λ (b : BundleParts). b.stage) same)
+bundle_stage values stage (Ok texts) bundle e = grind arith
 
 module _ (solve : BundleParts → Result Made Refusal) (values : List ℤ) (hand : Folder) where
   -- what a stage is given, where so many files were made before it

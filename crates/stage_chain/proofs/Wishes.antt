@@ -1,7 +1,7 @@
 -- Writes that change something leave what all of them leave, and then nothing is left to change.
 use Rattle.plan_num.proofs.Common.{arith, ◌≡◌, ℕ, Bool, true, false, cond, not, List, [], ◌∷◌, ◌++◌}
-use Rattle.plan_num.proofs.Common.{map, filter, Option, Some, None, refl, ap, sym, ◌∙◌, ⊤, list_all}
-use Rattle.plan_num.proofs.Common.{bytes_eq, false≢true, and_parts, and_from, not-true, or_parts}
+use Rattle.plan_num.proofs.Common.{map, filter, Option, Some, None, refl, ap, ⊤, list_all, bytes_eq}
+use Rattle.plan_num.proofs.Common.{false≢true, and_parts, and_from, not-true, or_parts}
 use Rattle.plan_num.proofs.Common.{bytes_eq-Decides}
 use Rattle.std.specs.FinMap as files
 use Rattle.plan_files.proofs.Common.{Write, after_write, folder_after, left_by, write_name, Folder}
@@ -28,16 +28,7 @@ same_own (Some there) = (bytes_eq-Decides there there).1 refl
 -- a write that is met changes nothing
 met_stays : (write : Write) (folder : Folder) → is_met folder write ≡ true
     → after_write write folder ≡ folder
-met_stays write folder met =
-    same_folder (after_write write folder) folder
-    (λ name. get_written write folder name ∙ by name (bytes_eq name (write_name write)) refl)
-  where
-    by : (name : List ℕ) (here : Bool) → bytes_eq name (write_name write) ≡ here
-        → cond here (left_by write) (files.get folder name) ≡ files.get folder name
-    by name true is =
-        sym (same_is (files.get folder (write_name write)) (left_by write) met)
-        ∙ ap (files.get folder) (sym ((bytes_eq-Decides name (write_name write)).0 is))
-    by name false is = refl
+met_stays write folder met = grind (arith, same_folder, get_written, same_is, bytes_eq-Decides)
 
 -- two folders have the same under each of some names
 abbrev pub Alike : Folder → Folder → List (List ℕ) → Type 0
@@ -55,10 +46,13 @@ pub alike_after : (write : Write) (folder other : Folder) (names : List (List �
     → Alike (after_write write folder) other names
 alike_after write folder other [] out h = tt
 alike_after write folder other (name ∷ names) out h =
-    let parts = and_parts _ _ out in
-    let apart : bytes_eq name (write_name write) ≡ false = same_way name (write_name write) ∙ not-true _ parts.0 in (
-      get_written write folder name ∙ ap (λ here. cond here (left_by write) (files.get folder name)) apart ∙ h.0,
-      alike_after write folder other names parts.1 h.1,
+    let parts = and_parts _ _ out in grind (
+      arith,
+      same_way,
+      not-true,
+      get_written,
+      alike_after
+          write folder other names parts.1 h.1,
     )
 
 unmet_from : (base : Folder) (writes : List Write) (folder : Folder)
@@ -76,9 +70,7 @@ unmet_from base (write ∷ writes) folder h k =
         → folder_after (unmet base writes) (after_write write folder) ≡ folder_after writes (after_write write folder)
         → folder_after (cond (not met) (write ∷ unmet base writes) (unmet base writes)) folder
         ≡ folder_after writes (after_write write folder)
-    by true is here there =
-        here ∙ ap (folder_after writes)
-        (sym (met_stays write folder (ap (λ found. same_bytes found (left_by write)) k.0 ∙ is)))
+    by true is here there = grind (arith, met_stays)
     by false is here there = there
 
 -- Writes with different names leave what those of them leave that change something.
@@ -92,10 +84,12 @@ pub get_behind : (writes : List Write) (folder : Folder) (name : List ℕ)
     → files.get (folder_after writes folder) name ≡ files.get folder name
 get_behind [] folder name out = refl
 get_behind (write ∷ writes) folder name out =
-    let parts = or_parts _ _ out in
-    get_behind writes (after_write write folder) name parts.1
-    ∙ get_written write folder name
-    ∙ ap (λ here. cond here (left_by write) (files.get folder name)) parts.0
+    let parts = or_parts _ _ out in grind (
+      arith,
+      get_written,
+      get_behind writes (after_write write
+          folder) name parts.1,
+    )
 
 -- a folder has what each of some writes leaves
 abbrev pub AreMet : Folder → List Write → Type 0
@@ -107,12 +101,12 @@ pub met_after : (writes : List Write) (folder : Folder) → differing (names_in 
     → AreMet (folder_after writes folder) writes
 met_after [] folder h = tt
 met_after (write ∷ writes) folder h =
-    let parts = and_parts _ _ h in (
-      get_behind writes (after_write write folder) (write_name write)
-          (not_among (names_in writes) (write_name write) parts.0)
-          ∙ get_written write folder (write_name write)
-          ∙ ap (λ here. cond here (left_by write) (files.get folder (write_name write)))
-          ((bytes_eq-Decides (write_name write) (write_name write)).1 refl),
+    let parts = and_parts _ _ h in grind (
+      arith,
+      get_behind,
+      not_among,
+      get_written,
+      bytes_eq-Decides,
       met_after writes (after_write write folder) parts.1,
     )
 
@@ -122,9 +116,12 @@ pub met_behind : (writes more : List Write) (folder : Folder)
     → AreMet (folder_after more folder) writes
 met_behind [] more folder h k = tt
 met_behind (write ∷ writes) more folder h k =
-    let parts = and_parts _ _ h in (
-      get_behind more folder (write_name write) (not_among (names_in more) (write_name write) parts.0) ∙ k.0,
-      met_behind writes more folder parts.1 k.1,
+    let parts = and_parts _ _ h in grind (
+      arith,
+      get_behind,
+      not_among,
+      met_behind writes more
+          folder parts.1 k.1,
     )
 
 -- where all are met, none changes anything
@@ -139,20 +136,14 @@ module _ (p : Write → Bool) where
   pub outside_some : (test : List ℕ → Bool) (writes : List Write) → AreOutside test writes
       → AreOutside test (filter p writes)
   outside_some test [] h = tt
-  outside_some test (write ∷ writes) h = by (p write) (outside_some test writes h.1)
-    where
-      by : (b : Bool) → AreOutside test (filter p writes)
-          → AreOutside test (cond b (write ∷ filter p writes) (filter p writes))
-      by true rest = (h.0, rest)
-      by false rest = rest
+  outside_some test (write ∷ writes) h = grind (arith, outside_some test writes h.1)
 
   all_some : (q : List ℕ → Bool) (writes more : List Write)
       → list_all q (names_in (writes ++ more)) ≡ true
       → list_all q (names_in (filter p writes ++ more)) ≡ true
   all_some q [] more h = h
   all_some q (write ∷ writes) more h =
-      let parts = and_parts _ _ h in
-      by (p write) parts.0 (all_some q writes more parts.1)
+      let parts = and_parts _ _ h in grind (arith, all_some q writes more parts.1)
     where
       by : (b : Bool) → q (write_name write) ≡ true
           → list_all q (names_in (filter p writes ++ more)) ≡ true
@@ -168,8 +159,7 @@ module _ (p : Write → Bool) where
       all_once : (more : List Write) → differing (names_in more) ≡ true → IsOnce more
       all_once [] h = tt
       all_once (write ∷ more) h =
-          let parts = and_parts _ _ h in
-          (not_among (names_in more) (write_name write) parts.0, all_once more parts.1)
+          let parts = and_parts _ _ h in grind (arith, not_among, all_once more parts.1)
   once_some (write ∷ writes) more h =
       let parts = and_parts _ _ h in
       by (p write) (all_some (λ other. not (bytes_eq (write_name write) other)) writes more parts.0)
@@ -178,6 +168,5 @@ module _ (p : Write → Bool) where
       by : (b : Bool) → differs_from (names_in (filter p writes ++ more)) (write_name write) ≡ true
           → IsOnce (filter p writes ++ more)
           → IsOnce (cond b (write ∷ filter p writes) (filter p writes) ++ more)
-      by true out rest =
-          (not_among (names_in (filter p writes ++ more)) (write_name write) out, rest)
+      by true out rest = grind (arith, not_among)
       by false out rest = rest

@@ -1,5 +1,5 @@
 -- The puts of what was made and the removals of all else are the writes of a run.
-use Rattle.std.proofs.Common.{◌≡◌, List, ◌++◌, map, arith}
+use Rattle.plan_num.proofs.Common.{◌≡◌, List, ◌++◌, map, arith}
 use Rattle.plan_files.proofs.Common.{Write, Removal}
 use Rattle.giv_files.proofs.Common.{MadeFile}
 use Rattle.stage_chain.specs.Hand.{names_made_by}

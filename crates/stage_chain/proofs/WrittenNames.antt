@@ -1,8 +1,8 @@
 -- The names that a run writes: those of made files and of what is kept, each at most once.
 use Rattle.plan_num.proofs.Common.{arith, ◌≡◌, ℕ, ℤ, Bool, true, false, cond, not, is_some, leb}
-use Rattle.plan_num.proofs.Common.{◌||◌, List, [], ◌∷◌, ◌++◌, map, filter, Option, refl, ap, sym}
-use Rattle.plan_num.proofs.Common.{◌∙◌, list_all, bytes_eq, false≢true, and_parts, and_from}
-use Rattle.plan_num.proofs.Common.{map-append, bytes_eq-Decides}
+use Rattle.plan_num.proofs.Common.{◌||◌, List, [], ◌∷◌, ◌++◌, map, filter, Option, refl, ap, ◌∙◌}
+use Rattle.plan_num.proofs.Common.{list_all, bytes_eq, false≢true, and_parts, and_from, map-append}
+use Rattle.plan_num.proofs.Common.{bytes_eq-Decides}
 use Rattle.stage_chain.specs.StageParts.{staged}
 use Rattle.plan_files.proofs.Common.{Write, Removal, write_name, Folder}
 use Rattle.tables.proofs.Common.{FileId, file_name}
@@ -14,7 +14,7 @@ use Rattle.stage_keep.specs.Entries.{keep_name}
 use Rattle.stage_chain.specs.Built.{files_of}
 use Rattle.stage_chain.specs.Chain.{Visit, Halt, stage_place}
 use Rattle.stage_chain.specs.Hand.{is_among, is_hand, names_made_by}
-use Rattle.stage_chain.specs.Kept.{entry_put, kept_in, new_entries, new_entry, solve_over, trace_over}
+use Rattle.stage_chain.specs.Kept.{new_entries, new_entry, solve_over, trace_over}
 use Rattle.stage_chain.specs.Runs.{name_of, names_besides, put_of, writes_for}
 use Rattle.stage_chain.proofs.Differing.{all_both, all_filter, Differ}
 use Rattle.stage_chain.proofs.Differing.{differ_swap, parts_differing}
@@ -44,9 +44,7 @@ apart_by test (name ∷ names) others h k =
         and_from _ _ (by (bytes_eq name other) refl parts.0) (one others parts.1 out)
       where
         by : (same : Bool) → bytes_eq name other ≡ same → test other ≡ true → not same ≡ true
-        by true is passes =
-            let here : test name ≡ true = ap test ((bytes_eq-Decides name other).0 is) ∙ passes in
-            absurd (false≢true (ap not (sym here) ∙ out))
+        by true is passes = grind (arith, bytes_eq-Decides, false≢true)
         by false is passes = refl
 
 -- one name that does not pass is none of those that do
@@ -59,8 +57,7 @@ none_by test name (other ∷ others) out k =
   where
     by : (same : Bool) → bytes_eq name other ≡ same → test other ≡ true
         → is_among name others ≡ false → (same || is_among name others) ≡ false
-    by true is passes rest =
-        absurd (false≢true (sym out ∙ ap test ((bytes_eq-Decides name other).0 is) ∙ passes))
+    by true is passes rest = grind (arith, false≢true, bytes_eq-Decides)
     by false is passes rest = rest
 
 -- ---- names of what is kept
@@ -77,11 +74,7 @@ own_keep _ = refl
 -- people write no file under one
 pub kept_no_hand : (name : List ℕ) → is_kept_name name ≡ true → is_hand name ≡ false
 unfolding is_hand
-kept_no_hand name is = rw is (by _)
-  where
-    by : (made : Bool) → not (made || true) ≡ false
-    by true = refl
-    by false = refl
+kept_no_hand name is = grind arith
 
 -- some stages keep under different names
 some_keep : (p : Stage → Bool) (q : List ℕ → Bool) (stages : List Stage)
@@ -101,9 +94,7 @@ some_apart : (p : Stage → Bool) (stages : List Stage) → differing (map keep_
     → differing (map keep_name (filter p stages)) ≡ true
 some_apart p [] h = refl
 some_apart p (stage ∷ stages) h =
-    let parts = and_parts _ _ h in
-    by (p stage) (some_keep p (λ other. not (bytes_eq (keep_name stage) other)) stages parts.0)
-    (some_apart p stages parts.1)
+    let parts = and_parts _ _ h in grind (arith, some_keep, some_apart p stages parts.1)
   where
     by : (b : Bool) → differs_from (map keep_name (filter p stages)) (keep_name stage) ≡ true
         → differing (map keep_name (filter p stages)) ≡ true
@@ -123,22 +114,12 @@ module _ (S : StageParts) (laws : AreStages S) where
 all_new : (q : List ℕ → Bool) (keep : Folder) (visit : Visit) (more : List Write)
     → q (keep_name visit.bundle.stage) ≡ true → list_all q (names_in more) ≡ true
     → list_all q (names_in (new_entry keep visit ++ more)) ≡ true
-all_new q keep visit more is rest = by (is_some (kept_in keep visit.bundle))
-  where
-    by : (b : Bool)
-        → list_all q (names_in (cond b [] (entry_put visit.bundle visit.made ∷ []) ++ more)) ≡ true
-    by true = rest
-    by false = and_from _ _ is rest
+all_new q keep visit more is rest = grind (arith, is_some, names_in, and_from)
 
 differ_new : (keep : Folder) (visit : Visit) (more : List Write)
     → differs_from (names_in more) (keep_name visit.bundle.stage) ≡ true
     → differing (names_in more) ≡ true → differing (names_in (new_entry keep visit ++ more)) ≡ true
-differ_new keep visit more out rest = by (is_some (kept_in keep visit.bundle))
-  where
-    by : (b : Bool)
-        → differing (names_in (cond b [] (entry_put visit.bundle visit.made ∷ []) ++ more)) ≡ true
-    by true = rest
-    by false = and_from _ _ out rest
+differ_new keep visit more out rest = grind (arith, is_some, names_in, and_from)
 
 module _ (S : StageParts) (laws : AreStages S) where
   module _ (keep : Folder) (values : List ℤ) (hand : Folder) where
@@ -166,12 +147,13 @@ module _ (S : StageParts) (laws : AreStages S) where
     entries_differ before (stage ∷ stages) (visit ∷ visits) halt are h =
         let parts = and_parts _ _ h in
         let own : visit.bundle.stage ≡ stage = bundle_stage values stage _ visit.bundle are.0.given in
-        let out : differs_from (map keep_name stages) (keep_name visit.bundle.stage) ≡ true =
-        ap (λ s. differs_from (map keep_name stages) (keep_name s)) own ∙ parts.0 in
-        differ_new keep visit (new_entries keep visits)
-        (entries_within (λ other. not (bytes_eq (keep_name visit.bundle.stage) other)) (before ++ visit.made.files)
-        stages visits halt are.1 out)
-        (entries_differ (before ++ visit.made.files) stages visits halt are.1 parts.1)
+        grind (
+          arith,
+          differ_new,
+          entries_within,
+          entries_differ (before ++ visit.made.files)
+              stages visits halt are.1 parts.1,
+        )
 
 all_own : (stages : List Stage) → list_all is_kept_name (map keep_name stages) ≡ true
 all_own [] = refl
@@ -218,8 +200,7 @@ differ_some : (p : List ℕ → Bool) (names : List (List ℕ)) → differing na
     → differing (filter p names) ≡ true
 differ_some p [] h = refl
 differ_some p (name ∷ names) h =
-    let parts = and_parts _ _ h in
-    by (p name) (all_filter (λ other. not (bytes_eq name other)) p names parts.0) (differ_some p names parts.1)
+    let parts = and_parts _ _ h in grind (arith, all_filter, differ_some p names parts.1)
   where
     by : (b : Bool) → differs_from (filter p names) name ≡ true → differing (filter p names) ≡ true
         → differing (cond b (name ∷ filter p names) (filter p names)) ≡ true
@@ -229,15 +210,7 @@ differ_some p (name ∷ names) h =
 besides_apart : (made : List MadeFile) (names : List (List ℕ))
     → list_all (λ name. not (is_among name (map name_of made))) (names_besides made names) ≡ true
 besides_apart made [] = refl
-besides_apart made (name ∷ names) =
-    by (is_among name (map name_of made)) refl (besides_apart made names)
-  where
-    by : (b : Bool) → is_among name (map name_of made) ≡ b
-        → list_all (λ name. not (is_among name (map name_of made))) (names_besides made names) ≡ true
-        → list_all (λ name. not (is_among name (map name_of made)))
-        (cond (not b) (name ∷ names_besides made names) (names_besides made names)) ≡ true
-    by true is rest = rest
-    by false is rest = and_from _ _ (ap not is) rest
+besides_apart made (name ∷ names) = grind (arith, and_from, besides_apart made names)
 
 pub each_among : (names all : List (List ℕ))
     → list_all (λ name. is_among name (names ++ all)) all ≡ true
@@ -248,12 +221,7 @@ each_among names (name ∷ all) =
   where
     here : (names : List (List ℕ)) → is_among name (names ++ name ∷ all) ≡ true
     here [] = ap (λ b. b || is_among name all) ((bytes_eq-Decides name name).1 refl)
-    here (other ∷ names) = by (bytes_eq name other) (here names)
-      where
-        by : (b : Bool) → is_among name (names ++ name ∷ all) ≡ true
-            → (b || is_among name (names ++ name ∷ all)) ≡ true
-        by true rest = refl
-        by false rest = rest
+    here (other ∷ names) = grind (arith, here names)
 
     joined : (names : List (List ℕ)) → names ++ name ∷ all ≡ (names ++ name ∷ []) ++ all
     joined [] = refl
@@ -270,8 +238,7 @@ module _ (S : StageParts) (laws : AreStages S) where
       ∙ ap (λ names. map name_of made ++ names) (names_removed besides))
       ∙ parts_differing (map name_of made) besides (record {
         front = h;
-        back = differ_some (λ name. not (is_among name (map name_of made))) (names_made_by S.places)
-            laws.list.files_differ;
+        back = grind (arith, differ_some);
         apart =
             differ_swap besides (map name_of made)
             (apart_by (λ name. is_among name (map name_of made)) besides (map name_of made)

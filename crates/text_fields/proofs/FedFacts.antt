@@ -3,8 +3,8 @@ use Rattle.plan_num.proofs.Common.{◌≡◌, ◌≢◌, ℕ, ◌+◌, ◌-◌, 
 use Rattle.plan_num.proofs.Common.{take, drop, get_or, refl, ap, sym, ◌∙◌, Bool, true, false, eqb}
 use Rattle.plan_num.proofs.Common.{All, arith, append_assoc, append-nil, length-append, length-take}
 use Rattle.plan_num.proofs.Common.{cond, ne_eqb, eqb-true, add-one, drop-cons, get_or-take}
-use Rattle.plan_num.proofs.Common.{length-drop, filter, ltb, ◌||◌, one-add, suc, zero, min}
-use Rattle.plan_num.proofs.Common.{onto_first, position_or_len, eqb-false, false≢true, lt-ltb}
+use Rattle.plan_num.proofs.Common.{length-drop, filter, ltb, ◌||◌, one-add, suc, min, onto_first}
+use Rattle.plan_num.proofs.Common.{position_or_len, eqb-false, false≢true, lt-ltb}
 use Rattle.plan_num.proofs.Common.{get_or-append-add, take-append-drop, take_rest, All-cons}
 use Rattle.plan_num.proofs.Common.{All-head, All-push, All-tail, fails_before_first, slice_split_at}
 use Rattle.plan_num.proofs.Common.{slice_split_none}
@@ -36,9 +36,14 @@ fed_of parts = fed (given false parts)
 -- a line that is handed out as it stands, before others
 fed_plain : (line : List ℕ) (parts : List (List ℕ)) → IsBare line → length line < 4096
     → fed_of ((line ++ []) ∷ parts) ≡ line ++ 10 ∷ fed_of parts
-fed_plain line parts bare short =
-    rw (append-nil line, given_first line parts, not_signed line bare, handed_plain line bare short)
-    (fed_first line (given false parts))
+fed_plain line parts bare short = grind (
+  arith,
+  append-nil,
+  given_first,
+  not_signed,
+  handed_plain,
+  fed_first,
+)
 
 -- ---- lines without a comment, and the front of one more
 
@@ -55,22 +60,17 @@ module _ (tail left : List ℕ) (Ends : List ℕ → Type 0)
       → (Ends front → AreFed [] front)
       → (Ends ((line ++ c ∷ []) ++ front) → AreFed (line ++ c ∷ []) front)
       → AreFed line (c ∷ front)
-  fed_byte true line c front e bare short ends next more =
-      let feed : c ≡ 10 = eqb-true c 10 e in
-      let others : fed_of (parts_of (front ++ tail)) ≡ front ++ left =
-      ap fed_of (sym (onto_nothing is_feed (front ++ tail)))
-      ∙ next (after line front (rw feed at ends)) in
-      rw e (fed_plain line (parts_of (front ++ tail)) bare short
-      ∙ rw (others, feed) refl)
-  fed_byte false line c front e bare short ends next more =
-      rw e (ap fed_of (sym (onto_byte line c (parts_of (front ++ tail))))
-      ∙ more (rw (append_assoc line (c ∷ []) front) ends)
-      ∙ append_assoc line (c ∷ []) (front ++ left))
+  fed_byte true line c front e bare short ends next more = grind (
+    arith,
+    eqb-true,
+    onto_nothing,
+    fed_plain,
+  )
+  fed_byte false line c front e bare short ends next more = grind (arith, onto_byte, append_assoc)
 
   lines_fed : (line front : List ℕ) → IsBare line → IsBare front
       → length line + length front < 4096 → Ends (line ++ front) → AreFed line front
-  lines_fed line [] bare more short ends =
-      last line bare (omega arith) (rw (append-nil line) at ends)
+  lines_fed line [] bare more short ends = grind (arith, append-nil)
   lines_fed line (c ∷ front) bare more short ends =
       let first = All-head (λ byte. byte ≢ 35) c front more in
       let others = All-tail (λ byte. byte ≢ 35) c front more in
@@ -118,10 +118,13 @@ unfolding Stops
 stops_at text end is [] left = tt
 stops_at text end is (byte ∷ more) left =
     let within : end < length text = omega (arith, length-drop end text, ap length left) in
-    let feed : is_feed (get_or text end 0) ≡ true =
-    rw is (passes_at_first is_feed text 0 (rw is at within)) in
-    let first : get_or text end 0 ≡ byte = let cut = drop-cons text end 0 within in cc in
-    sym first ∙ eqb-true _ 10 feed
+    let feed : is_feed (get_or text end 0) ≡ true = grind (arith, passes_at_first, within) in grind (
+      arith,
+      get_or,
+      drop-cons,
+      within,
+      eqb-true,
+    )
 
 starts_with_feed : (text : List ℕ) (end : ℕ) → end ≡ position_or_len is_feed text
     → Stops (drop end text)
@@ -135,10 +138,7 @@ stops_rest text end is = rw (take_rest text end) (starts_with_feed text end is)
 
 pub first_plain : (text : List ℕ) (end : ℕ) → end ≡ position_or_len is_feed text
     → All (λ byte. byte ≢ 10) (take end text)
-first_plain text end is =
-    λ k d h. let before : k < end = omega (arith, length-take end text) in
-    rw (get_or-take end text k d before)
-    (eqb-false _ 10 (fails_before_first is_feed text k d (rw is at before)))
+first_plain text end is = grind (arith, length-take, get_or-take, eqb-false, fails_before_first)
 
 feed_not : (line : List ℕ) → All (λ byte. byte ≢ 10) line → All (λ byte. is_feed byte ≡ false) line
 feed_not line plain = λ k d h. ne_eqb _ 10 (plain k d h)
@@ -148,10 +148,14 @@ pub line_cut : (line rest : List ℕ) → All (λ byte. byte ≢ 10) line → St
     → (parts : List (List ℕ)) × (parts_of (line ++ rest) ≡ line ∷ parts)
     × (fed_of (parts_of rest) ≡ 10 ∷ fed_of parts)
 unfolding Stops begins
-line_cut line [] plain stops = (
-  [],
-  rw (append-nil line) (slice_split_none is_feed line (feed_not line plain)),
-  rw (given_first [] [], handed_none) (fed_first [] (given false [])),
+line_cut line [] plain stops = grind (
+  arith,
+  append-nil,
+  slice_split_none,
+  feed_not,
+  given_first,
+  handed_none,
+  fed_first,
 )
 line_cut line (byte ∷ rest) plain stops = (
   parts_of rest,
@@ -171,8 +175,7 @@ parts_after line (byte ∷ text) stops some plain =
 
 pub parts_alone : (line text : List ℕ) → length text ≡ 0 → All (λ byte. byte ≢ 10) line
     → parts_of (line ++ text) ≡ line ∷ []
-parts_alone line [] none plain =
-    rw (append-nil line) (slice_split_none is_feed line (feed_not line plain))
+parts_alone line [] none plain = grind (arith, append-nil, slice_split_none, feed_not)
 parts_alone line (byte ∷ text) none plain = absurd (omega arith)
 
 -- ---- the first line, where it is not among those
@@ -181,32 +184,22 @@ module _ (line : List ℕ) (parts all : List (List ℕ)) (is : all ≡ line ∷ 
   -- a line feed alone is handed out for an empty one
   pub empty_fed : length line ≡ 0 → fed_of all ≡ 10 ∷ fed_of parts
   unfolding begins
-  empty_fed none = rw is (by line none)
-    where
-      by : (line : List ℕ) → length line ≡ 0 → fed_of (line ∷ parts) ≡ 10 ∷ fed_of parts
-      by [] none = rw (given_first [] parts, handed_none) (fed_first [] (given false parts))
-      by (byte ∷ line) none = absurd (omega arith)
+  empty_fed none = grind (arith, given_first, handed_none, fed_first)
 
   -- the sign of a comment is handed out for a line that begins with it and those after it
   pub signed_fed : (left : List (List ℕ)) → begins line ≡ true → given true parts ≡ given false left
       → fed_of all ≡ 35 ∷ 10 ∷ fed_of left
-  signed_fed left signed same =
-      rw is (rw (given_first line parts, signed, handed_signed line signed, same)
-      (fed_first (35 ∷ []) (given false left)))
+  signed_fed left signed same = grind (arith, given_first, handed_signed, fed_first)
 
   -- and for one that csv is not to be given
   pub odd_fed : begins line ≡ false → is_odd line ≡ true → fed_of all ≡ 35 ∷ 10 ∷ fed_of parts
-  odd_fed other odd =
-      rw is (rw (given_first line parts, other, handed_odd line odd)
-      (fed_first (35 ∷ []) (given false parts)))
+  odd_fed other odd = grind (arith, given_first, handed_odd, fed_first)
 
   -- what stands before a comment is handed out for any other
   pub told_fed : (rest : List ℕ) → begins line ≡ false → is_odd line ≡ false
       → fed_of (parts_of rest) ≡ 10 ∷ fed_of parts
       → fed_of all ≡ before_comment line ++ fed_of (parts_of rest)
-  told_fed rest other plain after =
-      rw is (rw (given_first line parts, other, handed_even line plain, after)
-      (fed_first (before_comment line) (given false parts)))
+  told_fed rest other plain after = grind (arith, given_first, handed_even, fed_first)
 
 -- ---- lines without a comment, and what one more tells before it
 
@@ -214,12 +207,12 @@ told_front : (line front : List ℕ) → is_told (line ++ 10 ∷ front) ≡ true
 unfolding is_told
 told_front line [] told =
     let last : get_or (line ++ 10 ∷ []) (length (line ++ 10 ∷ []) - 1) 0 ≡ 10 =
-    rw (ends line 10) (get_or-append-add line (10 ∷ []) 0 0) in
-    absurd (false≢true (rw (
-      last,
-      lt-ltb 0 (length (line ++ 10 ∷ []))
-          (omega (arith, length-append line (10 ∷ []))),
-    ) at told))
+    rw (ends line 10) (get_or-append-add line (10 ∷ []) 0 0) in grind (
+      arith,
+      false≢true,
+      lt-ltb,
+      length-append,
+    )
   where
     ends : (line : List ℕ) (c : ℕ) → length (line ++ c ∷ []) - 1 ≡ length line + 0
     ends line c = omega (arith, length-append line (c ∷ []))
@@ -241,9 +234,12 @@ told_front line (c ∷ front) told =
 told_line : (line comment : List ℕ) (parts : List (List ℕ)) → IsBare line → length line < 4096
     → is_told line ≡ true → begins comment ≡ true
     → fed_of ((line ++ comment) ∷ parts) ≡ line ++ 10 ∷ fed_of parts
-told_line line comment parts bare short told sign =
-    let goes_on = handed_front line comment bare short told sign in
-    rw (given_first (line ++ comment) parts, goes_on.0, goes_on.1) (fed_first line (given false parts))
+told_line line comment parts bare short told sign = grind (
+  arith,
+  handed_front,
+  given_first,
+  fed_first,
+)
 
 -- the comment at the front of a text
 signed_tail : (text more : List ℕ) (place : ℕ) → text ≡ 35 ∷ more
@@ -283,34 +279,26 @@ module _ (text bare : List ℕ) (front : bare ≡ take (length bare) text)
   within = omega (arith, length-take (length bare) text, ap length front)
 
   bare_byte : (k d : ℕ) → k < length bare → get_or bare k d ≡ get_or text k d
-  bare_byte k d before =
-      ap (λ (bytes : List ℕ). get_or bytes k d) front ∙ get_or-take (length bare) text k d before
+  bare_byte k d before = grind (arith, get_or, get_or-take)
 
   pub feed_fed : (end : ℕ) → length bare ≤ 4096 → end < length bare → get_or bare end 0 ≡ 10
       → fed_of (parts_of text) ≡ take (end + 1) text
       ++ fed_of (parts_of (take (length text - (end + 1)) (drop (end + 1) text)))
-  feed_fed end short before feed =
-      front_fed text end (omega (arith, within)) (sym (bare_byte end 0 before) ∙ feed) (omega arith)
-      (λ k d h. let inside : k < end = omega (arith, length-take end text) in
-      rw (get_or-take end text k d inside) (rw (← bare_byte k d (omega arith)) (free k d (omega arith))))
+  feed_fed end short before feed = grind (
+    arith,
+    front_fed,
+    within,
+    bare_byte,
+    length-take,
+    get_or-take,
+  )
 
   pub bare_fed : (comment rest : List ℕ) (place : ℕ) → length bare < 4096
       → length bare < length text → get_or text (length bare) 0 ≡ 35 → is_told bare ≡ true
       → comment ≡ drop (length bare) text → place ≡ position_or_len is_feed comment
       → rest ≡ drop place comment
       → fed_of (parts_of text) ≡ bare ++ fed_of (parts_of rest)
-  bare_fed comment rest place short more sign told tail at left =
-      comment_fed text (length bare) place more short sign (rw (← front) free)
-      (rw (← front) told) (rw (← tail) at)
-      ∙ rw (← front) (ap (λ (rest : List ℕ). bare ++ fed_of (parts_of rest))
-      (sym (rw tail at left)))
-
--- what is taken of what is taken stands at the front
-pub front_twice : (a b : ℕ) (text : List ℕ) → take a (take b text) ≡ take (length (take a (take b text))) text
-front_twice zero b text = refl
-front_twice (suc a) zero text = refl
-front_twice (suc a) (suc b) [] = refl
-front_twice (suc a) (suc b) (byte ∷ text) = ap (λ (bytes : List ℕ). byte ∷ bytes) (front_twice a b text)
+  bare_fed comment rest place short more sign told tail at left = grind (arith, comment_fed)
 
 -- the sign of a comment stands after what stands before it
 pub bare_sign : (text bare : List ℕ) (room : ℕ) → bare ≡ before_comment (take room text)
@@ -376,8 +364,4 @@ lines_plain signed (part ∷ parts) plain =
 -- the lines of a text that have a byte are what csv is given of them
 pub lines_given : (text : List ℕ) → AreLines ([] ∷ given false (parts_of text))
     (given false (filter has_byte (parts_of text)))
-lines_given text = record {
-  plain = All-cons (λ part. All (λ byte. byte ≢ 10) part) [] (given false (parts_of text))
-      (λ k d h. absurd (omega arith)) (lines_plain false (parts_of text) (parts_plain text));
-  some = same_given false (parts_of text);
-}
+lines_given text = grind (arith, All-cons, lines_plain, parts_plain, same_given)

@@ -1,8 +1,7 @@
 -- What csv is given of lines, some of which begin with the sign of a comment.
 use Rattle.plan_num.proofs.Common.{◌≡◌, ℕ, ◌+◌, ◌<◌, List, [], ◌∷◌, length, refl, ap, sym, ◌∙◌}
-use Rattle.plan_num.proofs.Common.{Bool, true, false, eqb, arith, filter, ne_eqb, add-zero, ◌≤◌}
-use Rattle.plan_num.proofs.Common.{Bor, Option, Some, None, IfSome, option_copied, eqb-true}
-use Rattle.plan_num.proofs.Common.{false≢true}
+use Rattle.plan_num.proofs.Common.{Bool, true, false, eqb, arith, filter, ne_eqb, ◌≤◌, Bor, Option}
+use Rattle.plan_num.proofs.Common.{Some, None, IfSome, option_copied, eqb-true, false≢true}
 use Rattle.text_fields.specs.Rows.{before_comment, has_byte}
 use Rattle.text_fields.specs.Told.{PassesComments, begins, given, handed, is_odd, left_size, told_left}
 use Rattle.text_fields.proofs.ToldFacts.{told_sign}
@@ -56,39 +55,22 @@ pub record Passed (all left : List (List ℕ)) (count : ℕ) : Type 0 where
       → told_left number (filter has_byte all) ≡ told_left (number + count) (filter has_byte left)
   pub lines : length (filter has_byte all) ≡ length (filter has_byte left) + count
 
-pub passed_none : (parts : List (List ℕ)) → Passed parts parts 0
-passed_none parts = record {
-  given = refl;
-  told = λ number. ap (λ n. told_left n (filter has_byte parts)) (sym (add-zero number));
-  lines = sym (add-zero _);
-}
-
 -- one more, which begins with the sign of a comment
 pub passed_signed : (all left : List (List ℕ)) (line : List ℕ) (more : List (List ℕ)) (count : ℕ)
     → Passed all left count → left ≡ line ∷ more → begins line ≡ true
     → Passed all more (count + 1)
-passed_signed all left line more count passed is signed =
-    let first : filter has_byte left ≡ line ∷ filter has_byte more =
-    rw is (rw (some_signed line signed) refl) in
-    record {
-      given = passed.given ∙ ap (given true) is ∙ given_signed line more signed;
-      told = λ number. passed.told number ∙ ap (told_left (number + count)) first
-          ∙ told_signed (number + count) line (filter has_byte more) signed
-          ∙ ap (λ n. told_left n (filter has_byte more)) (omega arith);
-      lines = omega (arith, passed.lines, ap length first);
-    }
+passed_signed all left line more count passed is signed = grind (
+  arith,
+  some_signed,
+  given_signed,
+  told_signed,
+)
 
 -- or an empty one, which does not count
 pub passed_empty : (all left : List (List ℕ)) (line : List ℕ) (more : List (List ℕ)) (count : ℕ)
     → Passed all left count → left ≡ line ∷ more → eqb (length line) 0 ≡ true
     → Passed all more count
-passed_empty all left [] more count passed is empty =
-    let first : filter has_byte left ≡ filter has_byte more = rw is refl in
-    record {
-      given = passed.given ∙ ap (given true) is ∙ given_empty more;
-      told = λ number. passed.told number ∙ ap (told_left (number + count)) first;
-      lines = rw first at passed.lines;
-    }
+passed_empty all left [] more count passed is empty = grind (arith, given_empty)
 passed_empty all left (byte ∷ line) more count passed is empty =
     absurd (false≢true (sym (some_length byte line) ∙ empty))
 
@@ -100,24 +82,17 @@ passes all left count passed = record { told = passed.told; lines = passed.lines
 pub passes_first : (all left : List (List ℕ)) (line : List ℕ) (more : List (List ℕ)) (count : ℕ)
     → all ≡ line ∷ more → begins line ≡ true → PassesComments more left count
     → PassesComments all left (count + 1)
-passes_first all left line more count is signed passes = record {
-  told = λ number. ap (told_left number) is ∙ told_signed number line more signed
-      ∙ passes.told (number + 1) ∙ ap (λ n. told_left n left) (omega arith);
-  lines = omega (arith, passes.lines, ap length is);
-}
+passes_first all left line more count is signed passes = grind (arith, told_signed, passes)
 
 -- where no line is left, or another is the first, it is given as it is
 pub given_over : (all left : List (List ℕ)) (count : ℕ) → Passed all left count → left ≡ []
     → given true all ≡ given false []
-given_over all left count passed none =
-    passed.given ∙ ap (given true) none ∙ given_none true ∙ sym (given_none false)
+given_over all left count passed none = grind (arith, given_none)
 
 pub given_rest : (all left : List (List ℕ)) (line : List ℕ) (more : List (List ℕ)) (count : ℕ)
     → Passed all left count → left ≡ line ∷ more → eqb (length line) 0 ≡ false
     → begins line ≡ false → given true all ≡ given false left
-given_rest all left line more count passed is some other =
-    passed.given ∙ ap (given true) is ∙ given_other line more some other
-    ∙ ap (given false) (sym is)
+given_rest all left line more count passed is some other = grind (arith, given_other)
 
 -- what is left gets shorter with each line
 pub less_left : (left : Option (Bor (List ℕ))) (text : Bor (List ℕ)) (rest : Option (Bor (List ℕ)))
@@ -126,8 +101,7 @@ pub less_left : (left : Option (Bor (List ℕ))) (text : Bor (List ℕ)) (rest :
     → count + left_size (option_copied left) ≤ room → more ≤ 1
     → count + more + left_size (option_copied rest) ≤ room
 less_left left text None count more room is shorter few one = omega (arith, rw is at few)
-less_left left text (Some rest) count more room is shorter few one =
-    omega (arith, shorter, rw is at few)
+less_left left text (Some rest) count more room is shorter few one = grind arith
 
 -- ---- lines with a byte
 
@@ -154,14 +128,10 @@ same_if : (signed t u : Bool) (line : List ℕ) (parts : List (List ℕ))
 unfolding given begins
 same_if true true u line parts e f more = rw e (more true)
 same_if true false true line parts e f more = rw (e, f, e) (more true)
-same_if true false false line parts e f more =
-    rw (e, f, same_byte line (is_odd line) refl, e) (ap (λ lines. handed line ∷ lines) (more false))
+same_if true false false line parts e f more = grind (arith, same_byte)
 same_if false true u [] parts e f more = rw handed_none (more false)
-same_if false true u (byte ∷ line) parts e f more =
-    absurd (false≢true (sym (some_length byte line) ∙ e))
-same_if false false u line parts e f more =
-    rw (e, same_byte line (is_odd line) refl, e)
-    (ap (λ lines. handed line ∷ lines) (more (begins line)))
+same_if false true u (byte ∷ line) parts e f more = grind (arith, false≢true, some_length)
+same_if false false u line parts e f more = grind (arith, same_byte)
 
 pub same_given : (signed : Bool) (parts : List (List ℕ)) → SameLines signed parts
 same_given signed [] = rw given_none refl

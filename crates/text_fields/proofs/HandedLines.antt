@@ -1,9 +1,8 @@
 -- What csv is given of one line.
 use Rattle.plan_num.proofs.Common.{◌≡◌, ◌≢◌, ℕ, ◌<◌, ◌≤◌, List, [], ◌∷◌, ◌++◌, length, refl, Bool}
-use Rattle.plan_num.proofs.Common.{true, false, eqb, All, arith, zero, suc, ne_eqb, ap, sym, ◌∙◌}
-use Rattle.plan_num.proofs.Common.{◌-◌, ◌&&◌, ◌||◌, get_or, length-append, ltb, not, one-add}
-use Rattle.plan_num.proofs.Common.{position_or_len, eqb-true, false≢true, le-ltb, lt-leb, lt-ltb}
-use Rattle.plan_num.proofs.Common.{All-head, All-tail, All-take}
+use Rattle.plan_num.proofs.Common.{true, false, eqb, All, arith, zero, suc, ne_eqb, ap, sym, ◌-◌}
+use Rattle.plan_num.proofs.Common.{get_or, length-append, not, one-add, position_or_len, eqb-true}
+use Rattle.plan_num.proofs.Common.{false≢true, le-ltb, lt-leb, lt-ltb, All-head, All-tail, All-take}
 use Rattle.text_fields.specs.Rows.{before_comment}
 use Rattle.text_fields.specs.Told.{begins, handed, is_odd, is_told, returns}
 use Rattle.text_fields.proofs.Lines.{not_commented}
@@ -12,8 +11,7 @@ use Rattle.text_fields.proofs.Lines.{not_commented}
 pub handed_plain : (line : List ℕ) → All (λ byte. byte ≢ 35) line → length line < 4096
     → handed line ≡ line
 unfolding handed is_odd
-handed_plain line bare short =
-    rw (← not_commented line bare, lt-leb 4096 (length line) short, le-ltb (length line) (length line) (omega arith)) refl
+handed_plain line bare short = grind (arith, not_commented, lt-leb, le-ltb)
 
 pub handed_none : handed [] ≡ []
 unfolding handed is_odd
@@ -47,8 +45,7 @@ handed_odd line e = rw e refl
 pub handed_signed : (line : List ℕ) → begins line ≡ true → handed line ≡ 35 ∷ []
 unfolding handed is_odd begins
 handed_signed [] e = absurd (false≢true e)
-handed_signed (byte ∷ line) e =
-    rw (e, lt-ltb 0 (length (byte ∷ line)) (omega arith)) refl
+handed_signed (byte ∷ line) e = grind (arith, lt-ltb)
 
 -- one without a comment does not
 pub not_signed : (line : List ℕ) → All (λ byte. byte ≢ 35) line → begins line ≡ false
@@ -76,35 +73,19 @@ told_before (byte ∷ line) comment bare =
 told_last : (line : List ℕ) → is_told line ≡ true
     → (eqb (length line) 0 ≡ false) × (returns line ≡ false)
 unfolding is_told
-told_last line told =
-    by (length line) (eqb (get_or line (length line - 1) 0) 10) (returns line) refl refl told
-  where
-    by : (n : ℕ) (t u : Bool) → eqb (get_or line (length line - 1) 0) 10 ≡ t → returns line ≡ u
-        → (ltb 0 n && not (t || u)) ≡ true → (eqb n 0 ≡ false) × (u ≡ false)
-    by zero t u e f told = absurd (false≢true told)
-    by (suc n) true u e f told = absurd (false≢true (rw (lt-ltb 0 (suc n) (omega arith)) at told))
-    by (suc n) false true e f told = absurd (false≢true (rw (lt-ltb 0 (suc n) (omega arith)) at told))
-    by (suc n) false false e f told = (ne_eqb (suc n) 0 (λ e. omega arith), refl)
+told_last line told = grind (arith, get_or, false≢true, lt-ltb, ne_eqb)
 
 not_signed_front : (line comment : List ℕ) → All (λ byte. byte ≢ 35) line
     → eqb (length line) 0 ≡ false → begins (line ++ comment) ≡ false
 unfolding begins
 not_signed_front [] comment bare some = absurd (false≢true (sym some))
-not_signed_front (byte ∷ line) comment bare some =
-    ne_eqb byte 35 (All-head (λ byte. byte ≢ 35) byte line bare)
+not_signed_front (byte ∷ line) comment bare some = grind (arith, ne_eqb, All-head)
 
 even_front : (line comment : List ℕ) → All (λ byte. byte ≢ 35) line → length line < 4096
     → (eqb (length line) 0 ≡ false) × (returns line ≡ false)
     → is_odd (line ++ 35 ∷ comment) ≡ false
 unfolding is_odd
-even_front line comment bare short told =
-    rw (
-      told_before line comment bare,
-      lt-leb 4096 (length line) short,
-      lt-ltb (length line) (length (line ++ 35 ∷ comment)) (omega (arith, length-append line (35 ∷ comment))),
-      told.0,
-      told.1,
-    ) refl
+even_front line comment bare short told = grind (arith, told_before, lt-leb, lt-ltb, length-append)
 
 -- where something is told last before a comment, that is handed out as it stands
 pub handed_front : (line comment : List ℕ) → All (λ byte. byte ≢ 35) line → length line < 4096
@@ -112,13 +93,15 @@ pub handed_front : (line comment : List ℕ) → All (λ byte. byte ≢ 35) line
     → (handed (line ++ comment) ≡ line) × (begins (line ++ comment) ≡ false)
 unfolding begins
 handed_front line [] bare short told sign = absurd (false≢true sign)
-handed_front line (byte ∷ comment) bare short told sign =
-    let last = told_last line told in (
-      rw (eqb-true byte 35 sign)
-          (handed_even (line ++ 35 ∷ comment) (even_front line comment bare short last)
-          ∙ told_before line comment bare),
-      not_signed_front line (byte ∷ comment) bare last.0,
-    )
+handed_front line (byte ∷ comment) bare short told sign = grind (
+  arith,
+  told_last,
+  eqb-true,
+  handed_even,
+  even_front,
+  told_before,
+  not_signed_front,
+)
 
 -- ---- the last byte of a front
 

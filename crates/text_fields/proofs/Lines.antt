@@ -105,11 +105,11 @@ suffix_first : (text : List ℕ) → 0 < length text → length text ≤ suffix_
     → is_blank (get_or text 0 0) ≡ true
 suffix_first text some all =
     let end : length text - 1 < prefix_len is_blank (reverse text) = omega arith in
-    let last = prefix_len_passes is_blank (reverse text) (length text - 1) 0 end in
-    let place : length text - 1 - (length text - 1) ≡ 0 = omega arith in
-    let first : get_or (reverse text) (length text - 1) 0 ≡ get_or text 0 0 =
-    get_or-reverse text (length text - 1) 0 (omega arith) ∙ ap (λ k. get_or text k 0) place in
-    rw first at last
+    let last = prefix_len_passes is_blank (reverse text) (length text - 1) 0 end in grind (
+      arith,
+      get_or,
+      get_or-reverse,
+    )
 
 -- a text that does not begin with a blank does not end with blanks alone
 suffix_less : (text : List ℕ) → 0 < length text → is_blank (get_or text 0 0) ≡ false

@@ -47,33 +47,26 @@ pub reads_next : (lines : List (List ℕ)) (passed : ℕ) (reader : Reader Hande
     → MatchBool found (ReadsLine (given false (drop passed lines)) reader fields)
     (given false (drop passed lines) ≡ [])
     → found ≡ true → ReadsNext lines passed reader fields
-reads_next lines passed reader fields found reads is =
-    reads_if lines passed reader fields (drop passed lines) refl (rw is at reads)
+reads_next lines passed reader fields found reads is = grind (arith, reads_if)
 
 -- the sign of a comment is one piece
 one_sign : (line : List ℕ) (t : Bool) (found : List (List ℕ)) → begins line ≡ t
     → found ≡ pieces (handed line) → 2 ≤ length found → begins line ≡ false
 one_sign line false found e is long = e
-one_sign line true found e is long =
-    absurd (omega (arith, ap length is, ap (λ (line : List ℕ). length (pieces line)) (handed_signed line e)))
+one_sign line true found e is long = grind (arith, handed_signed)
 
 -- so a line of two pieces at least does not begin with it, and csv gives the line after it next
 pub apart_next : (lines : List (List ℕ)) (passed : ℕ) (reader : Reader Handed)
     (found : List (List ℕ)) → ReadsNext lines passed reader found → 2 ≤ length found
     → HasPieces (drop passed lines) (drop (passed + 1) lines) found
     × Awaits reader (given false (drop (passed + 1) lines))
-apart_next lines passed reader found reads long =
-    let other = one_sign reads.line (begins reads.line) found refl reads.pieces long in (
-      record { line = reads.line; left = reads.next; pieces = reads.pieces; some = long },
-      rw other at reads.awaits,
-    )
+apart_next lines passed reader found reads long = grind (arith, one_sign)
 
 -- and any other is looked up
 pub after_next : (lines left : List (List ℕ)) (passed : ℕ) (reader : Reader Handed)
     (found : List (List ℕ)) → ReadsNext lines passed reader found
     → given_after (drop passed lines) ≡ given false left → Awaits reader (given false left)
-after_next lines left passed reader found reads same =
-    rw (← same, reads.next) reads.awaits
+after_next lines left passed reader found reads same = grind arith
 
 -- a text has no more lines with a byte than bytes, and one
 pub lines_few : (text : List ℕ) → length (filter has_byte (parts_of text)) ≤ length text + 1
@@ -96,11 +89,7 @@ pub looked_up : (lines left : List (List ℕ)) (count : ℕ) (next : Option (Bor
 looked_up lines left count None line other within is after found =
     let some = slice_get-get_or lines count [] within in cc
 looked_up lines left count (Some next) line other within is after found =
-    let some = slice_get-get_or lines count [] within in
-    let cut = drop-cons lines count [] within in
-    let rest : left ≡ drop (suc count) lines = rw (← add-one) after in
-    let first : line.now ≡ get_or lines count [] = cc in
-    rw (rest, first) cut
+    let some = slice_get-get_or lines count [] within in grind (arith, drop-cons, add-one, get_or)
 
 -- and what csv is given after that
 pub given_next : (lines left : List (List ℕ)) (line : List ℕ) (signed : Bool)

@@ -1,15 +1,15 @@
 -- The pieces of a line without a comment are those of its row.
-use Rattle.plan_num.proofs.Common.{◌≡◌, ◌≢◌, ℕ, ◌+◌, ◌-◌, ◌≤◌, List, [], ◌∷◌, length, take, map}
-use Rattle.plan_num.proofs.Common.{cond, get_or, refl, ap, sym, ◌∙◌, Bool, true, false, eqb, All}
-use Rattle.plan_num.proofs.Common.{arith, zero, suc, ne_eqb, not, ltb, ◌<◌, one-add, list_all}
-use Rattle.plan_num.proofs.Common.{onto_first, position_or_len, strip_carriage_return, eqb-false}
-use Rattle.plan_num.proofs.Common.{eqb-true, false≢true, ltb-false, ltb-true, length-take, take_all}
-use Rattle.plan_num.proofs.Common.{All-take, length-slice_split, fails_before_first}
+use Rattle.plan_num.proofs.Common.{◌≡◌, ◌≢◌, ℕ, ◌+◌, ◌-◌, ◌≤◌, List, [], ◌∷◌, length, cond, get_or}
+use Rattle.plan_num.proofs.Common.{refl, ap, sym, Bool, true, false, eqb, All, arith, zero, suc}
+use Rattle.plan_num.proofs.Common.{ne_eqb, ltb, ◌<◌, one-add, list_all, onto_first, position_or_len}
+use Rattle.plan_num.proofs.Common.{strip_carriage_return, eqb-false, eqb-true, false≢true}
+use Rattle.plan_num.proofs.Common.{ltb-false, ltb-true, length-take, take_all, All-take}
+use Rattle.plan_num.proofs.Common.{length-slice_split, fails_before_first}
 use Rattle.std.proofs.Common.{slice_index}
 use Rattle.std.proofs.lemmas.List.Splits.{join_with_byte-slice_split}
 use Rattle.text_fields.specs.Rows.{Row, before_comment, cleaned, is_blank, pieces}
 use Rattle.text_fields.specs.declared.text_row.LineRead.TheVariants as read
-use Rattle.text_fields.specs.Told.{LineGives, handed, is_odd, returns, row_told, told_left}
+use Rattle.text_fields.specs.Told.{LineGives, handed, is_odd, returns}
 use Rattle.text_fields.specs.Told.{unreturned}
 use Rattle.text_fields.proofs.Lines.{not_commented}
 use Rattle.text_fields.proofs.ToldFacts.{told_first}
@@ -19,16 +19,7 @@ use Rattle.text_fields.proofs.ToldFacts.{told_first}
 strip_next_if : (t : Bool) (c b : ℕ) (rest : List ℕ)
     → eqb (slice_index (b ∷ rest) (length rest)) 13 ≡ t
     → strip_carriage_return (c ∷ b ∷ rest) ≡ c ∷ strip_carriage_return (b ∷ rest)
-strip_next_if t c b rest e =
-    let whole : length (c ∷ b ∷ rest) - 1 ≡ suc (length rest) = omega arith in
-    let inner : length (b ∷ rest) - 1 ≡ length rest = omega arith in
-    rw (whole, inner) (cut t e)
-  where
-    cut : (t : Bool) → eqb (slice_index (b ∷ rest) (length rest)) 13 ≡ t
-        → cond (eqb (slice_index (b ∷ rest) (length rest)) 13) (c ∷ take (length rest) (b ∷ rest)) (c ∷ b ∷ rest)
-        ≡ c ∷ cond (eqb (slice_index (b ∷ rest) (length rest)) 13) (take (length rest) (b ∷ rest)) (b ∷ rest)
-    cut true e = rw e refl
-    cut false e = rw e refl
+strip_next_if t c b rest e = grind (arith, slice_index)
 
 strip_next : (c b : ℕ) (rest : List ℕ)
     → strip_carriage_return (c ∷ b ∷ rest) ≡ c ∷ strip_carriage_return (b ∷ rest)
@@ -56,8 +47,7 @@ more_if t c b rest [] is e =
 more_if true c b rest (piece ∷ []) is e = refl
 more_if true c b rest (piece ∷ next ∷ more) is e = refl
 more_if false c b rest (piece ∷ []) is e =
-    let whole = one_piece (b ∷ rest) piece is in
-    rw whole (ap (λ (line : List ℕ). line ∷ []) (sym (strip_next c b rest)))
+    let whole = one_piece (b ∷ rest) piece is in grind (arith, strip_next)
 more_if false c b rest (piece ∷ next ∷ more) is e = refl
 
 pieces_stripped : (line : List ℕ)
@@ -165,11 +155,7 @@ kept_next : (c : ℕ) (more rest : List ℕ) (t : Bool) → eqb c 35 ≡ t
     → length (before_comment (c ∷ rest)) < length (c ∷ rest)
     → before_comment (c ∷ more) ≡ before_comment (c ∷ rest)
 kept_next c more rest true e same less = rw e refl
-kept_next c more rest false e same less =
-    next_told c more e
-    ∙ ap (λ (line : List ℕ). c ∷ line)
-    (same (omega (arith, less, ap length (next_told c rest e))))
-    ∙ sym (next_told c rest e)
+kept_next c more rest false e same less = grind (arith, next_told)
 
 comment_kept : (line : List ℕ) → length (before_comment line) < length line
     → before_comment (strip_carriage_return line) ≡ before_comment line
@@ -192,27 +178,20 @@ stands_as : (line : List ℕ) → is_odd line ≡ false → (t : Bool)
     → ltb (length (before_comment line)) (length line) ≡ t
     → before_comment (strip_carriage_return line) ≡ strip_carriage_return (before_comment line)
 unfolding is_odd
-stands_as line e true f =
-    comment_kept line (ltb-true _ _ f) ∙ sym (grind (arith, e, f))
-stands_as line e false f =
-    let is = before_comment_all line (ltb-false _ _ f) in
-    stripped_bare line is ∙ ap strip_carriage_return (sym is)
+stands_as line e true f = grind (arith, comment_kept, ltb-true)
+stands_as line e false f = grind (arith, before_comment_all, ltb-false, stripped_bare)
 
 plain_if : (line : List ℕ) (found : List (List ℕ)) (t : Bool) → is_odd line ≡ t
     → found ≡ pieces (handed line) → 2 ≤ length found → IsPlain line found
 unfolding handed
 plain_if line found true e is long = grind arith
-plain_if line found false e is long =
-    let told = before_comment line in
-    let same = stands_as line e (ltb (length told) (length line)) refl in
-    let given : found ≡ pieces told = rw e at is in
-    let split : unreturned found ≡ pieces (before_comment (strip_carriage_return line)) =
-    ap unreturned given ∙ sym (pieces_stripped told) ∙ ap (λ (line : List ℕ). pieces line) (sym same) in
-    record {
-      pieces = split;
-      some = not_blank (before_comment (strip_carriage_return line))
-          (omega (arith, ap length split, length_unreturned found, long)) _ refl;
-    }
+plain_if line found false e is long = grind (
+  arith,
+  stands_as,
+  pieces_stripped,
+  not_blank,
+  length_unreturned,
+)
 
 -- such pieces make the next row
 pub plain_row : (number : ℕ) (line : List ℕ) (found left more : List (List ℕ))
@@ -220,14 +199,8 @@ pub plain_row : (number : ℕ) (line : List ℕ) (found left more : List (List �
     → LineGives number left more
     (record { number = number + 1; fields = cleaned (unreturned found) }) read.Row
 plain_row number line found left more is given long =
-    let plain = plain_if line found (is_odd line) refl given long in
-    let stripped = strip_carriage_return line in
-    let first = told_first number line stripped left more (told_left number left) is refl refl
-    (not_empty stripped plain.some)
-    (ap not plain.some) in
-    let row : List (List ℕ) → List Row =
-    λ fields. record { number = number + 1; fields = fields }
-    ∷ map row_told (told_left (number + 1) more) in (
-      ap (map row_told) first ∙ ap row (ap cleaned (sym plain.pieces)),
-      omega (arith, ap length is),
+    let plain = plain_if line found (is_odd line) refl given long in grind (
+      arith,
+      told_first,
+      not_empty,
     )

@@ -15,8 +15,7 @@ module _ (test : ℕ → Bool) where
   skip [] rest none = sym (zero-add _)
   skip (byte ∷ front) rest none =
       let more = skip_one (test byte) (list_any test front) (position_or_len test (front ++ rest))
-      (length front + position_or_len test rest) (skip front rest) none in
-      more ∙ omega arith
+      (length front + position_or_len test rest) (skip front rest) none in grind arith
 
   -- so the place in a text is found in what is left of it
   pub skip_piece : (text rest front behind : List ℕ) (n : ℕ) → n ≤ length rest → front ≡ take n rest

@@ -1,8 +1,8 @@
 -- How csv splits lines, each before a line feed, with its settings for these tables.
 use Rattle.plan_num.proofs.Common.{◌≡◌, ◌≢◌, ℕ, Bool, true, false, eqb, List, [], ◌∷◌, ◌++◌, refl}
 use Rattle.plan_num.proofs.Common.{ap, ◌∙◌, All, Option, Some, None, append_assoc, append-nil}
-use Rattle.plan_num.proofs.Common.{ne_eqb, cond, inl, filter, arith, MatchBool, onto_first}
-use Rattle.plan_num.proofs.Common.{All-head, All-tail}
+use Rattle.plan_num.proofs.Common.{ne_eqb, cond, filter, arith, MatchBool, onto_first, All-head}
+use Rattle.plan_num.proofs.Common.{All-tail}
 use Rattle.std.specs.List.{slice_split}
 use Rattle.csv.specs.Machine.{step, is_end, fields_after, field_after, next_record}
 use Rattle.csv.specs.declared.parser.State.{State}
@@ -191,26 +191,11 @@ pub read_gives : (old new : Reader Handed) (lines : List (List ℕ)) (found : Bo
     → MatchBool found (ReadsLine lines new fields) (lines ≡ [])
 read_gives old new [] found fields awaits read first flexible goes =
     let none = shown_after awaits.parts [] awaits.are (pending_of (handed_left new.rdr) new) found
-    fields new.state (rw (awaits.config, awaits.state, awaits.source) at read.0) in
-    rw none refl
+    fields new.state (rw (awaits.config, awaits.state, awaits.source) at read.0) in grind arith
 read_gives old new (line ∷ more) found fields awaits read first flexible goes =
     let given = shown_after awaits.parts (line ∷ more) awaits.are
     (pending_of (handed_left new.rdr) new) found fields new.state
-    (rw (awaits.config, awaits.state, awaits.source) at read.0) in
-    rw given.3 (
-      given.2,
-      record {
-        config = read.2 ∙ awaits.config;
-        state = given.4;
-        trim = read.3 ∙ awaits.trim;
-        flexible = flexible ∙ awaits.flexible;
-        ready = inl first;
-        fine = goes ∙ awaits.fine;
-        parts = given.0;
-        are = given.1;
-        source = rw read.1 given.5;
-      },
-    )
+    (rw (awaits.config, awaits.state, awaits.source) at read.0) in grind arith
 
 -- a line feed at the front is no byte order mark
 no_mark : (text : List ℕ) → strip_bom (10 ∷ text) ≡ 10 ∷ text

@@ -1,7 +1,7 @@
 -- The lines that have rows, one after the other.
 use Rattle.plan_num.proofs.Common.{◌≡◌, ℕ, ◌+◌, List, [], ◌∷◌, ◌++◌, length, map, refl, sym, ◌∙◌}
-use Rattle.plan_num.proofs.Common.{Bool, true, false, not, eqb, arith, filter, ap, get_or, ne_eqb}
-use Rattle.plan_num.proofs.Common.{suc, take, ◌-◌, flat_map, enumerate_from, list_all}
+use Rattle.plan_num.proofs.Common.{Bool, true, false, not, eqb, arith, filter, get_or, ne_eqb, suc}
+use Rattle.plan_num.proofs.Common.{take, ◌-◌, flat_map, enumerate_from, list_all}
 use Rattle.plan_num.proofs.Common.{strip_carriage_return, eqb-true, false≢true, not-true, not-false}
 use Rattle.plan_num.proofs.Common.{map-append}
 use Rattle.text_fields.specs.Rows.{is_blank, before_comment, row_of, has_byte, lines, parts_of}
@@ -107,10 +107,4 @@ sign_kept rest = sign_kept_if rest (eqb (get_or (35 ∷ rest) (length (35 ∷ re
 -- such a line has no row, and a number
 pub told_sign : (number byte : ℕ) (line : List ℕ) (parts : List (List ℕ)) → byte ≡ 35
     → told_left number ((byte ∷ line) ∷ parts) ≡ told_left (number + 1) parts
-told_sign number byte line parts is =
-    let kept = sign_kept line in
-    rw is (
-    numbered_told number (35 ∷ line) parts
-    (rw kept.1 (ne_eqb (suc (length kept.0)) 0 (λ e. omega arith)))
-    ∙ ap (λ (line : List ℕ). told_of (number + 1) line ++ told_left (number + 1) parts) kept.1
-    )
+told_sign number byte line parts is = grind (arith, sign_kept, numbered_told, ne_eqb)

@@ -1,9 +1,9 @@
 -- A reader behind some of the rows of a table, one row more, and behind all of them.
 use Rattle.plan_num.proofs.Common.{◌≡◌, ℕ, zero, suc, ◌+◌, ◌<◌, ◌≤◌, Bool, true, false, cond, List}
-use Rattle.plan_num.proofs.Common.{[], ◌∷◌, ◌++◌, length, map, filter, drop, get_or, slice_get}
-use Rattle.plan_num.proofs.Common.{Option, Some, None, IfSome, option_map, Result, Err, IfOk, refl}
-use Rattle.plan_num.proofs.Common.{ap, sym, ◌∙◌, subst, arith, append_assoc, option_to_list}
-use Rattle.plan_num.proofs.Common.{append-nil, drop_all, length-map, none-some, map-map}
+use Rattle.plan_num.proofs.Common.{[], ◌∷◌, ◌++◌, length, map, drop, get_or, slice_get, Option}
+use Rattle.plan_num.proofs.Common.{Some, None, IfSome, option_map, Result, IfOk, refl, ap, sym, ◌∙◌}
+use Rattle.plan_num.proofs.Common.{subst, arith, append_assoc, option_to_list, append-nil, drop_all}
+use Rattle.plan_num.proofs.Common.{length-map, none-some, map-map}
 use Rattle.std.proofs.Math.Seq.{drop-cons}
 use Rattle.std.proofs.lemmas.List.{drop-map}
 use Rattle.event_tables.proofs.Common.{ScheduleRow, schedule_row}
@@ -13,10 +13,10 @@ use Rattle.vehicle_model.specs.declared.plan_fault.PlanFault.TheVariants as faul
 use Rattle.link_plans.proofs.Common.{next, IsPlan}
 use Rattle.vehicle_model.specs.ReadSchedules.{nothing_read, one_more, trip_in, begins, row_fits}
 use Rattle.vehicle_model.specs.ReadSchedules.{has_form, first_row, all_come, form_faults, link_of}
-use Rattle.vehicle_model.specs.ReadSchedules.{link_to, links_in, is_late, follow_faults, or_others}
+use Rattle.vehicle_model.specs.ReadSchedules.{link_to, links_in, follow_faults, or_others}
 use Rattle.vehicle_model.specs.ReadSchedules.{row_faults, plan_by, PlanGives}
 use Rattle.vehicle_model.specs.Readers.{ReaderParts, has_come, after_link, after_trip, after_row}
-use Rattle.vehicle_model.specs.Readers.{CanLink, Knows, IsBehind, unless_late, finished}
+use Rattle.vehicle_model.specs.Readers.{CanLink, Knows, IsBehind, finished}
 use Rattle.vehicle_model.specs.Trips.{TripsParts, links_of}
 use Rattle.vehicle_model.proofs.Following.{gain_there}
 use Rattle.vehicle_model.proofs.Reading.{links_can, knows_more}
@@ -42,11 +42,12 @@ module _ (trips : TripsParts) (rows : List (Numbered ScheduleRow)) (i : ℕ) (re
     pub refused : row_fits trips reader.before reader.last (has_come reader) at.row (first_row rest) ≡ false
         → slice_get (row_faults trips rows) 0 ≡ Some (fault.Trips at.number)
     refused fits =
-        let form = sym (form_is at.row (first_row rest)) ∙ fits in
-        ap (λ all. slice_get (or_others all
-        (follow_faults trips (links_in trips nothing_read (map (λ one. one.row) rows)))) 0)
-        (forms_here ∙ ap (λ b. cond b [] (fault.Trips at.number ∷ [])
-        ++ form_faults trips (one_more trips behind.read at.row) rest) form)
+        let form = sym (form_is at.row (first_row rest)) ∙ fits in grind (
+          arith,
+          slice_get,
+          forms_here,
+          form,
+        )
 
     module _ (fits : row_fits trips reader.before reader.last (has_come reader) at.row (first_row rest) ≡ true) where
       form : has_form trips behind.read at.row (first_row rest) ≡ true
@@ -70,13 +71,8 @@ module _ (trips : TripsParts) (rows : List (Numbered ScheduleRow)) (i : ℕ) (re
         read = one_more trips behind.read at.row;
         links = behind.links ++ option_to_list (link_to trips behind.read at.row);
         knows = knows_more trips behind.read behind.links reader behind.knows at.row (first_row rest) form;
-        forms = forms_here
-            ∙ ap (λ b. cond b [] (fault.Trips at.number ∷ [])
-            ++ form_faults trips (one_more trips behind.read at.row) rest) form
-            ∙ ap (form_faults trips (one_more trips behind.read at.row)) (sym same);
-        linked = links_here ∙ ap (λ some.
-            (behind.links ++ option_to_list (link_to trips behind.read at.row))
-            ++ links_in trips (one_more trips behind.read at.row) (map (λ one. one.row) some)) (sym same);
+        forms = grind (arith, forms_here, form);
+        linked = grind (arith, links_here);
       }
 
   -- ---- behind all rows
@@ -111,34 +107,10 @@ module _ (trips : TripsParts) (rows : List (Numbered ScheduleRow)) (i : ℕ) (re
     plan = plan_by (length trips.trips) (links_in trips nothing_read (map (λ one. one.row) rows))
 
     pub ends : PlanGives (row_faults trips rows) plan (finished trips reader)
-    ends = split (all_come trips (has_come reader)) reader.late refl refl
-      where
-        split : (b : Bool) (late : Option ℕ) → all_come trips (has_come reader) ≡ b → reader.late ≡ late
-            → PlanGives (row_faults trips rows) plan (cond b (unless_late reader late) (Err (fault.Trips 0)))
-        split false late come is = ap (λ all. slice_get all 0)
-            (faults_all ∙ ap (λ b. or_others (cond b [] (fault.Trips 0 ∷ [])) (follow_faults trips behind.links)) come)
-        split true None come is = (
-          faults_all ∙ ap (λ b. or_others (cond b [] (fault.Trips 0 ∷ [])) (follow_faults trips behind.links)) come
-              ∙ ap (map (λ (link : ℕ × ℕ). fault.Follow link.1))
-              (none_of (filter (is_late trips) behind.links) (sym behind.knows.late ∙ is)),
-          behind.knows.plan ∙ ap (plan_by (length trips.trips)) (sym links_all),
-        )
-        split true (Some k) come is = ap (λ all. slice_get all 0)
-            (faults_all ∙ ap (λ b. or_others (cond b [] (fault.Trips 0 ∷ [])) (follow_faults trips behind.links)) come)
-            ∙ first_of (filter (is_late trips) behind.links) k (sym behind.knows.late ∙ is)
+    ends = grind (arith, slice_get, faults_all, none_of, links_all, first_of)
 
   pub plan_ends : IfOk (finished trips reader) (IsPlan (links_of trips))
-  plan_ends = split (all_come trips (has_come reader)) reader.late refl
-    where
-      split : (b : Bool) (late : Option ℕ) → reader.late ≡ late
-          → IfOk (cond b (unless_late reader late) (Err (fault.Trips 0))) (IsPlan (links_of trips))
-      split false late is = tt
-      split true (Some k) is = tt
-      split true None is = record {
-        each = behind.knows.over.plan;
-        follow = λ one k e. gain_there trips one k ∙ behind.knows.follow is one k e;
-        once = behind.knows.successors.once;
-      }
+  plan_ends = grind (arith, gain_there)
 
 -- ---- rows of a table
 

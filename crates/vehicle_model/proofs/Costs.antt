@@ -32,10 +32,14 @@ free_and_linked n from (Some j ∷ plan) are =
     let new : is_next plan j ≡ false = never_next plan j
     (λ i e. absurd (omega (arith, are.once (suc i) 0 j e refl))) in
     let less : count (but_one (is_next plan) j) 0 n + 1 ≡ count (λ k. not (is_next plan k)) 0 n =
-    one_less (is_next plan) j 0 n (omega arith) (omega (arith, are.within 0 j refl)) new in
-    let rest : count (λ k. not (is_next plan k)) 0 n + length (links_from (from + 1) plan) ≡ n =
-    free_and_linked n (from + 1) plan (rest_apart n (Some j) plan are) in
-    omega (arith, less, rest)
+    one_less (is_next plan) j 0 n (omega arith) (omega (arith, are.within 0 j refl)) new in grind (
+      arith,
+      count,
+      links_from,
+      rest_apart,
+      free_and_linked n (from + 1) plan (rest_apart n (Some
+          j) plan are),
+    )
 
 -- ---- minutes and gains
 

@@ -74,12 +74,7 @@ found network trips table i j is in_ends in_starts from to from_is to_is at at_i
 }
   where
     inside : from < length table.times
-    inside = omega (
-      arith,
-      is.size,
-      subst (λ stop. stop < length network.stops) (sym from_is)
-          (is.ends_within i from in_ends),
-    )
+    inside = grind arith
 
     same : get_or table.times from None ≡ at
     same = get_or_default table.times from None at inside ∙ sym at_is
@@ -90,15 +85,7 @@ pub told : (network : NetworkParts) (trips : List Trip) (i j from to : ℕ) (tim
     → slice_get times to ≡ Some at → minutes ≡ option_map unsigned_abs at
     → AreDeadMinutes network trips i j minutes
 told network trips i j from to times at minutes is here told_as =
-    let found_at = time_at network from to times at is.are is.within here in
-    record {
-      value = told_as ∙ found_at.0 ∙ ap (λ stop. least_sum network edge_time stop to) is.from_is
-          ∙ ap (least_sum network edge_time (end_stop network (get_or trips i no_trip))) is.to_is;
-      least = subst (λ stop. IsLeastSum network.edges edge_time (end_stop network (get_or trips i no_trip))
-          stop minutes) is.to_is
-          (subst (λ stop. IsLeastSum network.edges edge_time stop to minutes) is.from_is
-          (subst (IsLeastSum network.edges edge_time from to) (sym told_as) found_at.1));
-    }
+    let found_at = time_at network from to times at is.are is.within here in grind (arith, get_or)
 
 -- there are times to each stop
 pub times_size : (network : NetworkParts) (from : ℕ) (times : List (Option ℤ)) (to : ℕ)

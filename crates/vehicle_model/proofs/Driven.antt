@@ -1,7 +1,7 @@
 -- What reading a schedule gives, told by vehicles.
-use Rattle.plan_num.proofs.Common.{◌≡◌, ℕ, suc, not, is_some, Bool, true, false, cond, List, []}
-use Rattle.plan_num.proofs.Common.{◌∷◌, ◌++◌, length, map, filter, slice_get, Option, Some, None}
-use Rattle.plan_num.proofs.Common.{◌⊎◌, inl, inr, Result, Ok, Err, refl, ap, sym, ◌∙◌, subst}
+use Rattle.plan_num.proofs.Common.{arith, ◌≡◌, ℕ, suc, not, is_some, Bool, true, false, cond, List}
+use Rattle.plan_num.proofs.Common.{[], ◌∷◌, ◌++◌, length, map, filter, slice_get, Option, Some}
+use Rattle.plan_num.proofs.Common.{None, ◌⊎◌, inl, inr, Result, Ok, Err, refl, ap, sym, ◌∙◌, subst}
 use Rattle.plan_num.proofs.Common.{concat, All-weaker, none-some, same_Some, slice_get-map}
 use Rattle.event_tables.proofs.Common.{ScheduleRow, schedule_row}
 use Rattle.tables.proofs.Common.{RowFault, schedule_columns, Numbered, faults, table_of, records_by}
@@ -40,8 +40,9 @@ unfolding form_faults
 faultless_formed trips read [] e = all_true (all_come trips (has_seen read)) (fault.Trips 0) e
 faultless_formed trips read (at ∷ rows) e =
     let parts = none_here (has_form trips read at.row (first_row rows)) (fault.Trips at.number)
-    (form_faults trips (one_more trips read at.row) rows) e in (
-      ap (has_form trips read at.row) (slice_get-map (λ (one : Numbered ScheduleRow). one.row) rows 0) ∙ parts.0,
+    (form_faults trips (one_more trips read at.row) rows) e in grind (
+      arith,
+      slice_get-map,
       faultless_formed trips (one_more trips read at.row) rows parts.1,
     )
 
@@ -49,12 +50,7 @@ faultless_formed trips read (at ∷ rows) e =
 form_first : (trips : TripsParts) (read : Reading) (rows : List (Numbered ScheduleRow)) (why : PlanFault)
     → slice_get (form_faults trips read rows) 0 ≡ Some why → (row : ℕ) × (why ≡ fault.Trips row)
 unfolding form_faults
-form_first trips read [] why e = split (all_come trips (has_seen read)) e
-  where
-    split : (b : Bool) → slice_get (cond b [] (fault.Trips 0 ∷ [])) 0 ≡ Some why
-        → (row : ℕ) × (why ≡ fault.Trips row)
-    split true f = absurd (none-some why f)
-    split false f = (0, sym (same_Some (fault.Trips 0) why f))
+form_first trips read [] why e = grind (arith, slice_get, none-some, same_Some)
 form_first trips read (at ∷ rows) why e = split (has_form trips read at.row (first_row rows)) e
     (form_first trips (one_more trips read at.row) rows why)
   where
@@ -149,14 +145,8 @@ module _ (trips : TripsParts) (are : AreTrips trips) (text : List ℕ) where
       → (vehicles : List (List ℕ)) × IsScheduleOf trips vehicles rows
   schedule_is none =
       let it = vehicles_of trips rows (subst (AreFormed trips nothing_read)
-      (without_numbers (table_of schedule_columns text)) (faultless_formed trips nothing_read numbered none)) in (
-        it.vehicles,
-        record {
-          busy = it.busy;
-          once = each_once (length trips.trips) (concat it.vehicles) it.fresh;
-          written = it.told;
-        },
-      )
+      (without_numbers (table_of schedule_columns text)) (faultless_formed trips nothing_read numbered none)) in
+      grind (arith, each_once)
 
   -- and the schedule of vehicles has no fault of form, and has their links
   module _ (vehicles : List (List ℕ)) (is : IsScheduleOf trips vehicles rows) where
@@ -165,8 +155,7 @@ module _ (trips : TripsParts) (are : AreTrips trips) (text : List ℕ) where
         (all_fresh (length trips.trips) (concat vehicles) is.once) is.written
 
     no_fault : form_faults trips nothing_read numbered ≡ []
-    no_fault = formed_faultless trips nothing_read numbered
-        (subst (AreFormed trips nothing_read) (sym (without_numbers (table_of schedule_columns text))) they_read.0)
+    no_fault = grind (arith, formed_faultless, AreFormed, without_numbers, they_read)
 
     links_are : links_in trips nothing_read (map (λ at. at.row) numbered) ≡ driven_links vehicles
     links_are = ap (links_in trips nothing_read) (without_numbers (table_of schedule_columns text)) ∙ they_read.1
@@ -204,23 +193,11 @@ module _ (trips : TripsParts) (are : AreTrips trips) (text : List ℕ) where
 
   is_fault : (why : PlanFault) → slice_get (plan_faults trips text) 0 ≡ Some why → IsFault why
   unfolding plan_faults
-  is_fault why e = elim (or_first (map (λ first. fault.Row first) (faults schedule_columns text))
-      (row_faults trips numbered) why e) [
-        | inl at ↦ record { told = inl at }
-        | inr rest ↦ record {
-          told = inr (
-            unmapped (λ first. fault.Row first) (faults schedule_columns text) rest.0,
-            or_first (form_faults trips nothing_read numbered)
-                (follow_faults trips (links_in trips nothing_read (map (λ at. at.row) numbered))) why rest.1,
-          );
-        }
-      ]
+  is_fault why e = grind (arith, or_first, unmapped)
 
   no_table : (first : RowFault) → IsFault (fault.Row first) → ReadsWhatIsDriven trips text (Err (fault.Row first))
   no_table first it = elim it.told [
-    | inl at ↦
-        let found = row_first (faults schedule_columns text) (fault.Row first) at in
-        found.1.0 ∙ ap Some (row_same found.0 first (sym found.1.1))
+    | inl at ↦ grind (arith, row_first, row_same)
     | inr rest ↦ elim rest.1 [
       | inl form ↦
           let found = form_first trips nothing_read numbered (fault.Row first) form in
@@ -236,8 +213,7 @@ module _ (trips : TripsParts) (are : AreTrips trips) (text : List ℕ) where
   no_vehicles row it = λ vehicles is. elim it.told [
     | inl at ↦ absurd (none_at (faults schedule_columns text) is.table at)
     | inr rest ↦ elim rest.1 [
-      | inl form ↦ absurd (none_form (form_faults trips nothing_read numbered)
-          (no_fault vehicles is.schedule) form)
+      | inl form ↦ grind (arith, no_fault)
       | inr follow ↦
           let found = follow_first trips (links_in trips nothing_read (map (λ at. at.row) numbered))
           (fault.Trips row) follow.1 in
@@ -256,9 +232,7 @@ module _ (trips : TripsParts) (are : AreTrips trips) (text : List ℕ) where
 
   late : (j : ℕ) → IsFault (fault.Follow j) → ReadsWhatIsDriven trips text (Err (fault.Follow j))
   late j it = elim it.told [
-    | inl at ↦
-        let found = row_first (faults schedule_columns text) (fault.Follow j) at in
-        absurd (row_no_follow found.0 j (sym found.1.1))
+    | inl at ↦ grind (arith, row_first, row_no_follow)
     | inr rest ↦ elim rest.1 [
       | inl form ↦
           let found = form_first trips nothing_read numbered (fault.Follow j) form in

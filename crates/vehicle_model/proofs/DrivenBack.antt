@@ -1,13 +1,12 @@
 -- The schedule of some vehicles has the form that is due, and its links are those of the vehicles.
-use Rattle.plan_num.proofs.Common.{◌≡◌, ℕ, ◌+◌, ◌<◌, ◌==◌, ◌&&◌, ◌||◌, not, Bool, true, false, List}
-use Rattle.plan_num.proofs.Common.{[], ◌∷◌, ◌++◌, length, map, slice_get, Option, Some, None, refl}
-use Rattle.plan_num.proofs.Common.{ap, sym, ◌∙◌, subst, arith, eq-eqb, cond, concat, option_to_list}
-use Rattle.plan_num.proofs.Common.{ne_eqb, All-tail}
-use Rattle.event_tables.proofs.Common.{ScheduleRow, is_trip_row, is_empty_row}
+use Rattle.plan_num.proofs.Common.{◌≡◌, ℕ, ◌+◌, ◌<◌, ◌==◌, ◌||◌, Bool, true, false, List, [], ◌∷◌}
+use Rattle.plan_num.proofs.Common.{◌++◌, length, map, slice_get, Option, Some, None, refl, ap, sym}
+use Rattle.plan_num.proofs.Common.{◌∙◌, arith, eq-eqb, concat, option_to_list, ne_eqb, All-tail}
+use Rattle.event_tables.proofs.Common.{ScheduleRow, is_trip_row}
 use Rattle.vehicle_model.specs.DrivenSchedules.{as_told}
 use Rattle.vehicle_model.specs.ReadSchedules.{Reading, nothing_read, one_more, trip_in, begins}
-use Rattle.vehicle_model.specs.ReadSchedules.{last_vehicle, follows_empty, is_new, is_ride}
-use Rattle.vehicle_model.specs.ReadSchedules.{trip_fits, empty_fits, has_seen, has_form, link_of}
+use Rattle.vehicle_model.specs.ReadSchedules.{last_vehicle, follows_empty}
+use Rattle.vehicle_model.specs.ReadSchedules.{has_form, link_of}
 use Rattle.vehicle_model.specs.ReadSchedules.{link_to, links_in}
 use Rattle.vehicle_model.specs.Schedules.{trip_row, empty_row, rows_behind, rows_from}
 use Rattle.vehicle_model.specs.Trips.{TripsParts, AreTrips}
@@ -43,8 +42,7 @@ module _ (trips : TripsParts) (are : AreTrips trips) where
   -- the row of a trip, with the row told
   row_is : (row : ScheduleRow) (vehicle number j : ℕ) → as_told trips row ≡ trip_row trips vehicle number j
       → row ≡ trip_row trips vehicle number j
-  row_is row vehicle number j told =
-      sym (trip_told trips row (sym (told_kind trips row) ∙ ap is_empty_row told)) ∙ told
+  row_is row vehicle number j told = grind (arith, trip_told, told_kind)
 
   repeated : (row : ScheduleRow) (vehicle number j : ℕ) → row ≡ trip_row trips vehicle number j
       → j < length trips.trips → trip_in trips row ≡ Some j
@@ -55,10 +53,12 @@ module _ (trips : TripsParts) (are : AreTrips trips) where
       → (begins read.before (trip_row trips vehicle number j)
       || follows_empty read.before (trip_row trips vehicle number j)) ≡ true
       → has_form trips read row after ≡ true
-  trip_formed read vehicle number j row after is within new place =
-      ap (λ at. has_form trips read at after) is
-      ∙ both_true (same_number vehicle) (both_true place
-      (ap (is_new (has_seen read)) (repeats trips are j within) ∙ ap not new))
+  trip_formed read vehicle number j row after is within new place = grind (
+    arith,
+    both_true,
+    same_number,
+    repeats,
+  )
 
   -- a row without a link, and one with a link
   one_row : (read behind : Reading) (row : ScheduleRow) (rows : List ScheduleRow) (link : Option (ℕ × ℕ))
@@ -66,12 +66,7 @@ module _ (trips : TripsParts) (are : AreTrips trips) where
       → one_more trips read row ≡ behind → link_to trips read row ≡ link
       → AreRead behind rows links → AreRead read (row ∷ rows) (option_to_list link ++ links)
   unfolding links_in
-  one_row read behind row rows link links form more is rest = (
-    (form, subst (λ at. AreFormed trips at rows) (sym more) rest.0),
-    ap (λ at. option_to_list at ++ links_in trips (one_more trips read row) rows) is
-        ∙ ap (λ at. option_to_list link ++ links_in trips at rows) more
-        ∙ ap (λ at. option_to_list link ++ at) rest.1,
-  )
+  one_row read behind row rows link links form more is rest = grind (arith, AreFormed)
 
   -- a vehicle begins at a row
   begun : (read : Reading) (vehicle j : ℕ) (row : ScheduleRow) (rows : List ScheduleRow) (links : List (ℕ × ℕ))
@@ -132,29 +127,19 @@ module _ (trips : TripsParts) (are : AreTrips trips) where
 
       not_begun : IsRideRow trips ride before.vehicle (before.number + 1) i j
           → begins (Some ride) (trip_row trips before.vehicle (before.number + 2) j) ≡ false
-      not_begun it = ap (λ b. b && ((before.number + 2) == 1))
-          (ne_eqb before.vehicle (ride.vehicle + 1) (apart it.vehicle_is))
+      not_begun it = grind (arith, ne_eqb)
 
       ride_formed : IsRideRow trips ride before.vehicle (before.number + 1) i j
           → row ≡ trip_row trips before.vehicle (before.number + 2) j → trip_in trips row ≡ Some j
           → has_form trips (record { before = Some before; seen = i ∷ seen }) ride (Some row) ≡ true
-      ride_formed it is found =
-          both_true (eq-eqb ride.circulation ride.vehicle (it.circulation_is ∙ sym it.vehicle_is))
-          (ap (λ b. cond b (empty_fits trips (Some before) (Some i) ride (Some row))
-          (trip_fits trips (Some before) (has (i ∷ seen)) ride)) it.empty
-          ∙ both_true (both_true kind (both_true (eq-eqb ride.vehicle before.vehicle it.vehicle_is)
-          (eq-eqb ride.number (before.number + 1) it.number_is)))
-          (both_true (both_true (eq-eqb row.vehicle ride.vehicle
-          (ap (λ (at : ScheduleRow). at.vehicle) is ∙ sym it.vehicle_is)) (ap is_trip_row is))
-          (ap (is_ride trips i ride.run) found ∙ it.ride)))
+      ride_formed it is found = grind (arith, both_true, eq-eqb, has)
 
   -- the rows behind the row of a trip, by that row
   behind_is : (row : ScheduleRow) (vehicle number j : ℕ) (more : List ℕ) (vehicles : List (List ℕ))
       → row ≡ trip_row trips vehicle number j
       → rows_behind trips row.vehicle row.number j more ++ rows_from trips (row.vehicle + 1) vehicles
       ≡ rows_behind trips vehicle number j more ++ rows_from trips (vehicle + 1) vehicles
-  behind_is row vehicle number j more vehicles is = ap (λ (at : ScheduleRow).
-      rows_behind trips at.vehicle at.number j more ++ rows_from trips (at.vehicle + 1) vehicles) is
+  behind_is row vehicle number j more vehicles is = grind arith
 
   -- rows behind the row of a trip
   rest_read : (rows : List ScheduleRow) (before : ScheduleRow) (i : ℕ) (seen : List ℕ) (more : List ℕ)

@@ -2,15 +2,15 @@
 use Rattle.plan_num.proofs.Common.{◌≡◌, ℕ, ◌+◌, ◌<◌, ◌==◌, ◌&&◌, ◌||◌, not, cond, Bool, true, false}
 use Rattle.plan_num.proofs.Common.{List, [], ◌∷◌, ◌++◌, length, map, slice_get, All, Option, Some}
 use Rattle.plan_num.proofs.Common.{None, flat_map, refl, ap, sym, ◌∙◌, subst, arith, inl, inr}
-use Rattle.plan_num.proofs.Common.{position, concat, list_all, range_with_len, option_to_list}
-use Rattle.plan_num.proofs.Common.{false≢true, eqb-true, and_parts, ne_eqb, cases_Bool, not-true}
-use Rattle.plan_num.proofs.Common.{All-nil, All-cons, none-some}
+use Rattle.plan_num.proofs.Common.{position, concat, list_all, range_with_len, false≢true, eqb-true}
+use Rattle.plan_num.proofs.Common.{and_parts, ne_eqb, cases_Bool, not-true, All-nil, All-cons}
+use Rattle.plan_num.proofs.Common.{none-some}
 use Rattle.event_tables.proofs.Common.{ScheduleRow, is_trip_row, is_empty_row}
 use Rattle.vehicle_model.specs.DrivenSchedules.{as_told}
 use Rattle.vehicle_model.specs.ReadSchedules.{Reading, nothing_read, one_more, trip_in}
-use Rattle.vehicle_model.specs.ReadSchedules.{last_vehicle, begins, is_next_row, follows_trip}
+use Rattle.vehicle_model.specs.ReadSchedules.{last_vehicle, begins, follows_trip}
 use Rattle.vehicle_model.specs.ReadSchedules.{follows_empty, is_new, is_ride, leads_to, trip_fits}
-use Rattle.vehicle_model.specs.ReadSchedules.{empty_fits, last_seen, has_seen, has_form, same_run}
+use Rattle.vehicle_model.specs.ReadSchedules.{empty_fits, has_form, same_run}
 use Rattle.vehicle_model.specs.Schedules.{trip_row, empty_row, rows_behind, rows_from}
 use Rattle.vehicle_model.specs.Trips.{TripsParts}
 use Rattle.vehicle_model.proofs.DrivenRows.{trip_found, trip_row_is, trip_told, ride_told}
@@ -77,21 +77,7 @@ module _ (trips : TripsParts) where
 
   due : (read : Reading) (row : ScheduleRow) (after : Option ScheduleRow) → is_empty_row row ≡ false
       → has_form trips read row after ≡ true → IsDue read row
-  due read row after trip form =
-      let both = and_parts (row.circulation == row.vehicle) _ form in
-      let fits : trip_fits trips read.before (has_seen read) row ≡ true =
-      sym (ap (λ b. cond b (empty_fits trips read.before (last_seen read) row after)
-      (trip_fits trips read.before (has_seen read) row)) trip) ∙ both.1 in
-      let parts = and_parts (begins read.before row || follows_empty read.before row) _ fits in
-      let found = new_is (has_seen read) (trip_in trips row) parts.1 in
-      record {
-        j = found.0;
-        same = eqb-true row.circulation row.vehicle both.0;
-        place = parts.0;
-        repeated = found.1.0;
-        within = (trip_found trips row found.0 found.1.0).0;
-        new = found.1.1;
-      }
+  due read row after trip form = grind (arith, and_parts, new_is, eqb-true, trip_found)
 
   -- a vehicle begins at a row
   begun : (read : Reading) (row : ScheduleRow) (rows : List ScheduleRow) (it : IsDue read row)
@@ -126,14 +112,12 @@ module _ (trips : TripsParts) where
   -- behind a row of a trip
   pub more_is : (read : Reading) (row : ScheduleRow) (j : ℕ) → trip_in trips row ≡ Some j
       → one_more trips read row ≡ record { before = Some row; seen = j ∷ read.seen }
-  more_is read row j is =
-      ap (λ at. record { before = Some row; seen = option_to_list at ++ read.seen }) is
+  more_is read row j is = grind arith
 
   -- behind a row of an empty ride
   pub none_more : (read : Reading) (row : ScheduleRow) → is_empty_row row ≡ true
       → one_more trips read row ≡ record { before = Some row; seen = read.seen }
-  none_more read row empty =
-      ap (λ at. record { before = Some row; seen = option_to_list at ++ read.seen }) (empty_repeats row empty)
+  none_more read row empty = grind (arith, empty_repeats)
 
   -- an empty ride and a trip go on with a vehicle
   record GoesOn (before : ScheduleRow) (i : ℕ) (seen : List ℕ) (ride row : ScheduleRow) : Type 0 where
@@ -158,11 +142,7 @@ module _ (trips : TripsParts) where
       → is_empty_row ride ≡ true
       → has_form trips (record { before = Some before; seen = i ∷ seen }) ride after ≡ true
       → leads_to trips (Some i) ride after ≡ true
-  rides before i seen ride after empty form =
-      (and_parts (follows_trip (Some before) ride) _
-      (sym (ap (λ b. cond b (empty_fits trips (Some before) (Some i) ride after)
-      (trip_fits trips (Some before) (has (i ∷ seen)) ride)) empty)
-      ∙ (and_parts (ride.circulation == ride.vehicle) _ form).1)).1
+  rides before i seen ride after empty form = grind (arith, and_parts, has)
 
   goes_on : (before : ScheduleRow) (i : ℕ) (seen : List ℕ) (ride row : ScheduleRow) (after : Option ScheduleRow)
       → is_trip_row before ≡ true → is_empty_row ride ≡ true
@@ -228,13 +208,7 @@ module _ (trips : TripsParts) where
     vehicles = rest.vehicles;
     busy = rest.busy;
     fresh = (it.within, it.new, rest.fresh);
-    told = ap (λ at. at ∷ as_told trips row ∷ map (as_told trips) rows) it.ridden
-        ∙ ap (λ at. empty_row trips before.vehicle (before.number + 1) i it.j ∷ at ∷ map (as_told trips) rows) it.driven
-        ∙ ap (λ at. empty_row trips before.vehicle (before.number + 1) i it.j
-        ∷ trip_row trips before.vehicle (before.number + 2) it.j ∷ at) (rest.told
-        ∙ ap (λ v. rows_behind trips v row.number it.j rest.more ++ rows_from trips (v + 1) rest.vehicles) it.vehicle
-        ∙ ap (λ k. rows_behind trips before.vehicle k it.j rest.more
-        ++ rows_from trips (before.vehicle + 1) rest.vehicles) it.number);
+    told = grind arith;
   }
 
   -- a vehicle that ends with a trip
@@ -251,29 +225,18 @@ module _ (trips : TripsParts) where
 
   no_rows : (vehicle : ℕ) (seen : List ℕ) → AreFresh (length trips.trips) seen [] → AreVehicles vehicle seen []
   unfolding rows_from
-  no_rows vehicle seen fresh = record {
-    vehicles = [];
-    busy = All-nil (λ driven. 0 < length driven);
-    fresh = fresh;
-    told = refl;
-  }
+  no_rows vehicle seen fresh = grind (arith, All-nil)
 
   -- the place of a row of a trip that is due behind the row of a trip
   begins_there : (before row : ScheduleRow) → is_trip_row before ≡ true
       → (begins (Some before) row || follows_empty (Some before) row) ≡ true → begins (Some before) row ≡ true
-  begins_there before row kind place = first (begins (Some before) row) place
-      (ap (λ b. b && is_next_row before row) (not-true (is_empty_row before) kind))
-    where
-      first : (a : Bool) {b : Bool} → (a || b) ≡ true → b ≡ false → a ≡ true
-      first true h e = refl
-      first false h e = cc
+  begins_there before row kind place = grind (arith, not-true)
 
   -- rows behind the row of a trip
   rest_of : (rows : List ScheduleRow) (before : ScheduleRow) (i : ℕ) (seen : List ℕ) → is_trip_row before ≡ true
       → AreFormed trips (record { before = Some before; seen = i ∷ seen }) rows
       → AreRest before.vehicle before.number i (i ∷ seen) rows
-  rest_of [] before i seen kind formed =
-      no_more before.vehicle before.number i (i ∷ seen) [] (no_rows (before.vehicle + 1) (i ∷ seen) formed)
+  rest_of [] before i seen kind formed = grind (arith, no_more, no_rows)
   rest_of (row ∷ []) before i seen kind formed = elim (cases_Bool (is_empty_row row)) [
     | inl empty ↦ absurd (none-some _ (led (Some i) row None (rides before i seen row None empty formed.0)).1)
     | inr trip ↦
@@ -307,11 +270,7 @@ module _ (trips : TripsParts) where
   pub vehicles_of : (rows : List ScheduleRow) → AreFormed trips nothing_read rows → AreVehicles 1 [] rows
   vehicles_of [] formed = no_rows 1 [] formed
   vehicles_of (row ∷ rows) formed = elim (cases_Bool (is_empty_row row)) [
-    | inl empty ↦ absurd (false≢true (and_parts (follows_trip None row)
-        (leads_to trips None row (slice_get rows 0))
-        (sym (ap (λ b. cond b (empty_fits trips None None row (slice_get rows 0))
-        (trip_fits trips None (has []) row)) empty)
-        ∙ (and_parts (row.circulation == row.vehicle) _ formed.0).1)).0)
+    | inl empty ↦ grind (arith, false≢true, and_parts, slice_get, has)
     | inr trip ↦
         let it = due nothing_read row (slice_get rows 0) trip formed.0 in
         begun nothing_read row rows it (only_true (begins None row) it.place)

@@ -2,10 +2,10 @@
 -- vehicle drives one after the other.
 use Rattle.plan_num.proofs.Common.{◌≡◌, ◌≢◌, ◌⊎◌, inl, inr, ℕ, zero, suc, ◌+◌, ◌<◌, Bool, true}
 use Rattle.plan_num.proofs.Common.{false, cond, List, [], ◌∷◌, ◌++◌, length, filter, fold}
-use Rattle.plan_num.proofs.Common.{slice_get, slice_set, replicate, All, Option, Some, None, refl}
-use Rattle.plan_num.proofs.Common.{ap, sym, ◌∙◌, subst, arith, get_or-set_same, get_or-set_other}
-use Rattle.plan_num.proofs.Common.{concat, length-set, length-replicate, All-cons, All-tail}
-use Rattle.plan_num.proofs.Common.{filter-append, none-some, same_Some}
+use Rattle.plan_num.proofs.Common.{slice_get, slice_set, All, Option, Some, None, refl, ap, sym}
+use Rattle.plan_num.proofs.Common.{◌∙◌, subst, arith, get_or-set_same, get_or-set_other, concat}
+use Rattle.plan_num.proofs.Common.{length-set, length-replicate, All-cons, All-tail, filter-append}
+use Rattle.plan_num.proofs.Common.{none-some, same_Some}
 use Rattle.std.proofs.lemmas.List.Sums.{fold-append}
 use Rattle.std.proofs.lemmas.Option.{some_pair_parts}
 use Rattle.vehicle_model.specs.DrivenSchedules.{Drives, IsPlanOf}
@@ -36,9 +36,13 @@ behind_other : (more : List ℕ) (i : ℕ) (plan : List (Option ℕ)) (p : ℕ) 
     → next (linked plan (links_behind i more)) p ≡ next plan p
 behind_other [] i plan p ne none = refl
 behind_other (j ∷ more) i plan p ne none =
-    let apart = apart_from j p more none in
-    behind_other more j (slice_set plan i (Some j)) p apart.0 apart.1
-    ∙ get_or-set_other plan i p (Some j) None ne
+    let apart = apart_from j p more none in grind (
+      arith,
+      slice_set,
+      get_or-set_other,
+      behind_other
+          more j (slice_set plan i (Some j)) p apart.0 apart.1,
+    )
 
 other_than : (seen : List ℕ) (i p : ℕ) → has seen p ≡ true → has seen i ≡ false → p ≢ i
 other_than seen i p h e same = not_both (sym (ap (has seen) same) ∙ h) e
@@ -55,18 +59,29 @@ module _ (n : ℕ) where
   behind_next [] rest i seen plan size within new fresh none (suc at) p e = absurd (none-some p e)
   behind_next (j ∷ more) rest i seen plan size within new fresh none zero p e =
       let apart = seen_apart n (more ++ rest) (j ∷ i ∷ seen) i fresh.2
-      (has_more (i ∷ seen) j i (has_first seen i)) in
-      ap (next (linked (slice_set plan i (Some j)) (links_behind j more))) (sym (same_Some i p e))
-      ∙ behind_other more j (slice_set plan i (Some j)) i
-      (other_than (i ∷ seen) j i (has_first seen i) fresh.1) (front_apart more rest i apart)
-      ∙ get_or-set_same plan i (Some j) None (omega (arith, size, within))
-  behind_next (j ∷ more) rest i seen plan size within new fresh none (suc at) p e =
-      let more_on : suc at + 1 ≡ suc (at + 1) = omega arith in
-      behind_next more rest j (i ∷ seen) (slice_set plan i (Some j)) (length-set plan i (Some j) ∙ size)
-      fresh.0 fresh.1 fresh.2
-      (λ q h. let apart = apart_from i q seen h in
-      get_or-set_other plan i q (Some j) None apart.0 ∙ none q apart.1) at p e
-      ∙ ap (slice_get (i ∷ j ∷ more)) (sym more_on)
+      (has_more (i ∷ seen) j i (has_first seen i)) in grind (
+        arith,
+        slice_set,
+        links_behind,
+        same_Some,
+        behind_other,
+        other_than,
+        has_first,
+        front_apart,
+        get_or-set_same,
+      )
+  behind_next (j ∷ more) rest i seen plan size within new fresh none (suc at) p e = grind (
+    arith,
+    slice_set,
+    length-set,
+    apart_from,
+    get_or-set_other,
+    slice_get,
+    behind_next more rest j (i ∷
+        seen) (slice_set plan i (Some j)) (length-set plan i (Some j) ∙ size) fresh.0 fresh.1 fresh.2
+        (λ q h. let apart = apart_from i q seen h in get_or-set_other plan i q (Some j) None apart.0 ∙
+        none q apart.1) at p e,
+  )
 
   -- all vehicles: those before keep what they have
   kept_next : (vehicles : List (List ℕ)) (seen : List ℕ) (plan : List (Option ℕ)) → AreBusy vehicles
@@ -111,10 +126,14 @@ module _ (n : ℕ) where
   -- the plan of the links
   pub plan_is : (vehicles : List (List ℕ)) → AreBusy vehicles → AreFresh n [] (concat vehicles)
       → IsPlanOf n vehicles (plan_by n (driven_links vehicles))
-  plan_is vehicles busy fresh = record {
-    each = linked_size (driven_links vehicles) (replicate n None) ∙ length-replicate n None;
-    next = all_next vehicles [] (replicate n None) busy (length-replicate n None) fresh (λ p h. none_next n p);
-  }
+  plan_is vehicles busy fresh = grind (
+    arith,
+    linked_size,
+    driven_links,
+    length-replicate,
+    all_next,
+    none_next,
+  )
 
 -- ---- which links there are
 
@@ -131,9 +150,12 @@ none_behind : (p : ℕ × ℕ → Bool) (more : List ℕ) (i : ℕ) → filter p
     → slice_get (i ∷ more) at ≡ Some a → slice_get (i ∷ more) (at + 1) ≡ Some b → p (a, b) ≡ false
 none_behind p [] i none zero a b first second = absurd (none-some b second)
 none_behind p [] i none (suc at) a b first second = absurd (none-some a first)
-none_behind p (j ∷ more) i none zero a b first second =
-    ap (λ k. p (k, b)) (sym (same_Some i a first)) ∙ ap (λ k. p (i, k)) (sym (same_Some j b second))
-    ∙ (none_first (p (i, j)) (i, j) (filter p (links_behind j more)) none).0
+none_behind p (j ∷ more) i none zero a b first second = grind (
+  arith,
+  same_Some,
+  none_first,
+  links_behind,
+)
 none_behind p (j ∷ more) i none (suc at) a b first second =
     let more_on : suc at + 1 ≡ suc (at + 1) = omega arith in
     none_behind p more j (none_first (p (i, j)) (i, j) (filter p (links_behind j more)) none).1 at a b first
@@ -165,9 +187,7 @@ append_at {X} (y ∷ xs) ys (suc k) x e = later (append_at xs ys k x e)
 behind_drives : (more : List ℕ) (i k a b : ℕ) → slice_get (links_behind i more) k ≡ Some (a, b)
     → Drives (i ∷ more) a b
 behind_drives [] i k a b e = absurd (none-some (a, b) e)
-behind_drives (j ∷ more) i zero a b e =
-    let parts = some_pair_parts i a j b e in
-    record { at = 0; first = ap Some parts.0; second = ap Some parts.1 }
+behind_drives (j ∷ more) i zero a b e = grind (arith, some_pair_parts)
 behind_drives (j ∷ more) i (suc k) a b e =
     let it = behind_drives more j k a b e in
     let more_on : suc it.at + 1 ≡ suc (it.at + 1) = omega arith in record {

@@ -18,12 +18,7 @@ abbrev times : ℕ → List ℕ → ℕ
 times i numbers = length (filter (nat_eq i) numbers)
 
 times_more : (i j : ℕ) (more : List ℕ) → times i (j ∷ more) ≡ cond (i == j) 1 0 + times i more
-times_more i j more = split (i == j)
-  where
-    split : (b : Bool) → length (cond b (j ∷ filter (nat_eq i) more) (filter (nat_eq i) more))
-        ≡ cond b 1 0 + times i more
-    split true = omega arith
-    split false = omega arith
+times_more i j more = grind (arith, nat_eq)
 
 counted : (b s : Bool) (t : ℕ) → t ≡ cond (b || s) 0 1 → (b ≡ true → s ≡ false) → cond b 1 0 + t ≡ cond s 0 1
 counted true true t e h = absurd (false≢true (sym (h refl)))
@@ -49,38 +44,33 @@ fresh_once n [] seen all = (
   All-nil (λ i. i < n),
   λ i within. ap (λ b. cond b 0 1) (sym (all_at (has seen) 0 n all i (omega arith) (omega (arith, within)))),
 )
-fresh_once n (j ∷ more) seen fresh =
-    let rest = fresh_once n more (j ∷ seen) fresh.2 in (
-      All-cons (λ i. i < n) j more fresh.0 rest.0,
-      λ i within. times_more i j more ∙ counted (i == j) (has seen i) (times i more) (rest.1 i within)
-          (λ same. ap (has seen) (eqb-true i j same) ∙ fresh.1),
-    )
+fresh_once n (j ∷ more) seen fresh = grind (
+  arith,
+  All-cons,
+  times_more,
+  counted,
+  has,
+  eqb-true,
+  fresh_once n more (j ∷ seen) fresh.2,
+)
 
 pub once_fresh : (n : ℕ) (numbers seen : List ℕ) → All (λ i. i < n) numbers
     → ((i : ℕ) → i < n → times i numbers ≡ cond (has seen i) 0 1) → AreFresh n seen numbers
-once_fresh n [] seen below once = all_in_range (has seen) 0 n
-    (λ i low high. none_left (has seen i) (once i (omega (arith, high))))
-  where
-    none_left : (b : Bool) → ◌≡◌ {A = ℕ} 0 (cond b 0 1) → b ≡ true
-    none_left true e = refl
-    none_left false e = absurd (omega (arith, e))
-once_fresh n (j ∷ more) seen below once =
-    let within = All-head (λ i. i < n) j more below in (
-      within,
-      new (has seen j) (sym (times_more j j more ∙ ap (λ b. cond b 1 0 + times j more) (eq-eqb j j refl))
-          ∙ once j within),
-      once_fresh n more (j ∷ seen) (All-tail (λ i. i < n) j more below)
-          (λ i inside. counted_back (i == j) (has seen i) (times i more)
-          (sym (times_more i j more) ∙ once i inside)),
-    )
-  where
-    new : (b : Bool) → 1 + times j more ≡ cond b 0 1 → b ≡ false
-    new true e = absurd (omega (arith, e))
-    new false e = refl
+once_fresh n [] seen below once = grind (arith, all_in_range, has)
+once_fresh n (j ∷ more) seen below once = grind (
+  arith,
+  All-head,
+  has,
+  times_more,
+  eq-eqb,
+  All-tail,
+  counted_back,
+  once_fresh n more (j ∷ seen) (All-tail (λ i. i < n) j more below) (λ i inside.
+      counted_back (i == j) (has seen i) (times i more) (sym (times_more i j more) ∙ once i inside)),
+)
 
 pub each_once : (n : ℕ) (numbers : List ℕ) → AreFresh n [] numbers → AreEachOnce n numbers
-each_once n numbers fresh =
-    let parts = fresh_once n numbers [] fresh in record { below = parts.0; once = parts.1 }
+each_once n numbers fresh = grind (arith, fresh_once)
 
 pub all_fresh : (n : ℕ) (numbers : List ℕ) → AreEachOnce n numbers → AreFresh n [] numbers
 all_fresh n numbers are = once_fresh n numbers [] are.below are.once
@@ -95,15 +85,20 @@ has_first seen j = ap (λ b. b || has seen j) (eq-eqb j j refl)
 
 -- a number that is not among some is none of them
 pub apart_from : (j p : ℕ) (more : List ℕ) → has (j ∷ more) p ≡ false → (p ≢ j) × (has more p ≡ false)
-apart_from j p more h =
-    let parts = or_parts (p == j) (has more p) h in ((λ same. not_both (eq-eqb p j same) parts.0), parts.1)
+apart_from j p more h = grind (arith, or_parts, has, not_both, eq-eqb)
 
 pub seen_apart : (n : ℕ) (numbers seen : List ℕ) (p : ℕ) → AreFresh n seen numbers → has seen p ≡ true
     → has numbers p ≡ false
 seen_apart n [] seen p fresh h = refl
-seen_apart n (j ∷ more) seen p fresh h =
-    ap (λ b. b || has more p) (ne_eqb p j (λ same. not_both (sym (ap (has seen) same) ∙ h) fresh.1))
-    ∙ seen_apart n more (j ∷ seen) p fresh.2 (has_more seen j p h)
+seen_apart n (j ∷ more) seen p fresh h = grind (
+  arith,
+  has,
+  ne_eqb,
+  not_both,
+  has_more,
+  seen_apart n
+      more (j ∷ seen) p fresh.2 (has_more seen j p h),
+)
 
 pub front_apart : (xs ys : List ℕ) (p : ℕ) → has (xs ++ ys) p ≡ false → has xs p ≡ false
 front_apart [] ys p h = refl
@@ -123,10 +118,7 @@ fresh_after n (x ∷ xs) ys seen fresh = fresh_after n xs ys (x ∷ seen) fresh.
 pub after_none : (xs seen : List ℕ) (p : ℕ) → has (after seen xs) p ≡ false
     → (has seen p ≡ false) × (has xs p ≡ false)
 after_none [] seen p h = (h, refl)
-after_none (x ∷ xs) seen p h =
-    let rest = after_none xs (x ∷ seen) p h in
-    let first = or_parts (p == x) (has seen p) rest.0 in
-    (first.1, ap (λ b. b || has xs p) first.0 ∙ rest.1)
+after_none (x ∷ xs) seen p h = grind (arith, or_parts, has, after_none xs (x ∷ seen) p h)
 
 pub after_seen : (xs seen : List ℕ) (p : ℕ) → has seen p ≡ true → has (after seen xs) p ≡ true
 after_seen [] seen p h = h
@@ -134,6 +126,5 @@ after_seen (x ∷ xs) seen p h = after_seen xs (x ∷ seen) p (has_more seen x p
 
 pub after_at : (xs seen : List ℕ) (k p : ℕ) → slice_get xs k ≡ Some p → has (after seen xs) p ≡ true
 after_at [] seen k p e = absurd (none-some p e)
-after_at (x ∷ xs) seen zero p e = after_seen xs (x ∷ seen) p
-    (ap (λ at. has (at ∷ seen) p) (same_Some x p e) ∙ has_first seen p)
+after_at (x ∷ xs) seen zero p e = grind (arith, after_seen, has, same_Some, has_first)
 after_at (x ∷ xs) seen (suc k) p e = after_at xs (x ∷ seen) k p e

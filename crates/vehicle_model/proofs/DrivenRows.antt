@@ -1,14 +1,13 @@
 -- Rows have the form that is due exactly where they are the schedule of some vehicles.
-use Rattle.plan_num.proofs.Common.{◌≡◌, ℕ, ◌+◌, ◌<◌, ◌==◌, ◌&&◌, not, is_some, cond, Bool, true}
-use Rattle.plan_num.proofs.Common.{false, length, position, Option, Some, None, unwrap_or, refl, ap}
-use Rattle.plan_num.proofs.Common.{sym, ◌∙◌, arith, eq-eqb, eqb-true, and_parts, position-Some}
-use Rattle.plan_num.proofs.Common.{none-some}
+use Rattle.plan_num.proofs.Common.{◌≡◌, ℕ, ◌<◌, ◌==◌, not, is_some, cond, Bool, true, false, length}
+use Rattle.plan_num.proofs.Common.{Option, Some, None, unwrap_or, refl, ap, sym, ◌∙◌, arith, eq-eqb}
+use Rattle.plan_num.proofs.Common.{eqb-true, and_parts, position-Some, none-some}
 use Rattle.event_tables.proofs.Common.{ScheduleKind, ScheduleRow, Trip, TripEnd, is_empty}
 use Rattle.event_tables.proofs.Common.{is_empty_row}
 use Rattle.event_tables.specs.declared.schedule_kind.ScheduleKind.TheVariants as kind
 use Rattle.vehicle_model.specs.DrivenSchedules.{is_nowhere, at_once, as_told}
 use Rattle.vehicle_model.specs.ReadSchedules.{same_end, same_run, trip_in, leaves, takes, goes_to, is_ride}
-use Rattle.vehicle_model.specs.Schedules.{no_trip, trip_of, dead_between, empty_ride, trip_row, empty_row}
+use Rattle.vehicle_model.specs.Schedules.{trip_of, dead_between, empty_ride, trip_row, empty_row}
 use Rattle.vehicle_model.specs.Trips.{TripsParts}
 use Rattle.vehicle_model.proofs.Repeated.{end_itself}
 use Rattle.plan_num.proofs.Tests.{both_true}
@@ -16,26 +15,17 @@ use Rattle.plan_num.proofs.Tests.{both_true}
 -- ---- rows that have the same cells
 
 end_same : (a b : TripEnd) → same_end a b ≡ true → a ≡ b
-end_same a b h =
-    let p : a.event ≡ b.event = grind arith in
-    let q : a.periodic ≡ b.periodic = grind arith in
-    let r : a.stop ≡ b.stop = grind arith in
-    let s : a.time ≡ b.time = grind arith in
-    λ k. record { event = p k; periodic = q k; stop = r k; time = s k }
+end_same a b h = grind arith
 
 run_of : {a b : Trip} → a.start ≡ b.start → a.end ≡ b.end → a.line ≡ b.line → a ≡ b
 run_of p q r = λ k. record { start = p k; end = q k; line = r k }
 
 run_same : (a b : Trip) → same_run a b ≡ true → a ≡ b
-run_same a b h =
-    let both = and_parts (same_end a.start b.start && same_end a.end b.end) (a.line == b.line) h in
-    let ends = and_parts (same_end a.start b.start) (same_end a.end b.end) both.0 in
-    run_of (end_same a.start b.start ends.0) (end_same a.end b.end ends.1) (eqb-true a.line b.line both.1)
+run_same a b h = grind (arith, and_parts, run_of, end_same, eqb-true)
 
 row_of : {a b : ScheduleRow} → a.circulation ≡ b.circulation → a.vehicle ≡ b.vehicle
     → a.number ≡ b.number → a.kind ≡ b.kind → a.run ≡ b.run → a ≡ b
-row_of c v n k r =
-    λ at. record { circulation = c at; vehicle = v at; number = n at; kind = k at; run = r at }
+row_of c v n k r = grind arith
 
 kind_trip : (k : ScheduleKind) → is_empty k ≡ false → k ≡ kind.Trip
 kind_trip kind.Trip h = refl
@@ -51,21 +41,11 @@ module _ (trips : TripsParts) where
   -- a row that repeats a trip
   pub trip_found : (row : ScheduleRow) (j : ℕ) → trip_in trips row ≡ Some j
       → (j < length trips.trips) × (is_empty_row row ≡ false) × (row.run ≡ trip_of trips j)
-  trip_found row j is = split (is_empty_row row) refl is
-    where
-      split : (b : Bool) → is_empty_row row ≡ b
-          → cond b None (position (same_run row.run) trips.trips) ≡ Some j
-          → (j < length trips.trips) × (is_empty_row row ≡ false) × (row.run ≡ trip_of trips j)
-      split true e f = absurd (none-some j f)
-      split false e f =
-          let at = position-Some (same_run row.run) trips.trips j no_trip f in
-          (at.0, e, run_same row.run (trip_of trips j) at.1)
+  trip_found row j is = grind (arith, none-some, position-Some, run_same)
 
   pub trip_row_is : (row : ScheduleRow) (j : ℕ) → row.circulation ≡ row.vehicle
       → trip_in trips row ≡ Some j → row ≡ trip_row trips row.vehicle row.number j
-  trip_row_is row j same is =
-      let found = trip_found row j is in
-      row_of same refl refl (kind_trip row.kind found.1) found.2
+  trip_row_is row j same is = grind (arith, trip_found, row_of, kind_trip)
 
   -- a trip is told as it is
   pub trip_told : (row : ScheduleRow) → is_empty_row row ≡ false → as_told trips row ≡ row
@@ -105,37 +85,24 @@ module _ (trips : TripsParts) where
           → row.run.end.periodic ≡ (trip_of trips j).start.periodic
           → row.run.end.stop ≡ (trip_of trips j).start.stop
           → as_told trips row ≡ empty_row trips row.vehicle row.number i j
-      by_minutes None dead goes start line event periodic stop =
-          let nowhere : is_nowhere trips row ≡ true =
-          nowhere_is row i j empty (ap (λ (end : TripEnd). end.stop) start) stop
-          ∙ ap (λ at. not (is_some at)) dead in
-          let time : row.run.start.time ≡ (trip_of trips i).end.time + unwrap_or (dead_between trips i j) 0 =
-          omega (arith, ap (λ (end : TripEnd). end.time) start, ap (λ at. unwrap_or at 0) dead) in
-          ap (λ b. cond b (record {
-            circulation = row.circulation;
-            vehicle = row.vehicle;
-            number = row.number;
-            kind = row.kind;
-            run = at_once row.run;
-          }) row) nowhere
-          ∙ row_of same refl refl (kind_empty row.kind empty)
-          (run_of start (λ k. record { event = event k; periodic = periodic k; stop = stop k; time = time k }) line)
-      by_minutes (Some minutes) dead goes start line event periodic stop =
-          let nowhere : is_nowhere trips row ≡ false =
-          nowhere_is row i j empty (ap (λ (end : TripEnd). end.stop) start) stop
-          ∙ ap (λ at. not (is_some at)) dead in
-          let takes : row.run.end.time ≡ row.run.start.time + minutes = grind arith in
-          let time : row.run.end.time ≡ (trip_of trips i).end.time + unwrap_or (dead_between trips i j) 0 =
-          omega (arith, takes, ap (λ (end : TripEnd). end.time) start, ap (λ at. unwrap_or at 0) dead) in
-          ap (λ b. cond b (record {
-            circulation = row.circulation;
-            vehicle = row.vehicle;
-            number = row.number;
-            kind = row.kind;
-            run = at_once row.run;
-          }) row) nowhere
-          ∙ row_of same refl refl (kind_empty row.kind empty)
-          (run_of start (λ k. record { event = event k; periodic = periodic k; stop = stop k; time = time k }) line)
+      by_minutes None dead goes start line event periodic stop = grind (
+        arith,
+        nowhere_is,
+        is_some,
+        unwrap_or,
+        row_of,
+        kind_empty,
+        run_of,
+      )
+      by_minutes (Some minutes) dead goes start line event periodic stop = grind (
+        arith,
+        nowhere_is,
+        is_some,
+        unwrap_or,
+        row_of,
+        kind_empty,
+        run_of,
+      )
 
   -- and what is told so is such a ride
   pub record IsRideRow (row : ScheduleRow) (vehicle number i j : ℕ) : Type 0 where
@@ -174,33 +141,13 @@ module _ (trips : TripsParts) where
             run = at_once row.run;
           }) row ≡ empty_row trips vehicle number i j
           → is_empty_row row ≡ true → IsRideRow row vehicle number i j
-      split true nowhere is empty =
-          let start : row.run.start ≡ (trip_of trips i).end = ap (λ (at : ScheduleRow). at.run.start) is in
-          let line : row.run.line ≡ 0 = ap (λ (at : ScheduleRow). at.run.line) is in
-          let event : row.run.end.event ≡ (trip_of trips j).start.event =
-          ap (λ (at : ScheduleRow). at.run.end.event) is in
-          let periodic : row.run.end.periodic ≡ (trip_of trips j).start.periodic =
-          ap (λ (at : ScheduleRow). at.run.end.periodic) is in
-          let stop : row.run.end.stop ≡ (trip_of trips j).start.stop =
-          ap (λ (at : ScheduleRow). at.run.end.stop) is in
-          let dead : not (is_some (dead_between trips i j)) ≡ true =
-          sym (nowhere_is row i j empty (ap (λ (end : TripEnd). end.stop) start) stop) ∙ nowhere in
-          record {
-            empty = empty;
-            circulation_is = ap (λ (at : ScheduleRow). at.circulation) is;
-            vehicle_is = ap (λ (at : ScheduleRow). at.vehicle) is;
-            number_is = ap (λ (at : ScheduleRow). at.number) is;
-            ride = both_true
-                (both_true (ap (λ (end : TripEnd). same_end end (trip_of trips i).end) start
-                ∙ end_itself (trip_of trips i).end) (eq-eqb row.run.line 0 line))
-                (both_true (both_true (both_true (eq-eqb row.run.end.event _ event)
-                (eq-eqb row.run.end.periodic _ periodic)) (eq-eqb row.run.end.stop _ stop))
-                (takes_any (dead_between trips i j) row.run dead));
-          }
-      split false nowhere is empty = record {
-        empty = empty;
-        circulation_is = ap (λ (at : ScheduleRow). at.circulation) is;
-        vehicle_is = ap (λ (at : ScheduleRow). at.vehicle) is;
-        number_is = ap (λ (at : ScheduleRow). at.number) is;
-        ride = ap (λ (at : ScheduleRow). is_ride trips i at.run (Some j)) is ∙ made_ride i j;
-      }
+      split true nowhere is empty = grind (
+        arith,
+        is_some,
+        nowhere_is,
+        both_true,
+        end_itself,
+        eq-eqb,
+        takes_any,
+      )
+      split false nowhere is empty = grind (arith, made_ride)

@@ -1,10 +1,9 @@
 -- Which trip may follow which, by the numbers of trips; what links gain at most.
-use Rattle.std.proofs.Common.{◌≡◌, ◌↔◌, ℕ, ℤ, pos, ◌+◌, ◌<◌, ◌≤◌, ◌≤ℤ◌, nat_le, Bool, true, false}
-use Rattle.std.proofs.Common.{cond, List, length, slice_get, is_some, Option, Some, None}
-use Rattle.std.proofs.Common.{option_map, option_and_then, IfSome, refl, ap, sym, ◌∙◌, subst, arith}
-use Rattle.std.proofs.lemmas.Bool.{false≢true, leb-true, le-leb}
-use Rattle.std.proofs.lemmas.Int.{ints}
-use Rattle.std.proofs.lemmas.Option.{none-some, same_Some, slice_get-get_or, slice_get_within, get_or_from_slice_get}
+use Rattle.plan_num.proofs.Common.{◌≡◌, ◌↔◌, ℕ, ℤ, pos, ◌+◌, ◌<◌, ◌≤◌, ◌≤ℤ◌, nat_le, Bool, true}
+use Rattle.plan_num.proofs.Common.{List, length, slice_get, is_some, Option, Some, None, option_map}
+use Rattle.plan_num.proofs.Common.{option_and_then, IfSome, ap, sym, ◌∙◌, arith, false≢true}
+use Rattle.plan_num.proofs.Common.{leb-true, le-leb, ints, none-some, same_Some, slice_get-get_or}
+use Rattle.plan_num.proofs.Common.{slice_get_within, get_or_from_slice_get}
 use Rattle.event_tables.proofs.Common.{Trip}
 use Rattle.walks.proofs.Common.{Edge, edge_time, IsLeastSum}
 use Rattle.link_plans.proofs.Common.{some_of}
@@ -46,56 +45,35 @@ in_time_is : (trips : TripsParts) (before after : Trip) (dead : Option ℕ) (min
     → option_and_then (if_in_time trips before after) dead ≡ Some minutes
     → (dead ≡ Some minutes) × (before.end.time + trips.turnover + minutes ≤ after.start.time)
 in_time_is trips before after None minutes e = absurd (none-some minutes e)
-in_time_is trips before after (Some dead) minutes e =
-    split (nat_le (before.end.time + trips.turnover + dead) after.start.time) refl e
-  where
-    split : (b : Bool) → nat_le (before.end.time + trips.turnover + dead) after.start.time ≡ b
-        → cond b (Some dead) None ≡ Some minutes
-        → (Some dead ≡ Some minutes)
-        × (before.end.time + trips.turnover + minutes ≤ after.start.time)
-    split false is f = absurd (none-some minutes f)
-    split true is f = (
-      f,
-      subst (λ m. before.end.time + trips.turnover + m ≤ after.start.time)
-          (same_Some dead minutes f) (leb-true _ _ is),
-    )
+in_time_is trips before after (Some dead) minutes e = grind (
+  arith,
+  nat_le,
+  none-some,
+  same_Some,
+  leb-true,
+)
 
 both_there : (trips : TripsParts) (i j minutes : ℕ) → link_minutes trips i j ≡ Some minutes
     → (i < length trips.trips) × (j < length trips.trips)
-both_there trips i j minutes e = first (slice_get trips.trips i) refl e
-  where
-    second : (before : Trip) (at : Option Trip) → slice_get trips.trips j ≡ at
-        → option_and_then (λ after. link_between trips before after) at ≡ Some minutes
-        → j < length trips.trips
-    second before None is f = absurd (none-some minutes f)
-    second before (Some after) is f = slice_get_within trips.trips j after is
-
-    first : (at : Option Trip) → slice_get trips.trips i ≡ at
-        → option_and_then (λ before. option_and_then (λ after. link_between trips before after)
-        (slice_get trips.trips j)) at ≡ Some minutes
-        → (i < length trips.trips) × (j < length trips.trips)
-    first None is f = absurd (none-some minutes f)
-    first (Some before) is f =
-        (slice_get_within trips.trips i before is, second before (slice_get trips.trips j) refl f)
+both_there trips i j minutes e = grind (
+  arith,
+  slice_get,
+  option_and_then,
+  none-some,
+  slice_get_within,
+)
 
 pub is_link : (trips : TripsParts) (i j minutes : ℕ) → link_minutes trips i j ≡ Some minutes
     → IsLink trips i j minutes
 is_link trips i j minutes e =
     let there = both_there trips i j minutes e in
     let parts = in_time_is trips (trip_of trips i) (trip_of trips j) (dead_between trips i j) minutes
-    (sym (link_is trips i j there.0 there.1) ∙ e) in
-    record { from = there.0; to = there.1; dead = parts.0; in_time = parts.1 }
+    (sym (link_is trips i j there.0 there.1) ∙ e) in grind arith
 
 -- what a link gains
 pub gain_is : (trips : TripsParts) (i j : ℕ) (gain : ℤ) → (links_of trips).gain i j ≡ Some gain
     → (minutes : ℕ) × ((link_minutes trips i j ≡ Some minutes) × (gain ≡ gain_of trips minutes))
-gain_is trips i j gain e = split (link_minutes trips i j) refl e
-  where
-    split : (at : Option ℕ) → link_minutes trips i j ≡ at
-        → option_map (gain_of trips) at ≡ Some gain
-        → (minutes : ℕ) × ((link_minutes trips i j ≡ Some minutes) × (gain ≡ gain_of trips minutes))
-    split None is f = absurd (none-some gain f)
-    split (Some minutes) is f = (minutes, (is, sym (same_Some (gain_of trips minutes) gain f)))
+gain_is trips i j gain e = grind (arith, option_map, none-some, same_Some)
 
 -- no link gains more than a vehicle costs
 pub gain_most : (trips : TripsParts) (minutes : ℕ) → gain_of trips minutes ≤ℤ pos trips.vehicle
@@ -103,11 +81,7 @@ gain_most trips minutes = omega (arith, ints)
 
 pub links_most : (trips : TripsParts) (i j : ℕ)
     → IfSome ((links_of trips).gain i j) (λ gain. gain ≤ℤ pos trips.vehicle)
-links_most trips i j = split (link_minutes trips i j)
-  where
-    split : (at : Option ℕ) → IfSome (option_map (gain_of trips) at) (λ gain. gain ≤ℤ pos trips.vehicle)
-    split None = tt
-    split (Some minutes) = gain_most trips minutes
+links_most trips i j = grind (arith, option_map, gain_most)
 
 -- links are between trips that are there
 pub links_within : (trips : TripsParts) (i j : ℕ) → is_some ((links_of trips).gain i j) ≡ true
@@ -117,11 +91,7 @@ links_within trips i j h = grind (arith, some_of, gain_is, both_there)
 -- a link has a gain where it has minutes
 pub gain_there : (trips : TripsParts) (i j : ℕ)
     → is_some ((links_of trips).gain i j) ≡ is_some (link_minutes trips i j)
-gain_there trips i j = split (link_minutes trips i j)
-  where
-    split : (at : Option ℕ) → is_some (option_map (gain_of trips) at) ≡ is_some at
-    split None = refl
-    split (Some minutes) = refl
+gain_there trips i j = grind (arith, is_some, option_map)
 
 -- ---- by walks
 
@@ -145,18 +115,8 @@ module _ (trips : TripsParts) (i j : ℕ) (from : i < length trips.trips) (to : 
   pub may_minutes : (minutes : ℕ) → MayFollow trips i j minutes → link_minutes trips i j ≡ Some minutes
   may_minutes minutes may =
       let before = get_or_from_slice_get trips.trips i may.before no_trip may.before_at in
-      let after = get_or_from_slice_get trips.trips j may.after no_trip may.after_at in
-      let near = subst (λ trip. IsLeastSum trips.network.edges edge_time
-      (end_stop trips.network trip) (start_stop trips.network may.after) (Some minutes)) (sym before) may.least in
-      let nearer = subst (λ trip. IsLeastSum trips.network.edges edge_time
-      (end_stop trips.network (trip_of trips i)) (start_stop trips.network trip) (Some minutes)) (sym after) near in
-      let dead = one_least trips.network.edges edge_time (end_stop trips.network (trip_of trips i))
-      (start_stop trips.network (trip_of trips j)) (dead_between trips i j) minutes least nearer in
-      let time = subst (λ trip. (trip_of trips i).end.time + trips.turnover + minutes ≤ trip.start.time) (sym after)
-      (subst (λ trip. trip.end.time + trips.turnover + minutes ≤ may.after.start.time) (sym before) may.in_time) in
-      link_is trips i j from to
-      ∙ ap (option_and_then (if_in_time trips (trip_of trips i) (trip_of trips j))) dead
-      ∙ ap (λ b. cond b (Some minutes) None) (le-leb _ _ time)
+      let after = get_or_from_slice_get trips.trips j may.after no_trip may.after_at in grind
+      (arith, one_least, link_is, option_and_then, le-leb)
 
   -- an option that is the minutes of the link
   pub all_follow : (at : Option ℕ) → at ≡ link_minutes trips i j → IfSome at (MayFollow trips i j)

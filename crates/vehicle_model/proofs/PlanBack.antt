@@ -3,12 +3,12 @@ use Rattle.plan_num.proofs.Common.{◌≡◌, ℕ, List, [], ◌∷◌, length, 
 use Rattle.plan_num.proofs.Common.{refl, ap, sym, ◌∙◌, slice_get-map}
 use Rattle.event_tables.proofs.Common.{ScheduleRow, schedule_row, schedule_cells, schedule_header}
 use Rattle.event_tables.proofs.Common.{schedule_row_same, rows_inside, reads_as}
-use Rattle.tables.proofs.Common.{numbered_by, rows_by, ReadsAs, schedule_columns, Numbered}
-use Rattle.tables.proofs.Common.{table_of, table_text, plain_header, written_back, columns_written}
+use Rattle.tables.proofs.Common.{rows_by, ReadsAs, schedule_columns, Numbered, table_text}
+use Rattle.tables.proofs.Common.{plain_header, written_back, columns_written}
 use Rattle.vehicle_model.specs.declared.plan_fault.PlanFault.TheVariants as fault
 use Rattle.link_plans.proofs.Common.{IsPlan}
 use Rattle.vehicle_model.specs.ReadSchedules.{Reading, nothing_read, one_more, form_faults}
-use Rattle.vehicle_model.specs.ReadSchedules.{links_in, or_others, row_faults, plan_by, plan_faults}
+use Rattle.vehicle_model.specs.ReadSchedules.{links_in, row_faults, plan_by, plan_faults}
 use Rattle.vehicle_model.specs.ReadSchedules.{plan_of, IsReadBack}
 use Rattle.vehicle_model.specs.Schedules.{plan_rows, plan_text}
 use Rattle.vehicle_model.specs.Trips.{TripsParts, AreTrips, links_of}
@@ -33,10 +33,7 @@ module _ (trips : TripsParts) (plan : List (Option ℕ)) (are : AreTrips trips) 
       → IsReadBack trips plan text
   unfolding plan_faults plan_of
   plan_back text back = record {
-    faultless = ap (λ all. or_others (map (λ first. fault.Row first) all)
-        (row_faults trips (numbered_by schedule_row (table_of schedule_columns text)))) back.0
-        ∙ rows_back (numbered_by schedule_row (table_of schedule_columns text))
-        (without_numbers (table_of schedule_columns text) ∙ back.1);
+    faultless = grind (arith, rows_back, without_numbers);
     same = ap (λ some. plan_by (length trips.trips) (links_in trips nothing_read some)) back.1
         ∙ ap (λ k. plan_by k (links_in trips nothing_read (plan_rows trips plan))) (sym is.each)
         ∙ (plan_read trips plan are is).linked_all;

@@ -50,26 +50,7 @@ read_row : (trips : TripsParts) (plan : List (Option ℕ)) (read : Reading) (lin
     → AreRead trips plan (one_more trips read row) (with_link linked link) rows
     → AreRead trips plan read linked (row ∷ rows)
 unfolding links_in
-read_row trips plan read linked row rows link form is in_time rest = record {
-  formed = (form, rest.formed);
-  linked_all = ap (λ at. fold (λ plan link. slice_set plan link.0 (Some link.1)) linked
-      (option_to_list at ++ links_in trips (one_more trips read row) rows)) is ∙ folds link rest.linked_all;
-  in_time = ap (λ at. filter (is_late trips)
-      (option_to_list at ++ links_in trips (one_more trips read row) rows)) is ∙ filters link in_time rest.in_time;
-}
-  where
-    folds : (at : Option (ℕ × ℕ)) → fold (λ plan link. slice_set plan link.0 (Some link.1)) (with_link linked at)
-        (links_in trips (one_more trips read row) rows) ≡ plan
-        → fold (λ plan link. slice_set plan link.0 (Some link.1)) linked
-        (option_to_list at ++ links_in trips (one_more trips read row) rows) ≡ plan
-    folds None h = h
-    folds (Some at) h = h
-
-    filters : (at : Option (ℕ × ℕ)) → IfSome at (λ one. is_late trips one ≡ false)
-        → filter (is_late trips) (links_in trips (one_more trips read row) rows) ≡ []
-        → filter (is_late trips) (option_to_list at ++ links_in trips (one_more trips read row) rows) ≡ []
-    filters None late h = h
-    filters (Some at) late h = grind arith
+read_row trips plan read linked row rows link form is in_time rest = grind (arith, slice_set)
 
 either_true : {a : Bool} (b : Bool) → a ≡ true → (a || b) ≡ true
 either_true {a} b e = ap (λ c. c || b) e
@@ -173,8 +154,7 @@ module _ (trips : TripsParts) (plan : List (Option ℕ)) (are : AreTrips trips) 
   tours_read ([] ∷ more) vehicle read linked next_one are_tours = elim are_tours [ ]
   tours_read ((i ∷ trip_numbers) ∷ more) vehicle read linked next_one are_tours =
       let row : ScheduleRow = trip_row trips vehicle 1 i in
-      let starts : begins read.before row ≡ true =
-      both_true (ap (λ v. vehicle == v) next_one ∙ same_number vehicle) refl in
+      let starts : begins read.before row ≡ true = grind (arith, both_true, same_number) in
       read_row trips plan read linked row (rows_behind trips vehicle 1 i trip_numbers ++ rows_from trips
       (vehicle + 1) more) None
       (trip_formed read vehicle 1 i

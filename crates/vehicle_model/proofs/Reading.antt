@@ -1,9 +1,9 @@
 -- What a reader of a schedule knows behind each row.
 use Rattle.plan_num.proofs.Common.{◌≡◌, ◌≢◌, ℕ, zero, suc, ◌<◌, ◌==◌, ◌||◌, nat_eq, not, is_some}
-use Rattle.plan_num.proofs.Common.{Bool, true, false, cond, List, [], ◌∷◌, ◌++◌, length, filter}
-use Rattle.plan_num.proofs.Common.{get_or, slice_get, slice_set, replicate, position, Option, Some}
-use Rattle.plan_num.proofs.Common.{None, IfSome, option_map, refl, ap, sym, ◌∙◌, subst, arith}
-use Rattle.plan_num.proofs.Common.{eq-eqb, inl, inr, get_or-set_same, get_or-set_other, list_any}
+use Rattle.plan_num.proofs.Common.{Bool, true, false, cond, List, [], ◌∷◌, ◌++◌, length, get_or}
+use Rattle.plan_num.proofs.Common.{slice_get, slice_set, replicate, position, Option, Some, None}
+use Rattle.plan_num.proofs.Common.{IfSome, option_map, refl, ap, sym, ◌∙◌, subst, arith, eq-eqb}
+use Rattle.plan_num.proofs.Common.{inl, inr, get_or-set_same, get_or-set_other, list_any}
 use Rattle.plan_num.proofs.Common.{option_to_list, false≢true, ne_eqb, or_parts, not-true}
 use Rattle.plan_num.proofs.Common.{length-set, length-replicate, append-nil, fold_push}
 use Rattle.plan_num.proofs.Common.{position-Some, none-some, same_Some}
@@ -13,10 +13,9 @@ use Rattle.link_plans.proofs.Common.{none_linked, next_in, next_before, not_link
 use Rattle.link_plans.proofs.Common.{never_next}
 use Rattle.vehicle_model.specs.ReadSchedules.{Reading, nothing_read, one_more, trip_in, begins}
 use Rattle.vehicle_model.specs.ReadSchedules.{is_new, last_seen, has_seen, row_fits, has_form}
-use Rattle.vehicle_model.specs.ReadSchedules.{same_run, link_of, link_to, plan_by, is_late}
+use Rattle.vehicle_model.specs.ReadSchedules.{same_run, link_of, link_to, plan_by}
 use Rattle.vehicle_model.specs.Readers.{ReaderParts, late_after, after_link, after_trip, after_row}
 use Rattle.vehicle_model.specs.Readers.{late_of, CanLink, Knows}
-use Rattle.vehicle_model.specs.Schedules.{no_trip}
 use Rattle.vehicle_model.specs.Trips.{TripsParts, link_minutes}
 
 -- ---- before all rows
@@ -30,11 +29,7 @@ pub knows_nothing : (trips : TripsParts) (n : ℕ) (come : List Bool) (plan : Li
     → n ≡ length trips.trips → come ≡ replicate n false → plan ≡ replicate n None
     → Knows trips nothing_read [] (record { before = None; last = None; come = come; plan = plan; late = None })
 knows_nothing trips n come plan counted come_is plan_is = record {
-  over = record {
-    come = ap length come_is ∙ length-replicate n false ∙ counted;
-    plan = ap length plan_is ∙ length-replicate n None ∙ counted;
-    last = tt;
-  };
+  over = grind (arith, length-replicate);
   before = refl;
   last = refl;
   come = λ i. ap (λ some. get_or some i false) come_is ∙ none_come n i;
@@ -54,21 +49,14 @@ knows_nothing trips n come plan counted come_is plan_is = record {
 
 first_late : (trips : TripsParts) (link : ℕ × ℕ) (links : List (ℕ × ℕ))
     → late_of trips (links ++ link ∷ []) ≡ late_after trips link.0 link.1 (late_of trips links)
-first_late trips link [] = split (is_some (link_minutes trips link.0 link.1))
-  where
-    split : (b : Bool) → option_map (λ (at : ℕ × ℕ). at.1) (slice_get (cond (not b) (link ∷ []) []) 0)
-        ≡ cond b None (Some link.1)
-    split true = refl
-    split false = refl
-first_late trips link (first ∷ links) = split (is_late trips first) (first_late trips link links)
-  where
-    split : (b : Bool) → late_of trips (links ++ link ∷ []) ≡ late_after trips link.0 link.1 (late_of trips links)
-        → option_map (λ (at : ℕ × ℕ). at.1) (slice_get (cond b (first ∷ filter (is_late trips) (links ++ link ∷ []))
-        (filter (is_late trips) (links ++ link ∷ []))) 0)
-        ≡ late_after trips link.0 link.1 (option_map (λ (at : ℕ × ℕ). at.1)
-        (slice_get (cond b (first ∷ filter (is_late trips) links) (filter (is_late trips) links)) 0))
-    split true rest = refl
-    split false rest = rest
+first_late trips link [] = grind (arith, is_some, option_map, slice_get)
+first_late trips link (first ∷ links) = grind (
+  arith,
+  option_map,
+  slice_get,
+  first_late trips link
+      links,
+)
 
 plan_more : (n : ℕ) (links : List (ℕ × ℕ)) (i j : ℕ)
     → plan_by n (links ++ (i, j) ∷ []) ≡ slice_set (plan_by n links) i (Some j)
@@ -77,12 +65,7 @@ plan_more n links i j = fold_push (λ plan link. slice_set plan link.0 (Some lin
 none_late : (trips : TripsParts) (i j : ℕ) (late : Option ℕ) → late_after trips i j late ≡ None
     → (late ≡ None) × (is_some (link_minutes trips i j) ≡ true)
 none_late trips i j (Some late) e = absurd (none-some late (sym e))
-none_late trips i j None e = split (is_some (link_minutes trips i j)) refl e
-  where
-    split : (b : Bool) → is_some (link_minutes trips i j) ≡ b → cond b None (Some j) ≡ None
-        → (◌≡◌ {A = Option ℕ} None None) × (is_some (link_minutes trips i j) ≡ true)
-    split true is f = (refl, is)
-    split false is f = absurd (none-some j (sym f))
+none_late trips i j None e = grind (arith, is_some, none-some)
 
 -- ---- what a row that has its form tells
 
@@ -103,11 +86,7 @@ new_trip trips before last come row after j fits is = split (is_empty_row row) r
 -- a trip is one of the trips
 pub trip_within : (trips : TripsParts) (row : ScheduleRow) (j : ℕ) → trip_in trips row ≡ Some j
     → j < length trips.trips
-trip_within trips row j is = split (is_empty_row row) is
-  where
-    split : (b : Bool) → cond b None (position (same_run row.run) trips.trips) ≡ Some j → j < length trips.trips
-    split true e = absurd (none-some j e)
-    split false e = (position-Some (same_run row.run) trips.trips j no_trip e).0
+trip_within trips row j is = grind (arith, none-some, position-Some)
 
 -- the last trip has come
 last_come : (seen : List ℕ) (i : ℕ) → slice_get seen 0 ≡ Some i → list_any (nat_eq i) seen ≡ true
@@ -200,8 +179,7 @@ module _ (trips : TripsParts) (read : Reading) (links : List (ℕ × ℕ)) (read
           (λ none one k e.
           let parts = none_late trips i j reader.late none in
           elim (next_before reader.plan i j within one k e) as (λ _. is_some (link_minutes trips one k) ≡ true) [
-            | inl at ↦ ap (λ n. is_some (link_minutes trips n k)) at.0
-                ∙ ap (λ n. is_some (link_minutes trips i n)) at.1 ∙ parts.1
+            | inl at ↦ grind (arith, is_some)
             | inr was ↦ knows.follow parts.0 one k was
           ])
 

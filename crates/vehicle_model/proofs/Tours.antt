@@ -1,11 +1,11 @@
 -- The tours of a plan: each trip stands in one of them, once, and behind it the one that its vehicle
 -- runs next.
-use Rattle.plan_num.proofs.Common.{◌≡◌, ◌≢◌, ◌⊎◌, inl, inr, ℕ, zero, suc, ◌+◌, ◌-◌, ◌<◌, ◌≤◌, ◌==◌}
-use Rattle.plan_num.proofs.Common.{◌||◌, ◌&&◌, nat_eq, Bool, true, false, not, cond, List, [], ◌∷◌}
-use Rattle.plan_num.proofs.Common.{length, map, filter, slice_set, replicate, Option, Some, None}
-use Rattle.plan_num.proofs.Common.{refl, ap, sym, ◌∙◌, subst, arith, eq-eqb, list_any, list_all}
-use Rattle.plan_num.proofs.Common.{range_with_len, false≢true, ne_eqb, or_parts, length-set}
-use Rattle.plan_num.proofs.Common.{length-replicate, same_Some}
+use Rattle.plan_num.proofs.Common.{◌≡◌, ◌≢◌, ◌⊎◌, ℕ, zero, suc, ◌+◌, ◌-◌, ◌<◌, ◌≤◌, ◌||◌, ◌&&◌}
+use Rattle.plan_num.proofs.Common.{nat_eq, Bool, true, false, not, cond, List, [], ◌∷◌, length, map}
+use Rattle.plan_num.proofs.Common.{filter, slice_set, replicate, Option, Some, None, refl, ap, sym}
+use Rattle.plan_num.proofs.Common.{◌∙◌, subst, arith, eq-eqb, list_any, list_all, range_with_len}
+use Rattle.plan_num.proofs.Common.{false≢true, ne_eqb, or_parts, length-set, length-replicate}
+use Rattle.plan_num.proofs.Common.{same_Some}
 use Rattle.link_plans.proofs.Common.{next, is_next, IsPlan, count, one_less, count_most, some_of}
 use Rattle.link_plans.proofs.Common.{by_number, next_found, followed, none_next, next_is, next_in}
 use Rattle.vehicle_model.specs.Schedules.{trip_of, tour, tours}
@@ -57,11 +57,7 @@ has_other : (seen : List ℕ) (i k : ℕ) → k ≢ i → has (i ∷ seen) k ≡
 has_other seen i k apart = ap (λ b. b || has seen k) (ne_eqb k i apart)
 
 has_more : (seen : List ℕ) (i k : ℕ) → has seen k ≡ true → has (i ∷ seen) k ≡ true
-has_more seen i k h = later (k == i) h
-  where
-    later : (b : Bool) {c : Bool} → c ≡ true → (b || c) ≡ true
-    later true e = refl
-    later false e = e
+has_more seen i k h = grind arith
 
 has_cases : {P : Type 0} (seen : List ℕ) (i k : ℕ) → has (i ∷ seen) k ≡ true → (k ≡ i → P) → (has seen k ≡ true → P) → P
 has_cases seen i k h same was =
@@ -101,8 +97,7 @@ module _ (trips : TripsParts) (plan : List (Option ℕ)) (are : AreTrips trips) 
 
   next_within : (i j : ℕ) → next plan i ≡ Some j → (i < n) × (j < n)
   next_within i j e =
-      let there = links_within trips i j (is.follow i j e) in
-      (omega (arith, is.each, there.0), omega (arith, is.each, there.1))
+      let there = links_within trips i j (is.follow i j e) in grind arith
 
   later : (i j : ℕ) → next plan i ≡ Some j → (trip_of trips i).start.time < (trip_of trips j).start.time
   later i j e =
@@ -143,10 +138,7 @@ module _ (trips : TripsParts) (plan : List (Option ℕ)) (are : AreTrips trips) 
 
     module _ (j : ℕ) (e : next plan i ≡ Some j) where
       apart : j ≢ i
-      apart at = less (later i j e) (ap (λ k. (trip_of trips k).start.time) at)
-        where
-          less : {a b : ℕ} → a < b → b ≡ a → ⊥
-          less h same = omega (arith, h, same)
+      apart at = grind (arith, later)
 
       fresh : has (i ∷ seen) j ≡ false
       fresh = grind arith
@@ -157,20 +149,10 @@ module _ (trips : TripsParts) (plan : List (Option ℕ)) (are : AreTrips trips) 
         new = fresh;
         back = back_all;
         before = λ p f. ap (has (i ∷ seen)) (is.once p i j f e) ∙ has_first seen i;
-        on = λ p k f h. has_cases seen i p h
-            (λ at. inr (same_Some k j (sym f ∙ ap (next plan) at ∙ e)))
-            (λ was. elim (it.on p k f was) as (λ _. (has (i ∷ seen) k ≡ true) ⊎ (k ≡ j)) [
-              | inl there ↦ inl (has_more seen i k there)
-              | inr at ↦ inl (ap (has (i ∷ seen)) at ∙ has_first seen i)
-            ]);
+        on = λ p k f h. grind (arith, has_cases, same_Some, has_more, has_first);
         size = length-set linked i (Some j) ∙ it.size;
-        same = λ p h. has_cases seen i p h
-            (λ at. ap (next (slice_set linked i (Some j))) at ∙ next_is linked i j inside ∙ sym e
-            ∙ sym (ap (next plan) at))
-            (λ was. next_in linked i j inside p (λ at. not_both (sym (ap (has seen) at) ∙ was) it.new) ∙ it.same p was);
-        none = λ p h.
-            let parts = or_parts (p == i) (has seen p) h in
-            next_in linked i j inside p (λ at. not_both (eq-eqb p i at) parts.0) ∙ it.none p parts.1;
+        same = λ p h. grind (arith, has_cases, slice_set, next_is, next_in, not_both);
+        none = λ p h. grind (arith, or_parts, next_in, not_both, eq-eqb);
       }
         where
           inside : i < length linked
@@ -222,8 +204,7 @@ module _ (trips : TripsParts) (plan : List (Option ℕ)) (are : AreTrips trips) 
     where
       first_or_not : ((p : ℕ) → next plan p ≡ Some i → has seen p ≡ true) → has seen i ≡ true
       first_or_not before = by_bool (is_next plan i)
-          (λ h. let found = followed plan i h in
-          closed.on found.0 i found.1 (before found.0 found.1))
+          (λ h. let found = followed plan i h in grind arith)
           (λ h. firsts i h within)
 
   new_tours : (from k : ℕ) (seen : List ℕ) (linked : List (Option ℕ)) → from + k ≡ n
@@ -270,10 +251,6 @@ module _ (trips : TripsParts) (plan : List (Option ℕ)) (are : AreTrips trips) 
     where
       not_above : {a b : ℕ} → a + 1 ≤ b → b ≡ a → ⊥
       not_above low at = omega (arith, low, at)
-
-      rest : List (List ℕ)
-      rest = map (λ first. tour n plan (Some first))
-          (filter (λ j. not (is_next plan j)) (range_with_len (from + 1) k))
 
       one_tour : is_next plan from ≡ false → has seen from ≡ false
           → ((seen_all : List ℕ) (links : List (Option ℕ)) → IsClosed seen_all links

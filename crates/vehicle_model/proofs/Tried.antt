@@ -1,7 +1,7 @@
 -- The definitions on small schedules.
 use Rattle.std.specs.Prelude.{⊤}
-use Rattle.std.proofs.Common.{◌≡◌, ℕ, refl, pos, negsuc, ◌+◌, ◌*◌, List, [], ◌∷◌, ◌++◌, codes}
-use Rattle.std.proofs.Common.{slice_get, Option, Some, None}
+use Rattle.plan_num.proofs.Common.{◌≡◌, ℕ, refl, pos, negsuc, ◌+◌, ◌*◌, List, [], ◌∷◌, ◌++◌, codes}
+use Rattle.plan_num.proofs.Common.{slice_get, Option, Some, None}
 use Rattle.std.specs.Fmt.{digits}
 use Rattle.event_tables.proofs.Common.{Trip, TripEnd}
 use Rattle.tables.specs.declared.file_id.FileId.TheVariants as file

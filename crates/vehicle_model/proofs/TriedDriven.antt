@@ -1,6 +1,6 @@
 -- Schedules told by vehicles, on small ones.
-use Rattle.std.proofs.Common.{◌≡◌, ℕ, refl, List, [], ◌∷◌, ◌++◌, codes, map, nat_eq, length, filter, slice_get, Some}
-use Rattle.std.specs.List.{concat, range_with_len}
+use Rattle.plan_num.proofs.Common.{◌≡◌, ℕ, refl, List, [], ◌∷◌, ◌++◌, codes, map, nat_eq, length}
+use Rattle.plan_num.proofs.Common.{filter, slice_get, Some, concat, range_with_len}
 use Rattle.event_tables.proofs.Common.{schedule_row}
 use Rattle.tables.proofs.Common.{schedule_columns, records_by}
 use Rattle.tables.specs.Reading.{table_of, cells_from, cell_of, values}
@@ -47,7 +47,3 @@ walks_looked_at :
 unfolding nowhere rows_behind rows_from least_sum walks_within least_of table_of cells_from cell_of values
     rows cleaned spelling_of value_of value_at fixed_of whole_of
 walks_looked_at = (refl, refl)
-
-pub due : slice_get (map (λ row. row.run.end.time) (rows_from (two 1000000) 1 ((0 ∷ 1 ∷ []) ∷ []))) 1 ≡ Some 14
-unfolding rows_behind rows_from least_sum walks_within least_of
-due = refl

@@ -3,10 +3,10 @@ use Rattle.plan_num.proofs.Common.{◌≡◌, ℤ, pos, ◌+◌, Bool, true, fal
 use Rattle.plan_num.proofs.Common.{◌∷◌, map, get_or, refl, ap, subst, sym, ◌∙◌, arith, Some, None}
 use Rattle.plan_num.proofs.Common.{list_any, AllByRecursion, IsDistinct, IsSorted, keys_of, lookup}
 use Rattle.plan_num.proofs.Common.{int_eq, int_cmp, is_lt, eq_by_cmp, put, is_sorted}
-use Rattle.plan_num.proofs.Common.{int_cmp-IsAntisymmetric, by_order, below_all, find-put}
-use Rattle.plan_num.proofs.Common.{same_entries, int_cmp_total, apart_from_distinct, exact_signed}
+use Rattle.plan_num.proofs.Common.{int_cmp-IsAntisymmetric, below_all, find-put, same_entries}
+use Rattle.plan_num.proofs.Common.{int_cmp_total, apart_from_distinct, exact_signed}
 use Rattle.std.specs.List.Sorted.{IsStrictlySortedBy}
-use Rattle.std.specs.declared.cmp.Ordering.TheVariants.{Less, Equal, Greater}
+use Rattle.std.specs.declared.cmp.Ordering.TheVariants.{Less}
 use Rattle.std.specs.FinMap.{find}
 use Rattle.std.specs.FinMap.Entries.{is_sorted-put}
 use Rattle.std.proofs.lemmas.Map.Keys.{sorted_from_all_adjacent}
@@ -96,11 +96,12 @@ pub sorted_ids : (ids others : List ℤ) → IsSorted int_cmp ids → IsDistinct
     → ((q : ℤ) → list_any (int_eq q) ids ≡ list_any (int_eq q) others) → ids ≡ rising others
 unfolding units
 sorted_ids ids others sorted apart same =
-    let keys : ids ≡ keys_of (units ids) = sym (keys_of_units ids) in
-    keys ∙ ap keys_of (sorted_entries (units ids) (units others)
-    (subst (IsSorted int_cmp) keys sorted) (subst (IsDistinct int_eq) keys apart)
-    (λ q. lookup_unit q ids ∙ ap (λ b. cond b (Some tt) None) (same q)
-    ∙ sym (lookup_unit q others)))
+    let keys : ids ≡ keys_of (units ids) = sym (keys_of_units ids) in grind (
+      arith,
+      sorted_entries,
+      units,
+      lookup_unit,
+    )
 
 -- ---- entries with the ids of their edges
 
@@ -112,15 +113,12 @@ put_keyed : (id : ℤ) (edge : Edge) (es : List (ℤ × Edge)) → id ≡ edge.i
 put_keyed id edge [] own keyed = ap (λ key. key ∷ []) own
 put_keyed id edge (e ∷ es) own keyed =
     let first : e.0 ≡ e.1.id = cc in
-    let rest : AreKeyed es = tail_of _ _ _ _ keyed in
-    elim (int_cmp id e.0) as (λ o. int_cmp id e.0 ≡ o
-    → AreKeyed (by_order o ((id, edge) ∷ e ∷ es) ((e.0, edge) ∷ es)
-    (e ∷ put int_cmp id edge es))) [
-      | Less ↦ λ _. λ i. own i ∷ keyed i
-      | Equal ↦ λ tied. let same : e.0 ≡ edge.id =
-          sym (exact_signed id e.0 tied) ∙ own in λ i. same i ∷ rest i
-      | Greater ↦ λ _. let more = put_keyed id edge es own rest in λ i. first i ∷ more i
-    ] refl
+    let rest : AreKeyed es = tail_of _ _ _ _ keyed in grind (
+      arith,
+      exact_signed,
+      put_keyed id edge
+          es own rest,
+    )
 
 -- entries by id have the ids of their edges, where each had
 pub by_id_keyed : (es : List (ℤ × Edge)) → AreKeyed es → AreKeyed (by_id es)

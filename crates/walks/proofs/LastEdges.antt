@@ -1,22 +1,14 @@
 -- The last edges of paths, edge by edge.
-use Rattle.plan_num.proofs.Common.{◌≡◌, ◌≢◌, ℕ, ◌+◌, ◌<◌, ◌≤◌, Bool, true, false, cond, eqb, ltb}
-use Rattle.plan_num.proofs.Common.{List, [], ◌∷◌, ◌++◌, length, get_or, set, slice_get, take, refl}
-use Rattle.plan_num.proofs.Common.{ap, sym, ◌∙◌, arith, position, Option, Some, None, inl, inr, ◌⊎◌}
-use Rattle.plan_num.proofs.Common.{subst, add-zero, get_or-set_other, get_or-set_same, option_or}
-use Rattle.plan_num.proofs.Common.{lt-ltb, le-ltb, ne_eqb, take_more, length-append, length-take-le}
-use Rattle.plan_num.proofs.Common.{length-set, prefix_len-le-length, get_or_from_slice_get}
+use Rattle.plan_num.proofs.Common.{◌≡◌, ◌≢◌, ℕ, ◌+◌, ◌<◌, ◌≤◌, Bool, false, cond, eqb, ltb, List}
+use Rattle.plan_num.proofs.Common.{[], ◌∷◌, ◌++◌, length, get_or, set, slice_get, take, refl, ap}
+use Rattle.plan_num.proofs.Common.{sym, ◌∙◌, arith, position, Option, Some, None, inl, inr, ◌⊎◌}
+use Rattle.plan_num.proofs.Common.{subst, get_or-set_other, get_or-set_same, option_or, ne_eqb}
+use Rattle.plan_num.proofs.Common.{take_more, length-append, length-take-le, length-set}
+use Rattle.plan_num.proofs.Common.{prefix_len-le-length, get_or_from_slice_get}
 use Rattle.std.proofs.lemmas.List.Folds.{position_or_len_push}
 use Rattle.walks.specs.declared.edge.Edge.{Edge}
 use Rattle.walks.specs.Networks.{IsEdge}
-use Rattle.walks.specs.Paths.{are_equal, ends_least, last_edge, last_with}
-
-at_end : (size : ℕ) (passes : Bool)
-    → cond (ltb (size + cond passes 0 1) (size + 1)) (Some (size + cond passes 0 1)) None
-    ≡ option_or (cond (ltb size size) (Some size) None) (cond passes (Some size) None)
-at_end size true = rw (lt-ltb (size + 0) (size + 1) (omega arith), le-ltb size size (omega arith))
-    (ap Some (add-zero size))
-at_end size false = rw (le-ltb (size + 1) (size + 1) (omega arith), le-ltb size size (omega arith))
-    refl
+use Rattle.walks.specs.Paths.{ends_least, last_edge, last_with}
 
 by_place : (place size : ℕ) (passes : Bool) → place ≤ size
     → cond (ltb (cond (eqb place size) (size + cond passes 0 1) place) (size + 1))
@@ -33,12 +25,7 @@ position_more p xs x =
 -- an edge ends no walk to a stop that is none of its ends
 no_end : (lengths : ℕ → Option ℕ) (to : ℕ) (edge : Edge) → edge.left ≢ to → edge.right ≢ to
     → ends_least lengths to edge ≡ false
-no_end lengths to edge left right =
-    rw (ne_eqb edge.left to left, ne_eqb edge.right to right) (none (lengths to))
-  where
-    none : (length : Option ℕ) → are_equal length None ≡ false
-    none None = refl
-    none (Some x) = refl
+no_end lengths to edge left right = grind (arith, ne_eqb)
 
 one_or : (a b : ℕ) → (a ≡ b) ⊎ (a ≢ b)
 one_or a b = grind arith

@@ -26,13 +26,7 @@ pub record Splits (edges : List Edge) (from to : ℕ) (front : List Edge) (last 
 pub splits : (edges : List Edge) (from to : ℕ) (front : List Edge) (last : Edge)
     → IsWalk edges from to (front ++ last ∷ []) → Splits edges from to front last
 splits edges from to [] last walk =
-    let b = walks.begins edges from to last [] walk in
-    record {
-      stop = from;
-      before = walks.no_edge edges from;
-      there = b.there;
-      over = b.over ∙ ap Some (walks.staying_end edges b.next to b.on);
-    }
+    let b = walks.begins edges from to last [] walk in grind (arith, no_edge)
 splits edges from to (first ∷ front) last walk =
     let b = walks.begins edges from to first (front ++ last ∷ []) walk in
     let s = splits edges b.next to front last b.on in
@@ -65,8 +59,7 @@ module _ (edges : List Edge) (lengths : ℕ → Option ℕ) (n from : ℕ) (soun
       let edge = All-contains (IsEdge n) edges last sound e.there in
       let within : e.stop < n = starts_within n last e.stop at edge e.over in
       elim (lengths e.stop) as (λ told. lengths e.stop ≡ told → ends_least lengths at last ≡ true) [
-        | None ↦ λ none. absurd ((subst (IsLeastSum edges edge_length from e.stop) none
-            (least e.stop within)) front e.before)
+        | None ↦ λ none. grind arith
         | Some near ↦ λ came.
             let told = subst (IsLeastSum edges edge_length from e.stop) came
             (least e.stop within) in
@@ -130,8 +123,7 @@ module _ (network : NetworkParts) (from : ℕ) (sound : IsNetwork network)
       let edge = get_or_from_slice_get network.edges index e.last no_edge e.is in
       subst (λ (some : Edge). ends_least lengths to some ≡ true) (sym edge)
       (elim (lengths to) as (λ told. lengths to ≡ told → ends_least lengths to e.last ≡ true) [
-        | None ↦ λ none. absurd ((subst (IsLeastSum network.edges edge_length from to) none
-            (least to within)) (e.front ++ e.last ∷ []) e.joins)
+        | None ↦ λ none. grind arith
         | Some far ↦ λ reached.
             let told = subst (IsLeastSum network.edges edge_length from to) reached
             (least to within) in
@@ -164,15 +156,13 @@ module _ (network : NetworkParts) (from : ℕ) (sound : IsNetwork network)
   within_ends zero to within front index e = absurd (none_in front index e)
   within_ends (suc more) to within front index e =
       elim (cases_eq to from) [
-        | inl same ↦ absurd (none_in front index
-            (sym (none_there network.edges lengths from (suc more) to same) ∙ e))
+        | inl same ↦ grind (arith, none_in, none_there)
         | inr apart ↦
             elim (last_edge network.edges lengths to) as
             (λ last. last_edge network.edges lengths to ≡ last
             → EndsLeastWalk network from to index × ((other : ℕ) → other < index
             → EndsLeastWalk network from to other → ⊥)) [
-              | None ↦ λ is. absurd (none_in front index
-                  (sym (none_before network.edges lengths from (suc more) to is) ∙ e))
+              | None ↦ λ is. grind (arith, none_in, none_before)
               | Some last ↦ λ is.
                   let before = path_within network.edges lengths more from
                   (stop_before network.edges last to) in

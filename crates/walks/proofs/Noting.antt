@@ -93,11 +93,9 @@ module _ (edges : List Edge) (stops i : ℕ) (edge : Edge) (rows first both : Li
   own_after : (stop index : ℕ) → Contains (get_or both stop []) index → CanLeave edges stop index
   own_after stop index there =
       elim (noted_from first both edge.right i at_right right_in stop index there) [
-        | inr p ↦ subst (λ some. CanLeave edges stop some) p.1
-            (subst (λ some. CanLeave edges some i) (sym p.0) leaves_right)
+        | inr p ↦ grind (arith, leaves_right)
         | inl before ↦ elim (noted_from rows first edge.left i at_left left_in stop index before) [
-          | inr p ↦ subst (λ some. CanLeave edges stop some) p.1
-              (subst (λ some. CanLeave edges some i) (sym p.0) leaves_left)
+          | inr p ↦ grind (arith, leaves_left)
           | inl old ↦ so_far.own stop index old
         ]
       ]
@@ -120,8 +118,7 @@ module _ (edges : List Edge) (stops i : ℕ) (edge : Edge) (rows first both : Li
 
   pub noted_more : NotedTo edges stops (i + 1) both
   noted_more = record {
-    size = noted_size first both edge.right i at_right right_in
-        ∙ noted_size rows first edge.left i at_left left_in ∙ so_far.size;
+    size = grind (arith, noted_size, right_in, left_in);
     own = own_after;
     all = λ stop index early leave. elim (cases_lt index i) as
         (λ h. Contains (get_or both stop []) index) [

@@ -1,10 +1,9 @@
 -- What holds of the labels of a network while the nearest stop is settled again and again.
-use Rattle.plan_num.proofs.Common.{◌≡◌, ℕ, ◌+◌, ◌-◌, ◌*◌, ◌<◌, ◌≤◌, Bool, true, false, cond, eqb}
-use Rattle.plan_num.proofs.Common.{List, [], ◌∷◌, ◌++◌, length, map, sum, fold, set, refl, ap, sym}
-use Rattle.plan_num.proofs.Common.{subst, ◌∙◌, Option, Some, None, IfSome, All, Contains, inl, inr}
-use Rattle.plan_num.proofs.Common.{arith, cases_lt, ints, length-set, length_push, get_or_past}
-use Rattle.plan_num.proofs.Common.{All-map, All-weaker, All-contains, All-from_get_or, sum_by-set}
-use Rattle.plan_num.proofs.Common.{count_by-le-length}
+use Rattle.plan_num.proofs.Common.{◌≡◌, ℕ, ◌+◌, ◌-◌, ◌*◌, ◌<◌, ◌≤◌, List, [], ◌∷◌, ◌++◌, length}
+use Rattle.plan_num.proofs.Common.{map, sum, fold, set, refl, ap, sym, subst, ◌∙◌, Option, Some}
+use Rattle.plan_num.proofs.Common.{None, IfSome, All, Contains, inl, inr, arith, cases_lt, ints}
+use Rattle.plan_num.proofs.Common.{length-set, length_push, get_or_past, All-map, All-weaker}
+use Rattle.plan_num.proofs.Common.{All-contains, All-from_get_or, sum_by-set, count_by-le-length}
 use Rattle.walks.specs.declared.edge.Edge.{Edge}
 use Rattle.walks.specs.declared.label.Label.{Label}
 use Rattle.walks.specs.declared.label.Label.TheVariants.{Unseen, Reached, Settled}
@@ -41,13 +40,7 @@ pub record ArePartway (edges : List Edge) (weight : Edge → ℕ) (from stops : 
 -- ends of edges are stops
 pub ends_within : (stops : ℕ) (edge : Edge) (stop next : ℕ) → IsEdge stops edge
     → across edge stop ≡ Some next → next < stops
-ends_within stops edge stop next is over = go (eqb edge.left stop) (eqb edge.right stop) over
-  where
-    go : (a b : Bool) → cond a (Some edge.right) (cond b (Some edge.left) None) ≡ Some next
-        → next < stops
-    go true b e = omega (arith, some_same edge.right next e, is.right)
-    go false true e = omega (arith, some_same edge.left next e, is.left)
-    go false false e = cc
+ends_within stops edge stop next is over = grind (arith, over, some_same)
 
 -- ---- a stop more
 
@@ -98,8 +91,7 @@ module _ (edges : List Edge) (weight : Edge → ℕ) (from stops : ℕ) (labels 
       (λ edge there over label before least is. elim (sum_cases
       (sum + weight edge) least label is) as (λ h. Comes edges weight from to
       (settled_count after) least) [
-        | inl h ↦ subst (Comes edges weight from to (settled_count after)) h
-            (goes_on edge to (among edge there) over)
+        | inl h ↦ grind (arith, settled_count, goes_on, over)
         | inr h ↦ before least h
       ])
       (at_set Holds labels stop (Settled sum) to nearest.early
@@ -270,18 +262,7 @@ module _ (network : NetworkParts) (weight : Weight) (from : ℕ) (labels : List 
     -- a label whose sum is not above a number is settled, with such a sum
     settled_now : (stop number : ℕ) → IsUpTo number (sum_of (label_at labels stop))
         → (least : ℕ) × (label_at labels stop ≡ Settled least) × (least ≤ number)
-    settled_now stop number up_to = go (label_at labels stop) refl up_to
-      where
-        go : (label : Label) → label_at labels stop ≡ label → IsUpTo number (sum_of label)
-            → (least : ℕ) × (label_at labels stop ≡ Settled least) × (least ≤ number)
-        go Unseen is h = absurd h
-        go (Settled least) is h = (least, is, h)
-        go (Reached far) is h = elim (cases_lt stop (length labels)) as
-            (λ c. (least : ℕ) × (label_at labels stop ≡ Settled least) × (least ≤ number)) [
-              | inl c ↦ absurd (none stop far c is)
-              | inr c ↦ let unseen = get_or_past labels stop Unseen c in
-                  absurd (let ends : Unseen ≡ Reached far = sym unseen ∙ is in cc)
-            ]
+    settled_now stop number up_to = grind (arith, IsUpTo, cases_lt, get_or_past)
 
     weaker_up : (small large : ℕ) (o : Option ℕ) → small ≤ large → IsUpTo small o → IsUpTo large o
     weaker_up small large None le h = h
@@ -310,18 +291,7 @@ module _ (network : NetworkParts) (weight : Weight) (from : ℕ) (labels : List 
 
     least_now : (to : ℕ) → IsLeastSum network.edges (weight_of weight) from to
         (sum_of (label_at labels to))
-    least_now to = go (sum_of (label_at labels to)) refl
-      where
-        go : (sum : Option ℕ) → sum_of (label_at labels to) ≡ sum
-            → IsLeastSum network.edges (weight_of weight) from to sum
-        go None is = λ walk on. subst (IsUpTo (walk_sum (weight_of weight) walk)) is
-            (below_all to walk on)
-        go (Some least) is =
-            let comes = so_far.comes to least is in (
-              (comes.walk, comes.is, comes.sums),
-              λ walk on. subst
-                  (IsUpTo (walk_sum (weight_of weight) walk)) is (below_all to walk on),
-            )
+    least_now to = grind (arith, IsUpTo, below_all)
 
     same_now : (to : ℕ) → sum_of (label_at labels to) ≡ least_sum network (weight_of weight) from to
     unfolding least_sum

@@ -10,7 +10,7 @@ use Rattle.std.specs.List.{IsDistinct}
 use Rattle.walks.specs.declared.edge.Edge.{Edge}
 use Rattle.walks.specs.Networks.{NetworkParts, IsEdge, IsNetwork}
 use Rattle.walks.specs.Walks.{across, edge_length, least_sums}
-use Rattle.walks.specs.Paths.{are_equal, ends_least, last_edge, stop_before, path_within, path, length_to, IsSimple}
+use Rattle.walks.specs.Paths.{ends_least, last_edge, stop_before, path_within, path, length_to, IsSimple}
 use Rattle.walks.proofs.PathSteps.{no_edge, none_there, none_before, last_step}
 use Rattle.plan_num.proofs.Tests.{only_true}
 
@@ -28,36 +28,7 @@ pub record IsStep (lengths : ℕ → Option ℕ) (to : ℕ) (edge : Edge) : Type
 
 pub is_step : (lengths : ℕ → Option ℕ) (to : ℕ) (edge : Edge) → ends_least lengths to edge ≡ true
     → IsStep lengths to edge
-is_step lengths to edge e =
-    elim (across edge to) as (λ over. across edge to ≡ over
-    → are_equal (lengths to) (option_map (λ near. near + edge_length edge)
-    (option_and_then lengths over)) ≡ true → IsStep lengths to edge) [
-      | None ↦ λ goes h. absurd (nothing (lengths to) h)
-      | Some before ↦ λ goes h. elim (lengths to) as (λ whole. lengths to ≡ whole → are_equal whole
-          (option_map (λ near. near + edge_length edge) (lengths before)) ≡ true
-          → IsStep lengths to edge) [
-            | None ↦ λ reached k. cc
-            | Some far ↦ λ reached k. elim (lengths before) as
-                (λ part. lengths before ≡ part
-                → are_equal (Some far) (option_map (λ near. near + edge_length edge) part) ≡ true
-                → IsStep lengths to edge) [
-                  | None ↦ λ came q. cc
-                  | Some near ↦ λ came q. record {
-                    before = before;
-                    far = far;
-                    near = near;
-                    goes = goes;
-                    reached = reached;
-                    came = came;
-                    added = eqb-true far (near + edge_length edge) q;
-                  }
-                ] refl k
-          ] refl h
-    ] refl e
-  where
-    nothing : (whole : Option ℕ) → are_equal whole None ≡ true → ⊥
-    nothing None h = cc
-    nothing (Some x) h = cc
+is_step lengths to edge e = grind (arith, option_map, option_and_then, eqb-true)
 
 -- the two ends of an edge that is crossed
 pub ends_are : (edge : Edge) (to before : ℕ) → across edge to ≡ Some before
@@ -65,8 +36,7 @@ pub ends_are : (edge : Edge) (to before : ℕ) → across edge to ≡ Some befor
 ends_are edge to before e = grind arith
 
 pub some_length : (n : ℕ) (edge : Edge) → IsEdge n edge → 0 < edge_length edge
-some_length n edge sound = let long : pos 1 ≤ℤ edge.length =
-    sound.some_length in omega (arith, ints)
+some_length n edge sound = let long : pos 1 ≤ℤ edge.length = grind arith in omega (arith, ints)
 
 -- no edge goes on and comes back
 not_back : (lengths : ℕ → Option ℕ) (n left right : ℕ) (edge : Edge) (far near back away : ℕ)
@@ -132,8 +102,7 @@ module _ (edges : List Edge) (lengths : ℕ → Option ℕ) (n from : ℕ)
         | inr apart ↦
             elim (last_edge edges lengths at) as (λ last. last_edge edges lengths at ≡ last
             → EndsWithin far index) [
-              | None ↦ λ is. absurd (none_in index _ (none_before edges lengths from
-                  (suc more) at is) e)
+              | None ↦ λ is. grind (arith, none_in, none_before)
               | Some last ↦ λ is.
                   let p = last_is_step at last is in
                   let front = path_within edges lengths more from (stop_before edges last at) in
@@ -189,13 +158,11 @@ module _ (edges : List Edge) (lengths : ℕ → Option ℕ) (n from : ℕ)
   path_apart zero at = tt
   path_apart (suc more) at =
       elim (cases_eq at from) [
-        | inl same ↦ subst (IsDistinct nat_eq)
-            (sym (none_there edges lengths from (suc more) at same)) tt
+        | inl same ↦ grind (arith, nat_eq, none_there)
         | inr apart ↦
             elim (last_edge edges lengths at) as (λ last. last_edge edges lengths at ≡ last
             → IsDistinct nat_eq (path_within edges lengths (suc more) from at)) [
-              | None ↦ λ is. subst (IsDistinct nat_eq) (sym
-                  (none_before edges lengths from (suc more) at is)) tt
+              | None ↦ λ is. grind (arith, nat_eq, none_before)
               | Some last ↦ λ is.
                   subst (IsDistinct nat_eq)
                   (sym (last_step edges lengths from more at last apart is))
@@ -212,15 +179,11 @@ module _ (edges : List Edge) (lengths : ℕ → Option ℕ) (n from : ℕ)
   path_there zero at = All-nil (λ (index : ℕ). index < length edges)
   path_there (suc more) at =
       elim (cases_eq at from) [
-        | inl same ↦ subst (All (λ index. index < length edges))
-            (sym (none_there edges lengths from (suc more) at same))
-            (All-nil (λ (index : ℕ). index < length edges))
+        | inl same ↦ grind (arith, none_there, All-nil)
         | inr apart ↦
             elim (last_edge edges lengths at) as (λ last. last_edge edges lengths at ≡ last → All
             (λ index. index < length edges) (path_within edges lengths (suc more) from at)) [
-              | None ↦ λ is. subst (All (λ index. index < length edges))
-                  (sym (none_before edges lengths from (suc more) at is))
-                  (All-nil (λ (index : ℕ). index < length edges))
+              | None ↦ λ is. grind (arith, none_before, All-nil)
               | Some last ↦ λ is.
                   subst (All (λ index. index < length edges))
                   (sym (last_step edges lengths from more at last apart is))

@@ -1,13 +1,13 @@
 -- A path, step by step from its end.
 use Rattle.plan_num.proofs.Common.{◌≡◌, ◌≢◌, ℕ, pos, zero, suc, ◌+◌, ◌-◌, ◌<◌, ◌≤◌, Bool, true}
-use Rattle.plan_num.proofs.Common.{false, cond, eqb, List, [], ◌∷◌, ◌++◌, length, get_or, reverse}
-use Rattle.plan_num.proofs.Common.{refl, ap, subst, sym, ◌∙◌, arith, append_assoc, Option, Some}
-use Rattle.plan_num.proofs.Common.{None, option_map, option_and_then, unwrap_or, All, eq-eqb}
+use Rattle.plan_num.proofs.Common.{false, cond, List, [], ◌∷◌, ◌++◌, length, get_or, reverse, refl}
+use Rattle.plan_num.proofs.Common.{ap, sym, ◌∙◌, arith, append_assoc, Option, Some, None}
+use Rattle.plan_num.proofs.Common.{option_map, option_and_then, unwrap_or, All, eq-eqb}
 use Rattle.plan_num.proofs.Common.{reverse-append, All-get_or, get_or-map-range_with_len}
 use Rattle.plan_num.proofs.Common.{length-map-range_with_len, position-Some, slice_get-get_or}
 use Rattle.walks.specs.declared.edge.Edge.{Edge}
 use Rattle.walks.specs.Networks.{NetworkParts, IsEdge}
-use Rattle.walks.specs.Walks.{across, edge_length, least_sums}
+use Rattle.walks.specs.Walks.{edge_length, least_sums}
 use Rattle.walks.specs.Paths.{PathParts, ends_least, last_edge, stop_before, path_within, length_to, paths_from}
 
 -- an edge for places where there is none
@@ -26,15 +26,7 @@ module _ (edges : List Edge) (lengths : ℕ → Option ℕ) (from : ℕ) where
       → path_within edges lengths more from at ≡ []
   unfolding path_within
   none_before zero at e = refl
-  none_before (suc more) at e =
-      ap (λ (last : Option ℕ). cond (eqb from at) [] (unwrap_or
-      (option_map (λ index. path_within edges lengths more from (stop_before edges index at)
-      ++ index ∷ []) last) [])) e
-      ∙ either (eqb from at)
-    where
-      either : (b : Bool) → cond {A = List ℕ} b [] [] ≡ []
-      either true = refl
-      either false = refl
+  none_before (suc more) at e = grind (arith, unwrap_or, option_map)
 
   -- the last step of a path
   pub last_step : (more at index : ℕ) → at ≢ from → last_edge edges lengths at ≡ Some index
@@ -87,10 +79,13 @@ pub before_there : (edges : List Edge) (n index at : ℕ) → All (IsEdge n) edg
     → index < length edges → at < n → stop_before edges index at < n
 before_there edges n index at sound within here =
     let edge = get_or edges index no_edge in
-    let is = All-get_or (IsEdge n) edges index no_edge within sound in
-    subst (λ (some : Option Edge). unwrap_or (option_and_then (λ edge. across edge at) some) at < n)
-    (sym (slice_get-get_or edges index no_edge within))
-    (over (eqb edge.left at) (eqb edge.right at) edge.left edge.right is.left is.right)
+    let is = All-get_or (IsEdge n) edges index no_edge within sound in grind (
+      arith,
+      unwrap_or,
+      option_and_then,
+      slice_get-get_or,
+      no_edge,
+    )
   where
     over : (a b : Bool) (left right : ℕ) → left < n → right < n
         → unwrap_or (cond a (Some right) (cond b (Some left) None)) at < n

@@ -1,8 +1,8 @@
 -- What holds of ids that were sorted, and of entries by their ids.
 use Rattle.plan_num.proofs.Common.{◌≡◌, ℤ, ◌+◌, ◌≤◌, Bool, true, false, ◌&&◌, T, List, [], ◌∷◌}
 use Rattle.plan_num.proofs.Common.{length, map, refl, arith, All, AllByRecursion, keys_of}
-use Rattle.plan_num.proofs.Common.{values_of, int_cmp, is_lt, put, is_sorted, by_order, below_all}
-use Rattle.plan_num.proofs.Common.{length-map, All-cons, All-head, All-tail, length-keys_of}
+use Rattle.plan_num.proofs.Common.{values_of, int_cmp, is_lt, put, is_sorted, below_all, length-map}
+use Rattle.plan_num.proofs.Common.{All-cons, All-head, All-tail, length-keys_of}
 use Rattle.std.specs.List.Sorted.{IsStrictlySortedBy}
 use Rattle.std.specs.declared.cmp.Ordering.{Ordering}
 use Rattle.std.specs.declared.cmp.Ordering.TheVariants.{Less, Equal, Greater}
@@ -51,14 +51,13 @@ all_put : {X : Type 0} (P : X → Type 0) (k : ℤ) (v : X) (es : List (ℤ × X
     → All P (values_of es) → All P (values_of (put int_cmp k v es))
 all_put P k v [] own all = All-cons P v [] own all
 all_put P k v (e ∷ es) own all =
-    let rest = All-tail P e.1 (values_of es) all in
-    elim (int_cmp k e.0) as (λ o. All P
-    (values_of (by_order o ((k, v) ∷ e ∷ es) ((e.0, v) ∷ es) (e ∷ put int_cmp k v es)))) [
-      | Less ↦ All-cons P v (values_of (e ∷ es)) own all
-      | Equal ↦ All-cons P v (values_of es) own rest
-      | Greater ↦ All-cons P e.1 (values_of (put int_cmp k v es))
-          (All-head P e.1 (values_of es) all) (all_put P k v es own rest)
-    ]
+    let rest = All-tail P e.1 (values_of es) all in grind (
+      arith,
+      All-cons,
+      All-head,
+      all_put P k v
+          es own rest,
+    )
 
 -- what holds of each value holds of each by id
 pub all_by_id : {X : Type 0} (P : X → Type 0) (es : List (ℤ × X)) → All P (values_of es)
@@ -91,11 +90,4 @@ all_rising P (id ∷ ids) all = all_keys_put P id tt (by_id (map (λ id. (id, tt
 
 -- there are not more ids after they were sorted
 pub rising_length : (ids : List ℤ) → length (rising ids) ≤ length ids
-rising_length ids =
-    let entry : ℤ → ℤ × Unit {0} = λ id. (id, tt {0}) in
-    omega (
-      arith,
-      length-keys_of (by_id (map entry ids)),
-      length_by_id (map entry ids),
-      length-map ids entry,
-    )
+rising_length ids = grind (arith, length-keys_of, length_by_id, length-map)

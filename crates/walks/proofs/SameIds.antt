@@ -1,12 +1,10 @@
 -- Ids that rise, and the ids that they are.
 use Rattle.plan_num.proofs.Common.{◌≡◌, ℤ, false, ◌&&◌, not, List, [], ◌∷◌, map, inl, inr, arith}
 use Rattle.plan_num.proofs.Common.{is_some, Option, Some, None, refl, ap, sym, ◌∙◌, list_any}
-use Rattle.plan_num.proofs.Common.{keys_of, int_cmp, int_eq, is_lt, ordering_reverse}
-use Rattle.plan_num.proofs.Common.{int_cmp-IsAntisymmetric, find-put, same_entries, int_cmp_total}
-use Rattle.plan_num.proofs.Common.{cases_Bool}
+use Rattle.plan_num.proofs.Common.{keys_of, int_cmp, int_eq, is_lt, int_cmp-IsAntisymmetric}
+use Rattle.plan_num.proofs.Common.{find-put, same_entries, int_cmp_total, cases_Bool}
 use Rattle.std.specs.Ordering.{is_eq}
-use Rattle.std.specs.declared.cmp.Ordering.{Ordering}
-use Rattle.std.specs.declared.cmp.Ordering.TheVariants.{Less, Equal, Greater}
+use Rattle.std.specs.declared.cmp.Ordering.TheVariants.{Less}
 use Rattle.std.specs.FinMap.{find}
 use Rattle.walks.specs.RisingIds.{by_id, rising}
 use Rattle.walks.proofs.ById.{by_id_sorted}
@@ -16,14 +14,7 @@ same_test x y = grind arith
 
 -- neither of two ids is below the other where they are one
 pub tied : (x y : ℤ) → (not (is_lt (int_cmp x y)) && not (is_lt (int_cmp y x))) ≡ int_eq x y
-tied x y =
-    ap (λ o. not (is_lt (int_cmp x y)) && not (is_lt o)) (int_cmp_total.antisymm y x)
-    ∙ by (int_cmp x y) ∙ same_test x y
-  where
-    by : (o : Ordering) → (not (is_lt o) && not (is_lt (ordering_reverse o))) ≡ is_eq o
-    by Less = refl
-    by Equal = refl
-    by Greater = refl
+tied x y = grind (arith, int_cmp_total, same_test)
 
 abbrev pub units : List ℤ → List (ℤ × Unit {0})
 units ids = map (λ id. (id, tt {0})) ids

@@ -1,8 +1,8 @@
 -- Labels of stops: what settling the nearest stop keeps.
-use Rattle.plan_num.proofs.Common.{◌≡◌, ◌≢◌, ℕ, ◌+◌, ◌<◌, ◌≤◌, min, Bool, true, false, eqb, List}
-use Rattle.plan_num.proofs.Common.{[], ◌∷◌, ◌++◌, length, map, take, fold, set, get_or, slice_get}
-use Rattle.plan_num.proofs.Common.{refl, ap, sym, subst, ◌∙◌, Option, Some, None, Contains, ◌⊎◌}
-use Rattle.plan_num.proofs.Common.{inl, inr, arith, count_by, cases_lt, nat_tests, length-set}
+use Rattle.plan_num.proofs.Common.{◌≡◌, ◌≢◌, ℕ, ◌+◌, ◌<◌, ◌≤◌, Bool, true, false, List, [], ◌∷◌}
+use Rattle.plan_num.proofs.Common.{◌++◌, length, map, take, fold, set, get_or, slice_get, refl, ap}
+use Rattle.plan_num.proofs.Common.{sym, subst, ◌∙◌, Option, Some, None, Contains, ◌⊎◌, inl, inr}
+use Rattle.plan_num.proofs.Common.{arith, count_by, cases_lt, nat_tests, length-set}
 use Rattle.plan_num.proofs.Common.{get_or-set_same, get_or-set_other, take_more, map-append}
 use Rattle.plan_num.proofs.Common.{get_or_default, fold_push, sum_by-set, get_or_from_slice_get}
 use Rattle.plan_num.proofs.Common.{slice_get-get_or, slice_get_within, All-contains}
@@ -81,9 +81,6 @@ reached_same m n e = cc
 pub settled_same : (m n : ℕ) → Settled m ≡ Settled n → m ≡ n
 settled_same m n e = cc
 
-min_is : (m n : ℕ) → (n ≡ min m n) ⊎ (m ≡ min m n)
-min_is m n = grind arith
-
 -- the sum of a label that is reached is the new one or the one that it had
 pub sum_cases : (sum least : ℕ) (label : Label) → sum_of (reached sum label) ≡ Some least
     → (sum ≡ least) ⊎ (sum_of label ≡ Some least)
@@ -150,16 +147,12 @@ settled_kept sum (Settled other) = refl
 pub at_set : (P : Label → Type 0) (labels : List Label) (stop : ℕ) (label : Label) (other : ℕ)
     → stop < length labels → (other ≡ stop → P label) → (other ≢ stop → P (label_at labels other))
     → P (label_at (set labels stop label) other)
-at_set P labels stop label other within own rest = go (eqb other stop) refl
-  where
-    go : (b : Bool) → eqb other stop ≡ b → P (label_at (set labels stop label) other)
-    go true test =
-        let same : other ≡ stop = grind (arith, nat_tests) in
-        subst P (sym (ap (label_at (set labels stop label)) same
-        ∙ get_or-set_same labels stop label Unseen within)) (own same)
-    go false test =
-        let apart : other ≢ stop = grind (arith, nat_tests) in
-        subst P (sym (get_or-set_other labels stop other label Unseen apart)) (rest apart)
+at_set P labels stop label other within own rest = grind (
+  arith,
+  nat_tests,
+  get_or-set_same,
+  get_or-set_other,
+)
 
 -- how many stops are settled
 abbrev pub settled_count : List Label → ℕ
@@ -206,8 +199,7 @@ module _ (weight : Edge → ℕ) (stop sum : ℕ) where
           | inl h ↦ at_set P labels next (reached number (label_at labels next)) to h
               (λ same. step (ap Some (sym same)) (label_at labels next)
               (subst (λ some. P (label_at labels some)) same now)) (λ apart. now)
-          | inr h ↦ subst (λ some. P (label_at some to)) (sym
-              (set_past labels next (reached number (label_at labels next)) h)) now
+          | inr h ↦ grind (arith, set_past)
         ]
 
     pub keeps : (labels : List Label) (edges : List Edge)
@@ -241,10 +233,4 @@ module _ (weight : Edge → ℕ) (stop sum : ℕ) where
     where
       own : across first stop ≡ Some to
           → IsUpTo (sum + weight first) (sum_of (label_at (over labels first) to))
-      own is =
-          subst (λ next. IsUpTo (sum + weight first) (sum_of
-          (label_at (reach (sum + weight first) labels next) to))) (sym is)
-          (subst (λ label. IsUpTo (sum + weight first) (sum_of label))
-          (sym (get_or-set_same labels to (reached (sum + weight first) (label_at labels to))
-          Unseen within))
-          (comes_down sum (sum + weight first) (label_at labels to) settled (omega arith)))
+      own is = grind (arith, IsUpTo, get_or-set_same, comes_down)

@@ -1,12 +1,12 @@
 -- A path goes to its end, and no walk there is shorter.
-use Rattle.plan_num.proofs.Common.{◌≡◌, ◌≢◌, ℕ, ℤ, unsigned_abs, zero, suc, ◌+◌, ◌<◌, ◌≤◌, Bool}
-use Rattle.plan_num.proofs.Common.{true, false, ◌||◌, nat_eq, List, [], ◌∷◌, ◌++◌, length, get_or}
-use Rattle.plan_num.proofs.Common.{slice_get, refl, ap, subst, sym, ◌∙◌, arith, Option, Some, None}
-use Rattle.plan_num.proofs.Common.{option_map, is_some, inl, inr, ◌⊎◌, All, Contains, list_any}
-use Rattle.plan_num.proofs.Common.{cons_option, eqb-true, cases_eq, nat_eq_equiv, length_push}
-use Rattle.plan_num.proofs.Common.{get_or_default, All-get_or, filter_map-append, list_any_at}
-use Rattle.plan_num.proofs.Common.{list_any-append, IsDistinct-push, length-le_from_distinct_below}
-use Rattle.plan_num.proofs.Common.{slice_get-get_or, same_Some}
+use Rattle.plan_num.proofs.Common.{◌≡◌, ◌≢◌, ℕ, ℤ, unsigned_abs, zero, suc, ◌+◌, ◌<◌, ◌≤◌, true}
+use Rattle.plan_num.proofs.Common.{false, nat_eq, List, [], ◌∷◌, ◌++◌, length, get_or, slice_get}
+use Rattle.plan_num.proofs.Common.{refl, ap, subst, sym, ◌∙◌, arith, Option, Some, None, option_map}
+use Rattle.plan_num.proofs.Common.{is_some, inl, inr, ◌⊎◌, All, Contains, list_any, cons_option}
+use Rattle.plan_num.proofs.Common.{eqb-true, cases_eq, nat_eq_equiv, length_push, get_or_default}
+use Rattle.plan_num.proofs.Common.{All-get_or, filter_map-append, list_any_at, list_any-append}
+use Rattle.plan_num.proofs.Common.{IsDistinct-push, length-le_from_distinct_below, slice_get-get_or}
+use Rattle.plan_num.proofs.Common.{same_Some}
 use Rattle.std.specs.List.{IsDistinct}
 use Rattle.walks.specs.declared.edge.Edge.{Edge}
 use Rattle.walks.specs.Networks.{NetworkParts, IsEdge, IsNetwork}
@@ -44,9 +44,7 @@ module _ (edges : List Edge) (lengths : ℕ → Option ℕ) (n from : ℕ) (soun
       let h = has_last_edge first rest in
       let e = splits edges from at h.front h.last (subst (IsWalk edges from at) h.is walk) in
       let test = passes edges lengths n from sound least at far h.front h.last reached shortest
-      (sym (ap (walk_sum edge_length) h.is) ∙ sums) e in
-      list_any_at (ends_least lengths at) edges e.there.0 h.last e.there.1
-      (ap (ends_least lengths at) e.there.2 ∙ test)
+      (sym (ap (walk_sum edge_length) h.is) ∙ sums) e in grind (arith, list_any_at)
 
   -- a stop that is reached from another has a last edge
   has_last : (at far : ℕ) → at < n → at ≢ from → lengths at ≡ Some far
@@ -73,21 +71,14 @@ module _ (edges : List Edge) (lengths : ℕ → Option ℕ) (n from : ℕ) (soun
 
   among : (q at : ℕ) (seen : List ℕ) → list_any (nat_eq q) (seen ++ at ∷ []) ≡ true
       → (list_any (nat_eq q) seen ≡ true) ⊎ (q ≡ at)
-  among q at seen e = either (list_any (nat_eq q) seen) (nat_eq q at)
-      (sym (list_any-append (nat_eq q) seen (at ∷ [])) ∙ e) refl
-    where
-      either : (a b : Bool) → (a || (b || false)) ≡ true → nat_eq q at ≡ b → (a ≡ true) ⊎ (q ≡ at)
-      either true b e is = inl refl
-      either false true e is = inr (eqb-true q at is)
-      either false false e is = cc
+  among q at seen e = grind (arith, nat_eq, list_any-append, eqb-true)
 
   stays : (at far : ℕ) → at < n → at ≡ from → lengths at ≡ Some far → Reaches far at []
   stays at far within same reached =
       let told = subst (IsLeastSum edges edge_length from at) reached (least at within) in
       let here : IsWalk edges from at [] =
       subst (λ stop. IsWalk edges from stop []) (sym same) (walks.no_edge edges from) in
-      let most = told.1 [] here in
-      record { joins = here; sums = omega arith }
+      let most = told.1 [] here in grind arith
 
   goes_on : (at index far near before : ℕ) (front : List ℕ) → (here : index < length edges)
       → (step : IsStep lengths at (get_or edges index no_edge)) → step.before ≡ before
@@ -124,22 +115,15 @@ module _ (edges : List Edge) (lengths : ℕ → Option ℕ) (n from : ℕ) (soun
       (IsDistinct-push nat_eq_equiv seen at apart new)
       (λ q h. elim (among q at seen h) [
         | inl old ↦ (further q old).within
-        | inr same ↦
-            subst (λ stop. stop < n) (sym same) within
-      ]) in
-      absurd (omega (arith, length_push seen at))
+        | inr same ↦ grind arith
+      ]) in grind (arith, length_push)
   whole (suc more) at far seen within reached apart further room =
       elim (cases_eq at from) [
-        | inl same ↦ subst (Reaches far at) (sym (none_there edges lengths from (suc more) at same))
-            (stays at far within same reached)
+        | inl same ↦ grind (arith, none_there, stays)
         | inr off ↦
             elim (last_edge edges lengths at) as (λ last. last_edge edges lengths at ≡ last
             → Reaches far at (path_within edges lengths (suc more) from at)) [
-              | None ↦ λ none.
-                  let there : is_some (last_edge edges lengths at) ≡ true =
-                  has_last at far within off reached in
-                  let no : is_some (last_edge edges lengths at) ≡ false = ap is_some none in
-                  absurd (cc)
+              | None ↦ λ none. grind (arith, is_some, has_last)
               | Some index ↦ λ is.
                   let p = last_is_step edges lengths n from sound at index is in
                   let edge = get_or edges index no_edge in
@@ -202,21 +186,10 @@ path_shortest network from to sound least within there =
       | None ↦ λ none h. cc
       | Some far ↦ λ reached h.
           let found = reaches network.edges lengths
-          (length network.stops) from sound.edges least to far within reached in
-          let told = subst (IsLeastSum network.edges edge_length from to) reached
-          (least to within) in
-          record {
-            joins = found.joins;
-            shortest = λ walk is. let longer =
-                told.1 walk is in let sums = found.sums in omega arith;
-          }
+          (length network.stops) from sound.edges least to far within reached in grind arith
     ] refl there
 
 -- a length is there where a sum is
 pub reached_there : (sums : List (Option ℤ)) (to : ℕ) → is_some (get_or sums to None) ≡ true
     → is_some (length_to sums to) ≡ true
-reached_there sums to there = mapped (get_or sums to None) ∙ there
-  where
-    mapped : (sum : Option ℤ) → is_some (option_map unsigned_abs sum) ≡ is_some sum
-    mapped None = refl
-    mapped (Some sum) = refl
+reached_there sums to there = grind (arith, get_or, is_some, option_map, unsigned_abs)

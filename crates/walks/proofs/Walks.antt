@@ -1,11 +1,11 @@
 -- Walks: how they begin and go on, their sums, and the list of all walks of so many edges.
-use Rattle.plan_num.proofs.Common.{◌≡◌, ℕ, zero, suc, ◌+◌, ◌*◌, ◌≤◌, min, Bool, true, false, cond}
-use Rattle.plan_num.proofs.Common.{eqb, List, [], ◌∷◌, ◌++◌, length, map, sum, fold, refl, ap, sym}
-use Rattle.plan_num.proofs.Common.{subst, ◌∙◌, Option, Some, None, ◌⊎◌, option_map, option_and_then}
-use Rattle.plan_num.proofs.Common.{All, Contains, arith, flat_map, nat_tests, map-append, All-nil}
-use Rattle.plan_num.proofs.Common.{All-cons, All-head, All-tail, All-append, All-push, All-map}
-use Rattle.plan_num.proofs.Common.{All-contains, All-contains_itself, All-weaker}
-use Rattle.plan_num.proofs.Common.{Contains-append_right, sum_by-cons, sum_by-append, fold_push}
+use Rattle.plan_num.proofs.Common.{◌≡◌, ℕ, zero, suc, ◌+◌, ◌*◌, ◌≤◌, min, List, [], ◌∷◌, ◌++◌}
+use Rattle.plan_num.proofs.Common.{length, map, sum, fold, refl, ap, sym, subst, ◌∙◌, Option, Some}
+use Rattle.plan_num.proofs.Common.{None, ◌⊎◌, option_map, option_and_then, All, Contains, arith}
+use Rattle.plan_num.proofs.Common.{flat_map, nat_tests, map-append, All-nil, All-cons, All-head}
+use Rattle.plan_num.proofs.Common.{All-tail, All-append, All-push, All-map, All-contains}
+use Rattle.plan_num.proofs.Common.{All-contains_itself, All-weaker, Contains-append_right}
+use Rattle.plan_num.proofs.Common.{sum_by-cons, sum_by-append, fold_push}
 use Rattle.plan_num.proofs.Members.{Contains-head, Contains-cons, Contains-map, Contains-flat_map, All-flat_map}
 use Rattle.walks.specs.declared.edge.Edge.{Edge}
 use Rattle.walks.specs.Walks.{across, IsWalk, walk_sum, staying, behind, walks_within, or_less, least_of}
@@ -38,8 +38,7 @@ pub begins : (edges : List Edge) (from to : ℕ) (edge : Edge) (rest : List Edge
 begins edges from to edge rest walk = go (across edge from) refl
   where
     go : (next : Option ℕ) → across edge from ≡ next → Begins edges from to edge rest
-    go None is = let ends : None ≡ Some to =
-        sym (nowhere rest) ∙ sym (ap (λ end. fold onward end rest) is) ∙ walk.joined in cc
+    go None is = grind (arith, nowhere)
     go (Some next) is = record {
       there = All-head (Contains edges) edge rest walk.there;
       next = next;
@@ -103,14 +102,7 @@ walk_sum-small weight edges most (edge ∷ walk) small there =
 -- ---- all walks of so many edges
 
 staying_all : (edges : List Edge) (from to : ℕ) → All (IsWalk edges from to) (staying from to)
-staying_all edges from to = go (eqb from to) refl
-  where
-    go : (b : Bool) → eqb from to ≡ b → All (IsWalk edges from to) (cond b ([] ∷ []) [])
-    go false test = All-nil (IsWalk edges from to)
-    go true test =
-        let same : from ≡ to = grind (arith, nat_tests) in
-        All-cons (IsWalk edges from to) [] [] (subst (λ end. IsWalk edges from end []) same
-        (no_edge edges from)) (All-nil (IsWalk edges from to))
+staying_all edges from to = grind (arith, All-nil, nat_tests, All-cons, no_edge)
 
 behind_all : (edges : List Edge) (from to : ℕ) (edge : Edge) (walks_from : ℕ → List (List Edge))
     → Contains edges edge → ((next : ℕ) → All (IsWalk edges next to) (walks_from next))
@@ -141,11 +133,7 @@ within_all edges (suc most) from to =
     (λ next. within_all edges most next to)) edges (All-contains_itself edges)))
 
 staying_there : (from to : ℕ) → from ≡ to → Contains (staying from to) []
-staying_there from to same = subst (λ some. Contains some []) (sym is) (Contains-head [] [])
-  where
-    is : staying from to ≡ [] ∷ []
-    is = let test : eqb from to ≡ true =
-        grind (arith, nat_tests) in ap (λ b. cond b ([] ∷ []) []) test
+staying_there from to same = grind (arith, Contains-head, nat_tests)
 
 -- each walk of at most so many edges is one of them
 pub within_there : (edges : List Edge) (most from to : ℕ) (walk : List Edge) → length walk ≤ most

@@ -1,30 +1,20 @@
-use Rattle.plan_num.proofs.Common.{◌≡◌, ◌∷◌, ◌++◌, ◌∙◌, [], List, Ok, ap, map, subst, sym}
+use Rattle.plan_num.proofs.Common.{arith, ◌≡◌, ◌∷◌, ◌++◌, ◌∙◌, [], List, Ok, ap, subst, sym}
 use Rattle.plan_num.proofs.Common.{append-nil, slice_index_or, flat_map, err_from_is_err_and}
 use Rattle.tables.proofs.Common.{tree_columns, table_of, table_row, TableRow, no_row, InColumns}
-use Rattle.tables.proofs.Common.{line_text, row_in_columns, no_mark, row_ends, mark_first, table_is}
+use Rattle.tables.proofs.Common.{row_in_columns, no_mark, row_ends, mark_first, table_is}
 use Rattle.tables.specs.Reading.{row_faults}
 use Rattle.branch_certificate.proofs.RowsKept.{lines_first, lines_next, trees_copied}
 use Rattle.branch_certificate.proofs.copy.copy_tree.Goals as goal
 
 pub returns-in_err-rows-clause-gives : goal.returns-in_err-rows-clause-gives
-returns-in_err-rows-clause-gives c =
-    let p = err_from_is_err_and c.from_residual-in_err-rows.result
-    c.from_residual-in_err-rows.ensures.1 in
-    rw (p.1, p.2, c.in_err-rows.ensures.1) (mark_first tree_columns c.args.bytes.now
-    c.in_err-rows.ensures.0)
+returns-in_err-rows-clause-gives c = grind (arith, err_from_is_err_and, mark_first)
 
 pub returns-in_err-rows-clause-trees : goal.returns-in_err-rows-clause-trees
 returns-in_err-rows-clause-trees c =
     trees_copied c.args.bytes.now _ (returns-in_err-rows-clause-gives c)
 
 pub rows-init : goal.rows-init
-rows-init c = record {
-  cells = ap (flat_map (row_faults tree_columns)) c.in_ok-rows.ensures.1
-      ∙ no_mark tree_columns c.args.bytes.now c.in_ok-rows.ensures.0;
-  whole = lines_first c.in_ok-lines.lines.items _ (table_of tree_columns c.args.bytes.now)
-      c.in_ok-lines.ensures (ap (map (table_row tree_columns)) c.in_ok-rows.ensures.1
-      ∙ table_is tree_columns c.args.bytes.now);
-}
+rows-init c = grind (arith, no_mark, lines_first, table_is)
 
 pub returns-in_err-read_row-clause-gives : goal.returns-in_err-read_row-clause-gives
 returns-in_err-read_row-clause-gives c =
@@ -68,14 +58,7 @@ rows-preserved c =
     }
 
 pub returns-clause-gives : goal.returns-clause-gives
-returns-clause-gives c =
-    let none = rw c.if-branch.false at c.in_ok-next_row.ensures in (
-      sym c.rows.invariant.cells ∙ ap (flat_map (row_faults tree_columns)) none,
-      c.from_vec.ensures ∙ sym (append-nil c.rows.lines.items)
-          ∙ ap (λ rows. c.rows.lines.items
-          ++ flat_map (line_text tree_columns) (map (table_row tree_columns) rows)) (sym none)
-          ∙ c.rows.invariant.whole,
-    )
+returns-clause-gives c = grind (arith, append-nil)
 
 pub returns-clause-trees : goal.returns-clause-trees
 returns-clause-trees c =

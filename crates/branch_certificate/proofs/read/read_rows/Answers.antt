@@ -1,11 +1,8 @@
-use Rattle.plan_num.proofs.Common.{◌≡◌, ◌∷◌, ◌++◌, ◌+◌, ◌∙◌, List, [], ap, map, refl, subst, sym}
-use Rattle.plan_num.proofs.Common.{get_or, slice_get, Some, flat_map, err_from_is_err_and}
-use Rattle.tables.proofs.Common.{RowFault, Refusal, tree_columns, or_else, table_row_faults}
-use Rattle.tables.proofs.Common.{table_of, table_row, TableRow, no_row, records_all, rows_met}
-use Rattle.tables.proofs.Common.{no_mark, row_ends, mark_first, table_is}
+use Rattle.plan_num.proofs.Common.{arith, ◌≡◌, ◌∷◌, ◌++◌, ◌+◌, ◌∙◌, List, [], ap, sym, get_or}
+use Rattle.plan_num.proofs.Common.{slice_get, Some, flat_map, err_from_is_err_and}
+use Rattle.tables.proofs.Common.{RowFault, tree_columns, table_of, table_row, TableRow, no_row}
+use Rattle.tables.proofs.Common.{records_all, rows_met, no_mark, row_ends, mark_first, table_is}
 use Rattle.tables.specs.Reading.{row_faults}
-use Rattle.branch_certificate.specs.ReadRows.{IsReadSoFar, IsReadUpTo}
-use Rattle.branch_certificate.specs.TreeFiles.{tree_input}
 use Rattle.branch_certificate.proofs.ReadLines.{by_cell, cell_refused, in_order, no_cells, nothing_read}
 use Rattle.branch_certificate.proofs.ReadLines.{one_inside, row_own, row_within, rows_behind, rows_past}
 use Rattle.branch_certificate.proofs.read.read_rows.Goals as goal
@@ -20,14 +17,9 @@ returns-in_err-rows c =
 pub rows-init : goal.rows-init
 rows-init c = record {
   i = 0;
-  left = sym (ap (map (table_row tree_columns)) c.in_ok-rows.ensures.1
-      ∙ table_is tree_columns c.args.bytes.now);
-  cells = ap (flat_map (row_faults tree_columns)) c.in_ok-rows.ensures.1
-      ∙ no_mark tree_columns c.args.bytes.now c.in_ok-rows.ensures.0;
-  up_to = record {
-    sound = refl;
-    known = nothing_read c.args.ids.now c.new-so_far.result c.new-so_far.ensures;
-  };
+  left = grind (arith, table_is);
+  cells = grind (arith, no_mark);
+  up_to = grind (arith, nothing_read);
 }
 
 pub returns-in_err-read_row : goal.returns-in_err-read_row
@@ -75,25 +67,7 @@ rows-preserved c =
     }
 
 pub returns-in-Some : goal.returns-in-Some
-returns-in-Some c =
-    let none = rw c.if-branch.false at c.in_ok-next_row.ensures in
-    let all = table_of tree_columns c.args.bytes.now in
-    ap (λ (cells : List Refusal). slice_get (or_else cells
-    (table_row_faults (tree_input c.args.ids.now) all)) 0)
-    (no_cells c.args.bytes.now _ none c.rows.invariant.cells)
-    ∙ subst (λ fault. IsReadUpTo c.args.ids.now all c.rows.invariant.i fault c.rows.so_far)
-    c.in-Some.is c.rows.invariant.up_to
+returns-in-Some c = grind (arith, slice_get, no_cells)
 
 pub returns : goal.returns
-returns c =
-    let none = rw c.if-branch.false at c.in_ok-next_row.ensures in
-    let all = table_of tree_columns c.args.bytes.now in
-    let i = c.rows.invariant.i in
-    let past = rows_past all i _ c.rows.invariant.left none in
-    let told = subst (λ fault. IsReadUpTo c.args.ids.now all i fault c.rows.so_far) c.in-None.is
-    c.rows.invariant.up_to in (
-      no_cells c.args.bytes.now _ none c.rows.invariant.cells,
-      rows_met (tree_input c.args.ids.now) all i past told.sound,
-      subst (λ rows. IsReadSoFar c.args.ids.now rows c.rows.so_far)
-          (records_all (tree_input c.args.ids.now) all i past) told.known,
-    )
+returns c = grind (arith, rows_past, no_cells, rows_met, records_all)

@@ -1,4 +1,4 @@
-use Rattle.plan_num.proofs.Common.{refl, err_from_is_err_and}
+use Rattle.plan_num.proofs.Common.{arith, refl, err_from_is_err_and}
 use Rattle.tables.proofs.Common.{tree_columns, table_of}
 use Rattle.branch_certificate.proofs.ReadLines.{one_of_both}
 use Rattle.branch_certificate.proofs.ReadTexts.{IsRead, cells_refuse, rows_refuse, due_refuses}
@@ -6,22 +6,17 @@ use Rattle.branch_certificate.proofs.ReadTexts.{tree_read}
 use Rattle.branch_certificate.proofs.read.read_tree.Goals as goal
 
 pub returns-in_err-so_far-clause-read : goal.returns-in_err-so_far-clause-read
-returns-in_err-so_far-clause-read c =
-    let p = err_from_is_err_and c.from_residual-in_err-so_far.result
-    c.from_residual-in_err-so_far.ensures.1 in
-    let problem = c.args.problem.now in
-    let text = c.args.bytes.now in
-    let fault = c.in_err-so_far.field-0.0 in
-    rw (p.1, p.2) (one_of_both _ _ fault c.in_err-so_far.ensures (cells_refuse problem text fault)
-    (λ none by. rows_refuse problem text (table_of tree_columns text) none refl c.in_ok-ids.ids
-    c.in_ok-ids.ensures.ids fault by))
+returns-in_err-so_far-clause-read c = grind (
+  arith,
+  err_from_is_err_and,
+  one_of_both,
+  cells_refuse,
+  rows_refuse,
+)
 
 pub returns-then-is_due-clause-read : goal.returns-then-is_due-clause-read
 returns-then-is_due-clause-read c =
-    let told = c.in_ok-so_far.ensures in
-    due_refuses c.args.problem.now c.args.bytes.now (table_of tree_columns c.args.bytes.now) told.0
-    refl c.in_ok-ids.ids c.in_ok-ids.ensures.ids told.1 c.in_ok-so_far.so_far told.2 c.is_due.result
-    c.is_due.ensures c.if-is_due.true
+    let told = c.in_ok-so_far.ensures in grind (arith, due_refuses, told)
 
 told : (c : goal.After-drop-ids-inside-3)
     → IsRead c.args.problem.now c.args.bytes.now c.in_ok-into_tree.field-0

@@ -1,4 +1,4 @@
-use Rattle.std.proofs.Common.{◌≡◌, ◌∙◌, ap, None, rules, subst, sym}
+use Rattle.plan_num.proofs.Common.{◌≡◌, ◌∙◌, ap, None, rules, subst, sym}
 use Rattle.tables.proofs.Common.{TableRow}
 use Rattle.branch_certificate.specs.ReadRows.{IsReadUpTo}
 use Rattle.branch_certificate.specs.TreeFiles.{tree_row}

@@ -11,21 +11,10 @@ use Rattle.branch_certificate.proofs.WriteRows.{edge_there, line_behind, lone_li
 use Rattle.branch_certificate.proofs.write.push_bound.Goals as goal
 
 pub overflow_cast-len : goal.overflow_cast-len
-overflow_cast-len c =
-    let few = few_multipliers c.args.problem.now c.args.multipliers.now c.requires.sound
-    c.len.ensures.sound c.requires.names in
-    record { sfits = omega (arith, few, c.len.ensures.len) }
+overflow_cast-len c = grind (arith, few_multipliers)
 
 pub push_row-requires : goal.push_row-requires
-push_row-requires c =
-    let few = few_multipliers c.args.problem.now c.args.multipliers.now c.requires.sound
-    c.len.ensures.sound c.requires.names in
-    let count = to_z-of_z w64 (pos c.len.result) (record {
-      sfits = omega (arith, few, c.len.ensures.len);
-    }) ∙ ap pos c.len.ensures.len in
-    subst (λ (row : TableRow). InColumns tree_columns row.cells)
-    (sym (same_row (pos 2) _ _ (pos 0) (pos 0) (pos 0) (pos 0) count refl refl))
-    (bound_inside (length c.args.multipliers.now) few)
+push_row-requires c = grind (arith, few_multipliers, to_z-of_z, same_row, bound_inside)
 
 pub loop-i-init : goal.loop-i-init
 loop-i-init c =

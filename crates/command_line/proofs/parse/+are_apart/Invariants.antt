@@ -1,4 +1,4 @@
-use Rattle.std.proofs.Common.{length}
+use Rattle.plan_num.proofs.Common.{length}
 use Rattle.command_line.proofs.parse.+are_apart.Given as goal
 
 -- proposed from what the function passes where it calls itself

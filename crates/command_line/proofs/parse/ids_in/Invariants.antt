@@ -1,4 +1,4 @@
-use Rattle.std.proofs.Common.{◌≡◌, drop, length}
+use Rattle.plan_num.proofs.Common.{◌≡◌, drop, length}
 use Rattle.command_line.proofs.WordFacts.{IsIds}
 use Rattle.command_line.proofs.parse.ids_in.Given as goal
 

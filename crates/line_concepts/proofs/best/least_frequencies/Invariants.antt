@@ -1,5 +1,5 @@
 -- The least frequencies of the lines so far.
-use Rattle.std.proofs.Common.{◌≡◌, ◌≤◌, map, take, All}
+use Rattle.plan_num.proofs.Common.{◌≡◌, ◌≤◌, map, take, All}
 use Rattle.line_concepts.proofs.best.least_frequencies.Given as goal
 
 abbrev pub invariant-loop-line : goal.invariant-loop-line

@@ -4,22 +4,14 @@ use Rattle.std.proofs.lemmas.Int.{to_z-of_z}
 use Rattle.line_cost_model.proofs.Common.{LineRange, ProblemParts}
 use Rattle.line_concepts.specs.TreeFaults.{placed_faults, splits_outside}
 use Rattle.line_concepts.specs.Nodes.{NamesWhatIs}
-use Rattle.line_concepts.specs.Walks.{SplitsOne, WalkedRegions, noted}
+use Rattle.line_concepts.specs.Walks.{SplitsOne, noted}
 use Rattle.line_concepts.proofs.Judging.{IsJudged, judged_all, judged_last, judged_more}
 use Rattle.line_concepts.proofs.Judging.{judged_none}
 use Rattle.line_concepts.proofs.Judging.{all_placed, each_has, names_at, split_is_first, splits_one}
 use Rattle.line_concepts.proofs.check_nodes.node_fault.Goals as goal
 
 pub loop-place-init : goal.loop-place-init
-loop-place-init c = record {
-  judged = subst (λ best. IsJudged c.args.problem.now best c.args.tree.now c.new-firsts.result 0
-      (c.in_ok-walk.walk.region ∷ c.in_ok-walk.walk.waiting))
-      (sym (to_z-of_z w128 c.args.best c.ranges.best))
-      (judged_none c.args.problem.now c.args.best c.args.tree.now c.new-firsts.result
-      c.in_ok-walk.walk c.new-firsts.ensures c.in_ok-walk.ensures.root);
-  problem = ap (λ (walk : WalkedRegions). walk.problem) c.in_ok-walk.ensures.root;
-  size = each_has c.args.problem.now c.in_ok-walk.walk c.in_ok-walk.ensures.root;
-}
+loop-place-init c = grind (arith, IsJudged, to_z-of_z, judged_none, each_has)
 
 pub splits_outside-requires : goal.splits_outside-requires
 splits_outside-requires c =
@@ -30,17 +22,7 @@ splits_outside-requires c =
     c.node-node.result.now c.requires c.node-node.ensures))
 
 pub returns-then-splits_outside-clause-first : goal.returns-then-splits_outside-clause-first
-returns-then-splits_outside-clause-first c =
-    let regions = c.loop-place.walk.region ∷ c.loop-place.walk.waiting in
-    split_is_first c.args.problem.now c.args.best c.args.tree.now c.loop-place.firsts
-    c.loop-place.place
-    c.loop-place.walk.region c.loop-place.walk.waiting c.node-node.result.now c.node-node.ensures
-    (subst (λ best. IsJudged c.args.problem.now best c.args.tree.now c.loop-place.firsts
-    c.loop-place.place regions) (to_z-of_z w128 c.args.best c.ranges.best)
-    c.loop-place.invariant.judged)
-    (ap (λ (region : List LineRange). splits_outside region c.node-node.result.now)
-    (sym c.region.ensures.ranges)
-    ∙ sym c.splits_outside.ensures ∙ c.if-splits_outside.true)
+returns-then-splits_outside-clause-first c = grind (arith, split_is_first, IsJudged, to_z-of_z)
 
 pub note-requires : goal.note-requires
 note-requires c =
@@ -106,12 +88,4 @@ loop-place-preserved c =
     }
 
 pub returns-clause-first : goal.returns-clause-first
-returns-clause-first c =
-    let regions = c.loop-place.walk.region ∷ c.loop-place.walk.waiting in
-    c.first-2.ensures
-    ∙ judged_all c.args.problem.now c.args.best c.args.tree.now c.loop-place.firsts
-    c.loop-place.place
-    regions (omega (arith, c.loop-place-test.false, c.len-place-end.ensures))
-    (subst (λ best. IsJudged c.args.problem.now best c.args.tree.now c.loop-place.firsts
-    c.loop-place.place regions) (to_z-of_z w128 c.args.best c.ranges.best)
-    c.loop-place.invariant.judged)
+returns-clause-first c = grind (arith, judged_all, IsJudged, to_z-of_z)

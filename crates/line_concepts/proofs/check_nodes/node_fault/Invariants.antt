@@ -1,4 +1,4 @@
-use Rattle.std.proofs.Common.{◌≡◌, ◌∷◌, length}
+use Rattle.plan_num.proofs.Common.{◌≡◌, ◌∷◌, length}
 use Rattle.line_concepts.proofs.Judging.{IsJudged}
 use Rattle.line_concepts.proofs.check_nodes.node_fault.Given as goal
 

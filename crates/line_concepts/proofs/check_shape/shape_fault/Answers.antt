@@ -1,4 +1,4 @@
-use Rattle.std.proofs.Common.{◌∙◌, ◌+◌, nat_lt, if◌then◌else◌, Some, None, ap, sym, refl, arith}
+use Rattle.plan_num.proofs.Common.{◌∙◌, ◌+◌, nat_lt, if◌then◌else◌, Some, ap, sym, refl, arith}
 use Rattle.line_concepts.specs.declared.fault.TreeFault.TheVariants as fault
 use Rattle.line_concepts.proofs.Shapes.{last_turn, leaf_turn, past_turns, split_turn}
 use Rattle.line_concepts.proofs.check_shape.shape_fault.Goals.{then-is_split}
@@ -9,19 +9,10 @@ pub loop-place-init : goal.loop-place-init
 loop-place-init c = record { behind = refl; few = omega arith }
 
 pub overflow_add-waiting : goal.overflow_add-waiting
-overflow_add-waiting c =
-    let few = c.loop-place.invariant.few in
-    record { fits = omega (arith, few, c.loop-place-test.true, c.len-place-end.type_inv) }
+overflow_add-waiting c = grind arith
 
 pub returns-then-waiting-eq0 : goal.returns-then-waiting-eq0
-returns-then-waiting-eq0 c =
-    let place = c.loop-place.place in
-    c.left_over.ensures
-    ∙ ap (λ count. if nat_lt (place + 1) count then Some (fault.Shape place) else None)
-    c.len.ensures
-    ∙ sym (last_turn c.args.tree.now place c.loop-place.waiting c.node.result.now c.node.ensures
-    c.loop-place.invariant.behind (sym c.is_split.ensures ∙ c.if-is_split.false)
-    c.if-waiting-eq0.true)
+returns-then-waiting-eq0 c = grind (arith, nat_lt, last_turn)
 
 pub loop-place-preserved : goal.loop-place-preserved
 loop-place-preserved c =

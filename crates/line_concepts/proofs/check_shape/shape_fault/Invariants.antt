@@ -1,4 +1,4 @@
-use Rattle.std.proofs.Common.{◌≡◌, ◌≤◌, suc, drop}
+use Rattle.plan_num.proofs.Common.{◌≡◌, ◌≤◌, suc, drop}
 use Rattle.line_concepts.proofs.Shapes.{behind}
 use Rattle.line_concepts.proofs.check_shape.shape_fault.Given as goal
 

@@ -1,5 +1,5 @@
 -- The first open line so far and the lines behind it give that of all.
-use Rattle.std.proofs.Common.{◌≡◌, None, drop, fold}
+use Rattle.plan_num.proofs.Common.{◌≡◌, None, drop, fold}
 use Rattle.line_concepts.proofs.DearestLines.{rows_from, with_row}
 use Rattle.line_concepts.proofs.first_open.first_of.Given as goal
 

@@ -1,4 +1,4 @@
-use Rattle.std.proofs.Common.{ap, sym, ◌∙◌, option_map}
+use Rattle.plan_num.proofs.Common.{ap, sym, ◌∙◌, option_map}
 use Rattle.line_concepts.specs.declared.node.Node.TheVariants as node
 use Rattle.line_concepts.specs.Searches.{concept_in}
 use Rattle.line_concepts.proofs.NamedNodes.{bound_names, edge_names}

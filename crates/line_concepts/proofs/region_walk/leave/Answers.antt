@@ -1,6 +1,6 @@
 use Rattle.std.proofs.Common.{◌≡◌, ◌-◌, ◌∙◌, ◌++◌, ◌∷◌, [], List, length, slice_get, take, vec_len}
 use Rattle.std.proofs.Common.{ap, sym, arith}
-use Rattle.line_cost_model.proofs.Common.{RegionParts}
+use Rattle.line_cost_model.specs.Regions.{RegionParts}
 use Rattle.line_concepts.specs.declared.region_walk.OpenSplit.{OpenSplit}
 use Rattle.line_concepts.proofs.Walking.{last_apart, none_waits, open_split, others_are_open}
 use Rattle.line_concepts.proofs.Walking.{part_closed, size_stays, upper_entered, upper_is_open}

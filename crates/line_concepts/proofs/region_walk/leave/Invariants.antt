@@ -1,4 +1,4 @@
-use Rattle.std.proofs.Common.{◌≡◌, length, reverse, All}
+use Rattle.plan_num.proofs.Common.{◌≡◌, length, reverse, All}
 use Rattle.line_concepts.specs.Walks.{IsOpenSplit, waiting_of}
 use Rattle.line_concepts.proofs.region_walk.leave.Given as goal
 

@@ -1,4 +1,4 @@
-use Rattle.std.proofs.Common.{arith, ◌-◌}
+use Rattle.plan_num.proofs.Common.{arith, ◌-◌}
 use Rattle.line_concepts.proofs.Walking.{last_turned}
 use Rattle.line_concepts.proofs.region_walk.turn_last.Goals as goal
 

@@ -1,4 +1,4 @@
-use Rattle.std.proofs.Common.{◌≡◌, ◌∙◌, Bool, arith, subst, sym}
+use Rattle.plan_num.proofs.Common.{◌≡◌, ◌∙◌, Bool, arith, subst, sym}
 use Rattle.line_cost_model.proofs.Common.{ProblemParts}
 use Rattle.line_concepts.specs.declared.search.Search.{Search}
 use Rattle.line_concepts.specs.Searches.{ArePriced, IsResult, IsSearched, IsVisited, TakesEntry}
@@ -27,11 +27,7 @@ returns-in_err-take_entry-clause-err g c =
     let search = c.loop-entry.search in
     let within = one_within c.args.problem.now search.walk.region search.walk.waiting search.tree
     search.best c.loop-entry.entry c.args.budget c.loop-entry.invariant.searched
-    c.loop-entry-test.true in
-    on_error c.from_residual-in_err-take_entry.result _ (
-      omega (arith, c.tick.ensures, c.loop-entry.invariant.steps),
-      omega (arith, c.tick.ensures, c.loop-entry.invariant.steps, within),
-    )
+    c.loop-entry-test.true in grind (arith, on_error)
 
 pub returns-then-not-branch-clause-found : goal.returns-then-not-branch-clause-found
 returns-then-not-branch-clause-found g c =
@@ -46,8 +42,7 @@ returns-then-not-branch-clause-steps g c =
     let last = last_taken c.args.problem.now c.loop-entry.search c.take_entry.new.self
     c.in_ok-take_entry.field-0 c.loop-entry.entry c.args.budget c.loop-entry.invariant.searched
     (of_problem c.loop-entry.invariant.problem c.in_ok-take_entry.ensures) c.if-not-branch.true
-    c.loop-entry-test.true in
-    omega (arith, c.tick.ensures, c.loop-entry.invariant.steps, last.entries_are)
+    c.loop-entry-test.true in grind arith
 
 pub loop-entry-preserved : goal.loop-entry-preserved
 loop-entry-preserved g c = record {

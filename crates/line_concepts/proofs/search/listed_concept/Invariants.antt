@@ -1,5 +1,5 @@
 -- The entries so far, each with a step, and those of the regions that wait are the listing.
-use Rattle.std.proofs.Common.{◌≡◌, ◌+◌}
+use Rattle.plan_num.proofs.Common.{◌≡◌, ◌+◌}
 use Rattle.line_concepts.specs.Searches.{IsSearched}
 use Rattle.line_concepts.proofs.search.listed_concept.Given as goal
 

@@ -1,4 +1,4 @@
-use Rattle.std.proofs.Common.{◌≡◌, drop}
+use Rattle.plan_num.proofs.Common.{◌≡◌, drop}
 use Rattle.line_cost_model.proofs.Paying.{have_left}
 use Rattle.line_cost_model.proofs.pass.can_pay.Given as goal
 

@@ -1,4 +1,4 @@
-use Rattle.std.proofs.Common.{◌∙◌, ◌++◌, ◌∷◌, [], ap, sym}
+use Rattle.plan_num.proofs.Common.{◌∙◌, ◌++◌, ◌∷◌, [], ap, sym}
 use Rattle.line_cost_model.specs.Problems.{CostedLine}
 use Rattle.line_cost_model.proofs.Mapped.{map_more}
 use Rattle.line_cost_model.proofs.pass.renew_costs.Goals as goal

@@ -1,4 +1,4 @@
-use Rattle.std.proofs.Common.{◌≡◌, map, take}
+use Rattle.plan_num.proofs.Common.{◌≡◌, map, take}
 use Rattle.line_cost_model.proofs.pass.renew_costs.Given as goal
 
 -- the costs are those of the lines so far

@@ -1,5 +1,5 @@
 -- The lists so far are those of the edges so far.
-use Rattle.std.proofs.Common.{◌≡◌, map, take}
+use Rattle.plan_num.proofs.Common.{◌≡◌, map, take}
 use Rattle.line_cost_model.specs.Crossings.{AreLonger}
 use Rattle.line_cost_model.proofs.problem.longer_lists.Given as goal
 

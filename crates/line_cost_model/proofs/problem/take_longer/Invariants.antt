@@ -1,5 +1,5 @@
 -- The edges of the lists so far have them.
-use Rattle.std.proofs.Common.{◌≡◌, ℕ, length}
+use Rattle.plan_num.proofs.Common.{◌≡◌, ℕ, length}
 use Rattle.line_cost_model.specs.Crossings.{AreLonger, AreTaken}
 use Rattle.line_cost_model.proofs.problem.take_longer.Given as goal
 

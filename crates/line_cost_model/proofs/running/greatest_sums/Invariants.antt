@@ -1,5 +1,5 @@
 -- The sums of the edges so far.
-use Rattle.std.proofs.Common.{◌≡◌, ℕ, ◌<◌, length, get_or}
+use Rattle.plan_num.proofs.Common.{◌≡◌, ℕ, ◌<◌, length, get_or}
 use Rattle.line_cost_model.specs.Concepts.{frequency_on}
 use Rattle.line_cost_model.specs.Regions.{greatest_in}
 use Rattle.line_cost_model.proofs.running.greatest_sums.Given as goal

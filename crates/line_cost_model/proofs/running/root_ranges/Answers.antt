@@ -1,4 +1,4 @@
-use Rattle.std.proofs.Common.{◌∙◌, ap, sym, subst, ◌++◌, ◌∷◌, [], List, All}
+use Rattle.plan_num.proofs.Common.{◌∙◌, ap, sym, subst, ◌++◌, ◌∷◌, [], List, All}
 use Rattle.line_cost_model.specs.declared.range.LineRange.{LineRange}
 use Rattle.line_cost_model.specs.Regions.{HasEachFeasible, IsRange}
 use Rattle.line_cost_model.proofs.Roots.{root_has_each, root_more, root_whole, root_sound}

@@ -1,4 +1,4 @@
-use Rattle.std.proofs.Common.{◌≡◌, take}
+use Rattle.plan_num.proofs.Common.{◌≡◌, take}
 use Rattle.line_cost_model.specs.Regions.{root_of}
 use Rattle.line_cost_model.proofs.running.root_ranges.Given as goal
 

@@ -1,33 +1,20 @@
-use Rattle.std.proofs.Common.{◌∙◌, ◌*◌, ◌≤◌, ◌+◌, ap, sym, arith, Some}
+use Rattle.plan_num.proofs.Common.{◌∙◌, ◌*◌, ◌≤◌, ap, sym, arith, Some}
 use Rattle.line_cost_model.proofs.FewLines.{adds_little, cost_more, cost_whole, few_lines}
 use Rattle.line_cost_model.proofs.sums.cost_of.Goals as goal
 
 little : (c : goal.After-from-in-loop-line) → c.from.result * c.from-in-loop-line.result ≤ 4294967296000000000000000000
 little c =
-    let times = c.from-in-loop-line in
-    adds_little c.args.problem.now c.loop-line.line c.from.result times.result c.line_count-line-end.ensures.sound
-    (c.cost_of_line.ensures ∙ ap Some (sym c.from.ensures))
-    (omega (arith, times.ensures, (c.type_inv.frequencies c.loop-line.line).fits))
+    let times = c.from-in-loop-line in grind (arith, adds_little)
 
 pub overflow_add-sum : goal.overflow_add-sum
-overflow_add-sum c = record {
-  fits = omega (
-    arith,
-    c.loop-line.invariant.1,
-    little c,
-    few_lines c.args.problem.now
-        c.line_count-line-end.ensures.sound,
-  );
-}
+overflow_add-sum c = grind (arith, little, few_lines)
 
 pub loop-line-preserved : goal.loop-line-preserved
 loop-line-preserved c =
     let more = cost_more c.args.problem.now c.args.frequencies.now c.loop-line.line c.from.result
     c.from-in-loop-line.result
-    c.requires.each (c.cost_of_line.ensures ∙ ap Some (sym c.from.ensures)) c.from-in-loop-line.ensures in (
-      ap (λ sum. sum + c.from.result * c.from-in-loop-line.result) c.loop-line.invariant.0 ∙ sym more,
-      omega (arith, c.loop-line.invariant.1, little c),
-    )
+    c.requires.each (c.cost_of_line.ensures ∙ ap Some (sym c.from.ensures)) c.from-in-loop-line.ensures in
+    grind (arith, little)
 
 pub returns-clause-cost : goal.returns-clause-cost
 returns-clause-cost c =

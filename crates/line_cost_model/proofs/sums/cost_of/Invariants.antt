@@ -1,4 +1,4 @@
-use Rattle.std.proofs.Common.{◌≡◌, ◌≤◌, ◌*◌, sum_by, take, zip}
+use Rattle.plan_num.proofs.Common.{◌≡◌, ◌≤◌, ◌*◌, sum_by, take, zip}
 use Rattle.line_cost_model.proofs.sums.cost_of.Given as goal
 
 -- the sum is that over the lines so far, and each of them adds less than 10^18 times 2^32

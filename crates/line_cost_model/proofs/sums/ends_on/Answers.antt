@@ -1,4 +1,4 @@
-use Rattle.std.proofs.Common.{◌≡◌, ◌∙◌, ◌+◌, ◌*◌, ◌≤◌, ◌<◌, ℕ, List, All, get_or, length, ap, arith, refl}
+use Rattle.std.proofs.Common.{◌≡◌, ◌∙◌, ◌+◌, ◌*◌, ◌≤◌, ◌<◌, ℕ, List, All, get_or, length, arith, refl}
 use Rattle.line_cost_model.specs.declared.range.LineRange.{LineRange}
 use Rattle.line_cost_model.specs.Problems.{IsProblem, ProblemParts}
 use Rattle.line_cost_model.specs.Crossings.{lines_over}
@@ -13,40 +13,17 @@ module _ (problem : ProblemParts) (ranges : List LineRange) (over : List ℕ) (e
     (within : index < length over) where
   -- the range of a line over the edge
   range : IsRange (range_of ranges (get_or over index 0))
-  range =
-      let line : get_or over index 0 < length problem.lines = there index 0 within in
-      sound _ _ (omega (arith, line, each))
+  range = grind (arith, get_or)
 
   -- one line more leaves a sum small
   fits : (sum end : ℕ) → sum ≤ index * 4294967296 → end ≤ 1000 → sum + end < 18446744073709551616
-  fits sum end little one =
-      omega (arith, little, one, within, ap length are, few_over problem.lines edge, few_lines problem is_problem)
+  fits sum end little one = grind (arith, few_over, few_lines)
 
 pub overflow_add-least : goal.overflow_add-least
-overflow_add-least c =
-    let over = c.lines_over-line-items in
-    let at = range c.args.problem.now c.args.ranges.now over.result.now c.args.edge c.loop-line.line-index
-    c.line_count.ensures.sound c.requires.each c.requires.sound over.ensures.lines over.ensures.there
-    c.loop-line-test.true in
-    record {
-      fits = fits c.args.problem.now c.args.ranges.now over.result.now c.args.edge c.loop-line.line-index
-          c.line_count.ensures.sound c.requires.each c.requires.sound over.ensures.lines over.ensures.there
-          c.loop-line-test.true c.loop-line.least c.from-least.result c.loop-line.invariant.least_few
-          (omega (arith, c.from-least.ensures, at.in_order, at.few));
-    }
+overflow_add-least c = grind (arith, range, fits)
 
 pub overflow_add-greatest : goal.overflow_add-greatest
-overflow_add-greatest c =
-    let over = c.lines_over-line-items in
-    let at = range c.args.problem.now c.args.ranges.now over.result.now c.args.edge c.loop-line.line-index
-    c.line_count.ensures.sound c.requires.each c.requires.sound over.ensures.lines over.ensures.there
-    c.loop-line-test.true in
-    record {
-      fits = fits c.args.problem.now c.args.ranges.now over.result.now c.args.edge c.loop-line.line-index
-          c.line_count.ensures.sound c.requires.each c.requires.sound over.ensures.lines over.ensures.there
-          c.loop-line-test.true c.loop-line.greatest c.from-greatest.result c.loop-line.invariant.greatest_few
-          (omega (arith, c.from-greatest.ensures, at.few));
-    }
+overflow_add-greatest c = grind (arith, range, fits)
 
 pub returns : goal.returns
 returns c =

@@ -1,4 +1,4 @@
-use Rattle.std.proofs.Common.{◌≡◌, ◌≤◌, ◌*◌, ℕ, List, sum_by, take}
+use Rattle.plan_num.proofs.Common.{◌≡◌, ◌≤◌, ◌*◌, ℕ, List, sum_by, take}
 use Rattle.line_cost_model.specs.declared.range.LineRange.{LineRange}
 use Rattle.line_cost_model.specs.Regions.{range_of}
 use Rattle.line_cost_model.proofs.sums.ends_on.Given as goal

@@ -1,4 +1,4 @@
-use Rattle.std.proofs.Common.{◌≡◌, ◌≤◌, ◌*◌, get_or, sum_by, take}
+use Rattle.plan_num.proofs.Common.{◌≡◌, ◌≤◌, ◌*◌, get_or, sum_by, take}
 use Rattle.line_cost_model.proofs.sums.frequency_on.Given as goal
 
 -- the sum is that over the lines so far, and each of them adds less than 2^32

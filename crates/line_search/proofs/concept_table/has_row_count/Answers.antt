@@ -1,4 +1,4 @@
-use Rattle.std.proofs.Common.{arith, sym, ◌∙◌}
+use Rattle.plan_num.proofs.Common.{arith, sym, ◌∙◌}
 use Rattle.line_search.proofs.RowCounts.{line_passed, too_few}
 use Rattle.line_search.proofs.concept_table.has_row_count.Goals as goal
 

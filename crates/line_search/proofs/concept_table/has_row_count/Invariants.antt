@@ -1,5 +1,5 @@
 -- What is left is the number of the rows of the lines from here on, or both counts differ.
-use Rattle.std.proofs.Common.{◌≡◌, drop, nat_eq}
+use Rattle.plan_num.proofs.Common.{◌≡◌, drop, nat_eq}
 use Rattle.line_search.specs.ConceptTables.{row_count}
 use Rattle.line_search.proofs.concept_table.has_row_count.Given as goal
 

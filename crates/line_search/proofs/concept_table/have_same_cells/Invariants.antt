@@ -1,5 +1,5 @@
 -- The rows from here on tell whether the tables have the same cells, and both have as many rows.
-use Rattle.std.proofs.Common.{◌≡◌, drop, length}
+use Rattle.plan_num.proofs.Common.{◌≡◌, drop, length}
 use Rattle.line_search.specs.Judged.{same_cells}
 use Rattle.line_search.proofs.concept_table.have_same_cells.Given as goal
 

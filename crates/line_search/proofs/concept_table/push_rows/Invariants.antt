@@ -1,5 +1,5 @@
 -- The table has the rows of the edges so far.
-use Rattle.std.proofs.Common.{◌≡◌, ◌++◌}
+use Rattle.plan_num.proofs.Common.{◌≡◌, ◌++◌}
 use Rattle.line_search.proofs.ConceptRows.{rows_to}
 use Rattle.line_search.proofs.concept_table.push_rows.Given as goal
 

@@ -1,4 +1,4 @@
-use Rattle.std.proofs.Common.{sym, ◌∙◌, arith}
+use Rattle.plan_num.proofs.Common.{sym, ◌∙◌, arith}
 use Rattle.line_search.proofs.ConceptRows.{lines_more, lines_whole}
 use Rattle.line_search.proofs.concept_table.rows_of_concept.Goals as goal
 

@@ -1,5 +1,5 @@
 -- The table has the rows of the lines so far.
-use Rattle.std.proofs.Common.{◌≡◌}
+use Rattle.plan_num.proofs.Common.{◌≡◌}
 use Rattle.line_search.proofs.ConceptRows.{rows_of_lines}
 use Rattle.line_search.proofs.concept_table.rows_of_concept.Given as goal
 

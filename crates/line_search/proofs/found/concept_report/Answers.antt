@@ -1,5 +1,5 @@
-use Rattle.std.proofs.Common.{◌≡◌, ◌∷◌, ◌++◌, [], List, ℕ, append-nil, append_assoc, codes, subst}
-use Rattle.std.specs.Result.{IfOk}
+use Rattle.plan_num.proofs.Common.{◌≡◌, ◌∷◌, ◌++◌, [], List, ℕ, append-nil, append_assoc, codes}
+use Rattle.plan_num.proofs.Common.{subst, IfOk}
 use Rattle.giv_files.specs.declared.stage.Stage.TheVariants as stage
 use Rattle.giv_files.proofs.Common.{report_line}
 use Rattle.line_search.specs.ConceptStage.{concept_made}

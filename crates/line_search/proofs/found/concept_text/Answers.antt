@@ -1,4 +1,4 @@
-use Rattle.std.proofs.Common.{All, arith, ap, refl, sym, subst, ◌∙◌}
+use Rattle.plan_num.proofs.Common.{All, arith, ap, refl, sym, subst, ◌∙◌}
 use Rattle.tables.proofs.Common.{concept_columns, InColumns, plain_header, columns_written}
 use Rattle.line_search.specs.ConceptTables.{concept_header, concept_rows}
 use Rattle.line_search.proofs.ConceptWritten.{concept_inside, concept_told}

@@ -29,7 +29,4 @@ loop-line-preserved c =
 
 pub returns-clause-read : goal.returns-clause-read
 returns-clause-read c =
-    let table = c.args.table.now in
-    c.loop-line.invariant.are ∙ map_whole (λ line. frequency_in table line.id)
-    c.args.problem.now.lines c.line_count-line-end.result c.loop-line.line
-    c.line_count-line-end.ensures.count c.loop-line-test.false
+    let table = c.args.table.now in grind (arith, map_whole)

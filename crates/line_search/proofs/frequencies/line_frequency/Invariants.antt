@@ -1,5 +1,5 @@
 -- The rows from here on tell the frequency.
-use Rattle.std.proofs.Common.{◌≡◌, drop}
+use Rattle.plan_num.proofs.Common.{◌≡◌, drop}
 use Rattle.line_search.specs.ConceptTables.{frequency_in}
 use Rattle.line_search.proofs.frequencies.line_frequency.Given as goal
 

@@ -1,5 +1,5 @@
 -- The problem has the edges so far, and no line.
-use Rattle.std.proofs.Common.{◌≡◌, [], take}
+use Rattle.plan_num.proofs.Common.{◌≡◌, [], take}
 use Rattle.line_search.proofs.PushedEdges.{bounded}
 use Rattle.line_search.proofs.given.problem_of_edges.Given as goal
 

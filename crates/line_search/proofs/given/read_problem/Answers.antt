@@ -1,4 +1,4 @@
-use Rattle.plan_num.proofs.Common.{length, ap, subst, sym, ◌∙◌, All, err_from_is_err_and}
+use Rattle.plan_num.proofs.Common.{arith, length, ap, subst, sym, ◌∙◌, All, err_from_is_err_and}
 use Rattle.tables.specs.declared.file_id.FileId.TheVariants as file
 use Rattle.walks.proofs.Common.{NetworkParts}
 use Rattle.ptn_network.proofs.LoadRows.{loads_count}
@@ -10,38 +10,25 @@ use Rattle.line_search.proofs.given.read_problem.Goals as goal
 
 pub returns-in_err-network : goal.returns-in_err-network
 returns-in_err-network c =
-    let p = err_from_is_err_and c.from_residual.result c.from_residual.ensures.1 in
-    rw (p.1, p.2) (network_refused c.args.bundle.now c.in_err-network.field-0.0
-    (rw (c.input.ensures, c.input-2.ensures) at c.in_err-network.ensures))
+    let p = err_from_is_err_and c.from_residual.result c.from_residual.ensures.1 in grind (
+      arith,
+      network_refused,
+    )
 
 pub returns-in_err-pool : goal.returns-in_err-pool
 returns-in_err-pool c =
     let p = err_from_is_err_and c.from_residual-in_err-pool.result
-    c.from_residual-in_err-pool.ensures.1 in
-    let network = rw (c.input.ensures, c.input-2.ensures) at c.in_ok-network.ensures in
-    rw (p.1, p.2) (pool_refused c.args.bundle.now c.in_ok-network.network network.0 network.1
-    c.in_err-pool.field-0.0 (rw c.input-3.ensures at c.in_err-pool.ensures.made))
+    c.from_residual-in_err-pool.ensures.1 in grind (arith, pool_refused)
 
 pub returns-in_err-loads : goal.returns-in_err-loads
 returns-in_err-loads c =
     let p = err_from_is_err_and c.from_residual-in_err-loads.result
-    c.from_residual-in_err-loads.ensures.1 in
-    let network = rw (c.input.ensures, c.input-2.ensures) at c.in_ok-network.ensures in
-    let pool = rw c.input-3.ensures at c.in_ok-pool.ensures.made in
-    rw (p.1, p.2) (loads_refused c.args.bundle.now c.in_ok-network.network network.0 network.1
-    c.in_ok-pool.pool pool.0 pool.1 c.in_err-loads.field-0.0
-    (rw c.input-4.ensures at c.in_err-loads.ensures))
+    c.from_residual-in_err-loads.ensures.1 in grind (arith, loads_refused)
 
 pub returns-in_err-costs : goal.returns-in_err-costs
 returns-in_err-costs c =
     let p = err_from_is_err_and c.from_residual-in_err-costs.result
-    c.from_residual-in_err-costs.ensures.1 in
-    let network = rw (c.input.ensures, c.input-2.ensures) at c.in_ok-network.ensures in
-    let pool = rw c.input-3.ensures at c.in_ok-pool.ensures.made in
-    let loads = rw c.input-4.ensures at c.in_ok-loads.ensures in
-    rw (p.1, p.2) (costs_refused c.args.bundle.now c.in_ok-network.network network.0 network.1
-    c.in_ok-pool.pool pool.0 pool.1 c.in_ok-loads.loads loads.0 loads.1 c.in_err-costs.field-0.0
-    (rw c.input-5.ensures at c.in_err-costs.ensures))
+    c.from_residual-in_err-costs.ensures.1 in grind (arith, costs_refused)
 
 pub whole_problem-requires-clause-ids : goal.whole_problem-requires-clause-ids
 whole_problem-requires-clause-ids c =

@@ -1,5 +1,5 @@
-use Rattle.std.proofs.Common.{ℤ, ◌<ℤ◌, ◌∷◌, ◌++◌, [], length, ap, sym, ◌∙◌, arith, subst, to_z, of_z, w64}
-use Rattle.std.specs.List.{All}
+use Rattle.plan_num.proofs.Common.{ℤ, ◌<ℤ◌, ◌∷◌, ◌++◌, [], length, ap, sym, ◌∙◌, arith, subst, to_z}
+use Rattle.plan_num.proofs.Common.{of_z, w64, All}
 use Rattle.line_cost_model.proofs.Common.{CostedLine, ProblemParts, IsCostedLine, IsId}
 use Rattle.line_cost_model.proofs.Proving.{holds_at as held}
 use Rattle.line_walks.specs.Pools.{IsLine}

@@ -1,5 +1,5 @@
 -- The problem has all edges, and the lines so far.
-use Rattle.std.proofs.Common.{◌≡◌, take}
+use Rattle.plan_num.proofs.Common.{◌≡◌, take}
 use Rattle.line_search.proofs.PushedEdges.{bounded}
 use Rattle.line_search.proofs.PushedLines.{costed}
 use Rattle.line_search.proofs.given.whole_problem.Given as goal

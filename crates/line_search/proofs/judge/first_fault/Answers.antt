@@ -1,5 +1,5 @@
-use Rattle.plan_num.proofs.Common.{length, nat_eq, refl, ◌≡◌, Some, IfNone, IfSome, ap, sym, ◌∙◌}
-use Rattle.plan_num.proofs.Common.{subst, option_copied, length-map, IfOk-weaker}
+use Rattle.plan_num.proofs.Common.{arith, length, nat_eq, refl, ◌≡◌, Some, IfNone, IfSome, ap, sym}
+use Rattle.plan_num.proofs.Common.{◌∙◌, subst, option_copied, length-map, IfOk-weaker}
 use Rattle.line_cost_model.proofs.Common.{IsFeasible, is_feasible, cost_of}
 use Rattle.line_search.specs.ConceptTables.{concept_rows, frequencies_in, frequency_in, row_count}
 use Rattle.line_search.specs.Judged.{Marks, Passes, first_broken, tree_rule}
@@ -39,15 +39,7 @@ returns-then-not-have_same_cells-clause-first c =
     (sym c.if-not-have_same_cells.true ∙ c.have_same_cells.ensures)
 
 pub returns-then-not-is_feasible-clause-first : goal.returns-then-not-is_feasible-clause-first
-returns-then-not-is_feasible-clause-first c =
-    let problem = c.args.problem.now in
-    out_of_bounds problem c.args.concept.now (option_copied c.args.tree) c.in-Some.table
-    (sym c.in-Some.is ∙ c.in_ok-table.ensures.read) c.in_ok-frequencies.frequencies.items
-    c.in_ok-frequencies.ensures.read c.in_ok-rows_of_concept.field-0
-    (c.in_ok-rows_of_concept.ensures ∙ ap (concept_rows problem) c.deref.ensures.value)
-    (sym c.if-not-have_same_cells.false ∙ c.have_same_cells.ensures)
-    (sym c.if-not-is_feasible.true ∙ c.is_feasible.ensures.test
-    ∙ ap (is_feasible problem) c.deref-2.ensures.value)
+returns-then-not-is_feasible-clause-first c = grind (arith, out_of_bounds, option_copied)
 
 pub returns-in-Some-tree-clause-first : goal.returns-in-Some-tree-clause-first
 returns-in-Some-tree-clause-first c =
@@ -90,27 +82,7 @@ returns-in-Some-tree-clause-passes c =
     c.tree_fault.ensures.marks
 
 pub returns-clause-first : goal.returns-clause-first
-returns-clause-first c =
-    let problem = c.args.problem.now in
-    ap (λ tree. tree_rule problem (cost_of problem c.in_ok-frequencies.frequencies.items)
-    (option_copied tree)) (sym c.in-None.is)
-    ∙ by_tree problem c.args.concept.now (option_copied c.args.tree) c.in-Some.table
-    (sym c.in-Some.is ∙ c.in_ok-table.ensures.read) c.in_ok-frequencies.frequencies.items
-    c.in_ok-frequencies.ensures.read c.in_ok-rows_of_concept.field-0
-    (c.in_ok-rows_of_concept.ensures ∙ ap (concept_rows problem) c.deref.ensures.value)
-    (sym c.if-not-have_same_cells.false ∙ c.have_same_cells.ensures)
-    (sym c.if-not-is_feasible.false ∙ c.is_feasible.ensures.test
-    ∙ ap (is_feasible problem) c.deref-2.ensures.value)
+returns-clause-first c = grind (arith, option_copied, by_tree)
 
 pub returns-clause-passes : goal.returns-clause-passes
-returns-clause-passes c =
-    let problem = c.args.problem.now in
-    let fs = c.in_ok-frequencies.frequencies.items in
-    passes problem c.args.concept.now (option_copied c.args.tree) c.in-Some.table
-    (sym c.in-Some.is ∙ c.in_ok-table.ensures.read) c.in_ok-frequencies.frequencies.items
-    c.in_ok-frequencies.ensures.read c.in_ok-rows_of_concept.field-0
-    (c.in_ok-rows_of_concept.ensures ∙ ap (concept_rows problem) c.deref.ensures.value)
-    (sym c.if-not-have_same_cells.false ∙ c.have_same_cells.ensures)
-    (subst (IsFeasible problem) c.deref-2.ensures.value (c.if-not-is_feasible.ensures.means.0 refl))
-    (subst (λ tree. IfSome (option_copied tree) (λ tree. Marks problem fs tree))
-    (sym c.in-None.is) tt)
+returns-clause-passes c = grind (arith, passes, option_copied)

@@ -1,4 +1,4 @@
-use Rattle.plan_num.proofs.Common.{◌≡◌, subst, sym, ap, ◌∙◌, All, err_from_is_err_and}
+use Rattle.plan_num.proofs.Common.{arith, ◌≡◌, subst, sym, ap, ◌∙◌, All, err_from_is_err_and}
 use Rattle.tables.proofs.Common.{concept_columns, InColumns, UnlessFault-weaker, faults_of_table}
 use Rattle.tables.proofs.Common.{refused_cells, table_in_columns}
 use Rattle.line_search.specs.ConceptTables.{frequencies_in}
@@ -9,9 +9,10 @@ use Rattle.plan_num.proofs.Lists.{unmapped}
 
 pub returns-in_err-table-clause-read : goal.returns-in_err-table-clause-read
 returns-in_err-table-clause-read c =
-    let p = err_from_is_err_and c.from_residual.result c.from_residual.ensures.1 in
-    rw (p.1, p.2) (refused_cells (pinned_input c.args.problem.now) c.args.concept.now
-    c.in_err-table.field-0.0 c.in_err-table.ensures)
+    let p = err_from_is_err_and c.from_residual.result c.from_residual.ensures.1 in grind (
+      arith,
+      refused_cells,
+    )
 
 pub table_frequencies-requires : goal.table_frequencies-requires
 table_frequencies-requires c =

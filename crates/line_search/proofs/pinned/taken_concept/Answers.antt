@@ -1,21 +1,18 @@
-use Rattle.std.proofs.lemmas.Result.{err_from_is_err_and}
+use Rattle.plan_num.proofs.Common.{arith, err_from_is_err_and}
 use Rattle.line_search.proofs.PinnedCalls.{concept_refused, concept_taken, problem_refused}
 use Rattle.line_search.proofs.pinned.taken_concept.Goals as goal
 
 pub returns-in_err-problem : goal.returns-in_err-problem
 returns-in_err-problem c =
-    let p = err_from_is_err_and c.from_residual.result c.from_residual.ensures.1 in
-    rw (p.1, p.2) (problem_refused c.args.bundle.now c.in_err-problem.field-0.0
-    c.in_err-problem.ensures)
+    let p = err_from_is_err_and c.from_residual.result c.from_residual.ensures.1 in grind (
+      arith,
+      problem_refused,
+    )
 
 pub returns-in_err-frequencies : goal.returns-in_err-frequencies
 returns-in_err-frequencies c =
     let p = err_from_is_err_and c.from_residual-in_err-frequencies.result
-    c.from_residual-in_err-frequencies.ensures.1 in
-    let read = c.in_ok-problem.ensures in
-    rw (p.1, p.2) (concept_refused c.args.bundle.now c.in_ok-problem.problem read.0 read.1
-    c.input.result.now c.input.ensures c.in_err-frequencies.field-0.0
-    c.in_err-frequencies.ensures.read)
+    c.from_residual-in_err-frequencies.ensures.1 in grind (arith, concept_refused)
 
 pub returns : goal.returns
 returns c =

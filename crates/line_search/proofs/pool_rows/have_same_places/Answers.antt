@@ -1,4 +1,4 @@
-use Rattle.std.proofs.Common.{◌&&◌, ◌+◌, arith, ap, sym, ◌∙◌}
+use Rattle.plan_num.proofs.Common.{◌&&◌, ◌+◌, arith, ap, sym, ◌∙◌}
 use Rattle.line_search.proofs.SamePlaces.{same_behind, same_from}
 use Rattle.line_search.proofs.pool_rows.have_same_places.Goals as goal
 

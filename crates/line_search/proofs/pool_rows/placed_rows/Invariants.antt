@@ -1,5 +1,5 @@
 -- The rows so far.
-use Rattle.std.proofs.Common.{◌≡◌, map, take}
+use Rattle.plan_num.proofs.Common.{◌≡◌, map, take}
 use Rattle.line_search.specs.PoolPlaces.{placed}
 use Rattle.line_search.proofs.pool_rows.placed_rows.Given as goal
 

@@ -1,4 +1,4 @@
-use Rattle.std.proofs.Common.{ℤ, pos, refl, rules}
+use Rattle.plan_num.proofs.Common.{ℤ, pos, refl, rules}
 use Rattle.std.proofs.lemmas.List.Sorted.{answers_always}
 use Rattle.line_search.specs.declared.pool_rows.PlacedEdge.{PlacedEdge}
 use Rattle.line_search.proofs.Grouped.{sorted_groups}

@@ -1,3 +1,4 @@
+use Rattle.plan_num.proofs.Common.{arith}
 use Rattle.line_search.specs.GivenProblems.{problem_of}
 use Rattle.giv_files.proofs.Common.{right_given}
 use Rattle.line_search.proofs.ConceptReads.{concept_is_right}
@@ -18,9 +19,7 @@ returns-clause-none g c =
     none_told c.args.bundle.now c.searched_concept.result c.searched_concept.ensures.made
 
 pub returns-clause-files : goal.returns-clause-files
-returns-clause-files g c =
-    right_given _ c.searched_concept.result
-    (λ made is. concept_is_right c.args.bundle.now made c.requires.stage c.requires.fits is) c.searched_concept.ensures.made
+returns-clause-files g c = grind (arith, right_given, concept_is_right)
 
 pub returns-clause-whole : goal.returns-clause-whole
 returns-clause-whole g c =

@@ -13,9 +13,10 @@ returns-in_err-problem-clause-made g c =
 
 pub returns-in_err-problem-clause-steps : goal.returns-in_err-problem-clause-steps
 returns-in_err-problem-clause-steps g c =
-    let p = err_from_is_err_and c.from_residual.result c.from_residual.ensures.1 in
-    rw (p.1, p.2) (steps_refused c.args.bundle.now c.args.steps.now c.tick.new.self
-    c.in_err-problem.field-0.0 c.in_err-problem.ensures c.tick.ensures)
+    let p = err_from_is_err_and c.from_residual.result c.from_residual.ensures.1 in grind (
+      arith,
+      steps_refused,
+    )
 
 pub returns-in_err-found-clause-steps : goal.returns-in_err-found-clause-steps
 returns-in_err-found-clause-steps g c =
@@ -31,17 +32,10 @@ returns-in_err-found-clause-steps g c =
 
 pub returns-clause-made : goal.returns-clause-made
 returns-clause-made g c =
-    let budget_is : c.amount-budget.result ≡ budget_of c.args.bundle.now =
-    c.amount-budget.ensures.amount ∙ ap (λ settings. amount settings key.ConceptBudget) c.settings.ensures in
-    let read = c.in_ok-problem.ensures in
-    stage_found c.args.bundle.now c.in_ok-problem.problem c.amount-budget.result c.in_ok-found.found
-    c.search_made.result read.0 read.1 budget_is c.in_ok-found.ensures.found c.search_made.ensures
+    let budget_is : c.amount-budget.result ≡ budget_of c.args.bundle.now = grind arith in
+    grind (arith, stage_found)
 
 pub returns-clause-steps : goal.returns-clause-steps
 returns-clause-steps g c =
-    let budget_is : c.amount-budget.result ≡ budget_of c.args.bundle.now =
-    c.amount-budget.ensures.amount ∙ ap (λ settings. amount settings key.ConceptBudget) c.settings.ensures in
-    let read = c.in_ok-problem.ensures in
-    steps_listed c.args.bundle.now c.args.steps.now c.search_concept.new.steps c.in_ok-problem.problem
-    c.amount-budget.result read.0 read.1 budget_is c.search_made.result
-    (omega (arith, c.tick.ensures, c.in_ok-found.ensures.steps))
+    let budget_is : c.amount-budget.result ≡ budget_of c.args.bundle.now = grind arith in
+    grind (arith, steps_listed)

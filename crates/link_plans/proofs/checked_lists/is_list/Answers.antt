@@ -1,4 +1,4 @@
-use Rattle.std.proofs.Common.{◌+◌, ◌&&◌, drop, get_or, refl, ap, sym, ◌∙◌}
+use Rattle.plan_num.proofs.Common.{◌+◌, ◌&&◌, drop, get_or, refl, ap, sym, ◌∙◌}
 use Rattle.link_plans.specs.CheckedLists.{is_list}
 use Rattle.link_plans.specs.LinkRows.{link_to}
 use Rattle.link_plans.proofs.CheckedRows.{list_step, list_end}

@@ -1,5 +1,5 @@
 -- The rest of the list decides.
-use Rattle.std.proofs.Common.{◌≡◌, drop}
+use Rattle.plan_num.proofs.Common.{◌≡◌, drop}
 use Rattle.link_plans.specs.CheckedLists.{is_list}
 use Rattle.link_plans.proofs.checked_lists.is_list.Given as goal
 

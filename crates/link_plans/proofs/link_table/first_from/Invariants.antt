@@ -1,6 +1,6 @@
 -- What is before the lower end leads to trips before the one, and what is from the upper end on
 -- does not.
-use Rattle.std.proofs.Common.{◌≤◌, ◌-◌, length}
+use Rattle.plan_num.proofs.Common.{◌≤◌, ◌-◌, length}
 use Rattle.link_plans.specs.LinkRows.{AreBefore, AreFrom}
 use Rattle.link_plans.proofs.link_table.first_from.Given as goal
 

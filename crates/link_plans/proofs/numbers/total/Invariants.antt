@@ -1,5 +1,5 @@
 -- The sum of the numbers so far.
-use Rattle.std.proofs.Common.{◌≡◌, ◌≤◌, ◌*◌, sum, take}
+use Rattle.plan_num.proofs.Common.{◌≡◌, ◌≤◌, ◌*◌, sum, take}
 use Rattle.link_plans.proofs.numbers.total.Given as goal
 
 abbrev pub invariant-loop-number : goal.invariant-loop-number

@@ -1,5 +1,5 @@
 -- So many zeros so far.
-use Rattle.std.proofs.Common.{◌≡◌, replicate}
+use Rattle.plan_num.proofs.Common.{◌≡◌, replicate}
 use Rattle.link_plans.proofs.numbers.zeros.Given as goal
 
 abbrev pub invariant-loop-trip : goal.invariant-loop-trip

@@ -1,4 +1,4 @@
-use Rattle.std.proofs.Common.{max, get_or, ap, sym, ◌∙◌, subst, arith}
+use Rattle.plan_num.proofs.Common.{max, get_or, ap, sym, ◌∙◌, subst, arith}
 use Rattle.link_plans.specs.Links.{links_in}
 use Rattle.link_plans.specs.LinkRows.{link_to}
 use Rattle.link_plans.specs.Slacks.{Covers}

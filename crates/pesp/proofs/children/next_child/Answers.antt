@@ -1,4 +1,4 @@
-use Rattle.std.proofs.Common.{◌∙◌, ◌++◌, ◌∷◌, [], refl}
+use Rattle.plan_num.proofs.Common.{◌∙◌, ◌++◌, ◌∷◌, [], refl}
 use Rattle.pesp.proofs.Waiting.{next_from, next_waits, none_waits, nothing_waits}
 use Rattle.pesp.proofs.Waiting.{passed_more, saved_at}
 use Rattle.pesp.proofs.children.next_child.Goals as goal

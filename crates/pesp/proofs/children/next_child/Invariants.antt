@@ -1,5 +1,5 @@
 -- What was restored so far has no child that waits.
-use Rattle.std.proofs.Common.{◌≡◌, ◌++◌, List, length}
+use Rattle.plan_num.proofs.Common.{◌≡◌, ◌++◌, List, length}
 use Rattle.pesp.specs.Marks.{Saved, waiting}
 use Rattle.pesp.proofs.children.next_child.Given as goal
 

@@ -1,4 +1,4 @@
-use Rattle.std.proofs.Common.{◌≡◌, false, subst}
+use Rattle.plan_num.proofs.Common.{◌≡◌, false, subst}
 use Rattle.pesp.specs.Listings.{is_empty}
 use Rattle.pesp.specs.Marks.{Marks, times_from}
 use Rattle.pesp.proofs.Closing.{closes_full}

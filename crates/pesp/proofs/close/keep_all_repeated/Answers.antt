@@ -1,6 +1,6 @@
-use Rattle.std.proofs.Common.{◌≡◌, ◌∙◌, ◌<◌, ◌≤◌, ◌+◌, ◌%◌, ℕ, ap, arith, subst, sym}
+use Rattle.plan_num.proofs.Common.{◌≡◌, ◌∙◌, ◌<◌, ◌≤◌, ◌+◌, ◌%◌, ℕ, ap, arith, subst, sym}
+use Rattle.plan_num.proofs.Common.{false≢true}
 use Rattle.std.proofs.Math.Nat.{mod-lt}
-use Rattle.std.proofs.lemmas.Bool.{false≢true}
 use Rattle.pesp.specs.Cycles.{Repeats}
 use Rattle.pesp.specs.Marks.{Marks}
 use Rattle.pesp.proofs.Closing.{closes_more}

@@ -1,5 +1,5 @@
 -- What is left has all times that come again after as many minutes as were looked at.
-use Rattle.std.proofs.Common.{◌≡◌, ◌<◌, ℕ, Bool, false}
+use Rattle.plan_num.proofs.Common.{◌≡◌, ◌<◌, ℕ, Bool, false}
 use Rattle.pesp.specs.Cycles.{Closes, Repeats}
 use Rattle.pesp.specs.Marks.{marks_left}
 use Rattle.pesp.proofs.close.keep_all_repeated.Given as goal

@@ -1,4 +1,4 @@
-use Rattle.std.proofs.Common.{◌≡◌, ◌<◌, ℕ, subst}
+use Rattle.plan_num.proofs.Common.{◌≡◌, ◌<◌, ℕ, subst}
 use Rattle.bit_rows.specs.Bits.{marked}
 use Rattle.pesp.specs.Marks.{Marks, is_left}
 use Rattle.pesp.specs.Revising.{reaches}

@@ -1,4 +1,4 @@
-use Rattle.std.proofs.Common.{◌%◌, ◌<◌, arith}
+use Rattle.plan_num.proofs.Common.{◌%◌, ◌<◌, arith}
 use Rattle.std.proofs.Math.Nat.{mod-lt}
 use Rattle.pesp.proofs.Ties.{repeats_rest}
 use Rattle.pesp.proofs.cycles.common.Goals as goal

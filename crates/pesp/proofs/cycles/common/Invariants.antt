@@ -1,5 +1,5 @@
 -- What goes over into itself after both numbers does so after those that are at hand.
-use Rattle.std.proofs.Common.{◌<◌, ◌≤◌, ℕ, Bool}
+use Rattle.plan_num.proofs.Common.{◌<◌, ◌≤◌, ℕ, Bool}
 use Rattle.pesp.specs.Cycles.{Repeats}
 use Rattle.pesp.proofs.cycles.common.Given as goal
 

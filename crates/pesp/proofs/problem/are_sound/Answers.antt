@@ -1,4 +1,4 @@
-use Rattle.plan_num.proofs.Common.{refl, sym, ◌∙◌, arith, false≢true, All-from_get_or}
+use Rattle.plan_num.proofs.Common.{refl, arith, false≢true, All-from_get_or}
 use Rattle.pesp.specs.Timetables.{IsActivity}
 use Rattle.pesp.proofs.FirstBroken.{no_activity}
 use Rattle.pesp.proofs.Sound.{sound_more}
@@ -8,9 +8,7 @@ pub loop-activity-init : goal.loop-activity-init
 loop-activity-init c = λ k low. absurd (omega (arith, low))
 
 pub loop-activity-preserved : goal.loop-activity-preserved
-loop-activity-preserved c =
-    sound_more c.args.events c.loop-activity.activity-index c.args.activities.now
-    c.loop-activity.invariant (c.is_sound.ensures.0 c.if-not-is_sound.false)
+loop-activity-preserved c = grind (arith, sound_more)
 
 pub returns : goal.returns
 returns c = (
@@ -20,9 +18,4 @@ returns c = (
 )
 
 pub returns-then-not-is_sound : goal.returns-then-not-is_sound
-returns-then-not-is_sound c = (
-  (λ yes. absurd (false≢true yes)),
-  (λ all. sym c.if-not-is_sound.true
-      ∙ c.is_sound.ensures.1 (all c.loop-activity.activity-index no_activity
-      c.loop-activity-test.true)),
-)
+returns-then-not-is_sound c = grind (arith, false≢true, no_activity)

@@ -1,5 +1,5 @@
 -- The activities so far go from event to event, by bounds in order.
-use Rattle.std.proofs.Common.{ℕ, ◌<◌, get_or}
+use Rattle.plan_num.proofs.Common.{ℕ, ◌<◌, get_or}
 use Rattle.pesp.specs.Timetables.{IsActivity}
 use Rattle.pesp.proofs.FirstBroken.{no_activity}
 use Rattle.pesp.proofs.problem.are_sound.Given as goal

@@ -1,4 +1,4 @@
-use Rattle.std.proofs.Common.{not}
+use Rattle.plan_num.proofs.Common.{not}
 use Rattle.pesp.specs.Timetables.{keeps_in}
 use Rattle.pesp.proofs.FirstBroken.{place_start}
 use Rattle.pesp.proofs.problem.first_broken.Goals as goal

@@ -1,4 +1,4 @@
-use Rattle.std.proofs.Common.{◌∙◌, ◌<◌, ◌*◌, ◌+◌, ap, arith, subst, sym}
+use Rattle.plan_num.proofs.Common.{◌∙◌, ◌<◌, ◌*◌, ◌+◌, ap, arith, subst, sym}
 use Rattle.bit_rows.specs.Bits.{words_of}
 use Rattle.pesp.specs.Marks.{Marks, Prunes}
 use Rattle.pesp.proofs.Pruned.{prune_ended, prune_word, stays_below}

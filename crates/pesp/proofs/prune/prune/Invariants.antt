@@ -1,5 +1,5 @@
 -- The times of the words so far are taken out that have no bit.
-use Rattle.std.proofs.Common.{◌*◌}
+use Rattle.plan_num.proofs.Common.{◌*◌}
 use Rattle.pesp.specs.Marks.{Prunes}
 use Rattle.pesp.proofs.Pruned.{stays_below}
 use Rattle.pesp.proofs.prune.prune.Given as goal

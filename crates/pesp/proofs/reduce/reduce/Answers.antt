@@ -1,4 +1,4 @@
-use Rattle.plan_num.proofs.Common.{◌∙◌, subst, sym, MatchBool-at_false, MatchBool-at_true}
+use Rattle.plan_num.proofs.Common.{arith, ◌∙◌, subst, sym, MatchBool-at_false, MatchBool-at_true}
 use Rattle.pesp.specs.Marks.{AreMarks}
 use Rattle.pesp.specs.Revising.{Dies, Sweeps}
 use Rattle.pesp.proofs.GreatestSets.{stands_dead, stands_greatest, stands_loses_none}
@@ -54,14 +54,19 @@ returns-clause-each c = c.loop-sets.invariant.each ∙ sym c.requires.ready.each
 
 -- the clauses on the greatest sets follow from how the sets stand
 pub returns-then-branch-clause-dead : goal.returns-then-branch-clause-dead
-returns-then-branch-clause-dead c _ =
-    stands_dead c.args.pesp.now c.args.sets.now c.sweep.new.sets
-    (returns-then-branch-clause-reduces c).stands (sym (returns-then-branch-clause-empty c))
+returns-then-branch-clause-dead c _ = grind (
+  arith,
+  stands_dead,
+  returns-then-branch-clause-reduces,
+  returns-then-branch-clause-empty,
+)
 
 pub returns-then-branch-clause-loses_none : goal.returns-then-branch-clause-loses_none
-returns-then-branch-clause-loses_none c =
-    stands_loses_none c.args.pesp.now c.args.sets.now c.sweep.new.sets c.event_count.ensures.problem
-    (returns-then-branch-clause-reduces c).stands
+returns-then-branch-clause-loses_none c = grind (
+  arith,
+  stands_loses_none,
+  returns-then-branch-clause-reduces,
+)
 
 pub returns-clause-greatest : goal.returns-clause-greatest
 returns-clause-greatest c _ =
@@ -69,6 +74,4 @@ returns-clause-greatest c _ =
     (sym (returns-clause-empty c))
 
 pub returns-clause-loses_none : goal.returns-clause-loses_none
-returns-clause-loses_none c =
-    stands_loses_none c.args.pesp.now c.args.sets.now c.loop-sets.sets c.event_count.ensures.problem
-    (returns-clause-reduces c).stands
+returns-clause-loses_none c = grind (arith, stands_loses_none, returns-clause-reduces)

@@ -1,6 +1,5 @@
-use Rattle.std.proofs.Common.{◌∙◌, ap, arith, get_or, length, refl, subst, sym}
+use Rattle.plan_num.proofs.Common.{◌∙◌, arith, get_or, refl, subst, sym}
 use Rattle.pesp.specs.Flags.{Flags}
-use Rattle.pesp.specs.Marks.{Marks, times_from}
 use Rattle.pesp.proofs.Visiting.{IsVisited, visit_begun, visit_died, visit_ended, visit_turn}
 use Rattle.pesp.proofs.reduce.visit_links.Goals as goal
 
@@ -13,8 +12,7 @@ loop-index-init c = record {
       (visit_begun c.args.pesp.now c.args.event c.args.indexes.now c.args.sets.now
       c.args.changed.now (omega (arith, c.requires.event, c.requires.each))
       c.requires.links c.requires.revised);
-  counted = c.count-count.ensures ∙ ap (λ (sets : Marks). length (times_from sets c.args.event 0))
-      c.sets.ensures;
+  counted = grind arith;
 }
 
 pub returns-then-branch-clause-visits : goal.returns-then-branch-clause-visits

@@ -1,5 +1,5 @@
 -- The activities so far are revised unless their sets have changed since.
-use Rattle.std.proofs.Common.{◌≡◌, length}
+use Rattle.plan_num.proofs.Common.{◌≡◌, length}
 use Rattle.pesp.specs.Marks.{times_from}
 use Rattle.pesp.proofs.Visiting.{IsVisited}
 use Rattle.pesp.proofs.reduce.visit_links.Given as goal

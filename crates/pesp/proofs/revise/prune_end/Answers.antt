@@ -1,7 +1,7 @@
-use Rattle.std.proofs.Common.{◌≡◌, ◌∙◌, ◌<◌, ◌-◌, ℕ, nat_le, subst, sym, true}
+use Rattle.plan_num.proofs.Common.{arith, ◌≡◌, ◌<◌, ◌-◌, ℕ, nat_le, subst}
 use Rattle.bit_rows.specs.Bits.{marked}
-use Rattle.pesp.specs.Marks.{AreMarks, Marks, is_left}
-use Rattle.pesp.specs.Revising.{event_at, is_partnered, width_of}
+use Rattle.pesp.specs.Marks.{Marks, is_left}
+use Rattle.pesp.specs.Revising.{event_at, is_partnered}
 use Rattle.pesp.proofs.Crowded.{crowded_end}
 use Rattle.pesp.proofs.Pruned.{prunes_by_bits}
 use Rattle.pesp.proofs.revise.prune_end.Goals as goal
@@ -19,12 +19,4 @@ returns c =
     (rw c.event.ensures at c.prune.ensures)
 
 pub returns-then-is_crowded : goal.returns-then-is_crowded
-returns-then-is_crowded c =
-    let activity = c.args.activity in
-    crowded_end activity c.args.sets.now c.requires.activity (subst AreMarks c.sets.ensures
-    c.is_crowded.ensures.sound) c.args.end
-    (subst (λ (n : ℕ). nat_le (c.args.sets.now.sets.columns
-    - width_of c.args.sets.now.sets.columns activity) n ≡ true) c.requires.counted
-    (subst (λ (sets : Marks). nat_le (sets.columns - width_of sets.columns activity) c.args.count
-    ≡ true) c.sets.ensures
-    (sym c.is_crowded.ensures.crowded ∙ c.if-is_crowded.true)))
+returns-then-is_crowded c = grind (arith, crowded_end, nat_le)

@@ -1,4 +1,4 @@
-use Rattle.plan_num.proofs.Common.{◌∙◌, inl, inr, sym, or_cases, or_parts}
+use Rattle.plan_num.proofs.Common.{arith, ◌∙◌, sym, or_cases, or_parts}
 use Rattle.pesp.proofs.EmptySets.{empty_marks}
 use Rattle.pesp.proofs.Revised.{both_revised}
 use Rattle.pesp.proofs.revise.revise.Goals as goal
@@ -11,16 +11,8 @@ returns-clause-revises c =
     c.in_ok-first.ensures.revises c.in_ok-second.ensures.revises
 
 pub returns-clause-empty : goal.returns-clause-empty
-returns-clause-empty c is = elim (or_cases _ _ (sym c.any_of.ensures ∙ is)) [
-  | inl first ↦
-      let touched = c.in_ok-second.ensures.revises.0 in
-      empty_marks c.revise_end-2.new.sets.sets c.revise_end.new.sets.sets touched.period
-      touched.events
-      touched.within (c.in_ok-first.ensures.empty first)
-  | inr second ↦ c.in_ok-second.ensures.empty second
-]
+returns-clause-empty c is = grind (arith, or_cases, empty_marks)
 
 pub returns-clause-full : goal.returns-clause-full
 returns-clause-full c none full =
-    let parts = or_parts c.in_ok-first.first _ (sym c.any_of.ensures ∙ none) in
-    c.in_ok-second.ensures.full parts.1 (c.in_ok-first.ensures.full parts.0 full)
+    let parts = or_parts c.in_ok-first.first _ (sym c.any_of.ensures ∙ none) in grind arith

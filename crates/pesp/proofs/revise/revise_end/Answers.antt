@@ -1,4 +1,4 @@
-use Rattle.std.proofs.Common.{◌≡◌, ◌∙◌, ℕ, ap, arith, false, subst, sym}
+use Rattle.plan_num.proofs.Common.{◌≡◌, ◌∙◌, ℕ, ap, arith, false, subst, sym}
 use Rattle.pesp.specs.Listings.{is_empty}
 use Rattle.pesp.specs.Marks.{Marks, is_left, times_from}
 use Rattle.pesp.specs.Revising.{RevisesEnd, event_at, is_partnered, noted}

@@ -1,4 +1,4 @@
-use Rattle.std.proofs.Common.{◌∙◌, ◌≤◌, ℕ, ap, arith, sym}
+use Rattle.plan_num.proofs.Common.{◌∙◌, ◌≤◌, ℕ, ap, arith, sym}
 use Rattle.pesp.specs.Marks.{is_left}
 use Rattle.pesp.specs.Revising.{event_at, opens_behind, other_end, reaches, width_of}
 use Rattle.pesp.proofs.Partners.{partner_reached}

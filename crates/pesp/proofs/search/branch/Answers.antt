@@ -1,4 +1,4 @@
-use Rattle.std.proofs.Common.{◌∙◌, ap, position, sym}
+use Rattle.plan_num.proofs.Common.{arith, ◌∙◌, ap, position, sym}
 use Rattle.pesp.specs.Listings.{has_several}
 use Rattle.pesp.specs.Marks.{Marks, sets_of}
 use Rattle.pesp.proofs.Entries.{branched, event_within}
@@ -6,9 +6,7 @@ use Rattle.pesp.proofs.search.branch.Goals as goal
 
 pub save-requires : goal.save-requires
 save-requires c = record {
-  event = event_within c.args.sets.now.sets c.in-Some.event
-      (sym (c.in-Some.ensures ∙ ap (λ (sets : Marks). position has_several (sets_of sets))
-      c.sets.ensures));
+  event = grind (arith, event_within);
 }
 
 pub returns-in_ok-save-in-Some : goal.returns-in_ok-save-in-Some

@@ -1,4 +1,4 @@
-use Rattle.std.proofs.Common.{◌≡◌, arith, subst, sym, true}
+use Rattle.plan_num.proofs.Common.{◌≡◌, arith, subst, sym, true}
 use Rattle.pesp.specs.Marks.{Tracked, is_left}
 use Rattle.pesp.proofs.FirstMarks.{first_of_none, first_of_some}
 use Rattle.pesp.proofs.search.first_sets.Goals as goal

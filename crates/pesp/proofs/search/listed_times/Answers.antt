@@ -1,4 +1,4 @@
-use Rattle.plan_num.proofs.Common.{err_from_is_err_and, ◌∙◌, ◌≡◌, None, Some, arith, subst}
+use Rattle.plan_num.proofs.Common.{err_from_is_err_and, ◌∙◌, ◌≡◌, arith, subst}
 use Rattle.pesp.specs.Searches.{IsSearched, TakesEntry}
 use Rattle.pesp.proofs.EmptySets.{first_full}
 use Rattle.pesp.proofs.Entries.{search_begun, search_ended, search_spent, search_turn, step_within}
@@ -19,34 +19,10 @@ returns-in_err-times-clause-steps g c =
     )
 
 pub returns-in-Found : goal.returns-in-Found
-returns-in-Found g c =
-    let taken = subst (TakesEntry c.args.pesp.now c.loop-entry.sets c.take_entry.new.sets
-    c.take_entry.new.changed)
-    c.in-Found.is
-    c.in_ok-times.ensures in
-    let ended = search_ended c.args.pesp.now c.loop-entry.sets c.loop-entry.entry c.args.budget
-    (Some c.in-Found.times.items) c.loop-entry.invariant.searched c.loop-entry-test.true taken in
-    let listed = ended.3 in
-    record {
-      problem = c.event_count-events.ensures.problem;
-      found = (ended.0, ended.1, ended.2);
-      steps = omega (arith, c.tick.ensures, c.loop-entry.invariant.steps, listed);
-    }
+returns-in-Found g c = grind (arith, search_ended)
 
 pub returns-in-Last : goal.returns-in-Last
-returns-in-Last g c =
-    let taken = subst (TakesEntry c.args.pesp.now c.loop-entry.sets c.take_entry.new.sets
-    c.take_entry.new.changed)
-    c.in-Last.is
-    c.in_ok-times.ensures in
-    let ended = search_ended c.args.pesp.now c.loop-entry.sets c.loop-entry.entry c.args.budget
-    None c.loop-entry.invariant.searched c.loop-entry-test.true taken in
-    let listed = ended.3 in
-    record {
-      problem = c.event_count-events.ensures.problem;
-      found = (ended.0, ended.1);
-      steps = omega (arith, c.tick.ensures, c.loop-entry.invariant.steps, listed);
-    }
+returns-in-Last g c = grind (arith, search_ended)
 
 pub returns : goal.returns
 returns g c =

@@ -1,5 +1,5 @@
 -- The entries so far, each with a step, and those that are listed behind them.
-use Rattle.std.proofs.Common.{◌≡◌, ◌+◌}
+use Rattle.plan_num.proofs.Common.{◌≡◌, ◌+◌}
 use Rattle.pesp.specs.Marks.{IsSettled}
 use Rattle.pesp.specs.Revising.{IsReady}
 use Rattle.pesp.specs.Searches.{IsSearched}

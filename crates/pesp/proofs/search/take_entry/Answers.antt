@@ -1,4 +1,4 @@
-use Rattle.std.proofs.Common.{◌∙◌, subst}
+use Rattle.plan_num.proofs.Common.{◌∙◌, subst}
 use Rattle.pesp.specs.Marks.{IsNextChild}
 use Rattle.pesp.specs.Searches.{Branches}
 use Rattle.pesp.proofs.EmptySets.{settled_within}

@@ -1,4 +1,4 @@
-use Rattle.std.proofs.Common.{arith}
+use Rattle.plan_num.proofs.Common.{arith}
 use Rattle.pesp.proofs.NextSets.{one_time_more, times_are_first}
 use Rattle.pesp.proofs.standing.first_times.Goals as goal
 

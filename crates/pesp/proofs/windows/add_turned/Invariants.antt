@@ -1,5 +1,5 @@
 -- The words so far have what is added to them.
-use Rattle.std.proofs.Common.{◌≡◌, ◌*◌, ℕ, length}
+use Rattle.plan_num.proofs.Common.{◌≡◌, ◌*◌, ℕ, length}
 use Rattle.bit_rows.specs.Bits.{marked}
 use Rattle.pesp.proofs.WordTurns.{added_below}
 use Rattle.pesp.proofs.windows.add_turned.Given as goal

@@ -1,4 +1,4 @@
-use Rattle.std.proofs.Common.{◌≡◌, ◌∙◌, ◌||◌, ℕ, [], ◌∷◌, ap, arith, bit_or, slice_set, subst}
+use Rattle.plan_num.proofs.Common.{◌≡◌, ◌∙◌, ◌||◌, ℕ, [], ◌∷◌, ap, arith, bit_or, slice_set, subst}
 use Rattle.bit_rows.specs.Bits.{marked}
 use Rattle.pesp.specs.Marks.{is_left}
 use Rattle.pesp.specs.Revising.{turned_to}
@@ -10,8 +10,7 @@ pub loop-span-init : goal.loop-span-init
 loop-span-init c = record {
   some = omega arith;
   few = omega arith;
-  wide = word_begun c.args.sets.now c.args.event c.word-times.result c.period-period.ensures.sound
-      c.requires.event c.requires.small c.word-times.ensures.value;
+  wide = grind (arith, word_begun);
 }
 
 pub loop-span-preserved : goal.loop-span-preserved

@@ -1,4 +1,4 @@
-use Rattle.std.proofs.Common.{◌≡◌, ◌∙◌, ◌||◌, ℕ, arith, refl, subst}
+use Rattle.plan_num.proofs.Common.{◌≡◌, ◌∙◌, ◌||◌, ℕ, arith, subst}
 use Rattle.bit_rows.specs.Bits.{marked}
 use Rattle.pesp.specs.Marks.{is_left}
 use Rattle.pesp.specs.Revising.{turned_to}
@@ -12,9 +12,7 @@ loop-wide-init c = record {
   long = c.times_of-times.ensures.long;
   some = omega arith;
   few = omega arith;
-  wide = wide_begun c.args.sets.now.columns (is_left c.args.sets.now c.args.event)
-      c.times_of-times.result
-      (λ time. c.times_of-times.ensures.each time ∙ left_twice c.args.sets.now c.args.event time);
+  wide = grind (arith, wide_begun, left_twice);
 }
 
 pub loop-wide-preserved : goal.loop-wide-preserved
@@ -38,32 +36,11 @@ loop-wide-preserved c =
 
 pub widened-times-requires : goal.widened-times-requires
 widened-times-requires c =
-    let so = c.loop-wide.invariant in
-    let period = c.period-period.ensures in
-    record {
-      some = omega (arith, period.value, period.sound.some);
-      few = omega (arith, period.value, period.sound.few);
-      by = omega (arith, period.value, c.min-by.ensures, c.requires.width);
-      long = so.long;
-      clear = clear_at c.args.sets.now.columns c.period-period.result c.loop-wide.times period.value
-          (wide_clear c.args.sets.now.columns (is_left c.args.sets.now c.args.event) c.loop-wide.wide
-          c.loop-wide.times so.wide);
-    }
+    let so = c.loop-wide.invariant in grind (arith, clear_at, wide_clear)
 
 pub add_turned-requires : goal.add_turned-requires
 add_turned-requires c =
-    let so = c.loop-wide.invariant in
-    let period = c.period-period.ensures in
-    record {
-      some = omega (arith, period.value, period.sound.some);
-      few = omega (arith, period.value, period.sound.few);
-      by = omega (arith, period.value, c.requires.offset);
-      all_long = refl;
-      long = so.long;
-      clear = clear_at c.args.sets.now.columns c.period-period.result c.loop-wide.times period.value
-          (wide_clear c.args.sets.now.columns (is_left c.args.sets.now c.args.event) c.loop-wide.wide
-          c.loop-wide.times so.wide);
-    }
+    let so = c.loop-wide.invariant in grind (arith, clear_at, wide_clear)
 
 pub returns-clause-each : goal.returns-clause-each
 returns-clause-each c =

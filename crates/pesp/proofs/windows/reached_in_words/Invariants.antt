@@ -1,5 +1,5 @@
 -- Among so many minutes from a time on some time is left.
-use Rattle.std.proofs.Common.{◌≡◌, ◌≤◌, ◌+◌, ◌-◌, length}
+use Rattle.plan_num.proofs.Common.{◌≡◌, ◌≤◌, ◌+◌, ◌-◌, length}
 use Rattle.pesp.specs.Marks.{is_left}
 use Rattle.pesp.proofs.WordTurns.{IsWide}
 use Rattle.pesp.proofs.windows.reached_in_words.Given as goal

@@ -1,4 +1,4 @@
-use Rattle.std.proofs.Common.{inl, inr, arith}
+use Rattle.plan_num.proofs.Common.{inl, inr, arith}
 use Rattle.pesp.proofs.OneWord.{not_turned, turned_word}
 use Rattle.pesp.proofs.windows.turned.Goals.{then-by-eq0-via-then-by-eq0}
 use Rattle.pesp.proofs.windows.turned.Goals.{then-by-eq0-via-else-by-eq0+then-by-period}

@@ -1,4 +1,4 @@
-use Rattle.std.proofs.Common.{◌∙◌}
+use Rattle.plan_num.proofs.Common.{◌∙◌}
 use Rattle.bit_rows.proofs.WordBits.{from_place, from_word}
 use Rattle.pesp.proofs.words.word_from.Goals as goal
 

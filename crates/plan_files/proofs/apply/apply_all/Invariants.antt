@@ -1,4 +1,4 @@
-use Rattle.std.proofs.Common.{◌≡◌, take}
+use Rattle.plan_num.proofs.Common.{◌≡◌, take}
 use Rattle.plan_files.specs.Applied.{AreApplied}
 use Rattle.plan_files.proofs.apply.apply_all.Given as goal
 

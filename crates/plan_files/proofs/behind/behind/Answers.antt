@@ -1,4 +1,4 @@
-use Rattle.std.proofs.lemmas.Bool.Decides.{Decides-eqb}
+use Rattle.plan_num.proofs.Common.{Decides-eqb}
 use Rattle.std.proofs.lemmas.Slice.Eq.{strip_prefix_is}
 use Rattle.plan_files.proofs.Fronts.{if_none, if_some}
 use Rattle.plan_files.proofs.behind.behind.Goals as goal

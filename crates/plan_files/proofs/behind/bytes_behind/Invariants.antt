@@ -1,5 +1,5 @@
 -- What stands behind the pieces that are left stands behind all of them.
-use Rattle.std.proofs.Common.{◌≡◌, ◌++◌, List, ℕ, drop, flat_map}
+use Rattle.plan_num.proofs.Common.{◌≡◌, ◌++◌, List, ℕ, drop, flat_map}
 use Rattle.plan_files.proofs.behind.bytes_behind.Given as goal
 
 abbrev pub invariant-loop-piece : goal.invariant-loop-piece

@@ -1,5 +1,5 @@
 -- The digits so far are worth the value, up to the cap.
-use Rattle.std.proofs.Common.{◌≡◌, ◌+◌, min, take}
+use Rattle.plan_num.proofs.Common.{◌≡◌, ◌+◌, min, take}
 use Rattle.plan_num.specs.Number.{value_of, whole_limit}
 use Rattle.plan_num.proofs.number.capped_value.Given as goal
 

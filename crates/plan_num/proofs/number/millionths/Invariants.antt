@@ -1,5 +1,5 @@
 -- What is summed and what the digits behind are worth make the whole.
-use Rattle.std.proofs.Common.{◌≡◌, ◌+◌, drop, length}
+use Rattle.plan_num.proofs.Common.{◌≡◌, ◌+◌, drop, length}
 use Rattle.plan_num.specs.Print.{places}
 use Rattle.plan_num.specs.Number.{value_at}
 use Rattle.plan_num.proofs.number.millionths.Given as goal

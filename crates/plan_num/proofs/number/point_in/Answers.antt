@@ -1,5 +1,5 @@
-use Rattle.std.proofs.Common.{rules, tests}
-use Rattle.std.proofs.lemmas.Iterator.{YieldsList-from_slice}
+use Rattle.plan_num.proofs.Common.{rules, YieldsList-from_slice}
+use Rattle.std.proofs.Common.{tests}
 use Rattle.std.proofs.lemmas.Iterator.Search.{position_from_yields_List}
 use Rattle.plan_num.specs.Number.{is_point}
 use Rattle.plan_num.proofs.Digits.{place_or_length}

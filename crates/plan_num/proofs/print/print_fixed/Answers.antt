@@ -1,4 +1,4 @@
-use Rattle.std.proofs.Common.{arith}
+use Rattle.plan_num.proofs.Common.{arith}
 use Rattle.std.proofs.lemmas.Int.{to_z-of_z}
 use Rattle.plan_num.proofs.ReadBack.{fixed_back, number_back}
 use Rattle.plan_num.proofs.Shortest.{number_shortest}

@@ -1,4 +1,4 @@
-use Rattle.std.proofs.Common.{◌≡◌, arith}
+use Rattle.plan_num.proofs.Common.{◌≡◌, arith}
 use Rattle.plan_num.specs.Print.{places}
 use Rattle.plan_num.proofs.Places.{next_limit, place_positive, digits_more, digits_of_zero}
 use Rattle.plan_num.proofs.Places.{no_places, digit_moves, digits_done, fraction_told}

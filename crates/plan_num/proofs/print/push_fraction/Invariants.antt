@@ -1,6 +1,6 @@
 -- What is written and the digits that are left make the whole fraction, and the next place holds
 -- the rest.
-use Rattle.std.proofs.Common.{◌≡◌, ◌<◌, ◌++◌, drop, get_or}
+use Rattle.plan_num.proofs.Common.{◌≡◌, ◌<◌, ◌++◌, drop, get_or}
 use Rattle.plan_num.specs.Print.{places, digits_at}
 use Rattle.plan_num.proofs.Places.{limits}
 use Rattle.plan_num.proofs.print.push_fraction.Given as goal

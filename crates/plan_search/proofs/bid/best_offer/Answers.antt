@@ -1,4 +1,4 @@
-use Rattle.std.proofs.Common.{get_or, arith}
+use Rattle.plan_num.proofs.Common.{get_or, arith}
 use Rattle.link_plans.proofs.Common.{links_in, link_to, none_past, item}
 use Rattle.plan_search.proofs.Bidding.{offer_all, offer_more}
 use Rattle.plan_search.proofs.bid.best_offer.Goals as goal

@@ -1,4 +1,4 @@
-use Rattle.std.proofs.Common.{◌-◌, slice_set, ap, ◌∙◌}
+use Rattle.plan_num.proofs.Common.{◌-◌, slice_set, ap, ◌∙◌}
 use Rattle.link_plans.proofs.Common.{links_in}
 use Rattle.plan_search.proofs.Bidding.{engaged}
 use Rattle.plan_search.proofs.bid.engage.Goals as goal

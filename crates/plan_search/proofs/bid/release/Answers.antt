@@ -1,3 +1,4 @@
+use Rattle.plan_num.proofs.Common.{arith}
 use Rattle.link_plans.proofs.Common.{links_in}
 use Rattle.plan_search.proofs.Bidding.{released, released_free, released_waits, taken_but}
 use Rattle.plan_search.proofs.bid.release.Goals as goal
@@ -18,5 +19,4 @@ returns-in-Some-clause-waits c = released_waits (links_in c.args.trips.now) c.ar
     c.set_trip.new.potentials c.set_trip.ensures c.take_away.new.self c.take_away.ensures
 
 pub returns-in-None-clause-but : goal.returns-in-None-clause-but
-returns-in-None-clause-but c = taken_but (links_in c.args.trips.now) c.args.potentials.now c.args.assignment.now
-    c.args.place c.requires.taken
+returns-in-None-clause-but c = grind (arith, taken_but)

@@ -1,5 +1,5 @@
 -- So many zeros so far.
-use Rattle.std.proofs.Common.{◌≡◌, replicate}
+use Rattle.plan_num.proofs.Common.{◌≡◌, replicate}
 use Rattle.plan_search.proofs.cells.zeros.Given as goal
 
 abbrev pub invariant-loop-place : goal.invariant-loop-place

@@ -1,4 +1,4 @@
-use Rattle.std.proofs.Common.{sym, subst}
+use Rattle.plan_num.proofs.Common.{sym, subst}
 use Rattle.link_plans.proofs.Common.{certified_best, IsPlan, links_in, AreValid}
 use Rattle.plan_search.proofs.TakenIn.{none_taken_in, all_plan, all_valid}
 use Rattle.plan_search.proofs.cheapest.best_plan.Goals as goal

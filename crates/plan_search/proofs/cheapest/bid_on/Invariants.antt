@@ -1,5 +1,5 @@
 -- The trips that have places are taken in, and a trip bids next.
-use Rattle.std.proofs.Common.{◌<◌, length}
+use Rattle.plan_num.proofs.Common.{◌<◌, length}
 use Rattle.link_plans.proofs.Common.{links_in}
 use Rattle.plan_search.specs.Growing.{IsTaken}
 use Rattle.plan_search.proofs.cheapest.bid_on.Given as goal

@@ -1,4 +1,4 @@
-use Rattle.std.proofs.Common.{◌-◌, length, ap, ◌∙◌, arith}
+use Rattle.plan_num.proofs.Common.{◌-◌, length, ap, ◌∙◌, arith}
 use Rattle.plan_search.specs.Trees.{PlanParts}
 use Rattle.plan_search.proofs.TakenIn.{taken_step}
 use Rattle.plan_search.proofs.cheapest.take_all.Goals as goal

@@ -1,5 +1,5 @@
 -- So many flags are not set so far.
-use Rattle.std.proofs.Common.{◌≡◌, replicate, false}
+use Rattle.plan_num.proofs.Common.{◌≡◌, replicate, false}
 use Rattle.plan_search.proofs.claim.no_flags.Given as goal
 
 abbrev pub invariant-loop-place : goal.invariant-loop-place

@@ -1,5 +1,5 @@
 -- The claims from the step on are left.
-use Rattle.std.proofs.Common.{length}
+use Rattle.plan_num.proofs.Common.{length}
 use Rattle.plan_search.proofs.Flags.{AreLeft}
 use Rattle.plan_search.proofs.claim.take_back.Given as goal
 

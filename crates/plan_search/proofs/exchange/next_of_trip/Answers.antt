@@ -1,4 +1,4 @@
-use Rattle.std.proofs.Common.{arith}
+use Rattle.plan_num.proofs.Common.{arith}
 use Rattle.link_plans.proofs.Common.{item}
 use Rattle.plan_search.proofs.exchange.next_of_trip.Goals as goal
 

@@ -1,4 +1,4 @@
-use Rattle.std.proofs.Common.{sym, ◌∙◌}
+use Rattle.plan_num.proofs.Common.{sym, ◌∙◌}
 use Rattle.plan_search.proofs.HandingOn.{passed_by}
 use Rattle.plan_search.proofs.handing.pass_on.Goals as goal
 

@@ -1,4 +1,4 @@
-use Rattle.std.proofs.Common.{Some, None, get_or, length, ap, ◌∙◌, arith}
+use Rattle.plan_num.proofs.Common.{Some, None, get_or, length, ap, ◌∙◌, arith}
 use Rattle.link_plans.proofs.Common.{links_in, link_to, item, link_covered, link_slack}
 use Rattle.plan_search.specs.Claims.{claim_at}
 use Rattle.plan_search.specs.Growing.{looked}

@@ -1,5 +1,5 @@
 -- What is told of the places up to the one that the next link leads to.
-use Rattle.std.proofs.Common.{◌≤◌, ◌-◌, get_or, length, None}
+use Rattle.plan_num.proofs.Common.{◌≤◌, ◌-◌, get_or, length, None}
 use Rattle.plan_search.specs.Claims.{claim_at}
 use Rattle.plan_search.specs.Growing.{looked}
 use Rattle.link_plans.proofs.Common.{reached, links_in, slack_to}

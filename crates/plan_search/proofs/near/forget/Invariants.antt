@@ -1,5 +1,5 @@
 -- Nothing is near the first places so far.
-use Rattle.std.proofs.Common.{None}
+use Rattle.plan_num.proofs.Common.{None}
 use Rattle.plan_search.proofs.WrittenLists.{IsTold}
 use Rattle.plan_search.proofs.near.forget.Given as goal
 

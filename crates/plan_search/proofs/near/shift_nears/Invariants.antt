@@ -1,5 +1,5 @@
 -- What is told of the first places so far.
-use Rattle.std.proofs.Common.{get_or, None}
+use Rattle.plan_num.proofs.Common.{get_or, None}
 use Rattle.plan_search.specs.Claims.{claim_at}
 use Rattle.plan_search.specs.Growing.{shifted}
 use Rattle.plan_search.proofs.WrittenLists.{IsTold}

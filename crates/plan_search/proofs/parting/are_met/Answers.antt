@@ -1,4 +1,4 @@
-use Rattle.std.proofs.Common.{subst, sym, arith}
+use Rattle.plan_num.proofs.Common.{subst, sym, arith}
 use Rattle.link_plans.proofs.Common.{links_in, by_number}
 use Rattle.plan_search.specs.Parting.{IsMet}
 use Rattle.plan_search.proofs.parting.are_met.Goals as goal

@@ -1,5 +1,5 @@
 -- The trips so far are met.
-use Rattle.std.proofs.Common.{ℕ, ◌<◌}
+use Rattle.plan_num.proofs.Common.{ℕ, ◌<◌}
 use Rattle.link_plans.proofs.Common.{links_in}
 use Rattle.plan_search.specs.Parting.{IsMet}
 use Rattle.plan_search.proofs.parting.are_met.Given as goal

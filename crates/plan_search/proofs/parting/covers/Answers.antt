@@ -1,4 +1,4 @@
-use Rattle.std.proofs.Common.{get_or, arith}
+use Rattle.plan_num.proofs.Common.{get_or, arith}
 use Rattle.link_plans.proofs.Common.{links_in, link_to, none_past, item}
 use Rattle.plan_search.proofs.Parted.{covered_more, row_covers}
 use Rattle.plan_search.proofs.parting.covers.Goals as goal

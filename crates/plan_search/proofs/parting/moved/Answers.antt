@@ -1,19 +1,11 @@
-use Rattle.std.proofs.Common.{◌≡◌, length, slice_set, get_or, ap, ◌∙◌, arith}
-use Rattle.std.proofs.lemmas.List.{length-set, length-replicate}
+use Rattle.plan_num.proofs.Common.{◌≡◌, length, slice_set, get_or, ap, ◌∙◌, arith, length-set}
+use Rattle.plan_num.proofs.Common.{length-replicate}
 use Rattle.link_plans.proofs.Common.{PotentialParts}
 use Rattle.plan_search.proofs.MovedOne.{between_is, moved_more, moved_none}
 use Rattle.plan_search.proofs.parting.moved.Goals as goal
 
 pub loop-i-init : goal.loop-i-init
-loop-i-init c = record {
-  over = record {
-    each_u = ap (λ (some : PotentialParts). length some.u) c.in_ok-moved.ensures
-        ∙ length-replicate c.len-count.result 0 ∙ c.len-count.ensures.count;
-    each_v = ap (λ (some : PotentialParts). length some.v) c.in_ok-moved.ensures
-        ∙ length-replicate c.len-count.result 0 ∙ c.len-count.ensures.count;
-  };
-  moved = moved_none c.args.found.now c.args.assignment.now c.args.potentials.now c.in_ok-moved.moved 0;
-}
+loop-i-init c = grind (arith, length-replicate, moved_none)
 
 pub loop-i-preserved : goal.loop-i-preserved
 loop-i-preserved c =

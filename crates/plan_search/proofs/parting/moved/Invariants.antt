@@ -1,5 +1,5 @@
 -- There is a number for each trip, and those of the trips so far are moved.
-use Rattle.std.proofs.Common.{length}
+use Rattle.plan_num.proofs.Common.{length}
 use Rattle.link_plans.proofs.Common.{AreOver}
 use Rattle.plan_search.specs.Moved.{AreMoved}
 use Rattle.plan_search.proofs.parting.moved.Given as goal

@@ -1,5 +1,5 @@
 -- The marks go on from here as they do from the first ones.
-use Rattle.std.proofs.Common.{◌≡◌, drop, length, nat_lt}
+use Rattle.plan_num.proofs.Common.{◌≡◌, drop, length, nat_lt}
 use Rattle.propagation.specs.LeastTimes.{asked, time_at}
 use Rattle.propagation.specs.Marks.{marked_by}
 use Rattle.propagation.proofs.early.mark_activities.Given as goal

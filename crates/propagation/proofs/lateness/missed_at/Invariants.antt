@@ -1,5 +1,5 @@
 -- The count is that of the changes so far.
-use Rattle.std.proofs.Common.{◌≡◌, ◌≤◌, filter, length, take}
+use Rattle.plan_num.proofs.Common.{◌≡◌, ◌≤◌, filter, length, take}
 use Rattle.propagation.specs.Lateness.{is_missed}
 use Rattle.propagation.proofs.lateness.missed_at.Given as goal
 

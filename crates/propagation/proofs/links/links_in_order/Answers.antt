@@ -1,6 +1,5 @@
-use Rattle.std.proofs.Common.{◌<◌, ◌∙◌, length, List, ℕ, All, subst, sym}
+use Rattle.plan_num.proofs.Common.{arith, ◌<◌, ◌∙◌, length, All, subst, sym}
 use Rattle.propagation.specs.declared.links.Link.{Link}
-use Rattle.propagation.specs.Outgoing.{event_of}
 use Rattle.propagation.proofs.LinksByRank.{events_there, links_start, made_rise, made_there}
 use Rattle.propagation.proofs.links.links_in_order.Goals as goal
 
@@ -13,23 +12,11 @@ of_links-requires c =
 
 pub by_ranks-requires-clause-events : goal.by_ranks-requires-clause-events
 by_ranks-requires-clause-events c =
-    let ranks = c.in_ok-ranks.ranks.items in
-    subst (λ (ranks : List ℕ). All (λ rank. event_of rank < length c.in_ok-outgoing.outgoing.firsts.items) ranks)
-    (sym c.deref-3.ensures.value)
-    (subst (λ n. All (λ rank. event_of rank < n) ranks) (sym c.in_ok-outgoing.ensures.each)
-    (events_there c.args.events.now ranks c.requires.few c.in_ok-ranks.ensures.all))
+    let ranks = c.in_ok-ranks.ranks.items in grind (arith, events_there)
 
 pub returns-clause-all : goal.returns-clause-all
 returns-clause-all c =
-    let events = c.args.events.now in
-    let rides = c.args.rides.now in
-    let turns = c.args.turns.now in
-    let changes = c.args.changes.now in
-    made_there events rides turns changes c.requires.few
-    (links_start events rides turns changes c.requires.rides c.requires.turns c.requires.changes)
-    c.in_ok-ranks.ranks.items c.deref-3.result.now c.deref-2.result.now c.in_ok-links.links.items
-    c.in_ok-ranks.ensures.all (c.deref-2.ensures.value ∙ c.in_ok-all.ensures) c.deref-3.ensures.value
-    c.in_ok-links.ensures
+    let events = c.args.events.now in grind (arith, made_there, links_start)
 
 pub returns-clause-in_order : goal.returns-clause-in_order
 returns-clause-in_order c =

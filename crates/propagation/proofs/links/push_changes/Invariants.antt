@@ -1,5 +1,5 @@
 -- The links so far and those of the changes that are left are all of them.
-use Rattle.std.proofs.Common.{◌≡◌, ◌++◌, drop}
+use Rattle.plan_num.proofs.Common.{◌≡◌, ◌++◌, drop}
 use Rattle.propagation.specs.Links.{change_links}
 use Rattle.propagation.proofs.links.push_changes.Given as goal
 

@@ -1,5 +1,5 @@
-use Rattle.std.proofs.Common.{◌∙◌, ◌+◌, ◌*◌, ◌≤◌, None, ℕ, Vec, ap, sym, subst, drop, length, All, arith}
-use Rattle.std.proofs.lemmas.List.{length-set}
+use Rattle.plan_num.proofs.Common.{◌∙◌, ◌+◌, ◌*◌, ◌≤◌, None, ℕ, Vec, ap, sym, subst, drop, length}
+use Rattle.plan_num.proofs.Common.{All, arith, length-set}
 use Rattle.propagation.specs.Links.{pushed_along}
 use Rattle.propagation.proofs.Passing.{head_soon, link_counts, link_passed, still_soon}
 use Rattle.propagation.proofs.pass.push_along.Goals.{then-counts, else-counts}

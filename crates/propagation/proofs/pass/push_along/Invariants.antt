@@ -1,6 +1,6 @@
 -- The pass goes on from the times so far as it does from the first ones, and no time has grown by more than the
 -- steps so far take.
-use Rattle.std.proofs.Common.{◌≡◌, ◌+◌, ◌*◌, ◌≤◌, drop, length, All}
+use Rattle.plan_num.proofs.Common.{◌≡◌, ◌+◌, ◌*◌, ◌≤◌, drop, length, All}
 use Rattle.propagation.specs.Links.{pushed_along}
 use Rattle.propagation.proofs.pass.push_along.Given as goal
 

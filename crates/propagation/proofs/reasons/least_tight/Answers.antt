@@ -1,6 +1,6 @@
-use Rattle.plan_num.proofs.Common.{◌∙◌, ◌++◌, ℕ, List, length, map, take, get_or, slice_set, Some}
-use Rattle.plan_num.proofs.Common.{None, ap, sym, arith, Vec, Option, items_where_true}
-use Rattle.plan_num.proofs.Common.{range_with_len, reduce, take_more, length-map-range_with_len}
+use Rattle.plan_num.proofs.Common.{◌∙◌, ℕ, List, length, map, take, get_or, slice_set, Some, None}
+use Rattle.plan_num.proofs.Common.{ap, sym, arith, Vec, Option, range_with_len, reduce, take_more}
+use Rattle.plan_num.proofs.Common.{length-map-range_with_len}
 use Rattle.propagation.specs.declared.step.Activity.{Activity}
 use Rattle.propagation.specs.Reasons.{lesser, tight_among}
 use Rattle.propagation.specs.TightIds.{with_id}
@@ -11,17 +11,7 @@ use Rattle.propagation.proofs.reasons.least_tight.Goals.{else-is_chosen_tight}
 use Rattle.propagation.proofs.reasons.least_tight.Goals as goal
 
 pub note-requires : goal.note-requires
-note-requires c =
-    let times = c.args.times.now in
-    let some = take c.loop-ride.ride-index c.args.rides.now in
-    let ends = c.requires.rides c.loop-ride.ride-index none c.loop-ride-test.true in
-    omega (
-      arith,
-      ends.1,
-      ap length c.loop-ride.invariant,
-      length-map-range_with_len
-          (λ event. reduce lesser (tight_among times event some)) 0 (length times),
-    )
+note-requires c = grind (arith, none, length-map-range_with_len)
 
 pub loop-ride-preserved : goal.loop-ride-preserved
 loop-ride-preserved c =
@@ -53,17 +43,7 @@ loop-index-init c =
     c.loop-ride.ride-index (omega (arith, c.loop-ride-test.false))
 
 pub note-requires-then-is_chosen_tight : goal.note-requires-then-is_chosen_tight
-note-requires-then-is_chosen_tight c =
-    let times = c.args.times.now in
-    let some = c.args.rides.now ++ items_where_true c.args.kept.now (take c.loop-index.index c.args.changes.now) in
-    let ends = c.requires.changes c.loop-index.index none c.loop-index-test.true in
-    omega (
-      arith,
-      ends.1,
-      ap length c.loop-index.invariant,
-      length-map-range_with_len
-          (λ event. reduce lesser (tight_among times event some)) 0 (length times),
-    )
+note-requires-then-is_chosen_tight c = grind (arith, none, length-map-range_with_len)
 
 pub loop-index-preserved : goal.loop-index-preserved
 loop-index-preserved c =

@@ -1,6 +1,6 @@
 -- The ids are the least ones of the rides so far, and behind them of the chosen changes so far.
-use Rattle.std.proofs.Common.{◌≡◌, ◌++◌, length, map, take}
-use Rattle.std.specs.List.{items_where_true, range_with_len, reduce}
+use Rattle.plan_num.proofs.Common.{◌≡◌, ◌++◌, length, map, take, items_where_true, range_with_len}
+use Rattle.plan_num.proofs.Common.{reduce}
 use Rattle.propagation.specs.Reasons.{lesser, tight_among}
 use Rattle.propagation.proofs.reasons.least_tight.Given as goal
 

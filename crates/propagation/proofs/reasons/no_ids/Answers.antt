@@ -1,4 +1,4 @@
-use Rattle.std.proofs.Common.{ℕ, None, Option, refl}
+use Rattle.plan_num.proofs.Common.{ℕ, None, Option, refl}
 use Rattle.propagation.proofs.Places.{told_more}
 use Rattle.propagation.proofs.reasons.no_ids.Goals as goal
 

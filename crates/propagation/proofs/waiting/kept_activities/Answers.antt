@@ -1,4 +1,4 @@
-use Rattle.std.proofs.Common.{◌≤◌, length}
+use Rattle.plan_num.proofs.Common.{◌≤◌, length}
 use Rattle.propagation.specs.Problems.{Joins}
 use Rattle.propagation.proofs.Canonical.{kept_told, kept_all}
 use Rattle.propagation.proofs.waiting.kept_activities.Goals as goal

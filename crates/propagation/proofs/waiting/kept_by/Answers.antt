@@ -1,7 +1,7 @@
-use Rattle.std.proofs.Common.{◌≡◌, ◌∙◌, ◌+◌, ◌++◌, drop, map, ℤ, Bool, ap, sym, subst, arith}
+use Rattle.plan_num.proofs.Common.{◌≡◌, ◌∙◌, ◌+◌, ◌++◌, drop, map, ℤ, Bool, ap, sym, subst, arith}
+use Rattle.plan_num.proofs.Common.{append-nil, drop_all}
 use Rattle.std.proofs.lemmas.Int.{to_z-of_z}
 use mir.Syntax.{w64}
-use Rattle.std.proofs.lemmas.List.{append-nil, drop_all}
 use Rattle.propagation.specs.declared.step.Activity.{Activity}
 use Rattle.propagation.specs.LeastTimes.{time_at}
 use Rattle.propagation.specs.Problems.{planned_at}

@@ -1,5 +1,5 @@
 -- What is told of the changes so far and of those that are left is told of all.
-use Rattle.std.proofs.Common.{◌≡◌, ◌+◌, ◌++◌, drop, map}
+use Rattle.plan_num.proofs.Common.{◌≡◌, ◌+◌, ◌++◌, drop, map}
 use Rattle.propagation.specs.LeastTimes.{time_at}
 use Rattle.propagation.specs.Problems.{planned_at}
 use Rattle.propagation.specs.Waiting.{waits}

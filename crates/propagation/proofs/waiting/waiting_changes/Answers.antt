@@ -1,4 +1,4 @@
-use Rattle.std.proofs.Common.{◌≡◌, ◌∙◌, subst, IfOk, to_z, of_z}
+use Rattle.plan_num.proofs.Common.{◌≡◌, ◌∙◌, subst, IfOk, to_z, of_z}
 use Rattle.std.proofs.lemmas.Int.{to_z-of_z}
 use mir.Syntax.{w64}
 use Rattle.propagation.specs.Waiting.{chosen_changes, kept_changes}

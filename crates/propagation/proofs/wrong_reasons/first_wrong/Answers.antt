@@ -1,30 +1,20 @@
-use Rattle.plan_num.proofs.Common.{◌∙◌, ◌&&◌, length, nat_eq, ap, length-map-range_with_len}
-use Rattle.propagation.specs.declared.step.Activity.{Activity}
-use Rattle.propagation.specs.EarlyEvents.{is_just}
-use Rattle.propagation.specs.LeastTimes.{time_at}
-use Rattle.propagation.specs.Marks.{is_source, names}
-use Rattle.propagation.specs.Reasons.{reason_for}
+use Rattle.plan_num.proofs.Common.{arith, nat_eq, length-map-range_with_len}
 use Rattle.propagation.proofs.FirstTold.{wrong_first}
 use Rattle.propagation.proofs.MarksTell.{marked_length}
 use Rattle.propagation.proofs.wrong_reasons.first_wrong.Goals as goal
 
 pub mark_activities-requires-clause-each : goal.mark_activities-requires-clause-each
 mark_activities-requires-clause-each c =
-    let reasons = c.args.reasons.now in
-    ap length c.in_ok-marks.ensures
-    ∙ length-map-range_with_len (λ event. is_source (reason_for reasons event)
-    && nat_eq (time_at c.args.times.now event) (time_at c.args.earliest.now event)) 0 (length c.args.times.now)
+    let reasons = c.args.reasons.now in grind (arith, length-map-range_with_len, nat_eq)
 
 pub mark_turns-requires-clause-each : goal.mark_turns-requires-clause-each
 mark_turns-requires-clause-each c =
-    let reasons = c.args.reasons.now in
-    ap length c.mark_activities.ensures
-    ∙ marked_length (λ (activity : Activity). activity.step.to)
-    (λ activity. names (reason_for reasons activity.step.to) activity.id && is_just c.args.times.now activity.step)
-    c.args.activities.now c.in_ok-marks.marks.items
-    ∙ ap length c.in_ok-marks.ensures
-    ∙ length-map-range_with_len (λ event. is_source (reason_for reasons event)
-    && nat_eq (time_at c.args.times.now event) (time_at c.args.earliest.now event)) 0 (length c.args.times.now)
+    let reasons = c.args.reasons.now in grind (
+      arith,
+      marked_length,
+      length-map-range_with_len,
+      nat_eq,
+    )
 
 pub returns : goal.returns
 returns c =

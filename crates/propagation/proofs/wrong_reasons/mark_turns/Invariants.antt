@@ -1,5 +1,5 @@
 -- The marks go on from here as they do from the first ones.
-use Rattle.std.proofs.Common.{◌≡◌, ◌&&◌, drop, length}
+use Rattle.plan_num.proofs.Common.{◌≡◌, ◌&&◌, drop, length}
 use Rattle.propagation.specs.EarlyEvents.{is_just}
 use Rattle.propagation.specs.Marks.{is_turn, marked_by}
 use Rattle.propagation.specs.Reasons.{reason_for}

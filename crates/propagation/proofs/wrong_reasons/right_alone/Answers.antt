@@ -1,4 +1,4 @@
-use Rattle.std.proofs.Common.{◌&&◌, ℕ, Bool, nat_eq}
+use Rattle.plan_num.proofs.Common.{◌&&◌, ℕ, Bool, nat_eq}
 use Rattle.propagation.specs.LeastTimes.{time_at}
 use Rattle.propagation.specs.Marks.{is_source}
 use Rattle.propagation.specs.Reasons.{reason_for}

@@ -1,5 +1,5 @@
-use Rattle.std.proofs.Common.{◌+◌, ◌++◌, length, map, take, get_or, ap, sym, arith, ◌∙◌}
-use Rattle.std.specs.List.{enumerate_from}
+use Rattle.plan_num.proofs.Common.{◌+◌, ◌++◌, length, map, take, get_or, ap, sym, arith, ◌∙◌}
+use Rattle.plan_num.proofs.Common.{enumerate_from}
 use Rattle.roll_out.specs.DayTrips.{no_timed}
 use Rattle.roll_out.specs.Plans.{copies_at}
 use Rattle.roll_out.proofs.Added.{enumerated_more, enumerated_all, added_one}

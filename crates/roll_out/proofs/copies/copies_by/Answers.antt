@@ -1,4 +1,4 @@
-use Rattle.std.proofs.Common.{◌+◌}
+use Rattle.plan_num.proofs.Common.{◌+◌}
 use Rattle.roll_out.specs.Plans.{plan_copies, copies_by, event_total}
 use Rattle.roll_out.proofs.Growing.{all_moved, moved, plan_size, total_left, copies_more, copies_none}
 use Rattle.roll_out.proofs.copies.copies_by.Goals as goal

@@ -1,5 +1,5 @@
 -- What holds before each turn.
-use Rattle.std.proofs.Common.{◌≡◌, ◌+◌, ◌++◌, drop}
+use Rattle.plan_num.proofs.Common.{◌≡◌, ◌+◌, ◌++◌, drop}
 use Rattle.roll_out.specs.Plans.{copies_by, event_total}
 use Rattle.roll_out.proofs.copies.copies_by.Given as goal
 

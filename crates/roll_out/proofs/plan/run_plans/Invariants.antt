@@ -1,5 +1,5 @@
 -- What holds before each turn.
-use Rattle.std.proofs.Common.{◌≡◌, map, take}
+use Rattle.plan_num.proofs.Common.{◌≡◌, map, take}
 use Rattle.roll_out.specs.Plans.{plan_of}
 use Rattle.roll_out.proofs.plan.run_plans.Given as goal
 

@@ -1,5 +1,5 @@
-use Rattle.std.proofs.Common.{◌+◌, ◌-◌, ◌++◌, length, drop, get_or, arith, ap, sym, ◌∙◌}
-use Rattle.std.proofs.lemmas.List.{append-nil, drop_all, length-drop, take_all}
+use Rattle.plan_num.proofs.Common.{◌+◌, ◌-◌, length, drop, get_or, arith, ap, ◌∙◌, append-nil}
+use Rattle.plan_num.proofs.Common.{drop_all, length-drop, take_all}
 use Rattle.roll_out.specs.TimedRuns.{no_event, timed_from, way_on}
 use Rattle.roll_out.proofs.Growing.{timed_moved, timed_none}
 use Rattle.roll_out.proofs.plan.timed_events.Goals as goal
@@ -23,10 +23,8 @@ loop-place-preserved c = record {
 
 pub returns : goal.returns
 returns c =
-    let over = drop_all c.loop-place.place c.args.run.now c.loop-place-test.false in
-    sym (append-nil c.loop-place.events.items)
-    ∙ ap (λ ys. c.loop-place.events.items ++ ys)
-    (sym (timed_none c.args.network.now c.loop-place.minutes))
-    ∙ ap (λ rest. c.loop-place.events.items ++ timed_from c.args.network.now c.loop-place.minutes
-    rest) (sym over)
-    ∙ c.loop-place.invariant.told
+    let over = drop_all c.loop-place.place c.args.run.now c.loop-place-test.false in grind (
+      arith,
+      append-nil,
+      timed_none,
+    )

@@ -1,5 +1,5 @@
 -- What holds before each turn.
-use Rattle.std.proofs.Common.{◌≡◌, ◌++◌, ◌*◌, ◌≤◌, drop}
+use Rattle.plan_num.proofs.Common.{◌≡◌, ◌++◌, ◌*◌, ◌≤◌, drop}
 use Rattle.roll_out.specs.TimedRuns.{timed_from}
 use Rattle.roll_out.proofs.plan.timed_events.Given as goal
 

@@ -1,4 +1,4 @@
-use Rattle.std.proofs.Common.{IfSome, ◌∙◌, ap, find, subst, sym}
+use Rattle.plan_num.proofs.Common.{IfSome, ◌∙◌, ap, find, subst, sym}
 use Rattle.event_tables.proofs.Common.{PeriodicEvent, leads}
 use Rattle.roll_out.specs.Plans.{IsBetween}
 use Rattle.plan_num.proofs.Found.{found_has}

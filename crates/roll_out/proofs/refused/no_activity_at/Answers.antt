@@ -1,4 +1,4 @@
-use Rattle.std.proofs.Common.{All, arith, lit<, subst}
+use Rattle.plan_num.proofs.Common.{All, arith, lit<, subst}
 use Rattle.event_tables.proofs.Common.{periodic_activity_input, periodic_event_ids, IsOneOf}
 use Rattle.roll_out.proofs.RuleRows.{activities_counted, cells_fine}
 use Rattle.roll_out.proofs.refused.no_activity_at.Goals as goal

@@ -1,4 +1,4 @@
-use Rattle.std.proofs.Common.{All, arith, lit<, subst}
+use Rattle.plan_num.proofs.Common.{All, arith, lit<, subst}
 use Rattle.event_tables.proofs.Common.{periodic_event_input, IsOneOf}
 use Rattle.roll_out.proofs.RuleRows.{cells_fine, events_counted}
 use Rattle.roll_out.proofs.refused.no_event_at.Goals as goal

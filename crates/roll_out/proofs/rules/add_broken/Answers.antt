@@ -1,8 +1,8 @@
-use Rattle.std.proofs.Common.{◌≡◌, ◌+◌, ◌++◌, length, take, get_or, sym, ap, arith, ◌∙◌}
+use Rattle.plan_num.proofs.Common.{◌≡◌, ◌+◌, ◌++◌, length, take, get_or, sym, ap, arith, ◌∙◌}
+use Rattle.plan_num.proofs.Common.{enumerate_from}
 use Rattle.event_tables.proofs.Common.{breaks}
 use Rattle.roll_out.proofs.Added.{added_test, enumerated_more, ids_where, enumerated_all}
 use Rattle.roll_out.specs.TimedRuns.{no_event}
-use Rattle.std.specs.List.{enumerate_from}
 use Rattle.roll_out.proofs.rules.add_broken.Goals as goal
 
 pub loop-place-preserved : goal.loop-place-preserved

@@ -1,4 +1,4 @@
-use Rattle.std.proofs.Common.{◌++◌, ◌-◌, take, get_or, ap, sym, arith, ◌∙◌}
+use Rattle.plan_num.proofs.Common.{◌++◌, ◌-◌, take, get_or, ap, sym, arith, ◌∙◌}
 use Rattle.event_tables.proofs.Common.{neighbours, lacks_way}
 use Rattle.roll_out.specs.TimedRuns.{no_event}
 use Rattle.roll_out.proofs.Added.{added_test, ids_where}

@@ -1,5 +1,5 @@
 -- What holds before each turn.
-use Rattle.std.proofs.Common.{◌≡◌, ◌++◌, ◌-◌, take}
+use Rattle.plan_num.proofs.Common.{◌≡◌, ◌++◌, ◌-◌, take}
 use Rattle.event_tables.proofs.Common.{neighbours, lacks_way}
 use Rattle.roll_out.proofs.Added.{ids_where}
 use Rattle.roll_out.proofs.rules.add_unjoined.Given as goal

@@ -1,5 +1,5 @@
 -- What holds before each turn.
-use Rattle.std.proofs.Common.{◌≡◌, map, filter, take}
+use Rattle.plan_num.proofs.Common.{◌≡◌, map, filter, take}
 use Rattle.event_tables.proofs.Common.{PeriodicActivity, is_stray}
 use Rattle.roll_out.proofs.rules.stray_activities.Given as goal
 

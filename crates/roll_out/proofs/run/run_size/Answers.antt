@@ -1,4 +1,4 @@
-use Rattle.std.proofs.Common.{arith, sym}
+use Rattle.plan_num.proofs.Common.{arith, sym}
 use Rattle.roll_out.specs.TimedRuns.{no_event}
 use Rattle.roll_out.proofs.RunsInTurn.{run_begins, run_ends, run_goes_on, run_over}
 use Rattle.roll_out.proofs.run.run_size.Goals as goal

@@ -1,5 +1,5 @@
 -- What holds before each turn.
-use Rattle.std.proofs.Common.{◌≡◌, ◌-◌, take, drop, get_or}
+use Rattle.plan_num.proofs.Common.{◌≡◌, ◌-◌, take, drop, get_or}
 use Rattle.event_tables.proofs.Common.{runs_of}
 use Rattle.roll_out.specs.TimedRuns.{no_event}
 use Rattle.roll_out.proofs.RunsInTurn.{onto}

@@ -1,5 +1,5 @@
 -- What holds before each turn.
-use Rattle.std.proofs.Common.{◌≡◌, ◌++◌, length}
+use Rattle.plan_num.proofs.Common.{◌≡◌, ◌++◌, length}
 use Rattle.event_tables.proofs.Common.{runs_of}
 use Rattle.roll_out.proofs.run.runs_of.Given as goal
 

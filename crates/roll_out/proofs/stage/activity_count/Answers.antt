@@ -1,4 +1,4 @@
-use Rattle.std.proofs.Common.{length, ap, ◌∙◌}
+use Rattle.plan_num.proofs.Common.{length, ap, ◌∙◌}
 use Rattle.roll_out.proofs.RolloutCalls.{activities_counted}
 use Rattle.roll_out.proofs.stage.activity_count.Goals as goal
 

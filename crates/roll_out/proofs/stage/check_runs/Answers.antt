@@ -1,9 +1,7 @@
-use Rattle.plan_num.proofs.Common.{All, length, map, ap, subst, sym, ◌∙◌, flat_map}
+use Rattle.plan_num.proofs.Common.{arith, All, length, map, ap, subst, sym, ◌∙◌, flat_map}
 use Rattle.plan_num.proofs.Common.{err_from_is_err_and}
-use Rattle.giv_files.proofs.Common.{input_text}
-use Rattle.event_tables.proofs.Common.{IsOneOf, broken_events, broken_in, stray_activities}
-use Rattle.event_tables.proofs.Common.{unjoined_events, unjoined_in}
-use Rattle.pesp_model.specs.PespTexts.{activities_of, events_of}
+use Rattle.event_tables.proofs.Common.{IsOneOf, broken_events, broken_in, unjoined_events}
+use Rattle.event_tables.proofs.Common.{unjoined_in}
 use Rattle.roll_out.proofs.FilesRead.{activities_fine, events_fine}
 use Rattle.roll_out.proofs.RuleRows.{activities_told, activity_id, broken_ids, event_id, event_refused, run_refused, stray_ids, unjoined_ids}
 use Rattle.roll_out.proofs.SoundPlans.{ids_in, runs_there}
@@ -15,25 +13,12 @@ no_event_at-requires-clause-read c =
 
 pub no_event_at-requires-clause-there : goal.no_event_at-requires-clause-there
 no_event_at-requires-clause-there c =
-    let events = c.args.network.now.events in
-    let are = c.deref.ensures.value ∙ c.in_ok-broken.ensures
-    ∙ ap (λ runs. map event_id (flat_map broken_in runs)) c.requires.runs in
-    let same = ap (λ n. length n.events) c.requires.network
-    ∙ ap (λ text. length (events_of text)) (sym c.input-text.ensures) in
-    subst (λ n. All (IsOneOf n) c.deref.result.now) same
-    (subst (All (IsOneOf (length events))) (sym are)
-    (broken_ids events (ids_in c.args.network.now c.events-events.ensures.sound)))
+    let events = c.args.network.now.events in grind (arith, event_id, broken_ids, ids_in)
 
 pub returns-in_err-no_event_at : goal.returns-in_err-no_event_at
 returns-in_err-no_event_at c =
     let p = err_from_is_err_and c.from_residual-in_err-no_event_at.result
-    c.from_residual-in_err-no_event_at.ensures.1 in
-    let are = c.deref.ensures.value ∙ c.in_ok-broken.ensures
-    ∙ ap (λ runs. map event_id (flat_map broken_in runs)) c.requires.runs
-    ∙ ap (λ n. map event_id (broken_events n.events)) c.requires.network in
-    rw (p.1, p.2) (run_refused c.args.bundle.now c.deref.result.now c.in_err-no_event_at.field-0.0
-    are
-    (rw c.input-text.ensures at c.in_err-no_event_at.ensures))
+    c.from_residual-in_err-no_event_at.ensures.1 in grind (arith, event_id, run_refused)
 
 pub unjoined_events-requires : goal.unjoined_events-requires
 unjoined_events-requires c =
@@ -46,15 +31,7 @@ no_event_at-requires-2-clause-read c =
 
 pub no_event_at-requires-2-clause-there : goal.no_event_at-requires-2-clause-there
 no_event_at-requires-2-clause-there c =
-    let events = c.args.network.now.events in
-    let activities = c.args.network.now.activities in
-    let are = c.deref-2.ensures.value ∙ c.in_ok-unjoined.ensures
-    ∙ ap (λ runs. map event_id (flat_map (unjoined_in activities) runs)) c.requires.runs in
-    let same = ap (λ n. length n.events) c.requires.network
-    ∙ ap (λ text. length (events_of text)) (sym c.input-text.ensures) in
-    subst (λ n. All (IsOneOf n) c.deref-2.result.now) same
-    (subst (All (IsOneOf (length events))) (sym are)
-    (unjoined_ids events (ids_in c.args.network.now c.events-events.ensures.sound) activities))
+    let events = c.args.network.now.events in grind (arith, event_id, unjoined_ids, ids_in)
 
 pub returns-in_err-no_event_at-2 : goal.returns-in_err-no_event_at-2
 returns-in_err-no_event_at-2 c =
@@ -79,39 +56,15 @@ no_activity_at-requires-clause-read c =
 
 pub no_activity_at-requires-clause-there : goal.no_activity_at-requires-clause-there
 no_activity_at-requires-clause-there c =
-    let events = c.args.network.now.events in
-    let activities = c.args.network.now.activities in
-    let are = c.deref-3.ensures.value ∙ c.in_ok-stray.ensures
-    ∙ ap (λ some. map activity_id (stray_activities some c.activities.result.now))
-    c.events-events.ensures.events
-    ∙ ap (λ some. map activity_id (stray_activities events some))
-    c.activities.ensures.activities in
-    let same = ap (λ n. length n.activities) c.requires.network
-    ∙ ap (λ n. length (activities_of n.events (input_text c.args.bundle.now 1)))
-    (sym c.requires.network)
-    ∙ ap (λ some. length (activities_of some (input_text c.args.bundle.now 1)))
-    (sym c.events-events.ensures.events)
-    ∙ ap (λ text. length (activities_of c.events-events.result.now text))
-    (sym c.input-text-2.ensures) in
-    subst (λ n. All (IsOneOf n) c.deref-3.result.now) same
-    (subst (All (IsOneOf (length activities))) (sym are)
-    (stray_ids events activities c.events-events.ensures.sound.activities_are.numbered))
+    let events = c.args.network.now.events in grind (arith, activity_id, stray_ids)
 
 pub returns : goal.returns
 returns c =
     let first = c.deref.ensures.value ∙ c.in_ok-broken.ensures
     ∙ ap (λ runs. map event_id (flat_map broken_in runs)) c.requires.runs
-    ∙ ap (λ n. map event_id (broken_events n.events)) c.requires.network in
-    let second = c.deref-2.ensures.value ∙ c.in_ok-unjoined.ensures
-    ∙ ap (λ runs. map event_id (flat_map (unjoined_in c.args.network.now.activities) runs))
-    c.requires.runs
-    ∙ ap (λ n. map event_id (unjoined_events n.events n.activities)) c.requires.network in
-    let are = c.deref-3.ensures.value ∙ c.in_ok-stray.ensures
-    ∙ ap (λ some. map activity_id (stray_activities some c.activities.result.now))
-    c.events-events.ensures.events
-    ∙ ap (λ some. map activity_id (stray_activities c.args.network.now.events some))
-    c.activities.ensures.activities
-    ∙ ap (λ n. map activity_id (stray_activities n.events n.activities)) c.requires.network in
-    activities_told c.args.bundle.now c.deref.result.now first c.in_ok-no_event_at.ensures.1
-    c.deref-2.result.now second c.in_ok-no_event_at-2.ensures.1 c.deref-3.result.now
-    c.no_activity_at.result are (rw c.input-text-2.ensures at c.no_activity_at.ensures)
+    ∙ ap (λ n. map event_id (broken_events n.events)) c.requires.network in grind (
+      arith,
+      event_id,
+      activity_id,
+      activities_told,
+    )

@@ -1,4 +1,4 @@
-use Rattle.std.proofs.Common.{All, arith, subst, sym, ◌∙◌}
+use Rattle.plan_num.proofs.Common.{All, arith, subst, sym, ◌∙◌}
 use Rattle.tables.proofs.Common.{trips_columns, InColumns}
 use Rattle.event_tables.proofs.Common.{trip_cells}
 use Rattle.roll_out.specs.RolloutStage.{rollout_made}

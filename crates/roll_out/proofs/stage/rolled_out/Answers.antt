@@ -1,4 +1,4 @@
-use Rattle.std.proofs.Common.{◌≡◌, ap, subst, ◌∙◌}
+use Rattle.plan_num.proofs.Common.{◌≡◌, ap, subst, ◌∙◌}
 use Rattle.tables.proofs.Common.{UnlessFault}
 use Rattle.roll_out.specs.Plans.{trips_by}
 use Rattle.roll_out.specs.RolloutStage.{long_lists, made_of}

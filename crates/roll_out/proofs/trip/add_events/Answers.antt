@@ -1,5 +1,5 @@
-use Rattle.std.proofs.Common.{◌+◌, ◌++◌, length, map, take, get_or, ap, sym, arith, ◌∙◌}
-use Rattle.std.specs.List.{enumerate_from}
+use Rattle.plan_num.proofs.Common.{◌+◌, ◌++◌, length, map, take, get_or, ap, sym, arith, ◌∙◌}
+use Rattle.plan_num.proofs.Common.{enumerate_from}
 use Rattle.roll_out.specs.DayTrips.{day_event, no_timed}
 use Rattle.roll_out.proofs.Added.{enumerated_more, enumerated_all, added_one}
 use Rattle.roll_out.proofs.trip.add_events.Goals as goal

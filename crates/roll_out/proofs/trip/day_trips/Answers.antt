@@ -1,4 +1,4 @@
-use Rattle.std.proofs.Common.{◌+◌}
+use Rattle.plan_num.proofs.Common.{◌+◌}
 use Rattle.roll_out.specs.Plans.{plan_trips, trips_by, event_total}
 use Rattle.roll_out.proofs.Growing.{all_moved, moved, plan_size, total_left, trips_more, trips_none}
 use Rattle.roll_out.proofs.trip.day_trips.Goals as goal

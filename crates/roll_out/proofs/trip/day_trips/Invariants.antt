@@ -1,5 +1,5 @@
 -- What holds before each turn.
-use Rattle.std.proofs.Common.{◌≡◌, ◌+◌, ◌++◌, drop}
+use Rattle.plan_num.proofs.Common.{◌≡◌, ◌+◌, ◌++◌, drop}
 use Rattle.roll_out.specs.Plans.{event_total, trips_by}
 use Rattle.roll_out.proofs.trip.day_trips.Given as goal
 

@@ -1,5 +1,5 @@
 -- What holds before each turn.
-use Rattle.std.proofs.Common.{◌≡◌, ◌*◌, ◌≤◌, take}
+use Rattle.plan_num.proofs.Common.{◌≡◌, ◌*◌, ◌≤◌, take}
 use Rattle.roll_out.specs.Plans.{event_total}
 use Rattle.roll_out.proofs.trip.event_count.Given as goal
 

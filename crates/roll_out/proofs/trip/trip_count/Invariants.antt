@@ -1,5 +1,5 @@
 -- What holds before each turn.
-use Rattle.std.proofs.Common.{◌≡◌, ◌*◌, ◌≤◌, take}
+use Rattle.plan_num.proofs.Common.{◌≡◌, ◌*◌, ◌≤◌, take}
 use Rattle.roll_out.specs.Plans.{trip_total}
 use Rattle.roll_out.proofs.trip.trip_count.Given as goal
 

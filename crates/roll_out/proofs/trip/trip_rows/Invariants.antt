@@ -1,5 +1,5 @@
 -- What holds before each turn.
-use Rattle.std.proofs.Common.{◌≡◌, map, take}
+use Rattle.plan_num.proofs.Common.{◌≡◌, map, take}
 use Rattle.roll_out.specs.DayTrips.{trip_row}
 use Rattle.roll_out.proofs.trip.trip_rows.Given as goal
 

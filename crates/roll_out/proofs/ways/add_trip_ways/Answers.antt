@@ -1,5 +1,5 @@
-use Rattle.std.proofs.Common.{ℕ, ◌+◌, ◌++◌, length, take, get_or, ap, sym, arith, ◌∙◌}
-use Rattle.std.specs.List.{enumerate_from, flat_map}
+use Rattle.plan_num.proofs.Common.{ℕ, ◌+◌, ◌++◌, length, take, get_or, ap, sym, arith, ◌∙◌}
+use Rattle.plan_num.proofs.Common.{enumerate_from, flat_map}
 use Rattle.roll_out.specs.declared.timed_event.TimedEvent.{TimedEvent}
 use Rattle.roll_out.specs.DayActivities.{way_from}
 use Rattle.roll_out.specs.DayTrips.{no_timed}

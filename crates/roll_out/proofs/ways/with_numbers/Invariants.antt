@@ -1,5 +1,5 @@
 -- What holds before each turn.
-use Rattle.std.proofs.Common.{◌≡◌, take}
+use Rattle.plan_num.proofs.Common.{◌≡◌, take}
 use Rattle.roll_out.specs.DayActivities.{with_numbers}
 use Rattle.roll_out.proofs.ways.with_numbers.Given as goal
 

@@ -1,4 +1,4 @@
-use Rattle.std.proofs.Common.{◌∷◌, [], ap, ◌∙◌}
+use Rattle.plan_num.proofs.Common.{◌∷◌, [], ap, ◌∙◌}
 use Rattle.stage_chain.specs.Progress.{with_made}
 use Rattle.stage_chain.proofs.HandKept.{more_no_hand}
 use Rattle.stage_chain.proofs.chain.make.Goals as goal

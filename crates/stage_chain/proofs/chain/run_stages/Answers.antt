@@ -16,8 +16,7 @@ loop-stage-init g c = record {
   reads = nothing_read _ _ _ _;
   none = names_none _ c.requires;
   least = omega arith;
-  rest = told_first g.S.Stages.parts g.met.S.Stages.laws (solve_over g.S.Stages.parts) _ c.args.config.now
-      c.deref-stage-items.result.now c.args.progress.now c.args.steps.now c.requires;
+  rest = grind (arith, told_first);
 }
 
 pub loop-stage-preserved : goal.loop-stage-preserved

@@ -1,4 +1,4 @@
-use Rattle.std.proofs.Common.{subst}
+use Rattle.plan_num.proofs.Common.{subst}
 use Rattle.plan_files.proofs.Common.{OnlyReads}
 use Rattle.stage_chain.proofs.Passed.{told_passes, unsettled_passes}
 use Rattle.stage_chain.proofs.Judging.{told_settled, told_unsettled, unsettled_failed}

@@ -1,4 +1,4 @@
-use Rattle.std.proofs.Common.{sym, ◌∙◌}
+use Rattle.plan_num.proofs.Common.{sym, ◌∙◌}
 use Rattle.plan_files.proofs.Common.{both_read}
 use Rattle.giv_files.proofs.Common.{Load}
 use Rattle.stage_chain.proofs.Judging.{told_some, told_none}

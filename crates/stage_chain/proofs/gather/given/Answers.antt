@@ -1,6 +1,6 @@
-use Rattle.std.proofs.Common.{◌≡◌, Err, ap, ◌∙◌, ◌∷◌, [], ◌+◌, length, length-append}
+use Rattle.plan_num.proofs.Common.{◌≡◌, Err, ap, ◌∙◌, ◌∷◌, [], ◌+◌, length, length-append}
+use Rattle.plan_num.proofs.Common.{err_from_is_err_and}
 use Rattle.plan_files.proofs.Common.{both_read}
-use Rattle.std.proofs.lemmas.Result.{err_from_is_err_and}
 use Rattle.tables.proofs.Common.{Stop}
 use Rattle.giv_files.proofs.Common.{BundleParts}
 use Rattle.stage_chain.specs.Chain.{bundle_for}

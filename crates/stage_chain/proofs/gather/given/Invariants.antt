@@ -1,4 +1,4 @@
-use Rattle.std.proofs.Common.{◌≡◌, false, IfSome, drop, length, option_copied}
+use Rattle.plan_num.proofs.Common.{◌≡◌, false, IfSome, drop, length, option_copied}
 use Rattle.plan_files.proofs.Common.{OnlyReads}
 use Rattle.stage_chain.specs.Looks.{look_over}
 use Rattle.stage_chain.proofs.Gathering.{so_far_in}

@@ -1,4 +1,4 @@
-use Rattle.std.proofs.Common.{◌≡◌, drop}
+use Rattle.plan_num.proofs.Common.{◌≡◌, drop}
 use Rattle.stage_chain.specs.Chain.{made_text}
 use Rattle.stage_chain.proofs.gather.made_text.Given as goal
 

@@ -1,4 +1,4 @@
-use Rattle.std.proofs.Common.{subst}
+use Rattle.plan_num.proofs.Common.{subst}
 use Rattle.plan_files.proofs.Common.{OnlyReads}
 use Rattle.stage_chain.proofs.Passed.{ended_stands, told_stands}
 use Rattle.stage_chain.proofs.Judging.{ended_failed, judged_given, judged_ended}

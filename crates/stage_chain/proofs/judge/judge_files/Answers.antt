@@ -1,4 +1,4 @@
-use Rattle.std.proofs.Common.{IfNone, refl, ap, subst, ◌∙◌, option_map}
+use Rattle.plan_num.proofs.Common.{IfNone, refl, ap, subst, ◌∙◌, option_map}
 use Rattle.giv_files.proofs.Common.{MakesAs, ids_of}
 use Rattle.stage_chain.proofs.Judging.{judged_there}
 use Rattle.stage_chain.proofs.Passed.{told_there}

@@ -1,4 +1,4 @@
-use Rattle.std.proofs.Common.{ap, ◌∙◌}
+use Rattle.plan_num.proofs.Common.{ap, ◌∙◌}
 use Rattle.stage_keep.specs.EntryReading.{read_made}
 use Rattle.stage_chain.proofs.Unkept.{no_part_told, part_told}
 use Rattle.stage_chain.proofs.keep.kept.Goals as goal

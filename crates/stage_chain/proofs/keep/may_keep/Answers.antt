@@ -1,4 +1,4 @@
-use Rattle.std.proofs.Common.{◌∙◌, ap}
+use Rattle.plan_num.proofs.Common.{◌∙◌, ap}
 use Rattle.stage_keep.specs.Entries.{keep_name}
 use Rattle.stage_chain.proofs.Unkept.{ends_told}
 use Rattle.stage_chain.proofs.keep.may_keep.Goals as goal

@@ -1,4 +1,4 @@
-use Rattle.std.proofs.Common.{◌≡◌, drop}
+use Rattle.plan_num.proofs.Common.{◌≡◌, drop}
 use Rattle.stage_chain.specs.States.{is_one_of}
 use Rattle.stage_chain.proofs.known.is_one_of.Given as goal
 

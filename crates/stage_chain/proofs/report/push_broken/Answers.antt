@@ -1,4 +1,4 @@
-use Rattle.std.proofs.Common.{◌++◌, codes, ap, sym, ◌∙◌, append_assoc}
+use Rattle.plan_num.proofs.Common.{◌++◌, codes, ap, sym, ◌∙◌, append_assoc}
 use Rattle.giv_files.proofs.Common.{stage_name}
 use Rattle.stage_chain.proofs.report.push_broken.Goals as goal
 

@@ -1,4 +1,4 @@
-use Rattle.std.proofs.Common.{codes, ◌∙◌, ap, ◌++◌}
+use Rattle.plan_num.proofs.Common.{codes, ◌∙◌, ap, ◌++◌}
 use Rattle.stage_chain.proofs.Pieces.{two_pieces}
 use Rattle.stage_chain.proofs.report.push_config.Goals as goal
 

@@ -1,4 +1,4 @@
-use Rattle.std.proofs.Common.{codes}
+use Rattle.plan_num.proofs.Common.{codes}
 use Rattle.stage_chain.proofs.Pieces.{three_pieces}
 use Rattle.stage_chain.proofs.report.push_too_long.Goals as goal
 

@@ -1,3 +1,4 @@
+use Rattle.plan_num.proofs.Common.{arith}
 use Rattle.stage_chain.specs.Hand.{is_hand}
 use Rattle.stage_chain.proofs.Settling.{all_added, all_hand, some_added, some_hand, written_outside}
 use Rattle.stage_chain.proofs.settle.settle.Goals as goal
@@ -6,9 +7,10 @@ pub returns-in_err-apply_all-clause-hand : goal.returns-in_err-apply_all-clause-
 returns-in_err-apply_all-clause-hand g c =
     let out = written_outside c.deref.result.now c.in_ok-writes.writes.items c.in_ok-unmet.field-0.items
     c.args.more.items c.deref.ensures.value c.in_ok-writes.ensures
-    (c.in_ok-unmet.ensures.outside is_hand c.requires.wishes) c.requires.more in
-    some_hand _ _ _ _ c.deref.result.now out _ _ c.in_ok-unmet.ensures.only_reads.contents
-    c.in_err-apply_all.ensures.err
+    (c.in_ok-unmet.ensures.outside is_hand c.requires.wishes) c.requires.more in grind (
+      arith,
+      some_hand,
+    )
 
 pub returns-in_err-apply_all-clause-writes_no_hand_file : goal.returns-in_err-apply_all-clause-writes_no_hand_file
 returns-in_err-apply_all-clause-writes_no_hand_file g c =

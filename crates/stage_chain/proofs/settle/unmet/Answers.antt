@@ -1,4 +1,4 @@
-use Rattle.std.proofs.Common.{◌≡◌, [], arith}
+use Rattle.plan_num.proofs.Common.{◌≡◌, [], arith}
 use Rattle.plan_files.proofs.Common.{both_read}
 use Rattle.stage_chain.proofs.Settling.{nothing_left, outside_wish, outside_wishes, told_wish}
 use Rattle.stage_chain.proofs.settle.unmet.Goals as goal

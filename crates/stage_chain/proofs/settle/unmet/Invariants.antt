@@ -1,4 +1,4 @@
-use Rattle.std.proofs.Common.{◌≡◌, ◌++◌, ℕ, Bool, false, List, IfSome}
+use Rattle.plan_num.proofs.Common.{◌≡◌, ◌++◌, ℕ, Bool, false, List, IfSome}
 use Rattle.plan_files.proofs.Common.{AreOutside, OnlyReads}
 use Rattle.stage_chain.specs.Runs.{unmet}
 use Rattle.stage_chain.proofs.settle.unmet.Given as goal

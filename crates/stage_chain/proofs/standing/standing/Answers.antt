@@ -1,7 +1,7 @@
 use Rattle.plan_files.proofs.Common.{both_read}
 use Rattle.tables.proofs.Common.{Stop}
 use Rattle.stage_chain.proofs.MadeThere.{told_more}
-use Rattle.std.proofs.Common.{sym, ◌∙◌}
+use Rattle.plan_num.proofs.Common.{sym, ◌∙◌}
 use Rattle.stage_chain.proofs.standing.standing.Goals as goal
 
 pub loop-file-preserved : goal.loop-file-preserved

@@ -1,4 +1,4 @@
-use Rattle.std.proofs.Common.{◌≡◌, false, IfSome, drop}
+use Rattle.plan_num.proofs.Common.{◌≡◌, false, IfSome, drop}
 use Rattle.plan_files.proofs.Common.{OnlyReads}
 use Rattle.stage_chain.proofs.MadeThere.{all_there, joined}
 use Rattle.stage_chain.proofs.standing.standing.Given as goal

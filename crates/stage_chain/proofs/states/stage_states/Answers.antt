@@ -1,4 +1,4 @@
-use Rattle.std.proofs.Common.{subst}
+use Rattle.plan_num.proofs.Common.{subst}
 use Rattle.plan_files.proofs.Common.{OnlyReads}
 use Rattle.stage_chain.proofs.Stating.{settled_states, unsettled_states, untold_failed}
 use Rattle.stage_chain.proofs.states.stage_states.Goals as goal

@@ -1,4 +1,4 @@
-use Rattle.std.proofs.Common.{◌≡◌, drop}
+use Rattle.plan_num.proofs.Common.{◌≡◌, drop}
 use Rattle.stage_chain.specs.States.{text_among}
 use Rattle.stage_chain.proofs.states.text_among.Given as goal
 

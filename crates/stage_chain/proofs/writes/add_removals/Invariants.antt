@@ -1,4 +1,4 @@
-use Rattle.std.proofs.Common.{◌≡◌, ◌++◌, map, take}
+use Rattle.plan_num.proofs.Common.{◌≡◌, ◌++◌, map, take}
 use Rattle.plan_files.proofs.Common.{Removal}
 use Rattle.tables.proofs.Common.{file_name}
 use Rattle.stage_chain.specs.Runs.{names_besides}

@@ -1,4 +1,4 @@
-use Rattle.std.proofs.Common.{◌≡◌, drop, map}
+use Rattle.plan_num.proofs.Common.{◌≡◌, drop, map}
 use Rattle.tables.proofs.Common.{file_name}
 use Rattle.stage_chain.specs.Hand.{is_among}
 use Rattle.stage_chain.specs.Runs.{name_of}

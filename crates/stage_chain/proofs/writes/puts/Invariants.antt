@@ -1,4 +1,4 @@
-use Rattle.std.proofs.Common.{◌≡◌, ◌++◌, map}
+use Rattle.plan_num.proofs.Common.{◌≡◌, ◌++◌, map}
 use Rattle.stage_chain.specs.Runs.{put_of}
 use Rattle.stage_chain.proofs.writes.puts.Given as goal
 

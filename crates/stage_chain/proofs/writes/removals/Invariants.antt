@@ -1,4 +1,4 @@
-use Rattle.std.proofs.Common.{◌≡◌, map, take}
+use Rattle.plan_num.proofs.Common.{◌≡◌, map, take}
 use Rattle.plan_files.proofs.Common.{Removal}
 use Rattle.stage_chain.specs.Hand.{names_made_by}
 use Rattle.stage_chain.specs.Runs.{names_besides}

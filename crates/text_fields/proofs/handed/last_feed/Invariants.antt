@@ -1,5 +1,5 @@
 -- All line feeds stand before the end.
-use Rattle.std.proofs.Common.{◌≤◌, length}
+use Rattle.plan_num.proofs.Common.{◌≤◌, length}
 use Rattle.text_fields.proofs.handed.last_feed.Given as goal
 
 abbrev pub invariant-bytes : goal.invariant-bytes

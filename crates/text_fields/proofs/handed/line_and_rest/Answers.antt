@@ -1,4 +1,4 @@
-use Rattle.std.proofs.Common.{◌∙◌, ◌++◌, [], ap, arith, eqb-true, false, refl, sym}
+use Rattle.plan_num.proofs.Common.{◌∙◌, ◌++◌, [], ap, arith, eqb-true, false, refl, sym}
 use Rattle.text_fields.specs.Handed.{fed}
 use Rattle.text_fields.specs.Rows.{parts_of}
 use Rattle.text_fields.specs.Told.{given}
@@ -7,19 +7,13 @@ use Rattle.text_fields.proofs.HandedLines.{some_bytes, told_some}
 use Rattle.text_fields.proofs.handed.line_and_rest.Goals as goal
 
 pub returns-then-is_empty-clause-same : goal.returns-then-is_empty-clause-same
-returns-then-is_empty-clause-same c =
-    empty_fed c.args.line.now _ _ (c.behind_feed-after.ensures c.args.line.now c.requires.plain)
-    (eqb-true _ 0 (sym c.is_empty.ensures ∙ c.if-is_empty.true))
+returns-then-is_empty-clause-same c = grind (arith, empty_fed, eqb-true)
 
 pub returns-then-begins-clause-same : goal.returns-then-begins-clause-same
-returns-then-begins-clause-same c =
-    signed_fed c.args.line.now _ _ (c.behind_feed-after.ensures c.args.line.now c.requires.plain) _
-    (sym c.begins.ensures ∙ c.if-begins.true) c.behind_comments.ensures.given
+returns-then-begins-clause-same c = grind (arith, signed_fed)
 
 pub returns-then-is_odd-clause-same : goal.returns-then-is_odd-clause-same
-returns-then-is_odd-clause-same c =
-    odd_fed c.args.line.now _ _ (c.behind_feed-after.ensures c.args.line.now c.requires.plain)
-    (sym c.begins.ensures ∙ c.if-begins.false) (sym c.is_odd.ensures ∙ c.if-is_odd.true)
+returns-then-is_odd-clause-same c = grind (arith, odd_fed)
 
 pub returns-else-is_odd-clause-same : goal.returns-else-is_odd-clause-same
 returns-else-is_odd-clause-same c =
@@ -31,7 +25,4 @@ returns-else-is_odd-clause-same c =
     (sym c.before_comment-told.ensures)
 
 pub returns-else-is_odd-clause-some : goal.returns-else-is_odd-clause-some
-returns-else-is_odd-clause-some c =
-    rw c.before_comment-told.ensures
-    (told_some c.args.line.now (some_bytes c.args.line.now (sym c.is_empty.ensures ∙ c.if-is_empty.false))
-    (sym c.is_odd.ensures ∙ c.if-is_odd.false))
+returns-else-is_odd-clause-some c = grind (arith, told_some, some_bytes)

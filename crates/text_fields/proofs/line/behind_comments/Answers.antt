@@ -1,4 +1,4 @@
-use Rattle.std.proofs.Common.{◌∙◌, arith, sym}
+use Rattle.plan_num.proofs.Common.{◌∙◌, arith, sym}
 use Rattle.text_fields.proofs.GivenFacts.{given_over, given_rest, less_left, passed_empty, passed_signed}
 use Rattle.text_fields.proofs.RowsLeft.{no_parts, parts_are}
 use Rattle.text_fields.proofs.line.behind_comments.Goals as goal

@@ -1,4 +1,4 @@
-use Rattle.std.proofs.Common.{refl}
+use Rattle.plan_num.proofs.Common.{refl}
 use Rattle.text_fields.proofs.Lines.{first_byte}
 use Rattle.text_fields.proofs.line.has_row.Goals as goal
 

@@ -1,4 +1,4 @@
-use Rattle.std.proofs.Common.{◌∙◌}
+use Rattle.plan_num.proofs.Common.{◌∙◌}
 use Rattle.text_fields.proofs.Lines.{empty_if}
 use Rattle.text_fields.proofs.line.is_empty_field.Goals as goal
 

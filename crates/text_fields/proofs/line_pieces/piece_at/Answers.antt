@@ -1,15 +1,10 @@
-use Rattle.std.proofs.Common.{◌≡◌, ◌+◌, ◌-◌, [], ap, arith, drop, get_or, length, length-drop, length-take}
-use Rattle.text_fields.specs.Rows.{pieces}
+use Rattle.std.proofs.Common.{◌≡◌, ◌+◌, ◌-◌, arith, drop, get_or, length, length-drop, length-take}
 use Rattle.text_fields.proofs.LinePieces.{piece_behind, piece_first, piece_nowhere}
 use Rattle.text_fields.proofs.line_pieces.piece_at.Goals as goal
 
 pub loop-piece-init : goal.loop-piece-init
 loop-piece-init c =
-    let none : c.args.index - 0 ≡ c.args.index = omega arith in
-    record {
-      shorter = omega arith;
-      same = ap (λ n. get_or (pieces c.args.line.now) n []) none;
-    }
+    let none : c.args.index - 0 ≡ c.args.index = omega arith in grind (arith, get_or)
 
 pub overflow_add-rest : goal.overflow_add-rest
 overflow_add-rest c =

@@ -1,5 +1,5 @@
 -- The piece stands in the rest, by as many places less as were passed over.
-use Rattle.std.proofs.Common.{◌≡◌, ◌≤◌, ◌-◌, [], length, get_or}
+use Rattle.plan_num.proofs.Common.{◌≡◌, ◌≤◌, ◌-◌, [], length, get_or}
 use Rattle.text_fields.specs.Rows.{pieces}
 use Rattle.text_fields.proofs.line_pieces.piece_at.Given as goal
 

@@ -1,4 +1,4 @@
-use Rattle.std.proofs.Common.{refl}
+use Rattle.plan_num.proofs.Common.{refl}
 use Rattle.text_fields.proofs.FieldFacts.{piece_is}
 use Rattle.text_fields.proofs.text_row.piece.Goals as goal
 

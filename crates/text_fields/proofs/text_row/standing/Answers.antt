@@ -1,4 +1,4 @@
-use Rattle.std.proofs.Common.{◌≡◌, ◌+◌, ◌-◌, ◌∙◌, [], ap, arith, get_or, length, refl, sym}
+use Rattle.plan_num.proofs.Common.{◌≡◌, ◌+◌, ◌-◌, ◌∙◌, [], ap, arith, get_or, length, refl, sym}
 use Rattle.csv.specs.Records.{fields_of}
 use Rattle.text_fields.specs.Told.{returns}
 use Rattle.text_fields.proofs.FieldFacts.{piece_is}

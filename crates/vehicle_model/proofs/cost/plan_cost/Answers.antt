@@ -1,4 +1,4 @@
-use Rattle.plan_num.proofs.Common.{◌<◌, ◌≤◌, ◌-◌, length, arith, sym, ap, ◌∙◌, pos, w128, ints}
+use Rattle.plan_num.proofs.Common.{◌<◌, ◌≤◌, ◌-◌, length, arith, sym, ◌∙◌, w128, ints}
 use Rattle.std.proofs.Math.Nat.{mul-le-mul}
 use Rattle.std.proofs.lemmas.Int.{to_z-of_z}
 use Rattle.vehicle_model.proofs.Costs.{over_link, over_last, all_cost, cost_by_gain}
@@ -42,11 +42,11 @@ cost_of-requires-clause-small c = omega (
 
 pub returns-clause-cost : goal.returns-clause-cost
 returns-clause-cost c =
-    let past : length c.args.plan.now ≤ c.loop-i.i =
-    omega (arith, c.loop-i-test.false, c.len-i-end.ensures.count, c.requires.each) in
-    to_z-of_z w128 c.cost_of.result (record { sfits = c.cost_of.type_inv }) ∙ c.cost_of.ensures
-    ∙ ap pos (all_cost c.args.trips.now c.args.plan.now c.loop-i.i c.loop-i.links
-    c.loop-i.minutes c.loop-i.invariant c.requires past _ c.len.ensures.count)
+    let past : length c.args.plan.now ≤ c.loop-i.i = grind arith in grind (
+      arith,
+      to_z-of_z,
+      all_cost,
+    )
 
 pub returns-clause-gain : goal.returns-clause-gain
 returns-clause-gain c =

@@ -1,9 +1,8 @@
-use Rattle.plan_num.proofs.Common.{ap, ◌∙◌, position, unwrap_or, w64, int_eq}
+use Rattle.plan_num.proofs.Common.{arith, ◌∙◌, unwrap_or, w64}
 use Rattle.std.proofs.lemmas.Int.{to_z-of_z}
 use Rattle.vehicle_model.proofs.dead_times.stop_index.Goals as goal
 
 pub returns-clause-index : goal.returns-clause-index
 returns-clause-index c =
     let own = to_z-of_z w64 c.from.result (record { sfits = c.from.type_inv }) ∙ c.from.ensures in
-    c.unwrap_or.ensures ∙ ap (λ found. unwrap_or found 0) (c.stop_index.ensures
-    ∙ ap (λ id. position (int_eq id) c.args.network.now.stops) own)
+    grind (arith, unwrap_or)

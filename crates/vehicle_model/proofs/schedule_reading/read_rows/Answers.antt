@@ -1,7 +1,4 @@
-use Rattle.std.proofs.Common.{◌<◌, ◌≤◌, length, arith, sym, ◌∙◌, subst}
-use Rattle.event_tables.proofs.Common.{schedule_row}
-use Rattle.tables.proofs.Common.{numbered_by}
-use Rattle.vehicle_model.specs.Readers.{IsBehind}
+use Rattle.plan_num.proofs.Common.{◌<◌, ◌≤◌, length, arith, sym, ◌∙◌}
 use Rattle.vehicle_model.proofs.BehindRows.{table_refused, table_can, table_taken, table_ends, table_plans}
 use Rattle.vehicle_model.proofs.schedule_reading.read_rows.Goals as goal
 
@@ -23,12 +20,7 @@ take-requires-clause-link c =
 
 pub loop-i-preserved : goal.loop-i-preserved
 loop-i-preserved c =
-    let within : c.loop-i.i < length c.args.table.now =
-    omega (arith, c.loop-i-test.true, c.len-i-end.ensures.len) in
-    subst (IsBehind c.args.trips.now (numbered_by schedule_row c.args.table.now) _) (sym c.take.ensures)
-    (table_taken c.args.trips.now c.args.table.now c.loop-i.i c.loop-i.reader c.loop-i.invariant
-    within c.row_at-row.result c.row_after.result c.row_at-row.ensures c.row_after.ensures
-    (sym c.fits.ensures ∙ c.if-not-fits.false))
+    let within : c.loop-i.i < length c.args.table.now = grind arith in grind (arith, table_taken)
 
 pub returns-clause-read : goal.returns-clause-read
 returns-clause-read c =

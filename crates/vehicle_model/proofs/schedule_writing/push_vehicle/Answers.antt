@@ -1,4 +1,4 @@
-use Rattle.std.proofs.Common.{◌<◌, ◌≤◌, ◌++◌, ◌∷◌, [], length, ap, sym, ◌∙◌, arith}
+use Rattle.plan_num.proofs.Common.{◌<◌, ◌≤◌, ◌++◌, ◌∷◌, [], length, ap, sym, ◌∙◌, arith}
 use Rattle.vehicle_model.proofs.Following.{links_within}
 use Rattle.vehicle_model.proofs.VehicleRows.{on_start, on_more, on_none, on_end}
 use Rattle.vehicle_model.proofs.schedule_writing.push_vehicle.Goals as goal
@@ -19,8 +19,7 @@ returns-in-None c = on_none c.args.trips.now c.args.plan.now c.args.vehicle c.ar
 
 pub loop-turn-preserved : goal.loop-turn-preserved
 loop-turn-preserved c =
-    let left : c.loop-turn._turn < length c.args.plan.now =
-    omega (arith, c.loop-turn-test.true, c.len-turn-end.ensures.count, c.requires.plan.each) in
+    let left : c.loop-turn._turn < length c.args.plan.now = grind arith in
     let is = sym c.next.ensures ∙ c.in-Some.is in
     let there = links_within c.args.trips.now c.loop-turn.last c.in-Some.next
     (c.requires.plan.follow c.loop-turn.last c.in-Some.next is) in
@@ -35,8 +34,5 @@ loop-turn-preserved c =
 
 pub returns : goal.returns
 returns c =
-    let past : length c.args.plan.now ≤ c.loop-turn._turn =
-    omega (arith, c.loop-turn-test.false, c.len-turn-end.ensures.count, c.requires.plan.each) in
-    on_end c.args.trips.now c.args.plan.now c.args.vehicle c.args.first c.args.rows.now.items
-    c.loop-turn.rows.items c.loop-turn.number c.loop-turn.last c.loop-turn._turn
-    c.loop-turn.invariant past
+    let past : length c.args.plan.now ≤ c.loop-turn._turn = grind arith in
+    grind (arith, on_end)

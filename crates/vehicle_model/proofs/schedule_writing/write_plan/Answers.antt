@@ -1,4 +1,4 @@
-use Rattle.std.proofs.Common.{◌≡◌, All, IfOk, ap, sym, ◌∙◌, subst}
+use Rattle.plan_num.proofs.Common.{◌≡◌, All, IfOk, ap, sym, ◌∙◌, subst}
 use Rattle.event_tables.proofs.Common.{schedule_cells, schedule_header}
 use Rattle.tables.proofs.Common.{file_text, schedule_columns}
 use Rattle.vehicle_model.specs.Schedules.{plan_text}

@@ -1,4 +1,4 @@
-use Rattle.std.proofs.Common.{w64}
+use Rattle.plan_num.proofs.Common.{w64}
 use Rattle.std.proofs.lemmas.Int.{to_z-of_z}
 use Rattle.vehicle_model.proofs.TripTexts.{ids_more}
 use Rattle.vehicle_model.proofs.trips.stop_ids.Goals as goal

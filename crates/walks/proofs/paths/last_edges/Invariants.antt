@@ -1,5 +1,5 @@
 -- The last edges are those among the edges so far.
-use Rattle.std.proofs.Common.{◌≡◌, ◌<◌, ℕ, length, get_or, take, None}
+use Rattle.plan_num.proofs.Common.{◌≡◌, ◌<◌, ℕ, length, get_or, take, None}
 use Rattle.walks.specs.Paths.{last_edge, length_to}
 use Rattle.walks.proofs.paths.last_edges.Given as goal
 

@@ -1,5 +1,5 @@
-use Rattle.std.proofs.Common.{ℕ, List, [], ◌∷◌, ◌++◌, map, set, ap, sym, ◌∙◌, arith, Vec, Global}
-use Rattle.std.proofs.lemmas.List.{map-set, get_or-map}
+use Rattle.plan_num.proofs.Common.{ℕ, List, [], ◌∷◌, ◌++◌, map, set, ap, sym, ◌∙◌, arith, Vec}
+use Rattle.plan_num.proofs.Common.{Global, map-set, get_or-map}
 use Rattle.walks.proofs.stop_edges.note_edge.Goals as goal
 
 pub returns-clause-noted : goal.returns-clause-noted

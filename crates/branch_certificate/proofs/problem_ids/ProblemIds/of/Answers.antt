@@ -1,4 +1,4 @@
-use Rattle.std.proofs.Common.{[], arith, w64}
+use Rattle.plan_num.proofs.Common.{[], arith, w64}
 use Rattle.std.proofs.lemmas.Int.{to_z-of_z}
 use Rattle.plan_num.proofs.SortedIds.{kept_behind}
 use Rattle.branch_certificate.proofs.problem_ids.ProblemIds.of.Goals as goal

@@ -1,5 +1,5 @@
 -- The ids so far are those of the first lines, and of the first edges.
-use Rattle.std.proofs.Common.{◌≡◌, map, take}
+use Rattle.plan_num.proofs.Common.{◌≡◌, map, take}
 use Rattle.branch_certificate.proofs.problem_ids.ProblemIds.of.Given as goal
 
 abbrev pub invariant-loop-line : goal.invariant-loop-line

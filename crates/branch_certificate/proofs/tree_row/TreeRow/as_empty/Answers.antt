@@ -1,4 +1,4 @@
-use Rattle.std.proofs.Common.{sym, ◌∙◌}
+use Rattle.plan_num.proofs.Common.{sym, ◌∙◌}
 use Rattle.branch_certificate.proofs.ReadRules.{empty_unknown, empty_aside, empty_stray, empty_says}
 use Rattle.branch_certificate.proofs.tree_row.TreeRow.as_empty.Goals as goal
 

@@ -1,4 +1,4 @@
-use Rattle.std.proofs.Common.{sym, ◌∙◌, arith, w64}
+use Rattle.plan_num.proofs.Common.{sym, ◌∙◌, arith, w64}
 use Rattle.std.proofs.lemmas.Int.{to_z-of_z}
 use Rattle.branch_certificate.proofs.ReadRules.{multiplier_unknown, multiplier_stray}
 use Rattle.branch_certificate.proofs.ReadRules.{multiplier_of_0, multiplier_says}

@@ -1,4 +1,4 @@
-use Rattle.std.proofs.Common.{ap, sym, ◌∙◌, arith, unsigned_abs, w64}
+use Rattle.plan_num.proofs.Common.{ap, sym, ◌∙◌, arith, unsigned_abs, w64}
 use Rattle.std.proofs.lemmas.Int.{to_z-of_z}
 use Rattle.branch_certificate.proofs.ReadRules.{split_unknown, split_stray, split_says}
 use Rattle.branch_certificate.proofs.tree_row.TreeRow.as_split.Goals as goal

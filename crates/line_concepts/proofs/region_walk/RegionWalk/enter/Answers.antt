@@ -1,4 +1,4 @@
-use Rattle.std.proofs.Common.{ap}
+use Rattle.plan_num.proofs.Common.{ap}
 use Rattle.line_concepts.proofs.Walking.{entered}
 use Rattle.line_concepts.proofs.region_walk.RegionWalk.enter.Goals as goal
 

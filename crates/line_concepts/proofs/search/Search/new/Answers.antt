@@ -1,4 +1,4 @@
-use Rattle.std.proofs.Common.{ap}
+use Rattle.plan_num.proofs.Common.{ap}
 use Rattle.line_concepts.specs.Walks.{WalkedRegions}
 use Rattle.line_concepts.proofs.SearchTurns.{search_begun}
 use Rattle.line_concepts.proofs.search.Search.new.Goals as goal

@@ -4,15 +4,7 @@ use Rattle.line_cost_model.proofs.EdgeCounts.{edge_put, few_under, greatest_put}
 use Rattle.line_cost_model.proofs.edge_sums.GreatestSums.put.Goals as goal
 
 pub overflow_add-self : goal.overflow_add-self
-overflow_add-self c = record {
-  fits = omega (
-    arith,
-    c.requires.sound.under_is,
-    few_under c.args.problem.now.edges c.args.self.now.sums.items,
-    c.requires.sound.few,
-    c.under.ensures.one,
-  );
-}
+overflow_add-self c = grind (arith, few_under)
 
 pub overflow_sub-self : goal.overflow_sub-self
 overflow_sub-self c =

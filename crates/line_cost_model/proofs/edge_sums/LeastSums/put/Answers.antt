@@ -1,19 +1,11 @@
 use Rattle.plan_num.proofs.Common.{◌∙◌, ◌+◌, ◌-◌, ap, sym, subst, arith, nat_lt, slice_set, Bool}
 use Rattle.plan_num.proofs.Common.{List, get_or_default, get_or_from_slice_get}
-use Rattle.line_cost_model.specs.RunningSums.{IsOfLeast, no_bounds, over}
+use Rattle.line_cost_model.specs.RunningSums.{IsOfLeast, over}
 use Rattle.line_cost_model.proofs.EdgeCounts.{edge_put, few_over, least_put}
 use Rattle.line_cost_model.proofs.edge_sums.LeastSums.put.Goals as goal
 
 pub overflow_add-self : goal.overflow_add-self
-overflow_add-self c = record {
-  fits = omega (
-    arith,
-    c.requires.sound.over_is,
-    few_over c.args.problem.now.edges c.args.self.now.sums.items,
-    c.requires.sound.few,
-    c.over.ensures.one,
-  );
-}
+overflow_add-self c = grind (arith, few_over)
 
 pub overflow_sub-self : goal.overflow_sub-self
 overflow_sub-self c =
@@ -26,14 +18,7 @@ overflow_sub-self c =
     omega (arith, put, c.requires.sound.over_is, c.over.ensures.over, c.over-2.ensures.over)
 
 pub renew-requires-clause-was : goal.renew-requires-clause-was
-renew-requires-clause-was c =
-    let was = c.index-before.ensures
-    ∙ get_or_default c.args.self.now.sums.items c.args.edge _ _
-    (omega (arith, c.requires.there, c.requires.sound.size)) in
-    let at = get_or_from_slice_get c.args.problem.now.edges c.args.edge c.bounds_of-bounds.result no_bounds
-    c.bounds_of-bounds.ensures in
-    c.requires.sound.short_is c.args.edge c.requires.there
-    ∙ (λ i. nat_lt (sym was i) (at i).least) ∙ sym c.is_short-was.ensures
+renew-requires-clause-was c = grind (arith, get_or_default, get_or_from_slice_get, nat_lt)
 
 pub returns-clause-sound : goal.returns-clause-sound
 returns-clause-sound c =

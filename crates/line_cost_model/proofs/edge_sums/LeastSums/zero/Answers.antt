@@ -9,8 +9,7 @@ use Rattle.line_cost_model.proofs.FewLines.{few_edges}
 use Rattle.line_cost_model.proofs.edge_sums.LeastSums.zero.Goals as goal
 
 pub none-requires : goal.none-requires
-none-requires c =
-    omega (arith, c.edge_count-count.ensures.count, few_edges c.args.problem.now c.edge_count-count.ensures.sound)
+none-requires c = grind (arith, few_edges)
 
 pub loop-edge-preserved : goal.loop-edge-preserved
 loop-edge-preserved c =

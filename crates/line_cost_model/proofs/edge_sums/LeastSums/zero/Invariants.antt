@@ -1,5 +1,5 @@
 -- The edges so far are marked where drives are missing.
-use Rattle.std.proofs.Common.{◌≡◌, ℕ, ◌<◌, false, nat_lt, length, get_or}
+use Rattle.plan_num.proofs.Common.{◌≡◌, ℕ, ◌<◌, false, nat_lt, length, get_or}
 use Rattle.line_cost_model.specs.RunningSums.{no_bounds}
 use Rattle.line_cost_model.proofs.edge_sums.LeastSums.zero.Given as goal
 

@@ -1,4 +1,4 @@
-use Rattle.std.proofs.Common.{sym, subst}
+use Rattle.plan_num.proofs.Common.{sym, subst}
 use Rattle.line_cost_model.specs.Multipliers.{AreMultipliers, IsAfter}
 use Rattle.line_cost_model.proofs.Pushed.{multipliers_push}
 use Rattle.line_cost_model.proofs.multipliers.Multipliers.push_amount.Goals as goal

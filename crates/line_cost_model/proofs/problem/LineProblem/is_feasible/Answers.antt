@@ -1,4 +1,4 @@
-use Rattle.std.proofs.Common.{◌∙◌, true, false, Some, arith, ap, sym}
+use Rattle.plan_num.proofs.Common.{◌∙◌, true, false, Some, arith, ap, sym}
 use Rattle.line_cost_model.specs.Concepts.{keeps_bounds}
 use Rattle.line_cost_model.proofs.Feasible.{feasible_first, tested_more, tested_end, test_means}
 use Rattle.line_cost_model.proofs.problem.LineProblem.is_feasible.Goals as goal

@@ -1,5 +1,5 @@
-use Rattle.std.proofs.Common.{◌<◌, ◌∙◌, List, length, map, take, ap, sym, arith}
-use Rattle.std.proofs.lemmas.List.{nil_from_length, take_all}
+use Rattle.plan_num.proofs.Common.{◌<◌, ◌∙◌, List, length, map, take, ap, sym, arith}
+use Rattle.plan_num.proofs.Common.{nil_from_length, take_all}
 use Rattle.line_cost_model.specs.declared.multipliers.Multiplier.{Multiplier}
 use Rattle.line_cost_model.specs.DualBounds.{are_within, left_of}
 use Rattle.line_cost_model.proofs.Lowered.{left_more}
@@ -16,10 +16,7 @@ loop-place-init c = (
 )
 
 pub returns-then-len-eq0 : goal.returns-then-len-eq0
-returns-then-len-eq0 c =
-    sym (ap (are_within c.args.self.now.problem c.args.self.now.ranges)
-    (nil_from_length c.args.multipliers.now (sym c.len.ensures.len ∙ c.if-len-eq0.true))
-    ∙ within_none c.args.self.now.problem c.args.self.now.ranges)
+returns-then-len-eq0 c = grind (arith, nil_from_length, within_none)
 
 pub can_pay-requires-clause-there : goal.can_pay-requires-clause-there
 can_pay-requires-clause-there c =

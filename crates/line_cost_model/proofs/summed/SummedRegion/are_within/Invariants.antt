@@ -1,4 +1,4 @@
-use Rattle.std.proofs.Common.{◌≡◌, map, take, true}
+use Rattle.plan_num.proofs.Common.{◌≡◌, map, take, true}
 use Rattle.line_cost_model.specs.DualBounds.{are_within, left_of}
 use Rattle.line_cost_model.proofs.summed.SummedRegion.are_within.Given as goal
 

@@ -1,6 +1,6 @@
-use Rattle.std.proofs.Common.{◌+◌, ◌*◌, ◌≤◌, ◌<◌, ◌∙◌, length, ap, pos, subst, sym, arith}
+use Rattle.plan_num.proofs.Common.{◌+◌, ◌*◌, ◌≤◌, ◌<◌, ◌∙◌, length, ap, pos, subst, sym, arith}
+use Rattle.plan_num.proofs.Common.{w128}
 use Rattle.std.proofs.lemmas.Int.{to_z-of_z}
-use Rattle.std.specs.Int.{w128}
 use Rattle.line_cost_model.specs.declared.multipliers.Multiplier.{Multiplier}
 use Rattle.line_cost_model.proofs.FewLines.{few_edges}
 use Rattle.line_cost_model.proofs.Proving.{adds_little, bound_first, bound_more, bound_whole, few_places, holds_at}
@@ -38,15 +38,7 @@ place_there c =
 
 pub overflow_add-value : goal.overflow_add-value
 overflow_add-value c = record {
-  fits =
-      let few = c.loop-place.invariant.2 in
-      omega (
-        arith,
-        few,
-        little c,
-        place_there c,
-        few_edges c.args.self.now.problem c.least_millionths-value.ensures.sound,
-      );
+  fits = grind (arith, little, place_there, few_edges);
 }
 
 pub loop-place-preserved : goal.loop-place-preserved
@@ -60,15 +52,12 @@ loop-place-preserved c = (
       c.shortfall-missing.ensures.shortfall
       c.loop-place.invariant.0,
   omega (arith, place_there c),
-  let few = c.loop-place.invariant.2 in
-      omega (arith, few, little c),
+  let few = c.loop-place.invariant.2 in grind (arith, little),
 )
 
 pub signed-requires : goal.signed-requires
 signed-requires c =
-    let there = c.loop-place.invariant.1 in
-    let few = c.loop-place.invariant.2 in
-    omega (arith, few, there, few_edges c.args.self.now.problem c.least_millionths-value.ensures.sound)
+    let there = c.loop-place.invariant.1 in grind (arith, few_edges)
 
 pub returns : goal.returns
 returns c =

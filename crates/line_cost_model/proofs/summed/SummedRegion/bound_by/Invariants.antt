@@ -1,4 +1,4 @@
-use Rattle.std.proofs.Common.{◌≡◌, ◌+◌, ◌*◌, ◌≤◌, length, take}
+use Rattle.plan_num.proofs.Common.{◌≡◌, ◌+◌, ◌*◌, ◌≤◌, length, take}
 use Rattle.line_cost_model.specs.DualBounds.{bound_by}
 use Rattle.line_cost_model.proofs.summed.SummedRegion.bound_by.Given as goal
 

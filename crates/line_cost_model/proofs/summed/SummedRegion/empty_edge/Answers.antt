@@ -1,4 +1,4 @@
-use Rattle.std.proofs.Common.{◌∙◌, ap, sym, Some, None}
+use Rattle.plan_num.proofs.Common.{◌∙◌, ap, sym, Some, None}
 use Rattle.line_cost_model.proofs.EmptyEdges.{first_is, first_more, none_feasible}
 use Rattle.line_cost_model.proofs.summed.SummedRegion.empty_edge.Goals as goal
 

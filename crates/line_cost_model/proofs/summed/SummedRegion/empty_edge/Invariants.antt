@@ -1,4 +1,4 @@
-use Rattle.std.proofs.Common.{◌≡◌}
+use Rattle.plan_num.proofs.Common.{◌≡◌}
 use Rattle.line_cost_model.specs.Regions.{empty_edge}
 use Rattle.line_cost_model.proofs.EmptyEdges.{first_from}
 use Rattle.line_cost_model.proofs.summed.SummedRegion.empty_edge.Given as goal

@@ -1,5 +1,5 @@
 -- The ranges of the lines so far are those of the region.
-use Rattle.std.proofs.Common.{◌≡◌, ℕ, ◌<◌, length}
+use Rattle.plan_num.proofs.Common.{◌≡◌, ℕ, ◌<◌, length}
 use Rattle.line_cost_model.specs.Regions.{range_of}
 use Rattle.line_cost_model.proofs.summed.SummedRegion.of.Given as goal
 

@@ -1,6 +1,6 @@
-use Rattle.std.proofs.Common.{◌≡◌, ◌≤◌, ◌*◌, ◌+◌, ◌∙◌, ◌++◌, ◌∷◌, [], ℕ, List, ap, sym, subst, arith, pos, true, Some}
+use Rattle.plan_num.proofs.Common.{◌≡◌, ◌≤◌, ◌*◌, ◌+◌, ◌∙◌, ◌++◌, ◌∷◌, [], ℕ, List, ap, sym, subst}
+use Rattle.plan_num.proofs.Common.{arith, pos, true, Some, w128}
 use Rattle.std.proofs.lemmas.Int.{to_z-of_z}
-use Rattle.std.specs.Int.{w128}
 use Rattle.line_cost_model.specs.declared.multipliers.Multiplier.{Multiplier}
 use Rattle.line_cost_model.specs.DualBounds.{are_within, multipliers_of}
 use Rattle.line_cost_model.specs.Passes.{IsNextShort, IsPass}
@@ -23,11 +23,7 @@ loop-edge-init c = record {
 }
 
 pub overflow_add-from : goal.overflow_add-from
-overflow_add-from c =
-    let next : IsNextShort c.args.self.now.problem c.args.self.now.ranges c.loop-edge.from (Some c.in-Some.edge) =
-    subst (IsNextShort c.args.self.now.problem c.args.self.now.ranges c.loop-edge.from)
-    c.in-Some.is c.next_short.ensures.next in
-    record { fits = omega (arith, next.1, few_edges c.args.self.now.problem c.next_short.ensures.sound) }
+overflow_add-from c = grind (arith, few_edges)
 
 pub loop-edge-preserved-then-amount-eq0 : goal.loop-edge-preserved-then-amount-eq0
 loop-edge-preserved-then-amount-eq0 c =
@@ -68,14 +64,7 @@ little c =
     one.ensures.few))
 
 pub overflow_add-value : goal.overflow_add-value
-overflow_add-value c =
-    let next : IsNextShort c.args.self.now.problem c.args.self.now.ranges c.loop-edge.from (Some c.in-Some.edge) =
-    subst (IsNextShort c.args.self.now.problem c.args.self.now.ranges c.loop-edge.from)
-    c.in-Some.is c.next_short.ensures.next in
-    let pass = pass_to c.args.self.now.problem c.args.self.now.ranges c.loop-edge.bound.multipliers
-    c.loop-edge.bound.left.items c.loop-edge.value c.loop-edge.from c.in-Some.edge c.loop-edge.invariant.pass next in
-    let few = pass.few in
-    record { fits = omega (arith, few, little c, next.1, few_edges c.args.self.now.problem c.next_short.ensures.sound) }
+overflow_add-value c = grind (arith, pass_to, little, few_edges)
 
 pub loop-edge-preserved : goal.loop-edge-preserved
 loop-edge-preserved c =
@@ -106,9 +95,7 @@ loop-edge-preserved c =
     }
 
 pub signed-bound-requires : goal.signed-bound-requires
-signed-bound-requires c =
-    let few = c.loop-edge.invariant.pass.few in
-    omega (arith, few, c.loop-edge.invariant.within, few_edges c.args.self.now.problem c.next_short.ensures.sound)
+signed-bound-requires c = grind (arith, few_edges)
 
 pub returns-clause-value : goal.returns-clause-value
 returns-clause-value c =
@@ -140,13 +127,7 @@ returns-clause-least c =
     c.args.self.now.ranges multipliers ≡ true) last.0 c.loop-edge.invariant.pass.within)
 
 pub push_amount-requires-clause-after : goal.push_amount-requires-clause-after
-push_amount-requires-clause-after c =
-    let next : IsNextShort c.args.self.now.problem c.args.self.now.ranges c.loop-edge.from (Some c.in-Some.edge) =
-    subst (IsNextShort c.args.self.now.problem c.args.self.now.ranges c.loop-edge.from)
-    c.in-Some.is c.next_short.ensures.next in
-    let pass = pass_to c.args.self.now.problem c.args.self.now.ranges c.loop-edge.bound.multipliers
-    c.loop-edge.bound.left.items c.loop-edge.value c.loop-edge.from c.in-Some.edge c.loop-edge.invariant.pass next in
-    pass.after
+push_amount-requires-clause-after c = grind (arith, pass_to)
 
 pub returns-clause-within : goal.returns-clause-within
 returns-clause-within c = c.loop-edge.invariant.pass.within

@@ -1,4 +1,4 @@
-use Rattle.std.proofs.Common.{◌≤◌, ◌-◌, length}
+use Rattle.plan_num.proofs.Common.{◌≤◌, ◌-◌, length}
 use Rattle.line_cost_model.specs.Passes.{IsPass}
 use Rattle.line_cost_model.proofs.summed.SummedRegion.renew_bound.Given as goal
 

@@ -1,5 +1,5 @@
-use Rattle.std.proofs.Common.{◌≡◌, ◌<◌, ◌≤◌, ◌+◌, ◌*◌, ◌∙◌, length, ap, sym, subst, arith, List, set, IfSome}
-use Rattle.std.proofs.lemmas.List.{get_or_default}
+use Rattle.plan_num.proofs.Common.{◌≡◌, ◌<◌, ◌≤◌, ◌+◌, ◌*◌, ◌∙◌, length, ap, sym, subst, arith}
+use Rattle.plan_num.proofs.Common.{List, set, IfSome, get_or_default}
 use Rattle.line_cost_model.specs.declared.range.LineRange.{LineRange}
 use Rattle.line_cost_model.specs.Regions.{RegionParts, range_of}
 use Rattle.line_cost_model.specs.RunningSums.{AreSums}

@@ -1,4 +1,4 @@
-use Rattle.std.proofs.Common.{◌≡◌, None, false, sym, ◌∙◌, subst, arith}
+use Rattle.plan_num.proofs.Common.{◌≡◌, None, false, sym, ◌∙◌, subst, arith}
 use Rattle.link_plans.specs.Plans.{is_next}
 use Rattle.link_plans.proofs.Moves.{moved_free, none_apart, given_inside}
 use Rattle.link_plans.proofs.assignment.Assignment.give.Goals as goal

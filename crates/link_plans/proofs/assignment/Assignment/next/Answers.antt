@@ -1,4 +1,4 @@
-use Rattle.std.proofs.Common.{◌<◌, length, IfSome, ap, ◌∙◌, sym, subst}
+use Rattle.plan_num.proofs.Common.{◌<◌, length, IfSome, ap, ◌∙◌, sym, subst}
 use Rattle.link_plans.specs.Plans.{next}
 use Rattle.link_plans.proofs.Moves.{next_inside}
 use Rattle.link_plans.proofs.assignment.Assignment.next.Goals as goal

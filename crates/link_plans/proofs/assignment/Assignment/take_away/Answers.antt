@@ -1,4 +1,4 @@
-use Rattle.std.proofs.Common.{◌<◌, length, IfSome, sym, ◌∙◌, ap, subst}
+use Rattle.plan_num.proofs.Common.{◌<◌, length, IfSome, sym, ◌∙◌, ap, subst}
 use Rattle.link_plans.specs.Plans.{next}
 use Rattle.link_plans.proofs.Moves.{own_inside}
 use Rattle.link_plans.proofs.assignment.Assignment.take_away.Goals as goal

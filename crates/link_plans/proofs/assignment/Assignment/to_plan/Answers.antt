@@ -1,4 +1,4 @@
-use Rattle.std.proofs.Common.{arith}
+use Rattle.plan_num.proofs.Common.{arith}
 use Rattle.link_plans.proofs.Copies.{copied_fits, copied_all}
 use Rattle.link_plans.proofs.assignment.Assignment.to_plan.Goals as goal
 

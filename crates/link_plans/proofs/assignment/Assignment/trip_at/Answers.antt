@@ -1,4 +1,4 @@
-use Rattle.std.proofs.Common.{arith}
+use Rattle.plan_num.proofs.Common.{arith}
 use Rattle.link_plans.proofs.Moves.{past_free}
 use Rattle.link_plans.proofs.assignment.Assignment.trip_at.Goals as goal
 

@@ -1,4 +1,4 @@
-use Rattle.std.proofs.Common.{map, ap, sym, ◌∙◌}
+use Rattle.plan_num.proofs.Common.{map, ap, sym, ◌∙◌}
 use Rattle.link_plans.specs.CheckedLists.{are_lists}
 use Rattle.link_plans.proofs.CheckedRows.{lists_checked}
 use Rattle.link_plans.proofs.link_table.LinkTable.checked.Goals as goal

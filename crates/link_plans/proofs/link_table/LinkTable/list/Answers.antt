@@ -1,5 +1,5 @@
-use Rattle.std.proofs.Common.{◌≡◌, ◌<◌, [], length, ap, sym, ◌∙◌, subst, arith, map, get_or}
-use Rattle.std.proofs.lemmas.List.{get_or-map, length-map}
+use Rattle.plan_num.proofs.Common.{◌≡◌, ◌<◌, [], length, ap, sym, ◌∙◌, subst, arith, map, get_or}
+use Rattle.plan_num.proofs.Common.{get_or-map, length-map}
 use Rattle.link_plans.specs.LinkRows.{IsRising}
 use Rattle.link_plans.proofs.link_table.LinkTable.list.Goals as goal
 

@@ -1,5 +1,5 @@
-use Rattle.std.proofs.Common.{◌<◌, [], length, ap, sym, ◌∙◌, subst, arith, map}
-use Rattle.std.proofs.lemmas.List.{get_or-map, length-map}
+use Rattle.plan_num.proofs.Common.{◌<◌, [], length, ap, sym, ◌∙◌, subst, arith, map, get_or-map}
+use Rattle.plan_num.proofs.Common.{length-map}
 use Rattle.link_plans.specs.Links.{links_in}
 use Rattle.link_plans.specs.LinkRows.{IsRow}
 use Rattle.link_plans.proofs.link_table.LinkTable.row.Goals as goal

@@ -1,4 +1,4 @@
-use Rattle.std.proofs.Common.{sym, subst}
+use Rattle.plan_num.proofs.Common.{sym, subst}
 use Rattle.link_plans.specs.Plans.{AreSuccessors}
 use Rattle.link_plans.proofs.Linking.{none_linked}
 use Rattle.link_plans.proofs.plan.Plan.empty.Goals as goal

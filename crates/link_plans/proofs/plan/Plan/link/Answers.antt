@@ -1,4 +1,4 @@
-use Rattle.std.proofs.Common.{◌<◌, ◌≡◌, length, false, subst, sym}
+use Rattle.plan_num.proofs.Common.{◌<◌, ◌≡◌, length, false, subst, sym}
 use Rattle.link_plans.specs.Plans.{is_next}
 use Rattle.link_plans.proofs.Linking.{linked}
 use Rattle.link_plans.proofs.plan.Plan.link.Goals as goal

@@ -1,5 +1,5 @@
 -- The events so far are classes by themselves.
-use Rattle.std.proofs.Common.{◌≡◌, All, length}
+use Rattle.plan_num.proofs.Common.{◌≡◌, All, length}
 use Rattle.pesp.proofs.Classed.{ArePlaced}
 use Rattle.pesp.proofs.cycles.Classes.alone.Given as goal
 

@@ -1,5 +1,5 @@
-use Rattle.std.proofs.Common.{◌≡◌, ◌∙◌, ◌<◌, ℕ, arith, get_or, refl, subst, sym}
-use Rattle.std.proofs.lemmas.Grind.{get_or_default_zero}
+use Rattle.plan_num.proofs.Common.{◌≡◌, ◌∙◌, ◌<◌, ℕ, arith, get_or, refl, subst, sym}
+use Rattle.plan_num.proofs.Common.{get_or_default_zero}
 use Rattle.pesp.specs.Cycles.{AreLater}
 use Rattle.pesp.proofs.Classed.{around, joined, place_set, placed_at, shifts_set, small}
 use Rattle.pesp.proofs.cycles.Classes.join.Goals as goal

@@ -1,4 +1,4 @@
-use Rattle.std.proofs.Common.{◌≡◌, ◌∙◌, ◌≤◌, ℕ, Some, ap, get_or, slice_get, subst, sym}
+use Rattle.plan_num.proofs.Common.{◌≡◌, ◌∙◌, ◌≤◌, ℕ, Some, ap, get_or, slice_get, subst, sym}
 use Rattle.pesp.specs.Timetables.{Problem}
 use Rattle.pesp.specs.Cycles.{IsTie, TiesBy}
 use Rattle.pesp.specs.Revising.{width_of}

@@ -1,4 +1,4 @@
-use Rattle.std.proofs.Common.{◌<◌, All, length, subst, sym}
+use Rattle.plan_num.proofs.Common.{◌<◌, All, length, subst, sym}
 use Rattle.pesp.specs.Timetables.{Problem}
 use Rattle.pesp.proofs.Changes.{others_hold}
 use Rattle.pesp.proofs.Classed.{owned, waits_less}

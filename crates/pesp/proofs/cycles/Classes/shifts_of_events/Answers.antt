@@ -1,5 +1,5 @@
-use Rattle.std.proofs.Common.{◌≡◌, ◌∙◌, ◌<◌, List, arith, ap, get_or, length, subst, sym}
-use Rattle.std.proofs.lemmas.Grind.{get_or_default_zero}
+use Rattle.plan_num.proofs.Common.{◌≡◌, ◌∙◌, ◌<◌, List, arith, ap, get_or, length, subst, sym}
+use Rattle.plan_num.proofs.Common.{get_or_default_zero}
 use Rattle.pesp.specs.declared.cycles.Place.{Place}
 use Rattle.pesp.specs.Cycles.{IsPlaced}
 use Rattle.pesp.proofs.Classed.{no_shifts, shift_more}

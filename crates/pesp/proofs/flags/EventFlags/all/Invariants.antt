@@ -1,5 +1,5 @@
 -- The flags so far are set.
-use Rattle.std.proofs.Common.{◌≡◌, ◌<◌, ℕ, length, true}
+use Rattle.plan_num.proofs.Common.{◌≡◌, ◌<◌, ℕ, length, true}
 use Rattle.pesp.specs.Flags.{has_changed}
 use Rattle.pesp.proofs.flags.EventFlags.all.Given as goal
 

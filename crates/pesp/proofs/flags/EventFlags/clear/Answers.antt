@@ -1,4 +1,4 @@
-use Rattle.std.proofs.Common.{◌∙◌}
+use Rattle.plan_num.proofs.Common.{◌∙◌}
 use Rattle.pesp.proofs.FlagBits.{flag_is}
 use Rattle.pesp.proofs.flags.EventFlags.clear.Goals as goal
 

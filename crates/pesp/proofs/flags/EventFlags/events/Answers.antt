@@ -1,4 +1,4 @@
-use Rattle.std.proofs.Common.{◌∙◌, arith}
+use Rattle.plan_num.proofs.Common.{◌∙◌, arith}
 use Rattle.pesp.proofs.FlagBits.{size_is}
 use Rattle.pesp.proofs.flags.EventFlags.events.Goals as goal
 

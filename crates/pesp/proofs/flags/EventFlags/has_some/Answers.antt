@@ -1,4 +1,4 @@
-use Rattle.std.proofs.Common.{◌∙◌}
+use Rattle.plan_num.proofs.Common.{◌∙◌}
 use Rattle.pesp.proofs.FlagBits.{some_by_last}
 use Rattle.pesp.proofs.flags.EventFlags.has_some.Goals as goal
 

@@ -1,12 +1,11 @@
-use Rattle.std.proofs.Common.{◌≡◌, ◌+◌, ◌-◌, arith, subst}
+use Rattle.plan_num.proofs.Common.{◌≡◌, ◌+◌, ◌-◌, arith, subst}
 use Rattle.pesp.proofs.FlagBits.{NoneFrom, last_flag, none_before, none_behind}
 use Rattle.pesp.proofs.flags.EventFlags.last.Goals as goal
 
 pub loop-index-init : goal.loop-index-init
 loop-index-init c = record {
   few = omega (arith, c.min-index.ensures);
-  none = none_behind c.args.self.now c.args.end c.range-low.result.0 c.range-low.result.1
-      c.min-index.result c.range-low.ensures.clear (omega (arith, c.min-index.ensures));
+  none = grind (arith, none_behind);
 }
 
 pub returns-in-Some : goal.returns-in-Some

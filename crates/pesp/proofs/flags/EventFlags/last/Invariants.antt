@@ -1,5 +1,5 @@
 -- None of the flags from the last one on is set so far.
-use Rattle.std.proofs.Common.{◌≤◌, ◌+◌, ◌/◌}
+use Rattle.plan_num.proofs.Common.{◌≤◌, ◌+◌, ◌/◌}
 use Rattle.pesp.proofs.FlagBits.{NoneFrom}
 use Rattle.pesp.proofs.flags.EventFlags.last.Given as goal
 

@@ -1,4 +1,4 @@
-use Rattle.std.proofs.Common.{◌∙◌, ap, arith, slice_set}
+use Rattle.plan_num.proofs.Common.{◌∙◌, ap, arith, slice_set}
 use Rattle.pesp.specs.Flags.{Flags}
 use Rattle.pesp.proofs.FlagBits.{flag_put, outside_put, size_is}
 use Rattle.pesp.proofs.flags.EventFlags.put.Goals as goal

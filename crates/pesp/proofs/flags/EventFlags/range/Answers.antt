@@ -1,4 +1,4 @@
-use Rattle.std.proofs.Common.{◌∙◌, ap, arith, sym}
+use Rattle.plan_num.proofs.Common.{◌∙◌, ap, arith, sym}
 use Rattle.pesp.specs.Flags.{Flags, has_changed}
 use Rattle.pesp.proofs.FlagBits.{flag_is, size_is}
 use Rattle.pesp.proofs.flags.EventFlags.range.Goals as goal

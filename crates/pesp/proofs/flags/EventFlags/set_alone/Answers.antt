@@ -1,4 +1,4 @@
-use Rattle.std.proofs.Common.{◌∙◌, ap, arith}
+use Rattle.plan_num.proofs.Common.{◌∙◌, ap, arith}
 use Rattle.pesp.specs.Flags.{Flags, has_changed}
 use Rattle.pesp.proofs.FlagBits.{one_set}
 use Rattle.pesp.proofs.flags.EventFlags.set_alone.Goals as goal

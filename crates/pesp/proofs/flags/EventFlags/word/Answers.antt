@@ -1,4 +1,4 @@
-use Rattle.std.proofs.Common.{arith}
+use Rattle.plan_num.proofs.Common.{arith}
 use Rattle.pesp.proofs.FlagBits.{flags_in, size_is}
 use Rattle.pesp.proofs.flags.EventFlags.word.Goals as goal
 

@@ -1,4 +1,4 @@
-use Rattle.std.proofs.Common.{ℕ, List, Vec, Global, arith, map, subst, sym}
+use Rattle.plan_num.proofs.Common.{ℕ, List, Vec, Global, arith, map, subst, sym}
 use Rattle.pesp.specs.Revising.{AreLinks, NotesActivity}
 use Rattle.pesp.proofs.Linked.{links_more}
 use Rattle.pesp.proofs.links.Links.new.Goals as goal

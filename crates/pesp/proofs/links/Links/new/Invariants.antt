@@ -1,5 +1,5 @@
 -- No index is noted before the first activity, and then those of the activities so far.
-use Rattle.std.proofs.Common.{◌≡◌, [], All, length, map}
+use Rattle.plan_num.proofs.Common.{◌≡◌, [], All, length, map}
 use Rattle.pesp.specs.Revising.{AreLinks}
 use Rattle.pesp.proofs.links.Links.new.Given as goal
 

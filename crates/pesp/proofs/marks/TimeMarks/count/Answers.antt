@@ -1,21 +1,17 @@
-use Rattle.std.proofs.Common.{◌∙◌, ◌+◌, ap, arith, count_ones, sym}
+use Rattle.plan_num.proofs.Common.{arith, count_ones}
 use Rattle.pesp.proofs.MarkCounts.{all_counted, none_counted, ones_few, word_counted}
 use Rattle.pesp.proofs.marks.TimeMarks.count.Goals as goal
 
 pub loop-index-init : goal.loop-index-init
 loop-index-init c = record {
   few = omega arith;
-  counted = none_counted c.args.self.now
-      c.args.event;
+  counted = grind (arith, none_counted);
 }
 
 pub loop-index-preserved : goal.loop-index-preserved
 loop-index-preserved c = record {
   few = omega (arith, c.loop-index.invariant.few, ones_few c.word.result c.word.type_inv);
-  counted = ap (λ n. n + count_ones c.word.result) c.loop-index.invariant.counted
-      ∙ sym (word_counted c.args.self.now c.args.event c.loop-index.index c.word.result
-      c.word.type_inv
-      c.word.ensures.value);
+  counted = grind (arith, count_ones, word_counted);
 }
 
 pub returns : goal.returns

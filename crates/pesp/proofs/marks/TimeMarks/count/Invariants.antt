@@ -1,5 +1,5 @@
 -- The count so far is that of the bits of the words so far.
-use Rattle.std.proofs.Common.{◌≡◌, ◌*◌, ◌≤◌}
+use Rattle.plan_num.proofs.Common.{◌≡◌, ◌*◌, ◌≤◌}
 use Rattle.bit_rows.proofs.RowBits.{bit_there}
 use Rattle.pesp.specs.Revising.{count_below}
 use Rattle.pesp.proofs.marks.TimeMarks.count.Given as goal

@@ -1,4 +1,4 @@
-use Rattle.std.proofs.Common.{arith}
+use Rattle.plan_num.proofs.Common.{arith}
 use Rattle.pesp.proofs.MarkBits.{next_found, none_at_end, none_found}
 use Rattle.pesp.proofs.marks.TimeMarks.next_left.Goals as goal
 
@@ -9,8 +9,7 @@ returns-in-Some c =
       arith,
       c.max.ensures,
     ))
-    c.word-word.ensures.value c.loop-index.invariant c.in-Some.bit c.in-Some.ensures in
-    record { next = next; few = (let low = next.0 in omega (arith, low, c.word-word.ensures.sound.few)) }
+    c.word-word.ensures.value c.loop-index.invariant c.in-Some.bit c.in-Some.ensures in grind arith
 
 pub loop-index-preserved : goal.loop-index-preserved
 loop-index-preserved c =

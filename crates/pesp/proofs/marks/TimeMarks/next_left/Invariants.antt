@@ -1,5 +1,5 @@
 -- None so far.
-use Rattle.std.proofs.Common.{◌*◌}
+use Rattle.plan_num.proofs.Common.{◌*◌}
 use Rattle.pesp.proofs.MarkBits.{NoneLeft}
 use Rattle.pesp.proofs.marks.TimeMarks.next_left.Given as goal
 

@@ -13,8 +13,7 @@ loop-index-init c = record {
 pub loop-index-preserved : goal.loop-index-preserved
 loop-index-preserved c = record {
   long = length-set c.loop-index.times c.loop-index.index _ ∙ c.loop-index.invariant.long;
-  each = one_copied c.args.self.now c.args.event c.loop-index.index c.word.result c.loop-index.times
-      (omega arith) c.word.ensures.value c.loop-index.invariant.each;
+  each = grind (arith, one_copied);
 }
 
 pub returns-clause-each : goal.returns-clause-each

@@ -1,5 +1,5 @@
 -- The words so far.
-use Rattle.std.proofs.Common.{◌≡◌, ◌*◌, ◌&&◌, ℕ, length, nat_lt}
+use Rattle.plan_num.proofs.Common.{◌≡◌, ◌*◌, ◌&&◌, ℕ, length, nat_lt}
 use Rattle.bit_rows.specs.Bits.{marked}
 use Rattle.bit_rows.proofs.RowBits.{bit_there}
 use Rattle.pesp.proofs.marks.TimeMarks.times_of.Given as goal

@@ -1,4 +1,4 @@
-use Rattle.std.proofs.Common.{subst, ap, ◌∙◌}
+use Rattle.plan_num.proofs.Common.{subst, ap, ◌∙◌}
 use Rattle.pesp.specs.Timetables.{IsProblem}
 use Rattle.pesp.proofs.FirstBroken.{found_in, first_is, none_is}
 use Rattle.pesp.proofs.problem.Pesp.first_violated.Goals as goal

@@ -1,4 +1,4 @@
-use Rattle.std.proofs.Common.{◌∙◌, ap, reverse}
+use Rattle.plan_num.proofs.Common.{◌∙◌, ap, reverse}
 use Rattle.pesp.specs.Marks.{saved_by}
 use Rattle.pesp.proofs.Changes.{none_saved, tracked}
 use Rattle.pesp.proofs.time_sets.TimeSets.new.Goals as goal

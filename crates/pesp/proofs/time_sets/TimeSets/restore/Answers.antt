@@ -1,4 +1,4 @@
-use Rattle.std.proofs.Common.{◌∙◌, All, ap, arith, subst, sym}
+use Rattle.plan_num.proofs.Common.{◌∙◌, All, arith, subst, sym}
 use Rattle.pesp.specs.Marks.{IsChange, Marks}
 use Rattle.pesp.proofs.Changes.{last_holds, none_left, others_hold, popped_branched}
 use Rattle.pesp.proofs.Changes.{popped_replaced}
@@ -11,20 +11,13 @@ put_word-requires c =
     (last_holds (IsChange c.loop-change.self-inside.sets.columns
     c.loop-change.self-inside.sets.rows)
     c.loop-change.self-inside.changes.items c.pop.new.self.items c.in-Some.change
-    c.in-Some.ensures.items c.loop-change.invariant.changes) in
-    record { place = so.0; word = so.1 }
+    c.in-Some.ensures.items c.loop-change.invariant.changes) in grind arith
 
 pub loop-change-preserved : goal.loop-change-preserved
 loop-change-preserved c = record {
-  period = ap (λ (sets : Marks). sets.columns) c.put_word.ensures.put
-      ∙ c.loop-change.invariant.period;
-  events = ap (λ (sets : Marks). sets.rows) c.put_word.ensures.put
-      ∙ c.loop-change.invariant.events;
-  saved = popped_replaced c.loop-change.self-inside.sets c.put_word.new.self
-      c.loop-change.self-inside.changes.items c.pop.new.self.items c.in-Some.change
-      c.in-Replaced.place c.in-Replaced.word c.in-Some.ensures.items c.in-Replaced.is
-      c.put_word.ensures.put
-      ∙ c.loop-change.invariant.saved;
+  period = grind arith;
+  events = grind arith;
+  saved = grind (arith, popped_replaced);
   changes = subst (λ (now : Marks). All (IsChange now.columns now.rows) c.pop.new.self.items)
       (sym c.put_word.ensures.put)
       (others_hold (IsChange c.loop-change.self-inside.sets.columns

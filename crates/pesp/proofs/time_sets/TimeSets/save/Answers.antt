@@ -1,4 +1,4 @@
-use Rattle.std.proofs.Common.{◌∷◌, ◌∙◌, ap}
+use Rattle.plan_num.proofs.Common.{◌∷◌, ◌∙◌, ap}
 use Rattle.pesp.specs.Marks.{Tracked}
 use Rattle.pesp.proofs.Changes.{branched_view}
 use Rattle.pesp.proofs.time_sets.TimeSets.save.Goals as goal

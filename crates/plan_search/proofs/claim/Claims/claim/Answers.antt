@@ -1,4 +1,4 @@
-use Rattle.std.proofs.Common.{◌≡◌, ◌<◌, length, None, ap, ◌∙◌, sym, subst}
+use Rattle.plan_num.proofs.Common.{◌≡◌, ◌<◌, length, None, ap, ◌∙◌, sym, subst}
 use Rattle.plan_search.specs.Claims.{claim_at, AreClaims}
 use Rattle.plan_search.proofs.ClaimLists.{few_open}
 use Rattle.plan_search.proofs.Flags.{flagged_more}

@@ -1,5 +1,5 @@
 -- So many places have no claim so far.
-use Rattle.std.proofs.Common.{◌≡◌, replicate, None}
+use Rattle.plan_num.proofs.Common.{◌≡◌, replicate, None}
 use Rattle.plan_search.proofs.claim.Claims.new.Given as goal
 
 abbrev pub invariant-loop-place : goal.invariant-loop-place

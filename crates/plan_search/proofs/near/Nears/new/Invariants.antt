@@ -1,5 +1,5 @@
 -- So many places so far.
-use Rattle.std.proofs.Common.{◌≡◌, None, replicate}
+use Rattle.plan_num.proofs.Common.{◌≡◌, None, replicate}
 use Rattle.plan_search.proofs.near.Nears.new.Given as goal
 
 abbrev pub invariant-loop-place : goal.invariant-loop-place

@@ -1,4 +1,4 @@
-use Rattle.std.proofs.Common.{◌≡◌, ◌<◌, None, length, ap, sym, subst, arith}
+use Rattle.plan_num.proofs.Common.{◌≡◌, ◌<◌, None, length, ap, sym, subst, arith}
 use Rattle.link_plans.proofs.Common.{next}
 use Rattle.plan_search.specs.Trees.{IsRooted}
 use Rattle.plan_search.proofs.TreeEnds.{is_planted, is_rooted}

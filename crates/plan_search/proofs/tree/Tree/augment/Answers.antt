@@ -1,17 +1,13 @@
-use Rattle.std.proofs.Common.{sym, subst, arith}
+use Rattle.plan_num.proofs.Common.{sym, subst, arith}
 use Rattle.plan_search.specs.Trees.{IsEnd, IsAugmented}
 use Rattle.plan_search.proofs.TreeEnds.{can_be_handed, is_tight, is_augmented}
 use Rattle.plan_search.proofs.tree.Tree.augment.Goals as goal
 
 pub claim-requires-clause-place : goal.claim-requires-clause-place
-claim-requires-clause-place c =
-    let at_end = subst (λ t. IsEnd t c.args.end) (sym c.self.view_is) c.requires in
-    omega (arith, at_end.reached.within, c.self.invariant.growing.places)
+claim-requires-clause-place c = grind arith
 
 pub claim-requires-clause-open : goal.claim-requires-clause-open
-claim-requires-clause-open c =
-    let at_end = subst (λ t. IsEnd t c.args.end) (sym c.self.view_is) c.requires in
-    at_end.reached.unclaimed
+claim-requires-clause-open c = grind arith
 
 pub hand_to-requires : goal.hand_to-requires
 hand_to-requires c = can_be_handed _ c.self.invariant c.args.end

@@ -1,20 +1,16 @@
-use Rattle.std.proofs.Common.{◌≡◌, OnOk, length, ap, sym, subst, arith}
+use Rattle.plan_num.proofs.Common.{◌≡◌, sym, subst, arith}
 use Rattle.link_plans.proofs.Common.{followed, is_next}
-use Rattle.plan_search.specs.Claims.{ClaimsParts, AreClaims}
-use Rattle.plan_search.specs.Trees.{TreeParts, IsReached, IsTree, with_claim}
+use Rattle.plan_search.specs.Claims.{AreClaims}
+use Rattle.plan_search.specs.Trees.{TreeParts, IsReached, IsTree}
 use Rattle.plan_search.proofs.TreeSteps.{room_left, tree_grown}
 use Rattle.plan_search.proofs.TreeTurns.{either_way, ok_map}
 use Rattle.plan_search.proofs.tree.Tree.claim.Goals as goal
 
 pub claim-requires-clause-place : goal.claim-requires-clause-place
-claim-requires-clause-place c =
-    let reached = subst (λ t. IsReached t c.args.place c.args.member) (sym c.self.view_is) c.requires.reached in
-    omega (arith, reached.within, c.self.invariant.growing.places)
+claim-requires-clause-place c = grind arith
 
 pub claim-requires-clause-open : goal.claim-requires-clause-open
-claim-requires-clause-open c =
-    let reached = subst (λ t. IsReached t c.args.place c.args.member) (sym c.self.view_is) c.requires.reached in
-    reached.unclaimed
+claim-requires-clause-open c = grind arith
 
 pub invariant_of-self : goal.invariant_of-self
 invariant_of-self c =
@@ -33,29 +29,10 @@ invariant_of-self c =
     c.self.invariant
 
 pub returns-clause-claimed : goal.returns-clause-claimed
-returns-clause-claimed c =
-    let with : ClaimsParts → TreeParts = λ claims. record {
-      links = c.self.inside.links.now;
-      plan = c.self.inside.plan;
-      potentials = c.self.inside.potentials;
-      claims = claims;
-      nears = c.self.inside.nears;
-      root = c.self.inside.root;
-    } in
-    subst (λ (t : TreeParts). OnOk c.claim.result (with c.claim.new.self ≡ record t {
-      claims = with_claim t.claims c.args.place c.args.member;
-    })) c.self.view_is
-    (ok_map c.claim.result (ap with) c.claim.ensures.claimed)
+returns-clause-claimed c = grind (arith, ok_map)
 
 pub returns-clause-few : goal.returns-clause-few
-returns-clause-few c =
-    let reached = subst (λ t. IsReached t c.args.place c.args.member) (sym c.self.view_is) c.requires.reached in
-    omega (
-      arith,
-      room_left _ c.self.invariant c.claim.ensures.claims c.args.place c.args.member reached c.claim.ensures.few,
-      ap (λ (t : TreeParts). length t.claims.order) c.self.view_is,
-      ap (λ (t : TreeParts). length t.links) c.self.view_is,
-    )
+returns-clause-few c = grind (arith, room_left)
 
 pub returns-clause-claims : goal.returns-clause-claims
 returns-clause-claims c = subst (λ (t : TreeParts). AreClaims t.claims) c.self.view_is c.claim.ensures.claims

@@ -1,5 +1,5 @@
 -- The tree was looked from all its trips, and each turn claims a place more.
-use Rattle.std.proofs.Common.{◌+◌, ◌-◌, length}
+use Rattle.plan_num.proofs.Common.{◌+◌, ◌-◌, length}
 use Rattle.plan_search.proofs.TreeTurns.{IsOnItsWay}
 use Rattle.plan_search.proofs.tree.Tree.find_end.Given as goal
 

@@ -1,4 +1,4 @@
-use Rattle.std.proofs.Common.{◌∙◌, length, ap, sym, subst}
+use Rattle.plan_num.proofs.Common.{◌∙◌, length, ap, sym, subst}
 use Rattle.plan_search.specs.Trees.{IsLooked}
 use Rattle.plan_search.proofs.TreeSteps.{nearest_is, with_nears}
 use Rattle.plan_search.proofs.tree.Tree.nearest.Goals as goal

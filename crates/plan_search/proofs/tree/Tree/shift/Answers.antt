@@ -1,4 +1,4 @@
-use Rattle.std.proofs.Common.{◌<◌, sym, subst}
+use Rattle.plan_num.proofs.Common.{◌<◌, sym, subst}
 use Rattle.plan_search.specs.Growing.{AreShifted}
 use Rattle.plan_search.specs.Trees.{IsLooked, IsLeast, IsShifted}
 use Rattle.plan_search.proofs.TreeSteps.{small_after, tree_shifted, is_shifted}

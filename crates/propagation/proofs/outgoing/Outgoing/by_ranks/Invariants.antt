@@ -1,5 +1,5 @@
 -- The links so far are those of the events of the ranks so far.
-use Rattle.std.proofs.Common.{◌≡◌, take}
+use Rattle.plan_num.proofs.Common.{◌≡◌, take}
 use Rattle.propagation.specs.Outgoing.{by_ranks}
 use Rattle.propagation.proofs.outgoing.Outgoing.by_ranks.Given as goal
 

@@ -1,5 +1,5 @@
-use Rattle.std.proofs.Common.{◌≡◌, ◌<◌, ◌-◌, ◌+◌, ◌∙◌, length, None, slice_index_or, subst, arith}
-use Rattle.std.proofs.lemmas.List.{get_or_default, length-set}
+use Rattle.plan_num.proofs.Common.{◌≡◌, ◌<◌, ◌-◌, ◌+◌, ◌∙◌, length, None, slice_index_or, subst}
+use Rattle.plan_num.proofs.Common.{arith, get_or_default, length-set}
 use Rattle.propagation.specs.declared.links.Link.{Link}
 use Rattle.propagation.specs.Outgoing.{AreChained}
 use Rattle.propagation.proofs.LinksOut.{more_chained}

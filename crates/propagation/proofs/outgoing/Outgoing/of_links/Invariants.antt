@@ -1,5 +1,5 @@
 -- The links from an index on are chained.
-use Rattle.std.proofs.Common.{◌≡◌, ◌≤◌, length}
+use Rattle.plan_num.proofs.Common.{◌≡◌, ◌≤◌, length}
 use Rattle.propagation.specs.Outgoing.{AreChained}
 use Rattle.propagation.proofs.outgoing.Outgoing.of_links.Given as goal
 

@@ -1,6 +1,6 @@
 -- The links so far and those of the event that are left are all of them, and the next one is out of
 -- the event.
-use Rattle.std.proofs.Common.{◌≡◌, ◌<◌, ◌-◌, ◌++◌, length, get_or, drop}
+use Rattle.plan_num.proofs.Common.{◌≡◌, ◌<◌, ◌-◌, ◌++◌, length, get_or, drop}
 use Rattle.propagation.specs.declared.links.Link.{Link}
 use Rattle.propagation.specs.Outgoing.{out_of}
 use Rattle.propagation.proofs.outgoing.Outgoing.push_links.Given as goal

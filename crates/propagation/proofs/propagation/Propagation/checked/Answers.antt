@@ -1,4 +1,4 @@
-use Rattle.std.proofs.Common.{◌∙◌, sym}
+use Rattle.plan_num.proofs.Common.{◌∙◌, sym}
 use Rattle.propagation.specs.CheckedDays.{is_day}
 use Rattle.propagation.specs.Links.{parts_of}
 use Rattle.propagation.proofs.PassedDays.{passed_day}

@@ -1,20 +1,15 @@
-use Rattle.plan_num.proofs.Common.{◌++◌, ◌<◌, ◌≤◌, List, All, length, subst, sym, IsPermutation}
+use Rattle.plan_num.proofs.Common.{arith, ◌++◌, ◌<◌, List, All, length, subst, sym, IsPermutation}
 use Rattle.propagation.specs.declared.day_event.DayEvent.{DayEvent}
 use Rattle.propagation.specs.declared.links.Link.{Link}
-use Rattle.propagation.specs.declared.step.Activity.{Activity}
 use Rattle.propagation.specs.Links.{change_links, parts_of, ride_links, turn_links}
 use Rattle.propagation.proofs.DayLinked.{changes_start, day_linked, rides_start, turns_start}
 use Rattle.propagation.proofs.propagation.Propagation.of_parts.Goals as goal
 
 pub links_in_order-requires-clause-few : goal.links_in_order-requires-clause-few
-links_in_order-requires-clause-few c =
-    subst (λ (events : List DayEvent). length events ≤ 100000) (sym c.deref.ensures.value)
-    c.requires.few
+links_in_order-requires-clause-few c = grind arith
 
 pub links_in_order-requires-clause-few_changes : goal.links_in_order-requires-clause-few_changes
-links_in_order-requires-clause-few_changes c =
-    subst (λ (all : List Activity). length all ≤ 500000) (sym c.deref-4.ensures.value)
-    c.requires.few_changes
+links_in_order-requires-clause-few_changes c = grind arith
 
 pub links_in_order-requires-clause-rides : goal.links_in_order-requires-clause-rides
 links_in_order-requires-clause-rides c =

@@ -1,4 +1,4 @@
-use Rattle.std.proofs.Common.{List, Ok, Result, ℕ}
+use Rattle.plan_num.proofs.Common.{List, Ok, Result, ℕ}
 use Rattle.propagation.proofs.PassIsLeast.{ends_there, least_told, told_least}
 use Rattle.propagation.proofs.SoonTimes.{told_small}
 use Rattle.propagation.proofs.propagation.Propagation.put_least_times.Goals as goal

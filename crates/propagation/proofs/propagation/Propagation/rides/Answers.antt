@@ -1,4 +1,4 @@
-use Rattle.std.proofs.Common.{◌≤◌, All, length, subst}
+use Rattle.plan_num.proofs.Common.{◌≤◌, All, length, subst}
 use Rattle.propagation.specs.Problems.{Joins}
 use Rattle.propagation.proofs.ForwardSteps.{rides_join, ride_ids}
 use Rattle.propagation.proofs.propagation.Propagation.rides.Goals as goal

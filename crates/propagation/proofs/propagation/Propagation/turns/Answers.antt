@@ -1,4 +1,4 @@
-use Rattle.std.proofs.Common.{All, length, subst}
+use Rattle.plan_num.proofs.Common.{All, length, subst}
 use Rattle.propagation.specs.Problems.{Joins}
 use Rattle.propagation.proofs.ForwardSteps.{turns_join}
 use Rattle.propagation.proofs.propagation.Propagation.turns.Goals as goal

@@ -1,4 +1,4 @@
-use Rattle.std.proofs.Common.{◌∷◌, [], ap, ◌∙◌}
+use Rattle.plan_num.proofs.Common.{◌∷◌, [], ap, ◌∙◌}
 use Rattle.roll_out.proofs.Spaced.{before_copies, between_copies, behind_copies, copy_found}
 use Rattle.roll_out.proofs.copies.Copies.id_at.Goals as goal
 

@@ -1,5 +1,5 @@
 -- No activity is noted at first, and then the activities so far.
-use Rattle.std.proofs.Common.{◌≡◌, [], All, length, map, take}
+use Rattle.plan_num.proofs.Common.{◌≡◌, [], All, length, map, take}
 use Rattle.roll_out.specs.Plans.{AreWays}
 use Rattle.roll_out.proofs.event_ways.EventWays.new.Given as goal
 

@@ -1,4 +1,4 @@
-use Rattle.plan_num.proofs.Common.{◌≡◌, [], ap, subst, sym, ◌∙◌, err_from_is_err_and}
+use Rattle.plan_num.proofs.Common.{arith, ◌≡◌, [], ap, subst, sym, ◌∙◌, err_from_is_err_and}
 use Rattle.tables.proofs.Common.{input_faults, records_of}
 use Rattle.giv_files.proofs.Common.{input_text}
 use Rattle.event_tables.proofs.Common.{periodic_activity_input, periodic_event_ids}
@@ -7,9 +7,10 @@ use Rattle.roll_out.proofs.network.TimedNetwork.of_bundle.Goals as goal
 
 pub returns-in_err-events-clause-read : goal.returns-in_err-events-clause-read
 returns-in_err-events-clause-read c =
-    let p = err_from_is_err_and c.from_residual.result c.from_residual.ensures.1 in
-    rw (p.1, p.2) (events_refused c.args.bundle.now c.in_err-events.field-0.0
-    (rw c.input.ensures at c.in_err-events.ensures.read))
+    let p = err_from_is_err_and c.from_residual.result c.from_residual.ensures.1 in grind (
+      arith,
+      events_refused,
+    )
 
 pub returns-in_err-activities-clause-read : goal.returns-in_err-activities-clause-read
 returns-in_err-activities-clause-read c =

@@ -1,4 +1,4 @@
-use Rattle.std.proofs.Common.{◌≤◌, ◌-◌, ◌∙◌, length, sym, arith}
+use Rattle.plan_num.proofs.Common.{◌≤◌, ◌-◌, ◌∙◌, length, sym, arith}
 use Rattle.text_fields.proofs.HandedFacts.{copied_front, given_more, within_more}
 use Rattle.text_fields.proofs.handed.Handed.fill.Goals as goal
 

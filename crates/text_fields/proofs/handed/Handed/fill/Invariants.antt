@@ -1,5 +1,5 @@
 -- What was handed out and what is left to hand out are what there was.
-use Rattle.std.proofs.Common.{◌≡◌, ◌≤◌, ◌-◌, ◌++◌, length, take}
+use Rattle.plan_num.proofs.Common.{◌≡◌, ◌≤◌, ◌-◌, ◌++◌, length, take}
 use Rattle.text_fields.specs.Handed.{unread}
 use Rattle.text_fields.proofs.handed.Handed.fill.Given as goal
 

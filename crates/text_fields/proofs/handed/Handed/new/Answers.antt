@@ -1,4 +1,4 @@
-use Rattle.std.proofs.Common.{Some, [], ap, sym}
+use Rattle.plan_num.proofs.Common.{Some, [], ap, sym}
 use Rattle.text_fields.proofs.FedFacts.{fed_first}
 use Rattle.text_fields.proofs.handed.Handed.new.Goals as goal
 

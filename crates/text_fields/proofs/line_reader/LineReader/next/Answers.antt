@@ -1,4 +1,4 @@
-use Rattle.std.proofs.Common.{◌+◌, ◌∙◌, ap, arith, drop, length, length-drop, subst, sym}
+use Rattle.plan_num.proofs.Common.{◌+◌, arith, drop, length-drop, subst}
 use Rattle.csv.specs.Records.{fields_of}
 use Rattle.text_fields.specs.Told.{HasPieces}
 use Rattle.text_fields.proofs.LinesRead.{after_next, apart_next, none_next, reads_next}
@@ -51,20 +51,10 @@ invariant_of-self-in-Ok-true c =
     }
 
 pub invariant_of-self-in-Ok-false : goal.invariant_of-self-in-Ok-false
-invariant_of-self-in-Ok-false c = record {
-  within = c.self.invariant.within;
-  few = c.self.invariant.few;
-  awaits = λ never. cc;
-  over = λ over. none_next _ _ _ (c.in-Ok-false.ensures _ (c.self.invariant.awaits c.in-Open.is))
-      c.in-Ok-false.field-0-test;
-}
+invariant_of-self-in-Ok-false c = grind (arith, none_next)
 
 pub returns-else-len-ge2-clause-less : goal.returns-else-len-ge2-clause-less
-returns-else-len-ge2-clause-less c =
-    omega (arith, c.take_after-line.ensures.less, ap length c.self.view_is)
+returns-else-len-ge2-clause-less c = grind arith
 
 pub returns-in-Ok-false-clause-read : goal.returns-in-Ok-false-clause-read
-returns-in-Ok-false-clause-read c =
-    sym c.self.view_is
-    ∙ none_next _ _ _ (c.in-Ok-false.ensures _ (c.self.invariant.awaits c.in-Open.is))
-    c.in-Ok-false.field-0-test
+returns-in-Ok-false-clause-read c = grind (arith, none_next)

@@ -1,4 +1,4 @@
-use Rattle.std.proofs.Common.{◌∙◌, ap, false, filter, sym, true}
+use Rattle.plan_num.proofs.Common.{◌∙◌, ap, false, filter, sym, true}
 use Rattle.text_fields.specs.Rows.{has_byte}
 use Rattle.text_fields.specs.Told.{given}
 use Rattle.text_fields.proofs.GivenFacts.{same_given}

@@ -1,5 +1,5 @@
 -- So many lines are passed over.
-use Rattle.std.proofs.Common.{◌≡◌, drop}
+use Rattle.plan_num.proofs.Common.{◌≡◌, drop}
 use Rattle.text_fields.proofs.text_lines.TextLines.skip.Given as goal
 
 abbrev pub invariant-loop-line : goal.invariant-loop-line

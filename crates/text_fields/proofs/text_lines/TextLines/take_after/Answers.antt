@@ -1,4 +1,4 @@
-use Rattle.std.proofs.Common.{◌∙◌, ap, arith, false, length, sym, true}
+use Rattle.plan_num.proofs.Common.{◌∙◌, ap, arith, false, length, sym, true}
 use Rattle.text_fields.proofs.GivenFacts.{passes_first}
 use Rattle.text_fields.proofs.LinesRead.{given_next, looked_up}
 use Rattle.text_fields.proofs.text_lines.TextLines.take_after.Goals as goal

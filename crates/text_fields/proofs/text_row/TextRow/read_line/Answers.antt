@@ -1,12 +1,9 @@
-use Rattle.csv.specs.Records.{fields_of}
+use Rattle.plan_num.proofs.Common.{arith}
 use Rattle.text_fields.proofs.PlainRows.{plain_row}
 use Rattle.text_fields.proofs.text_row.TextRow.read_line.Goals as goal
 
 pub returns-in-Apart-clause-gives : goal.returns-in-Apart-clause-gives
-returns-in-Apart-clause-gives c =
-    let read = rw c.in-Apart.is at c.in_ok-next.ensures.read in
-    rw c.standing-self-inside.ensures (plain_row c.args.number read.line
-    (fields_of c.next.new.pieces) c.args.lines.now c.next.new.self read.left read.pieces read.some)
+returns-in-Apart-clause-gives c = grind (arith, plain_row)
 
 pub returns-in-Stands-clause-gives : goal.returns-in-Stands-clause-gives
 returns-in-Stands-clause-gives c =

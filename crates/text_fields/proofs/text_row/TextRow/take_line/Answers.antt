@@ -1,4 +1,4 @@
-use Rattle.std.proofs.Common.{◌∷◌, ◌∙◌, ap, map, sym, arith, refl}
+use Rattle.plan_num.proofs.Common.{◌∷◌, ◌∙◌, ap, map, sym, arith, refl}
 use Rattle.text_fields.specs.Told.{row_told}
 use Rattle.text_fields.proofs.ToldFacts.{told_blank, told_empty, told_first}
 use Rattle.text_fields.proofs.text_row.TextRow.take_line.Goals as goal

@@ -1,4 +1,4 @@
-use Rattle.std.proofs.Common.{◌∙◌, ap, map, sym}
+use Rattle.plan_num.proofs.Common.{◌∙◌, ap, map, sym}
 use Rattle.text_fields.specs.Rows.{parts_of}
 use Rattle.text_fields.specs.Told.{row_told}
 use Rattle.text_fields.proofs.ToldFacts.{rows_told, told_some}

@@ -1,5 +1,5 @@
 -- The rows that are left are those that were left at first.
-use Rattle.std.proofs.Common.{◌≡◌, ◌+◌, ◌<◌, ◌^◌, length, map}
+use Rattle.plan_num.proofs.Common.{◌≡◌, ◌+◌, ◌<◌, ◌^◌, length, map}
 use Rattle.text_fields.specs.Told.{row_told, told_left}
 use Rattle.text_fields.proofs.text_rows.TextRows.next_row.Given as goal
 

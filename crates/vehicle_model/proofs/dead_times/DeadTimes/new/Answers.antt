@@ -1,4 +1,4 @@
-use Rattle.std.proofs.Common.{length}
+use Rattle.plan_num.proofs.Common.{length}
 use Rattle.vehicle_model.specs.Schedules.{no_trip}
 use Rattle.vehicle_model.specs.Trips.{start_stop, end_stop}
 use Rattle.vehicle_model.proofs.DeadLookups.{stops_more, within_more}

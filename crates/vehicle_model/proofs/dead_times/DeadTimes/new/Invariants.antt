@@ -1,5 +1,5 @@
 -- The stops so far are those of the trips so far.
-use Rattle.std.proofs.Common.{◌≡◌, ◌<◌, map, take, length, All}
+use Rattle.plan_num.proofs.Common.{◌≡◌, ◌<◌, map, take, length, All}
 use Rattle.vehicle_model.specs.Trips.{start_stop, end_stop}
 use Rattle.vehicle_model.proofs.dead_times.DeadTimes.new.Given as goal
 

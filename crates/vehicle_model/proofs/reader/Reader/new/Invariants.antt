@@ -1,5 +1,5 @@
 -- No trip has come so far.
-use Rattle.std.proofs.Common.{◌≡◌, replicate, false}
+use Rattle.plan_num.proofs.Common.{◌≡◌, replicate, false}
 use Rattle.vehicle_model.proofs.reader.Reader.new.Given as goal
 
 abbrev pub invariant-loop-trip : goal.invariant-loop-trip

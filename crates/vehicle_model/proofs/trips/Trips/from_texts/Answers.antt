@@ -1,9 +1,8 @@
-use Rattle.std.proofs.Common.{Some, sym, subst, ◌∙◌, ap, w64, unsigned_abs}
+use Rattle.plan_num.proofs.Common.{arith, Some, sym, subst, ◌∙◌, ap, w64, unsigned_abs}
+use Rattle.plan_num.proofs.Common.{err_from_is_err_and}
 use Rattle.std.proofs.lemmas.Int.{to_z-of_z}
-use Rattle.std.proofs.lemmas.Result.{err_from_is_err_and}
 use Rattle.event_tables.specs.Trips.{AreTrips as AreTripRows}
 use Rattle.tables.proofs.Common.{Refuses, refused_append}
-use Rattle.ptn_network.specs.Networks.{network_faults}
 use Rattle.vehicle_model.specs.DeadTables.{IsDeadTable}
 use Rattle.vehicle_model.specs.Trips.{trips_faults}
 use Rattle.vehicle_model.proofs.TripTexts.{rows_faults, trips_are, abs_small, settings_are}
@@ -12,9 +11,10 @@ use Rattle.vehicle_model.proofs.trips.Trips.from_texts.Goals as goal
 pub returns-in_err-network : goal.returns-in_err-network
 unfolding trips_faults
 returns-in_err-network c =
-    let p = err_from_is_err_and c.from_residual.result c.from_residual.ensures.1 in
-    rw (p.1, p.2) (refused_append (network_faults c.args.stops.now c.args.edges.now) _
-    c.in_err-network.field-0.0 c.in_err-network.ensures)
+    let p = err_from_is_err_and c.from_residual.result c.from_residual.ensures.1 in grind (
+      arith,
+      refused_append,
+    )
 
 pub returns-in_err-rows : goal.returns-in_err-rows
 returns-in_err-rows c =

@@ -1,4 +1,4 @@
-use Rattle.std.proofs.Common.{sym, ◌∙◌, subst}
+use Rattle.plan_num.proofs.Common.{sym, ◌∙◌, subst}
 use Rattle.walks.proofs.Common.{edge_time, IsLeastSum}
 use Rattle.vehicle_model.specs.Schedules.{trip_of}
 use Rattle.vehicle_model.specs.Trips.{start_stop, end_stop}

@@ -1,4 +1,4 @@
-use Rattle.std.proofs.Common.{◌≡◌, replicate, rules}
+use Rattle.plan_num.proofs.Common.{◌≡◌, replicate, rules}
 use Rattle.walks.specs.declared.label.Label.TheVariants.{Unseen}
 use Rattle.walks.proofs.GoingOn.{first_goes_on}
 use Rattle.walks.proofs.labels.Labels.from_stop.Goals as goal

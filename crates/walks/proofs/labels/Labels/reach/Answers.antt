@@ -1,4 +1,4 @@
-use Rattle.std.proofs.Common.{length, ap, arith}
+use Rattle.plan_num.proofs.Common.{length, ap, arith}
 use Rattle.walks.proofs.GoingOn.{reach_goes_on}
 use Rattle.walks.proofs.labels.Labels.reach.Goals as goal
 

@@ -1,6 +1,6 @@
 -- No label has changed, and each stop that is reached and not settled has its walk among those that
 -- are left.
-use Rattle.std.proofs.Common.{◌≡◌, length}
+use Rattle.plan_num.proofs.Common.{◌≡◌, length}
 use Rattle.walks.specs.Labels.{GoesOn}
 use Rattle.walks.proofs.labels.Labels.settle_nearest.Given as goal
 

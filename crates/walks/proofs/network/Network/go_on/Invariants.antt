@@ -1,5 +1,5 @@
 -- The walk has gone on over the edges so far.
-use Rattle.std.proofs.Common.{◌≡◌, map, take, fold}
+use Rattle.plan_num.proofs.Common.{◌≡◌, map, take, fold}
 use Rattle.walks.specs.Labels.{weight_of, reach_over}
 use Rattle.walks.proofs.Settling.{edge_of_index}
 use Rattle.walks.proofs.network.Network.go_on.Given as goal

@@ -1,4 +1,4 @@
-use Rattle.std.proofs.Common.{ap, subst, sym}
+use Rattle.plan_num.proofs.Common.{ap, subst, sym}
 use Rattle.walks.specs.Labels.{weight_of, sum_of, AreDone}
 use Rattle.walks.proofs.Partway.{round_more, partway_all, sum_fits}
 use Rattle.walks.proofs.network.Network.settle_all.Goals as goal

@@ -1,5 +1,5 @@
 -- The labels are partway, and each round settles one of the stops that are left.
-use Rattle.std.proofs.Common.{length}
+use Rattle.plan_num.proofs.Common.{length}
 use Rattle.walks.specs.Labels.{weight_of}
 use Rattle.walks.proofs.Partway.{ArePartway, left_count}
 use Rattle.walks.proofs.network.Network.settle_all.Given as goal

@@ -1,4 +1,4 @@
-use Rattle.std.proofs.Common.{◌<◌, ◌+◌, ◌-◌, ◌++◌, length, reverse, ap, subst, sym, ◌∙◌, arith}
+use Rattle.plan_num.proofs.Common.{◌<◌, ◌+◌, ◌-◌, ◌++◌, length, reverse, ap, subst, sym, ◌∙◌, arith}
 use Rattle.walks.specs.Walks.{edge_length, least_sums}
 use Rattle.walks.specs.Paths.{length_to, path_within, path, stop_before}
 use Rattle.walks.proofs.PathSteps.{none_there, none_before, goes_back, done, as_many_known, last_known, last_there, before_there}

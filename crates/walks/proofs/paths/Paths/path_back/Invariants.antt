@@ -1,5 +1,5 @@
 -- What was found stands behind the path to where it comes from.
-use Rattle.std.proofs.Common.{◌≡◌, ◌<◌, ◌-◌, ◌++◌, length, reverse}
+use Rattle.plan_num.proofs.Common.{◌≡◌, ◌<◌, ◌-◌, ◌++◌, length, reverse}
 use Rattle.walks.specs.Walks.{edge_length, least_sums}
 use Rattle.walks.specs.Paths.{length_to, path_within, path}
 use Rattle.walks.proofs.paths.Paths.path_back.Given as goal

@@ -1,4 +1,4 @@
-use Rattle.std.proofs.Common.{◌≡◌, true, is_some, get_or, None, sym, subst, ap, ◌∙◌}
+use Rattle.plan_num.proofs.Common.{◌≡◌, true, is_some, get_or, None, sym, subst, ap, ◌∙◌}
 use Rattle.walks.specs.Walks.{edge_length, least_sums, AreLeastSums}
 use Rattle.walks.specs.Paths.{IsShortest, IsSimple, EndsFirst}
 use Rattle.walks.proofs.LastWalks.{path_ends}
