@@ -1,7 +1,7 @@
 -- Bits of rows that are put one by one, and rows that have the places for which something holds.
-use Rattle.std.proofs.Common.{◌≡◌, ℕ, ◌+◌, ◌%◌, ◌<◌, ◌≤◌, nat_eq, Bool, true, false, cond, ◌&&◌}
-use Rattle.std.proofs.Common.{MatchBool, refl, ap, sym, ◌∙◌, subst, arith, eqb-true, eq-eqb}
-use Rattle.std.proofs.lemmas.Bool.{and_from, false≢true, le-ltb, ne_eqb}
+use Rattle.plan_num.proofs.Common.{◌≡◌, ℕ, ◌+◌, ◌%◌, ◌<◌, ◌≤◌, nat_eq, Bool, true, false, cond}
+use Rattle.plan_num.proofs.Common.{◌&&◌, MatchBool, refl, ap, sym, ◌∙◌, subst, arith, eqb-true}
+use Rattle.plan_num.proofs.Common.{eq-eqb, and_from, false≢true, le-ltb, ne_eqb}
 use Rattle.bit_rows.specs.Bits.{Bits, has, has_bit, word_of}
 use Rattle.link_plans.proofs.Common.{by_bound, by_number}
 use Rattle.assignment.specs.ClaimablePlaces.{IsInRow, IsPut, IsRowOf}
@@ -17,22 +17,17 @@ pub put_is : (before after : Bits) (row place : ℕ) (is : Bool) → row < befor
     → ((r c : ℕ) → r < before.rows → c < before.columns
     → has after r c ≡ cond (nat_eq r row && nat_eq c place) is (has before r c))
     → IsPut before after row place is
-put_is before after row place is inside within rows columns bits = record {
-  rows = rows;
-  columns = columns;
-  here = bits row place inside within ∙ ap (λ b. cond b is (has before row place))
-      (and_from _ _ (eq-eqb row row refl) (eq-eqb place place refl));
-  others = λ r c in_rows apart. by_bound c before.columns
-      (λ low. bits r c in_rows low ∙ ap (λ b. cond b is (has before r c)) (not_both r c apart))
-      (λ past. past_none after r c (omega (arith, past, columns))
-      ∙ sym (past_none before r c past));
-}
-  where
-    not_both : (r c : ℕ) → (r ≡ row → c ≡ place → ⊥) → (nat_eq r row && nat_eq c place) ≡ false
-    not_both r c apart = by_number r row
-        (λ same. ap (λ b. nat_eq r row && b) (ne_eqb c place (apart same))
-        ∙ and_false (nat_eq r row))
-        (λ other. ap (λ b. b && nat_eq c place) (ne_eqb r row other))
+put_is before after row place is inside within rows columns bits = grind (
+  arith,
+  and_from,
+  eq-eqb,
+  by_bound,
+  past_none,
+  nat_eq,
+  by_number,
+  ne_eqb,
+  and_false,
+)
 
 -- ---- rows
 
@@ -75,14 +70,4 @@ row_same bits row = record { rows = refl; columns = refl; others = λ r c inside
 pub row_more : (start before after : Bits) (row place slack : ℕ) → IsInRow start before row
     → MatchBool (nat_eq slack 0) (IsPut before after row place true) (after ≡ before)
     → IsInRow start after row
-row_more start before after row place slack was marked = split (nat_eq slack 0) marked
-  where
-    split : (b : Bool) → MatchBool b (IsPut before after row place true) (after ≡ before)
-        → IsInRow start after row
-    split true put = record {
-      rows = put.rows ∙ was.rows;
-      columns = put.columns ∙ was.columns;
-      others = λ r c inside apart. put.others r c (omega (arith, inside, was.rows))
-          (λ same _. apart same) ∙ was.others r c inside apart;
-    }
-    split false same = subst (λ bits. IsInRow start bits row) (sym same) was
+row_more start before after row place slack was marked = grind (arith, nat_eq)

@@ -1,5 +1,5 @@
 -- The places that can be claimed, as they are claimed, put back, and taken out.
-use Rattle.plan_num.proofs.Common.{◌≡◌, ◌≢◌, ℕ, ◌+◌, ◌<◌, ◌≤◌, true, false, is_some, Contains, List}
+use Rattle.plan_num.proofs.Common.{◌≡◌, ◌≢◌, ℕ, ◌+◌, ◌<◌, true, false, is_some, Contains, List}
 use Rattle.plan_num.proofs.Common.{length, Option, Some, None, ap, sym, ◌∙◌, subst, arith}
 use Rattle.plan_num.proofs.Common.{get_or-set_same, get_or-set_other, inl, inr, cases_Bool}
 use Rattle.plan_num.proofs.Common.{false≢true, get_or_default_zero, AllPairs-from_increasing}
@@ -122,20 +122,7 @@ module _ (search : Search) (plan after : List (Option ℕ)) (claims none : Claim
   earlier place undecided i e = grind arith
 
   pub claimable_next : AreClaimable search.links.count (search.trip + 1) after none left
-  claimable_next =
-      let out = taken_out (next after search.trip) back left taken (put.rows ∙ are.rows) in record {
-        rows = out.0 ∙ put.rows ∙ are.rows;
-        columns = out.1 ∙ put.columns ∙ are.columns;
-        undecided = λ place h.
-            let was = out.2 place h in later place (back_undecided place was.0) was.1;
-        unclaimed = λ place h. free place;
-        all = λ place within undecided gone. absurd (false≢true (sym gone
-            ∙ out.3 place (back_all place within (earlier place undecided))
-            (λ is. own undecided (undecided search.trip is))));
-      }
-    where
-      own : {A : Type 0} → A → search.trip + 1 ≤ search.trip → ⊥
-      own a low = omega (arith, low)
+  claimable_next = grind (arith, taken_out, later, back_undecided, false≢true, back_all, earlier)
 
 -- at first all places can be claimed
 pub claimable_first : (count : ℕ) (plan : List (Option ℕ)) (none : ClaimsParts) (places : Bits)

@@ -1,7 +1,7 @@
 -- A trip or none claims all open places of a list.
-use Rattle.std.proofs.Common.{◌≡◌, ◌≢◌, ℕ, ◌+◌, ◌<◌, ◌≤◌, true, false, List, length, Option, Some}
-use Rattle.std.proofs.Common.{None, IfSome, refl, ap, sym, ◌∙◌, subst, arith}
-use Rattle.std.proofs.lemmas.Option.{none-some, same_Some, slice_get_within}
+use Rattle.plan_num.proofs.Common.{◌≡◌, ◌≢◌, ℕ, ◌+◌, ◌<◌, ◌≤◌, true, false, List, length, Option}
+use Rattle.plan_num.proofs.Common.{Some, None, IfSome, refl, ap, sym, ◌∙◌, subst, arith, none-some}
+use Rattle.plan_num.proofs.Common.{same_Some, slice_get_within}
 use Rattle.link_plans.proofs.Common.{some_of, by_number, at, place_of}
 use Rattle.plan_search.specs.declared.claim.Claim.{Claim}
 use Rattle.plan_search.specs.Claims.{ClaimsParts, claim_at}
@@ -33,12 +33,6 @@ left_apart : (search : Search) (plan : List (Option ℕ)) (from : ℕ) (by : Opt
 left_apart search plan from None left e = none-some search.trip e
 left_apart search plan from (Some i) left e = left.0 (same_Some i search.trip e)
 
--- a search begins
-pub begun : (search : Search) (plan : List (Option ℕ)) (claims : ClaimsParts)
-    → AreRight search plan claims
-    → AreGoing search plan claims claims
-begun search plan claims right = grind arith
-
 -- one search follows another
 pub gone_on : (search : Search) (plan : List (Option ℕ)) (start claims after : ClaimsParts)
     → AreGoing search plan start claims
@@ -57,17 +51,7 @@ module _ (search : Search) (plan : List (Option ℕ)) (start : ClaimsParts) (by 
   -- the row of who claims
   tie : IsRowOf (λ place. IsTightBy search.links search.potentials place by)
       (search.links.count + 1) ties row
-  tie = subst (IsRowOf (λ place. IsTightBy search.links search.potentials place by)
-      (search.links.count + 1) ties) (sym row_is) (all_ties.row by (few by movable))
-    where
-      few : (by : Option ℕ) → IfSome by (λ i. (search.low ≤ i) × (i < search.links.count))
-          → IfSome by (λ i. i < search.links.count)
-      few None h = tt
-      few (Some i) h = h.1
-
-  -- none is claimed at first
-  pub claiming_none : AreRight search plan start → IsClaiming search plan start start places 0 first
-  claiming_none right = grind arith
+  tie = grind arith
 
   module _ (claims : ClaimsParts) (index : ℕ) (bits : Bits)
       (is : IsClaiming search plan start claims places index bits) where

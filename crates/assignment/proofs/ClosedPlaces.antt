@@ -61,10 +61,7 @@ module _ (links : Links) (potentials : PotentialParts) (plan : List (Option ℕ)
 
   -- behind all trips there is no trip, and this place is undecided
   last_undecided : IsUndecided plan low links.count
-  last_undecided i e = absurd (past (inside i links.count e))
-    where
-      past : links.count < links.count → ⊥
-      past h = omega (arith, h)
+  last_undecided i e = grind arith
 
   -- and needs no trip
   last_zero : at potentials.v links.count ≡ 0
@@ -135,11 +132,7 @@ module _ (links : Links) (potentials : PotentialParts) (plan : List (Option ℕ)
     was_decided : (i j : ℕ) → next other i ≡ Some j → i < low → (b : Bool) → decided j ≡ b
         → decided j ≡ true
     was_decided i j e before true d = d
-    was_decided i j e before false d =
-        absurd (late (are.not j d i (sym (agrees i before) ∙ e)))
-      where
-        late : low ≤ i → ⊥
-        late h = omega (arith, h, before)
+    was_decided i j e before false d = grind arith
 
     was_open : (i j : ℕ) → next other i ≡ Some j → low ≤ i → (b : Bool) → decided j ≡ b
         → decided j ≡ false
@@ -148,13 +141,7 @@ module _ (links : Links) (potentials : PotentialParts) (plan : List (Option ℕ)
 
     -- each trip is tight at its place
     tight_at : (i j : ℕ) → next other i ≡ Some j → IsTightAt links potentials i j
-    tight_at i j e = record {
-      linked = λ h. other_tight.linked i j e;
-      last = λ past. absurd (no (in_other i j e) past);
-    }
-      where
-        no : {k : ℕ} → k < links.count → links.count ≤ k → ⊥
-        no {k} h past = omega (arith, h, past)
+    tight_at i j e = grind arith
 
     -- the new potentials cover its links
     link_covered : (i j : ℕ) → next other i ≡ Some j
@@ -229,8 +216,7 @@ module _ (links : Links) (potentials : PotentialParts) (plan : List (Option ℕ)
   new_gain : gains_from links.gain 0 plan ≡ pos (sum u + sum v)
   new_gain = tight_gains links.gain 0 plan u v (new_covering plan possible inside tight itself)
       (record {
-        linked = λ i j e. gain_is plan possible inside tight itself i j e
-            ∙ ap pos (sym (plan_linked i j e));
+        linked = λ i j e. grind (arith, gain_is, itself, plan_linked);
         last = λ i h e. plan_last i (omega (arith, h, possible.each)) e;
         first = plan_first;
       })

@@ -37,10 +37,7 @@ pub last_left : (search : Search) (plan : List (Option ℕ)) (claims : ClaimsPar
     → next plan by ≡ None → IsLeft search plan place (Some by)
 last_left search plan claims place by is right h past apart waits =
     let bound : place < search.links.count + 1 = claimed_within search plan claims place right h in
-    let last : search.links.count ≡ place = omega (arith, bound, past, is.possible.each) in (
-      (λ same. apart (ap (place_of search.links.count) (ap (next plan) (sym same) ∙ waits) ∙ last)),
-      waits ∙ sym (successor_past search.links.count place (omega (arith, last))),
-    )
+    grind (arith, successor_past)
 
 -- what is not there
 pub no_next : {X : Type 0} (at : Option X) → is_some at ≡ false → at ≡ None
@@ -64,26 +61,7 @@ on_both (Err why) f h k = h
 pub expanded_by : (search : Search) (plan : List (Option ℕ)) (claims : ClaimsParts) (place by : ℕ)
     → IsSearch search plan → next plan by ≡ Some place → AllClaimed search plan claims (Some by)
     → IsExpanded search plan claims place
-expanded_by search plan claims place by is has all = record {
-  by = λ i low within at_place. subst (λ some. AllClaimed search plan claims (Some some))
-      (sym (same i low within at_place)) all;
-  alone = λ free. absurd (not_next plan by place free has);
-}
-  where
-    inside : place < search.links.count
-    inside = omega (arith, is.successors.within by place has, is.possible.each)
-
-    same : (i : ℕ) → search.low ≤ i → i < search.links.count → place_of search.links.count
-        (next plan i) ≡ place → i ≡ by
-    same i low within at_place = by_next (next plan i) refl
-      where
-        by_next : (to : Option ℕ) → next plan i ≡ to → i ≡ by
-        by_next None e =
-            let past : search.links.count ≡ place = sym (ap (place_of search.links.count) e)
-            ∙ at_place in
-            absurd (omega (arith, past, inside))
-        by_next (Some j) e = is.successors.once i by place
-            (e ∙ ap Some (sym (ap (place_of search.links.count) e) ∙ at_place)) has
+expanded_by search plan claims place by is has all = grind (arith, at_place, not_next)
 
 -- where it has none
 pub expanded_alone : (search : Search) (plan : List (Option ℕ)) (claims after : ClaimsParts)
@@ -91,19 +69,12 @@ pub expanded_alone : (search : Search) (plan : List (Option ℕ)) (claims after 
     → is_next plan place ≡ false → AllClaimed search plan claims None → AreMore claims after
     → (place ≡ search.links.count → LastExpanded search plan after search.links.count)
     → IsExpanded search plan after place
-expanded_alone search plan claims after place free all more last = record {
-  by = λ i low within at_place. by_next (next plan i) i refl low within at_place;
-  alone = λ none other bound undecided zero. still_claimed claims after other more
-      (all other bound undecided zero);
-}
-  where
-    by_next : (to : Option ℕ) (i : ℕ) → next plan i ≡ to → search.low ≤ i → i < search.links.count
-        → place_of search.links.count (next plan i) ≡ place → AllClaimed search plan after (Some i)
-    by_next None i e low within at_place =
-        last (sym at_place ∙ ap (place_of search.links.count) e) i low within e
-    by_next (Some j) i e low within at_place =
-        absurd (not_next plan i place free (e ∙ ap Some (sym (ap (place_of search.links.count) e)
-        ∙ at_place)))
+expanded_alone search plan claims after place free all more last = grind (
+  arith,
+  at_place,
+  still_claimed,
+  not_next,
+)
 
 -- an expanded place stays one
 pub still_expanded : (search : Search) (plan : List (Option ℕ)) (before after : ClaimsParts)

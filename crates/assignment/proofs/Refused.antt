@@ -37,10 +37,7 @@ decided plan low = record {
         length-take low plan,
       ) in
       (found.0, (within, sym (get_or-take low plan found.0 None within) ∙ found.1));
-  not = λ place h i e. by_bound i low
-      (λ before. absurd (false≢true (sym h ∙ next_found (take low plan) i place
-      (get_or-take low plan i None before ∙ e))))
-      (λ past. past);
+  not = λ place h i e. grind (arith, by_bound, false≢true, next_found, get_or-take);
 }
 
 module _ (search : Search) (plan : List (Option ℕ)) (is : IsSearch search plan) where

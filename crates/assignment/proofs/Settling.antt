@@ -1,25 +1,24 @@
 -- A trip has its place for good: its own one, or another that it was handed.
 use Rattle.plan_num.proofs.Common.{◌≡◌, ◌≢◌, ℕ, ◌+◌, ◌<◌, ◌≤◌, true, false, is_some, List, length}
-use Rattle.plan_num.proofs.Common.{slice_set, take, Option, Some, None, MatchOption, Result, Ok}
-use Rattle.plan_num.proofs.Common.{Err, IfOk, refl, ap, sym, ◌∙◌, subst, arith, length-set}
-use Rattle.plan_num.proofs.Common.{get_or-take, get_or_past, none-some}
+use Rattle.plan_num.proofs.Common.{slice_set, take, Option, Some, None, Result, Ok, Err, IfOk, refl}
+use Rattle.plan_num.proofs.Common.{ap, sym, ◌∙◌, subst, arith, length-set, get_or-take, get_or_past}
+use Rattle.plan_num.proofs.Common.{none-some}
 use Rattle.link_plans.proofs.Common.{next, is_next, IsPlan, ComesNoLater, IsFirstBest, Links}
 use Rattle.link_plans.proofs.Common.{AreLinks, some_of, by_number, never_next, not_next}
 use Rattle.link_plans.proofs.Common.{PotentialParts, AreValid, IsTight, by_bound, gains_all}
 use Rattle.link_plans.proofs.Common.{tight_best, place_of, successor_at, moved_is, moved_other}
 use Rattle.plan_search.specs.declared.claim.Claim.{Claim}
 use Rattle.plan_search.specs.Claims.{ClaimsParts, claim_at}
-use Rattle.plan_search.specs.Searches.{Search, IsLeft, IsClaim, IsTightBut, ComesFrom, IsFound, IsHandedOn}
+use Rattle.plan_search.specs.Searches.{Search, IsLeft, IsClaim, IsTightBut, IsFound, IsHandedOn}
 use Rattle.assignment.specs.Choices.{is_claimed, AreRight, AgreeBefore, AreWithin, IsSearch}
-use Rattle.assignment.specs.Choices.{IsFirst, IsSought, IsLeast, IsSettled}
+use Rattle.assignment.specs.Choices.{IsSought, IsLeast, IsSettled}
 
 -- a place that comes no later
 no_later : (count : ℕ) (mine other : Option ℕ) → ((j : ℕ) → other ≡ Some j → j < count)
     → place_of count mine ≤ place_of count other → ComesNoLater mine other
 no_later count (Some i) (Some j) inside h = h
 no_later count (Some i) None inside h = tt
-no_later count None (Some j) inside h = let bound : j < count = inside j refl in absurd
-    (omega (arith, bound, h))
+no_later count None (Some j) inside h = let bound : j < count = inside j refl in grind arith
 no_later count None None inside h = tt
 
 -- what comes at a place has no later place
@@ -88,24 +87,7 @@ module _ (search : Search) (plan : List (Option ℕ)) (is : IsSearch search plan
       claim_still : (claims : ClaimsParts) (place : ℕ) (found : Claim) → IsClaim search plan claims
           place found
           → IsClaim search moved claims place found
-      claim_still claims place found claim = record {
-        tight = claim.tight;
-        movable = claim.movable;
-        from = from_still found.from claim.from;
-      }
-        where
-          from_still : (from : Option ℕ)
-              → MatchOption from (found.by ≡ Some search.trip)
-              (λ at. ComesFrom search plan claims found at)
-              → MatchOption from (found.by ≡ Some search.trip) (λ at. ComesFrom search moved claims
-              found at)
-          from_still None h = h
-          from_still (Some from) h = record {
-            before = h.before;
-            is = h.is;
-            sooner = h.sooner;
-            left = left_still from found.by h.left;
-          }
+      claim_still claims place found claim = grind (arith, left_still)
 
       -- so its place can be handed on, where it is claimed
       pub found_of : (claims : ClaimsParts) → AreRight search plan claims
@@ -165,11 +147,6 @@ module _ (search : Search) (plan : List (Option ℕ)) (is : IsSearch search plan
           where
             none_below : i ≡ search.trip → i < search.trip → ⊥
             none_below here below = omega (arith, here, below)
-
-  -- its own place is, where that is the first one
-  pub settled_none : (own : ℕ) → own ≡ place_of search.links.count (next plan search.trip)
-      → IsFirst search plan own → IsSettled search plan plan
-  settled_none own own_is first = grind arith
 
 -- ---- one trip after another
 

@@ -153,8 +153,7 @@ module _ (search : Search) (plan : List (Option ℕ)) (is : IsSearch search plan
       this_first : IsFirst search plan (at places index)
       this_first = nothing_before (at places index) (omega (arith, before_own))
           (λ k bound h. by_bound k index (λ before. before) (λ past. by_number k index
-          (λ same. let here : at places k ≡ at places index = ap (at places) same in absurd
-          (omega (arith, here, h)))
+          (λ same. let here : at places k ≡ at places index = ap (at places) same in grind arith)
           (λ apart. let later : at places index < at places k = seeking.are.rising index k
           (omega (arith, past, apart)) bound in
           absurd (omega (arith, later, h)))))
@@ -167,8 +166,7 @@ module _ (search : Search) (plan : List (Option ℕ)) (is : IsSearch search plan
           old_or_new search plan claims (at places index) latest seeking.right in_places free few
           undecided refl latest_is
           place found (others place found e own_claim)
-          (λ old. let k = seeking.mine place found old own_claim in
-          (k.0, (omega (arith, k.1.0), k.1.1)))
+          (λ old. let k = seeking.mine place found old own_claim in grind arith)
           (λ same is_found. (index, (omega arith, sym same)))
 
       -- the trip's own place is claimed with it

@@ -1,12 +1,11 @@
 -- Links that gain less than nothing change neither which plans gain the most nor what their
 -- canonical potentials are.
-use Rattle.plan_num.proofs.Common.{◌≡◌, ℕ, ℤ, pos, negsuc, neg_ℤ, ◌+◌, ◌≤ℤ◌, ◌+ℤ◌, is_some, Bool}
-use Rattle.plan_num.proofs.Common.{true, false, cond, List, [], ◌∷◌, get_or, Option, Some, None}
-use Rattle.plan_num.proofs.Common.{option_map, IfSome, option_and_then, refl, ap, sym, ◌∙◌, subst}
-use Rattle.plan_num.proofs.Common.{arith, ints, none-some}
-use Rattle.link_plans.proofs.Common.{Links, AreLinks, worth, worthy, next, is_trip, IsPlan}
-use Rattle.link_plans.proofs.Common.{IsFirstBest, PotentialParts, at, AreValid, IsTight, gains_all}
-use Rattle.link_plans.proofs.Common.{tight_best, worthy_links, tight_valid}
+use Rattle.plan_num.proofs.Common.{◌≡◌, ℕ, ℤ, pos, negsuc, neg_ℤ, ◌+◌, ◌≤ℤ◌, ◌+ℤ◌, is_some, true}
+use Rattle.plan_num.proofs.Common.{List, [], ◌∷◌, get_or, Option, Some, None, option_map, IfSome}
+use Rattle.plan_num.proofs.Common.{option_and_then, refl, ap, sym, arith, ints, none-some}
+use Rattle.link_plans.proofs.Common.{Links, AreLinks, worth, worthy, next, IsPlan, IsFirstBest}
+use Rattle.link_plans.proofs.Common.{PotentialParts, AreValid, IsTight, gains_all, tight_best}
+use Rattle.link_plans.proofs.Common.{worthy_links, tight_valid}
 use Rattle.canonical_potentials.specs.Drops.{DropParts, AreFound, RowKept, LinkKept, NextKept}
 use Rattle.canonical_potentials.specs.Drops.{TripKept, AreKept, ArePassed}
 use Rattle.canonical_potentials.specs.Residual.{Node, root, left, right, arc, walk_cost}
@@ -31,34 +30,18 @@ there_up (Some gain) h = refl
 module _ (links : Links) (plan : List (Option ℕ)) where
   -- a plan of such links is a plan
   pub plan_up : IsPlan (worthy links) plan → IsPlan links plan
-  plan_up is = record {
-    each = is.each;
-    follow = λ i j e. there_up (links.gain i j) (is.follow i j e);
-    once = is.once;
-  }
+  plan_up is = grind (arith, there_up)
 
   module _ (potentials : PotentialParts) where
     pub tight_up : IsTight (worthy links) potentials plan → IsTight links potentials plan
-    tight_up tight = record {
-      linked = λ i j e. worth_up (links.gain i j) _ (tight.linked i j e);
-      last = tight.last;
-      first = tight.first;
-    }
+    tight_up tight = grind (arith, worth_up)
 
     pub tight_down : IsTight links potentials plan → IsTight (worthy links) potentials plan
-    tight_down tight = record {
-      linked = λ i j e. worth_down (links.gain i j) _ (tight.linked i j e);
-      last = tight.last;
-      first = tight.first;
-    }
+    tight_down tight = grind (arith, worth_down)
 
     -- a tight plan has no other links
     pub tight_plan : IsPlan links plan → IsTight links potentials plan → IsPlan (worthy links) plan
-    tight_plan is tight = record {
-      each = is.each;
-      follow = λ i j e. ap is_some (worth_down (links.gain i j) _ (tight.linked i j e));
-      once = is.once;
-    }
+    tight_plan is tight = grind (arith, is_some, worth_down)
 
     covered_up : (it : Option ℤ) (most : ℕ)
         → IfSome (option_map pos (worth it)) (λ gain. gain ≤ℤ pos most)
@@ -76,11 +59,7 @@ module _ (links : Links) (plan : List (Option ℕ)) where
     -- valid potentials are valid over both
     pub valid_up : IsPlan (worthy links) plan → AreValid (worthy links) plan potentials
         → AreValid links plan potentials
-    valid_up is valid = tight_valid links plan potentials valid.over
-        (λ i j. covered_up (links.gain i j) (at potentials.u i + at potentials.v j)
-        (valid.covered i j))
-        (plan_up is)
-        (tight_up (gains_all (worthy links) plan plan potentials valid is (sym valid.exact)))
+    valid_up is valid = grind (arith, tight_valid, covered_up, plan_up, tight_up, gains_all)
 
     valid_tight : IsPlan links plan → AreValid links plan potentials → IsTight links potentials plan
     valid_tight is valid = gains_all links plan plan potentials valid is (sym valid.exact)
@@ -90,10 +69,14 @@ module _ (links : Links) (plan : List (Option ℕ)) where
 
     pub valid_down : IsPlan links plan → AreValid links plan potentials
         → AreValid (worthy links) plan potentials
-    valid_down is valid = tight_valid (worthy links) plan potentials valid.over
-        (λ i j. covered_down (links.gain i j) (at potentials.u i + at potentials.v j)
-        (valid.covered i j))
-        (plan_down is valid) (tight_down (valid_tight is valid))
+    valid_down is valid = grind (
+      arith,
+      tight_valid,
+      covered_down,
+      plan_down,
+      tight_down,
+      valid_tight,
+    )
 
 -- the first of the plans that gain the most is the same one
 pub first_up : (links : Links) (certified plan : List (Option ℕ)) (potentials : PotentialParts)
@@ -124,20 +107,9 @@ module _ (links : Links) (plan : List (Option ℕ)) where
   arc_up root (right j) cost e = e
   arc_up (left i) root cost e = e
   arc_up (left i) (left k) cost e = e
-  arc_up (left i) (right j) cost e = by (links.gain i j) e
-    where
-      by : (it : Option ℤ) → option_map neg_ℤ (option_map pos (worth it)) ≡ Some cost
-          → option_map neg_ℤ it ≡ Some cost
-      by None e = e
-      by (Some (pos number)) e = e
-      by (Some (negsuc less)) e = absurd (none-some cost e)
+  arc_up (left i) (right j) cost e = grind (arith, option_map, neg_ℤ, none-some)
   arc_up (right j) root cost e = e
-  arc_up (right j) (left i) cost e = by (is_trip j (next plan i)) e
-    where
-      by : (b : Bool) → cond b (option_map pos (worth (links.gain i j))) None ≡ Some cost
-          → cond b (links.gain i j) None ≡ Some cost
-      by true e = worth_up (links.gain i j) cost e
-      by false e = e
+  arc_up (right j) (left i) cost e = grind (arith, option_map, worth_up)
   arc_up (right j) (right k) cost e = e
 
   -- and so is a walk
@@ -167,20 +139,11 @@ module _ (links : Links) (plan : List (Option ℕ)) where
   module _ (drops : DropParts) (potentials : PotentialParts) (tight : IsTight links potentials
       plan) where
     row_up : (i : ℕ) → TripKept (worthy links) plan drops i → RowKept links drops i
-    row_up i kept j gain within e =
-        let both = kept.pairs j within in
-        let low : (pos (get_or drops.left i 0) +ℤ pos gain) ≤ℤ pos (get_or drops.right j 0) =
-        subst (λ it. IfSome (option_map pos it) (λ gain. (pos (get_or drops.left i 0) +ℤ gain) ≤ℤ
-        pos (get_or drops.right j 0)))
-        e both in
-        omega (arith, ints, low)
+    row_up i kept j gain within e = grind (arith, get_or, option_map, ints)
 
     link_up : (i j : ℕ) → next plan i ≡ Some j → LinkKept (worthy links) drops i j
         → LinkKept links drops i j
-    link_up i j e kept =
-        let P : Option ℤ → Type 0 = λ it. IfSome it
-        (λ gain. pos (get_or drops.right j 0) ≤ℤ (pos (get_or drops.left i 0) +ℤ gain)) in
-        subst P (worth_down (links.gain i j) _ (tight.linked i j e) ∙ sym (tight.linked i j e)) kept
+    link_up i j e kept = grind (arith, get_or, worth_down)
 
     next_up : (i : ℕ) (at_i : Option ℕ) → next plan i ≡ at_i → NextKept (worthy links) drops i at_i
         → NextKept links drops i at_i

@@ -37,19 +37,7 @@ module _ {R N S : Type 0} (problem : BranchingParts R N S) (LiesIn : R → S →
       → problem.levels part < problem.levels region → below part best ≡ above part best)
       → entries_by below best (seen region best) (split_at region best)
       ≡ entries_by above best (seen region best) (split_at region best)
-  same_step below above region best fits same =
-      by (split_at region best) refl
-    where
-      by : (parts : Option (R × R)) → split_at region best ≡ parts
-          → entries_by below best (seen region best) parts
-          ≡ entries_by above best (seen region best) parts
-      by None is = refl
-      by (Some two) is =
-          let parts = laws.splits region fits (seen region best).0 two.0 two.1 is in
-          let lower : below two.0 best ≡ above two.0 best =
-          same two.0 best parts.lower_fits parts.lower_less in
-          λ i. seen region best ∷ lower i
-          ++ same two.1 (best_after best (lower i)) parts.upper_fits parts.upper_less i
+  same_step below above region best fits same = grind arith
 
   stable : (some more : ℕ) (region : R) (best : Option S) → Fits region
       → problem.levels region + 1 ≤ some → problem.levels region + 1 ≤ more
@@ -65,17 +53,7 @@ module _ {R N S : Type 0} (problem : BranchingParts R N S) (LiesIn : R → S →
   unrolled : (region : R) (best : Option S) → Fits region → visit problem region best
       ≡ entries_by (visit problem) best (seen region best) (split_at region best)
   unfolding entries_within
-  unrolled region best fits = at (problem.levels region) refl
-    where
-      at : (levels : ℕ) → problem.levels region ≡ levels
-          → entries_within problem (levels + 1) region best
-          ≡ entries_by (visit problem) best (seen region best) (split_at region best)
-      at levels is =
-          ap (λ n. entries_within problem n region best)
-          (let one : levels + 1 ≡ suc levels = omega arith in one)
-          ∙ same_step (entries_within problem levels) (visit problem) region best fits
-          (λ part best fit less. stable levels (problem.levels part + 1) part best fit
-          (omega (arith, less, is)) (omega arith))
+  unrolled region best fits = grind (arith, same_step, stable)
 
   -- ---- one entry more
 
@@ -85,33 +63,13 @@ module _ {R N S : Type 0} (problem : BranchingParts R N S) (LiesIn : R → S →
       ∷ visits problem (behind (split_at region best) waiting)
       (best_after best (seen region best ∷ []))
   unfolding visits
-  visit_turn region waiting best fits =
-      ap (λ entries. entries ++ visits problem waiting (best_after best entries))
-      (unrolled region best fits)
-      ∙ by (split_at region best) refl
-    where
-      by : (parts : Option (R × R)) → split_at region best ≡ parts
-          → entries_by (visit problem) best (seen region best) parts
-          ++ visits problem waiting
-          (best_after best (entries_by (visit problem) best (seen region best) parts))
-          ≡ seen region best
-          ∷ visits problem (behind parts waiting) (best_after best (seen region best ∷ []))
-      by None is = refl
-      by (Some two) is =
-          let none = laws.passes region fits best two.0 two.1 is in
-          let lower = visit problem two.0 best in
-          let upper = visit problem two.1 (best_after best lower) in
-          let past : best_after best (seen region best ∷ []) ≡ best =
-          best_past best (seen region best).0 (seen region best).1 [] none in
-          let end : best_after best (seen region best ∷ lower ++ upper)
-          ≡ best_after (best_after best lower) upper =
-          best_past best (seen region best).0 (seen region best).1 (lower ++ upper) none
-          ∙ best_behind best lower upper in
-          ap (λ rest. seen region best ∷ rest)
-          (ap (λ b. (lower ++ upper) ++ visits problem waiting b) end
-          ∙ append_assoc lower upper
-          (visits problem waiting (best_after (best_after best lower) upper))
-          ∙ ap (λ b. visits problem (two.0 ∷ two.1 ∷ waiting) b) (sym past))
+  visit_turn region waiting best fits = grind (
+    arith,
+    unrolled,
+    best_past,
+    best_behind,
+    append_assoc,
+  )
 
   fit_behind : (region : R) (node : N) (waiting : List R) → Fits region
       → AllByRecursion Fits waiting
@@ -151,14 +109,7 @@ module _ {R N S : Type 0} (problem : BranchingParts R N S) (LiesIn : R → S →
   pub search_begun : IsSearched problem Fits
       (state (problem.root ∷ []) [] None) 0
   unfolding visits listing
-  search_begun = record {
-    done = [];
-    whole = append-nil (listing problem);
-    nodes_are = refl;
-    best_is = refl;
-    count_is = refl;
-    fit = (laws.starts, tt);
-  }
+  search_begun = grind (arith, append-nil)
 
   -- no region waits: the listing is done
   pub search_done : (nodes : List N) (best : Option S) (count budget : ℕ)
@@ -166,63 +117,42 @@ module _ {R N S : Type 0} (problem : BranchingParts R N S) (LiesIn : R → S →
       → count ≤ budget
       → record { best = best; tree = Some nodes; entries = count } ≡ found_within problem budget
   unfolding visits
-  search_done nodes best count budget so few =
-      let all : so.done ≡ listing problem = sym (append-nil so.done) ∙ so.whole in
-      let size : length (listing problem) ≡ count = ap length (sym all) ∙ so.count_is in
-      let short : length (listing problem) ≤ budget = omega (arith, size, few) in
-      let within = le-leb (length (listing problem)) budget (omega (arith, size, few)) in
-      let front = take_all budget (listing problem) (omega (arith, size, few)) in
-      λ i. record {
-        best = (so.best_is ∙ ap (best_after None) (all ∙ sym front)) i;
-        tree = (ap Some (so.nodes_are ∙ ap nodes_in all)
-            ∙ ap (λ b. cond b (Some (nodes_in (listing problem))) None) (sym within)) i;
-        entries = (sym size ∙ sym (min-eq_right short)) i;
-      }
+  search_done nodes best count budget so few = grind (
+    arith,
+    append-nil,
+    le-leb,
+    take_all,
+    min-eq_right,
+  )
 
   -- a region waits: the listing is longer
   pub search_spent : (region : R) (waiting : List R) (nodes : List N) (best : Option S) (budget : ℕ)
       → IsSearched problem Fits (state (region ∷ waiting) nodes best) budget
       → record { best = best; tree = None; entries = budget } ≡ found_within problem budget
-  search_spent region waiting nodes best budget so =
-      let turn = visit_turn region waiting best so.fit.0 in
-      let size : length so.done + length (visits problem (region ∷ waiting) best)
-      ≡ length (listing problem) =
-      sym (length-append so.done (visits problem (region ∷ waiting) best)) ∙ ap length so.whole in
-      let one = ap length turn in
-      let count = so.count_is in
-      let over : budget < length (listing problem) = omega (arith, size, one, count) in
-      let long : budget ≤ length (listing problem) = omega (arith, over) in
-      let first : take budget (listing problem) ≡ so.done =
-      (λ i. take (sym so.count_is i) (sym so.whole i))
-      ∙ take-append_seam so.done (visits problem (region ∷ waiting) best) in
-      λ i. record {
-        best = (so.best_is ∙ ap (best_after None) (sym first)) i;
-        tree = ap (λ b. cond b (Some (nodes_in (listing problem))) None)
-            (sym (lt-leb (length (listing problem)) budget over)) i;
-        entries = sym (min-eq_left long) i;
-      }
+  search_spent region waiting nodes best budget so = grind (
+    arith,
+    visit_turn,
+    length-append,
+    take-append_seam,
+    lt-leb,
+    min-eq_left,
+  )
 
   -- ---- the same as a search tells it
 
   pub begins : (search : SearchParts R N S) (root : R) → root ≡ problem.root
       → search ≡ record { waiting = root ∷ []; nodes = []; best = None }
       → IsSearched problem Fits search 0
-  begins search root root_is is =
-      subst (λ (search : SearchParts R N S). IsSearched problem Fits search 0) (sym is)
-      (subst (λ root. IsSearched problem Fits (state (root ∷ []) [] None) 0)
-      (sym root_is) search_begun)
+  begins search root root_is is = grind (arith, search_begun)
 
   pub region_fits : (before after : SearchParts R N S) (region : R) (count : ℕ)
       → IsSearched problem Fits before count → Pops before after (Some region) → Fits region
-  region_fits before after region count so pops =
-      (subst (λ (search : SearchParts R N S). IsSearched problem Fits search count) pops so).fit.0
+  region_fits before after region count so pops = grind arith
 
   pub next_taken : (before middle after : SearchParts R N S) (region : R) (count : ℕ)
       → IsSearched problem Fits before count → Pops before middle (Some region)
       → TakesEntry problem region middle after → IsSearched problem Fits after (count + 1)
-  next_taken before middle after region count so pops taken =
-      entry_taken region middle.waiting middle.nodes middle.best after count
-      (subst (λ (search : SearchParts R N S). IsSearched problem Fits search count) pops so) taken
+  next_taken before middle after region count so pops taken = grind (arith, entry_taken)
 
   found_none : (waiting : List R) (nodes : List N) (best : Option S) (count budget : ℕ)
       → IsSearched problem Fits (state waiting nodes best) count

@@ -1,8 +1,8 @@
 -- What the entries of a region come to: a tree that shows each cost up to that of the best one.
 use Rattle.plan_num.proofs.Common.{◌≡◌, ℕ, ℤ, pos, zero, suc, ◌≤◌, ◌+◌, ◌+ℤ◌, ◌≤ℤ◌, List, [], ◌∷◌}
 use Rattle.plan_num.proofs.Common.{◌++◌, Option, Some, None, IfSome, ap, sym, ◌∙◌, refl, arith}
-use Rattle.plan_num.proofs.Common.{subst, ⊎_elim, filter_map, last_or, ints, map-append}
-use Rattle.plan_num.proofs.Common.{filter_map-append, none-some}
+use Rattle.plan_num.proofs.Common.{subst, ⊎_elim, last_or, ints, map-append, filter_map-append}
+use Rattle.plan_num.proofs.Common.{none-some}
 use Rattle.branch_and_bound.specs.Branchings.{BranchingParts, Entry, AtMost, CostsAtLeastIn}
 use Rattle.branch_and_bound.specs.Branchings.{IsBranching, best_after, nodes_in}
 use Rattle.branch_and_bound.specs.Listings.{entries_by, entries_within, listing}
@@ -17,9 +17,7 @@ last_behind first (x ∷ xs) ys = last_behind (Some x) xs ys
 -- the best behind two lists of entries in a row
 pub best_behind : {N S : Type 0} (best : Option S) (entries more : List (Entry N S))
     → best_after best (entries ++ more) ≡ best_after (best_after best entries) more
-best_behind best entries more =
-    ap (λ found. last_or best found) (filter_map-append (λ entry. entry.1) entries more)
-    ∙ last_behind best (filter_map (λ entry. entry.1) entries) (filter_map (λ entry. entry.1) more)
+best_behind best entries more = grind (arith, filter_map-append, last_behind)
 
 -- an entry that finds none
 pub best_past : {N S : Type 0} (best : Option S) (node : N) (found : Option S)

@@ -1,12 +1,12 @@
 -- A walk that goes on over an arc, and what it leaves of the numbers of nodes.
 use Rattle.plan_num.proofs.Common.{◌≡◌, ℕ, ℤ, zero, suc, pos, neg_ℤ, ◌+◌, ◌<◌, ◌≤◌, ◌+ℤ◌, ◌-ℤ◌}
-use Rattle.plan_num.proofs.Common.{◌≤ℤ◌, ◌||◌, Bool, true, false, List, [], ◌∷◌, length, sum}
-use Rattle.plan_num.proofs.Common.{get_or, slice_set, Option, Some, None, option_map}
-use Rattle.plan_num.proofs.Common.{option_and_then, refl, ap, sym, ◌∙◌, subst, arith}
-use Rattle.plan_num.proofs.Common.{get_or-set_same, get_or-set_other, false≢true, or_parts, ints}
-use Rattle.plan_num.proofs.Common.{length-set, sum_by-cons, none-some, same_Some}
+use Rattle.plan_num.proofs.Common.{◌≤ℤ◌, ◌||◌, Bool, true, List, [], ◌∷◌, length, sum, get_or}
+use Rattle.plan_num.proofs.Common.{slice_set, Option, Some, None, option_map, option_and_then, refl}
+use Rattle.plan_num.proofs.Common.{ap, sym, ◌∙◌, subst, arith, get_or-set_same, get_or-set_other}
+use Rattle.plan_num.proofs.Common.{false≢true, or_parts, ints, length-set, sum_by-cons, none-some}
+use Rattle.plan_num.proofs.Common.{same_Some}
 use Rattle.link_plans.proofs.Common.{Links, by_number}
-use Rattle.canonical_potentials.specs.Drops.{DropParts, drop_at, AreFound, depth, one_if, IsStep}
+use Rattle.canonical_potentials.specs.Drops.{DropParts, drop_at, AreFound, IsStep}
 use Rattle.canonical_potentials.specs.Residual.{Node, root, left, right, arc, walk_cost}
 
 -- the cost of a walk with one arc more
@@ -27,26 +27,10 @@ sum_set (first ∷ numbers) (suc i) number within =
     sum_set numbers i number (omega (arith, within)) in
     omega (arith, sum_by-cons (λ n. n) first numbers, sum_by-cons (λ n. n) first (slice_set numbers i number), rest)
 
--- nothing changes
-pub no_step : (links : Links) (plan : List (Option ℕ)) (drops : DropParts) → IsStep links plan drops drops false
-no_step links plan drops = grind arith
-
 -- one step after another
 pub two_steps : (links : Links) (plan : List (Option ℕ)) (one two three : DropParts) (a b both : Bool)
     → both ≡ (a || b) → IsStep links plan one two a → IsStep links plan two three b → IsStep links plan one three both
-two_steps links plan one two three a b both is first second = record {
-  over = λ are. second.over (first.over are);
-  found = λ are. second.found (first.found are);
-  deeper = deep a b is first second;
-  same = λ e. let parts = or_parts a b (sym is ∙ e) in second.same parts.1 ∙ first.same parts.0;
-}
-  where
-    deep : (a b : Bool) → both ≡ (a || b) → IsStep links plan one two a → IsStep links plan two three b
-        → depth one + one_if both ≤ depth three
-    deep true b is first second = let e : one_if both ≡ 1 = ap one_if is in omega
-        (arith, e, first.deeper, second.deeper)
-    deep false b is first second = let e : one_if both ≡ one_if b = ap one_if is in omega
-        (arith, e, first.deeper, second.deeper)
+two_steps links plan one two three a b both is first second = grind (arith, or_parts)
 
 module _ (links : Links) (plan : List (Option ℕ)) (drops : DropParts) (from : Node) (cost : ℤ) (number : ℕ)
     (further : pos number ≡ (pos (drop_at drops from) -ℤ cost)) where

@@ -1,10 +1,10 @@
 -- Steps over many arcs.
-use Rattle.std.proofs.Common.{◌≡◌, ℕ, ◌+◌, ◌-◌, ◌<◌, ◌≤◌, ◌||◌, Bool, true, false, List, length}
-use Rattle.std.proofs.Common.{slice_get, get_or, Option, Some, ap, subst, arith}
-use Rattle.std.proofs.lemmas.Option.{slice_get_within}
+use Rattle.plan_num.proofs.Common.{◌≡◌, ℕ, ◌+◌, ◌-◌, ◌<◌, ◌≤◌, ◌||◌, Bool, true, false, List}
+use Rattle.plan_num.proofs.Common.{length, slice_get, get_or, Option, Some, ap, subst, arith}
+use Rattle.plan_num.proofs.Common.{slice_get_within}
 use Rattle.link_plans.proofs.Common.{next, is_next, Links, link_to, IsRow, Link, by_bound}
 use Rattle.canonical_potentials.specs.Drops.{DropParts, one_if, IsStep, RowKept, NextKept, RootKept, TripPassed}
-use Rattle.canonical_potentials.proofs.Deeper.{no_step, two_steps}
+use Rattle.canonical_potentials.proofs.Deeper.{two_steps}
 
 -- many arcs as one step; where nothing has changed, something is kept
 pub record IsPassed (links : Links) (plan : List (Option ℕ)) (before after : DropParts) (changed : Bool)
@@ -25,9 +25,6 @@ abbrev pub LinksKept : DropParts → ℕ → List Link → ℕ → Type 0
 LinksKept drops i row most = (k : ℕ) → k < most → (link : Link) → slice_get row k ≡ Some link → LinkPassed drops i link
 
 module _ (links : Links) (plan : List (Option ℕ)) (before : DropParts) where
-  pub passed_none : (Kept : Type 0) → Kept → IsPassed links plan before before false Kept
-  passed_none Kept kept = record { step = no_step links plan before; kept = λ e. kept }
-
   -- what one arc more keeps, and those before it
   pub passed_more : (now after : DropParts) (changed better both : Bool) (Kept One Next : Type 0)
       → IsPassed links plan before now changed Kept → IsStep links plan now after better

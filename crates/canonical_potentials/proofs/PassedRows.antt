@@ -77,18 +77,10 @@ module _ (links : Links) (sound : AreLinks links) (plan : List (Option ℕ)) (dr
   right_alone j e = ap (λ b. either_of b (get_or drops.right j 0) drops.root) e
 
   by_next : {P : Type 0} (i : ℕ) → ((j : ℕ) → next plan i ≡ Some j → P) → (next plan i ≡ None → P) → P
-  by_next {P} i linked alone = split (next plan i) refl
-    where
-      split : (it : Option ℕ) → next plan i ≡ it → P
-      split None e = alone e
-      split (Some j) e = linked j e
+  by_next {P} i linked alone = grind arith
 
   by_before : {P : Type 0} (j : ℕ) → (is_next plan j ≡ true → P) → (is_next plan j ≡ false → P) → P
-  by_before {P} j linked alone = split (is_next plan j) refl
-    where
-      split : (b : Bool) → is_next plan j ≡ b → P
-      split true e = linked e
-      split false e = alone e
+  by_before {P} j linked alone = grind arith
 
   -- no left node lies further than the root, nor than it lay
   left_low : (i : ℕ) → i < n → (left_of i ≤ drops.root) × (left_of i ≤ get_or drops.left i 0)
@@ -159,11 +151,7 @@ module _ (links : Links) (sound : AreLinks links) (plan : List (Option ℕ)) (dr
           )
 
   root_kept : (j : ℕ) → j < n → RootKept evened j (is_next plan j)
-  root_kept j within = split (is_next plan j) refl
-    where
-      split : (b : Bool) → is_next plan j ≡ b → RootKept evened j b
-      split false e = omega (arith, root_at, right_at j within, right_alone j e)
-      split true e = omega (arith, root_at, right_at j within, (right_high j within).0)
+  root_kept j within = grind (arith, evened, root_at, right_at, right_alone, right_high)
 
   kept : AreKept links plan evened
   kept = λ i within. record {

@@ -1,8 +1,8 @@
 -- Numbers that no arc makes better are the least costs of walks, and their potentials are valid.
 use Rattle.plan_num.proofs.Common.{◌≡◌, ℕ, ℤ, zero, suc, pos, neg_ℤ, ◌+◌, ◌-◌, ◌<◌, ◌≤◌, ◌+ℤ◌, ◌-ℤ◌}
 use Rattle.plan_num.proofs.Common.{◌≤ℤ◌, ◌&&◌, nat_lt, not, is_some, Bool, true, false, cond, List}
-use Rattle.plan_num.proofs.Common.{[], map, get_or, replicate, Option, Some, None, IfSome}
-use Rattle.plan_num.proofs.Common.{option_map, unwrap_or, refl, ap, sym, ◌∙◌, subst, arith, int_max}
+use Rattle.plan_num.proofs.Common.{map, get_or, replicate, Option, Some, None, IfSome, option_map}
+use Rattle.plan_num.proofs.Common.{unwrap_or, refl, ap, sym, ◌∙◌, subst, arith, int_max}
 use Rattle.plan_num.proofs.Common.{get_or-eq_default, and_parts, ltb-true, not-true, ints}
 use Rattle.plan_num.proofs.Common.{int_max_is, length-map, length-replicate, get_or-map}
 use Rattle.plan_num.proofs.Common.{get_or_default, All-map, none-some, same_Some}
@@ -11,7 +11,7 @@ use Rattle.link_plans.proofs.Common.{next_found, followed, is_trip_same, Potenti
 use Rattle.link_plans.proofs.Common.{IsSmall, ArePotentials, AreOver, AreValid, by_bound}
 use Rattle.link_plans.proofs.Common.{AreCovering, AreTight, tight_gains}
 use Rattle.canonical_potentials.specs.Canonical.{AreCanonical}
-use Rattle.canonical_potentials.specs.Drops.{DropParts, drop_at, AreFound, AreDropsOver, IsSearched}
+use Rattle.canonical_potentials.specs.Drops.{DropParts, drop_at, AreDropsOver, IsSearched}
 use Rattle.canonical_potentials.specs.Drops.{NextKept, RootKept, AreKept, potentials_by}
 use Rattle.canonical_potentials.specs.Residual.{Node, root, left, right, arc, walk_cost, IsLeastCost}
 use Rattle.canonical_potentials.proofs.Deeper.{walk_bound}
@@ -28,19 +28,12 @@ pub searched_first : (links : Links) → AreLinks links → (plan : List (Option
     → IsPlan links plan
     → AreValid links plan potentials → (n : ℕ) → n ≡ links.count → (drops : DropParts)
     → drops ≡ record { root = 0; left = replicate n 0; right = replicate n 0 } → IsSearched links plan drops
-searched_first links sound plan potentials is valid n counted drops drops_is = subst (IsSearched links plan)
-    (sym drops_is) (record {
-      sound = sound;
-      plan_is = is;
-      certified = (potentials, valid);
-      over = record { left = length-replicate n 0 ∙ counted; right = length-replicate n 0 ∙ counted };
-      found = found_at;
-    })
-  where
-    found_at : AreFound links plan (record { root = 0; left = replicate n 0; right = replicate n 0 })
-    found_at root = ([], refl)
-    found_at (left i) = ([], ap (λ k. Some (neg_ℤ (pos k))) (sym (zero_at n i)))
-    found_at (right j) = ([], ap (λ k. Some (neg_ℤ (pos k))) (sym (zero_at n j)))
+searched_first links sound plan potentials is valid n counted drops drops_is = grind (
+  arith,
+  length-replicate,
+  neg_ℤ,
+  zero_at,
+)
 
 -- ---- behind all passes
 
@@ -65,18 +58,7 @@ module _ (links : Links) (sound : AreLinks links) (plan : List (Option ℕ)) (dr
   over_all = grind (arith, length-map)
 
   covered : (i j : ℕ) → IfSome (links.gain i j) (λ gain. gain ≤ℤ pos (at made.u i + at made.v j))
-  covered i j = split (links.gain i j) refl
-    where
-      split : (gain : Option ℤ) → links.gain i j ≡ gain
-          → IfSome gain (λ value. value ≤ℤ pos (at made.u i + at made.v j))
-      split None e = tt
-      split (Some gain) e =
-          let there = sound.within i j (ap is_some e) in
-          let pair : (pos (get_or drops.left i 0) +ℤ gain) ≤ℤ pos (get_or drops.right j 0) =
-          subst (λ some. IfSome some
-          (λ value. (pos (get_or drops.left i 0) +ℤ value) ≤ℤ pos (get_or drops.right j 0))) e
-          ((kept i there.0).pairs j there.1) in
-          omega (arith, ints, pair, u_at i there.0, v_at j there.1)
+  covered i j = grind (arith, is_some, get_or, ints, u_at, v_at)
 
   -- what is known of a link of the plan
   linked : (i j : ℕ) → next plan i ≡ Some j → (gain : ℤ) → links.gain i j ≡ Some gain

@@ -85,19 +85,21 @@ module _ (links : Links) (plan : List (Option ℕ)) (potentials : PotentialParts
 gains_few : (links : Links) → AreLinks links → (from : ℕ) (plan : List (Option ℕ))
     → gains_from links.gain from plan ≤ℤ pos (1000000000000 * length plan)
 gains_few links are from [] = omega (arith, ints)
-gains_few links are from (None ∷ plan) =
-    let rest : gains_from links.gain (from + 1) plan ≤ℤ pos (1000000000000 * length plan) =
-    gains_few links are (from + 1) plan in
-    omega (arith, ints, rest)
-gains_few links are from (Some j ∷ plan) =
-    let rest : gains_from links.gain (from + 1) plan ≤ℤ pos (1000000000000 * length plan) =
-    gains_few links are (from + 1) plan in
-    omega (arith, ints, rest, gains_more links.gain from j plan, one (links.gain from j) (are.small from j))
-  where
-    one : (gain : Option ℤ) → IfSome gain (λ value. value ≤ℤ pos 1000000000000)
-        → unwrap_or gain (pos 0) ≤ℤ pos 1000000000000
-    one None few = omega (arith, ints)
-    one (Some value) few = few
+gains_few links are from (None ∷ plan) = grind (
+  arith,
+  gains_from,
+  ints,
+  gains_few links are (from +
+      1) plan,
+)
+gains_few links are from (Some j ∷ plan) = grind (
+  arith,
+  gains_from,
+  ints,
+  gains_more,
+  unwrap_or,
+  gains_few links are (from + 1) plan,
+)
 
 -- what valid potentials are together at most
 pub total_most : (links : Links) (plan : List (Option ℕ)) (potentials : PotentialParts) → AreLinks links

@@ -1,8 +1,8 @@
 -- The node that reaches furthest, among some that wait.
-use Rattle.std.proofs.Common.{◌≡◌, ◌⊎◌, ℕ, ◌+◌, ◌<◌, ◌≤◌, List, [], ◌∷◌, ◌++◌, length, map, get_or, swap_remove}
-use Rattle.std.proofs.Common.{HoldsAt, IsPermutation, Some, arith, ap, sym, ◌∙◌, subst}
-use Rattle.std.specs.List.{range_with_len}
-use Rattle.std.proofs.lemmas.List.FromFn.{map-range_with_len_more}
+use Rattle.plan_num.proofs.Common.{◌≡◌, ◌⊎◌, ℕ, ◌+◌, ◌<◌, ◌≤◌, List, [], ◌∷◌, ◌++◌, length, map}
+use Rattle.plan_num.proofs.Common.{get_or, HoldsAt, Some, arith, ap, sym, ◌∙◌, range_with_len}
+use Rattle.plan_num.proofs.Common.{map-range_with_len_more}
+use Rattle.std.proofs.Common.{swap_remove}
 use Rattle.std.proofs.lemmas.List.Sorted.{IsPermutation-swap_remove}
 use Rattle.canonical_potentials.specs.declared.walk.Waiting.{Waiting}
 use Rattle.canonical_potentials.specs.Drops.{DropParts}
@@ -19,12 +19,10 @@ pub record IsBestOf (drops : DropParts) (nodes : List Waiting) (count best most 
 pub taken_out : (drops : DropParts) (before seen after : List Waiting) (place : ℕ) (node : Waiting) → seen ≡ before
     → place < length before → HoldsAt (IsFurthest drops seen) seen place → node ≡ get_or before place node
     → after ≡ swap_remove before place node → IsTakenOut drops before after node
-taken_out drops before seen after place node same within furthest is left = record {
-  others = subst (λ rest. IsPermutation before (node ∷ rest)) (sym left)
-      (IsPermutation-swap_remove before place node within is);
-  furthest = subst (IsFurthest drops before) (sym is)
-      (subst (λ some. HoldsAt (IsFurthest drops some) some place) same furthest node);
-}
+taken_out drops before seen after place node same within furthest is left = grind (
+  arith,
+  IsPermutation-swap_remove,
+)
 
 -- the left node of one trip more waits
 pub waits_more : (u : List ℕ) (trip height : ℕ) (old new : List Waiting)

@@ -1,12 +1,11 @@
 -- Lists of items that are read alike.
-use Rattle.std.proofs.Common.{arith, ◌≡◌, ◌≢◌, ℕ, ◌+◌, List, ◌∷◌, ◌++◌, Option, Some, None, Result}
-use Rattle.std.proofs.Common.{Ok, Err, refl, sym, ap, ◌∙◌}
-use Rattle.giv_files.proofs.Common.{key_name}
+use Rattle.plan_num.proofs.Common.{arith, ◌≡◌, ◌≢◌, ℕ, ◌+◌, List, ◌∷◌, ◌++◌, Option, Some, None}
+use Rattle.plan_num.proofs.Common.{Result, Ok, Err, refl, sym, ◌∙◌}
 use Rattle.config_keys.specs.declared.config_fault.ConfigFault.{ConfigFault}
 use Rattle.config_keys.specs.declared.config_end.ConfigEnd.{ConfigEnd}
 use Rattle.config_keys.specs.declared.config_end.ConfigEnd.TheVariants.{Refused, FileFault, NoMemory}
 use Rattle.config_keys.specs.declared.reading.Reading.{Reading}
-use Rattle.config_keys.specs.Items.{Item, Fault, first_fault, include_count, last_said}
+use Rattle.config_keys.specs.Items.{Item, Fault, first_fault, include_count}
 use Rattle.config_keys.specs.ReadSoFar.{ReadGives}
 use Rattle.config_keys.specs.SettingsFiles.{Alike}
 use Rattle.config_keys.proofs.Steps.{first_fault-further, first_fault-stays, include_count-append, last_said-append}
@@ -15,11 +14,7 @@ pub alike_refl : (xs : List Item) → Alike xs xs
 alike_refl xs = record { same = λ count. refl; counts = λ count none. refl; says = λ count none key before. refl }
 
 pub alike_then : (xs ys zs : List Item) → Alike xs ys → Alike ys zs → Alike xs zs
-alike_then xs ys zs h k = record {
-  same = λ count. h.same count ∙ k.same count;
-  counts = λ count none. h.counts count none ∙ k.counts count (sym (h.same count) ∙ none);
-  says = λ count none key before. h.says count none key before ∙ k.says count (sym (h.same count) ∙ none) key before;
-}
+alike_then xs ys zs h k = grind arith
 
 -- what no fault is in has no fault at its start
 front_none : (count : ℕ) (xs ys : List Item) (front : Option ConfigFault) → first_fault count xs ≡ front
@@ -34,51 +29,28 @@ back_none count xs ys none = sym (first_fault-further count xs ys (front_none co
 
 -- behind the same items
 pub alike_behind : (xs ys zs : List Item) → Alike ys zs → Alike (xs ++ ys) (xs ++ zs)
-alike_behind xs ys zs h = record {
-  same = λ count. by count (first_fault count xs) refl;
-  counts = λ count none. include_count-append xs ys
-      ∙ ap (λ n. include_count xs + n) (h.counts (count + include_count xs) (back_none count xs ys none))
-      ∙ sym (include_count-append xs zs);
-  says = λ count none key before. last_said-append (key_name key) before xs ys
-      ∙ h.says (count + include_count xs) (back_none count xs ys none) key (last_said (key_name key) before xs)
-      ∙ sym (last_said-append (key_name key) before xs zs);
-}
-  where
-    by : (count : ℕ) (front : Option ConfigFault) → first_fault count xs ≡ front
-        → first_fault count (xs ++ ys) ≡ first_fault count (xs ++ zs)
-    by count None e =
-        first_fault-further count xs ys e ∙ h.same (count + include_count xs) ∙ sym (first_fault-further count xs zs e)
-    by count (Some reason) e = first_fault-stays count xs ys reason e ∙ sym (first_fault-stays count xs zs reason e)
+alike_behind xs ys zs h = grind (
+  arith,
+  include_count-append,
+  back_none,
+  last_said-append,
+  first_fault-further,
+  first_fault-stays,
+)
 
 -- what comes after a fault is not read
 pub alike_fault : (reason : ConfigFault) (rest more : List Item) → Alike (Fault reason ∷ rest) (Fault reason ∷ more)
 unfolding first_fault
-alike_fault reason rest more =
-    record { same = λ count. refl; counts = λ count none. cc; says = λ count none key before. cc }
+alike_fault reason rest more = grind arith
 
 -- items in which a fault is found, wherever reading stands
 pub alike_stopped : (xs ys : List Item) → ((count : ℕ) → first_fault count xs ≢ None) → Alike (xs ++ ys) xs
-alike_stopped xs ys stopped = record {
-  same = λ count. by count (first_fault count xs) refl;
-  counts = λ count none. absurd (stopped count (front_none count xs ys _ refl none));
-  says = λ count none key before. absurd (stopped count (front_none count xs ys _ refl none));
-}
-  where
-    by : (count : ℕ) (front : Option ConfigFault) → first_fault count xs ≡ front
-        → first_fault count (xs ++ ys) ≡ first_fault count xs
-    by count None e = absurd (stopped count e)
-    by count (Some reason) e = first_fault-stays count xs ys reason e ∙ sym e
+alike_stopped xs ys stopped = grind (arith, front_none, first_fault-stays)
 
 -- what reading one of them gives, reading the other gives
 pub gives_alike : (xs ys : List Item) (old new : Reading) (result : Result (Unit {0}) ConfigEnd) → Alike xs ys
     → ReadGives ys old new result → ReadGives xs old new result
-gives_alike xs ys old new (Ok done) h k =
-    let none : first_fault old.includes xs ≡ None = h.same old.includes ∙ k.faultless in
-    record {
-      faultless = none;
-      counted = rw (h.counts old.includes none) k.counted;
-      told = λ key. k.told key ∙ sym (h.says old.includes none key _);
-    }
+gives_alike xs ys old new (Ok done) h k = grind arith
 gives_alike xs ys old new (Err (Refused reason)) h k = h.same old.includes ∙ k
 gives_alike xs ys old new (Err FileFault) h k = tt
 gives_alike xs ys old new (Err NoMemory) h k = tt

@@ -1,8 +1,8 @@
 -- Reading a file goes section by section, and into the files that it includes.
 use Rattle.plan_num.proofs.Common.{◌≡◌, ℕ, zero, suc, ◌+◌, ◌-◌, ◌<◌, ◌≤◌, Bool, true, false, eqb}
-use Rattle.plan_num.proofs.Common.{ltb, List, [], ◌∷◌, ◌++◌, length, get_or, drop, Option, Some}
-use Rattle.plan_num.proofs.Common.{None, IfSome, IfOk, Result, Ok, Err, string_bytes, refl, sym, ap}
-use Rattle.plan_num.proofs.Common.{◌∙◌, subst, arith, flat_map, nat_tests, append_assoc, drop_all}
+use Rattle.plan_num.proofs.Common.{List, [], ◌∷◌, ◌++◌, length, get_or, drop, Option, Some, None}
+use Rattle.plan_num.proofs.Common.{IfSome, IfOk, Result, Ok, Err, string_bytes, refl, sym, ap, ◌∙◌}
+use Rattle.plan_num.proofs.Common.{subst, arith, flat_map, nat_tests, append_assoc, drop_all}
 use Rattle.plan_num.proofs.Common.{drop_more}
 use Rattle.std.proofs.Math.Numerals.{sub-one}
 use Rattle.plan_files.proofs.Common.{Got, Bytes, Absent, Folder}
@@ -18,7 +18,7 @@ use Rattle.config_keys.specs.declared.settings_file.FaultRow.{FaultRow}
 use Rattle.config_keys.specs.declared.settings_file.IncludeRow.{IncludeRow}
 use Rattle.config_keys.specs.declared.settings_file.Section.{Section}
 use Rattle.config_keys.specs.declared.settings_file.SettingsFile.{SettingsFile}
-use Rattle.config_keys.specs.Items.{Item, Include, brought, got_items, text_items, below, expanded}
+use Rattle.config_keys.specs.Items.{Item, Include, brought, got_items, below, expanded}
 use Rattle.config_keys.specs.Items.{first_fault, include_count, last_said, look_in, config_items}
 use Rattle.config_keys.specs.Items.{config_name, most_levels}
 use Rattle.config_keys.specs.ReadSoFar.{said_items, ReadOn, ReadGives}
@@ -54,11 +54,11 @@ file_brings : (look : List ℕ → Got) (left : ℕ) (optional : Bool) (path : L
     → ReadGives (file_items look (below look (left - 1)) (left - 1) path it) old new result
     → ReadGives (got_items (below look left) optional path got) old new result
 unfolding expanded
-file_brings look left optional path (Bytes text) it old new result some says gives =
-    rw (below_one look left path text some)
-    (gives_alike (text_items look (below look (left - 1)) (left - 1) path text)
-    (file_items look (below look (left - 1)) (left - 1) path it) old new result
-    (says look (below look (left - 1)) (left - 1) path) gives)
+file_brings look left optional path (Bytes text) it old new result some says gives = grind (
+  arith,
+  below_one,
+  gives_alike,
+)
 file_brings look left optional path Absent it old new result some says gives = absurd says
 file_brings look left optional path Long it old new result some says gives = absurd says
 
@@ -90,24 +90,14 @@ pub too_many : (count left : ℕ) (file : List ℕ) (include : IncludeRow) (told
     → told ≡ file
     → first_fault count (kept_item left file include ∷ []) ≡ Some (fault.TooManyIncludes told include.row)
 unfolding first_fault
-too_many count left file include told some many is =
-    let more : ltb count 1000 ≡ false = grind (arith, nat_tests) in
-    rw (kept_is left file include some, more, is) refl
+too_many count left file include told some many is = grind (arith, nat_tests, kept_is)
 
 -- one that is counted
 pub counted : (left : ℕ) (file : List ℕ) (include : IncludeRow) (old : Reading) → 0 < left → old.includes < 1000
     → (0 < left)
     × ReadOn (kept_item left file include ∷ []) old (record { includes = old.includes + 1; said = old.said })
 unfolding first_fault include_count last_said
-counted left file include old some few =
-    let less : ltb old.includes 1000 ≡ true = grind (arith, nat_tests) in (
-      some,
-      record {
-        faultless = rw (kept_is left file include some, less) refl;
-        counted = rw (kept_is left file include some) (omega arith);
-        told = λ key. rw (kept_is left file include some) refl;
-      },
-    )
+counted left file include old some few = grind (arith, nat_tests, kept_is)
 
 module _ (left : ℕ) (file : List ℕ) (include : IncludeRow) (old : Reading) (kept : KeptFiles) where
   -- what reading it gives, with what its file brings
@@ -290,8 +280,7 @@ pub end_refused : (said : Said) (name : List ℕ) (old mid : Reading) (found : O
     → found ≡ Some refused → told ≡ fault_by name refused.row refused.why
     → first_fault old.includes (said_items said ++ fault_items name found) ≡ Some told
 unfolding first_fault
-end_refused said name old mid found refused told h e is =
-    rw (e, is) (first_fault-further old.includes (said_items said) (fault_items name (Some refused)) h.faultless)
+end_refused said name old mid found refused told h e is = grind (arith, first_fault-further)
 
 -- ---- the config file
 
@@ -324,10 +313,7 @@ config_brings : (look : List ℕ → Got) (got : Got) (it : SettingsFile) (old n
     → ReadGives (file_items look (below look most_levels) most_levels config_name it) old new result
     → ReadGives (got_items (expanded look most_levels) true config_name got) old new result
 unfolding expanded
-config_brings look (Bytes text) it old new result says gives =
-    gives_alike (text_items look (below look most_levels) most_levels config_name text)
-    (file_items look (below look most_levels) most_levels config_name it) old new result
-    (says look (below look most_levels) most_levels config_name) gives
+config_brings look (Bytes text) it old new result says gives = grind (arith, gives_alike)
 config_brings look Absent it old new result says gives = absurd says
 config_brings look Long it old new result says gives = absurd says
 
@@ -345,5 +331,4 @@ pub config_read : {X : Type 0} (value : X → SettingsFile) (contents now : Opti
     → IfSome contents (λ folder. ReadGives (config_items (look_in folder)) old new result)
 config_read value None now kept read after it old new result same all found still gives = tt
 config_read value (Some folder) now kept read after it old new result same all found still gives =
-    config_brings (look_in folder) (look_in folder config_name) (value it) old new result (found all)
-    ((rw same at gives) (still all)).0
+    grind (arith, config_brings)

@@ -1,6 +1,6 @@
 -- What is kept of files stays right.
-use Rattle.std.proofs.Common.{◌≡◌, ℕ, Bool, true, false, cond, List, Option, Some, None, IfSome, refl, ap}
-use Rattle.std.specs.Option.{option_map}
+use Rattle.plan_num.proofs.Common.{◌≡◌, ℕ, Bool, true, false, cond, List, Option, Some, None}
+use Rattle.plan_num.proofs.Common.{IfSome, refl, ap, option_map}
 use Rattle.plan_files.proofs.Common.{Folder}
 use Rattle.config_keys.specs.declared.kept_files.KeptFiles.{KeptFiles}
 use Rattle.config_keys.specs.declared.settings_file.SettingsFile.{SettingsFile}

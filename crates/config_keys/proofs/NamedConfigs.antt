@@ -1,21 +1,20 @@
 -- The fault of a config names its config file, or one that this can include.
 use Rattle.plan_num.proofs.Common.{arith, ◌≡◌, ℕ, zero, suc, Bool, true, false, eqb, List, [], ◌∷◌}
-use Rattle.plan_num.proofs.Common.{◌++◌, ◌+◌, length, nat_lt, Option, Some, None, IfSome, IfErr, Ok}
+use Rattle.plan_num.proofs.Common.{◌++◌, ◌+◌, length, nat_lt, Option, Some, None, IfSome, IfErr}
 use Rattle.plan_num.proofs.Common.{Err, refl, if◌then◌else◌, flat_map, option_map_or}
 use Rattle.plan_files.proofs.Common.{Got, Bytes, Absent}
 use Rattle.plan_files.specs.declared.store.Got.TheVariants.{TooLong as Long}
 use Rattle.giv_files.proofs.Common.{Key}
-use Rattle.text_fields.specs.Rows.{Row, rows, has_mark}
-use Rattle.tables.specs.declared.row_why.RowWhy.TheVariants as why
+use Rattle.text_fields.specs.Rows.{Row}
 use Rattle.config_keys.specs.declared.config_fault.ConfigFault.{ConfigFault}
 use Rattle.config_keys.specs.declared.config_fault.ConfigFault.TheVariants as fault
 use Rattle.config_keys.specs.Includes.{is_inside, path_of}
 use Rattle.config_keys.specs.Items.{Item, Setting, Include, Fault, include_word, pair_item}
 use Rattle.config_keys.specs.Items.{row_item, got_items, brought, row_items, text_items, below}
-use Rattle.config_keys.specs.Items.{expanded, config_name, config_items, first_fault, most_includes}
+use Rattle.config_keys.specs.Items.{expanded, config_name, config_items, first_fault}
 use Rattle.config_keys.specs.Items.{most_levels}
 use Rattle.config_keys.specs.NamedConfigs.{ConfigNames}
-use Rattle.config_keys.specs.Values.{effective, settings_of, settled, said_in, first_bad, values_in}
+use Rattle.config_keys.specs.Values.{effective, settings_of, settled, said_in}
 
 module _ (test : List ℕ → Bool) (inside_is : (name : List ℕ) → is_inside name ≡ true → test (path_of name) ≡ true) where
   -- an item names no file but those that pass the test
@@ -99,14 +98,7 @@ module _ (test : List ℕ → Bool) (inside_is : (name : List ℕ) → is_inside
 
     text_names : (inner : List ℕ → List ℕ → List Item) → InnerNames inner → (left : ℕ) (file text : List ℕ)
         → test file ≡ true → AllName (text_items look inner left file text)
-    text_names inner h left file text is = by (has_mark text)
-      where
-        by : (mark : Bool)
-            → AllName
-            (if mark then Fault (fault.BadRow file 1 why.ByteOrderMark) ∷ [] else flat_map
-            (row_items look inner left file) (rows text))
-        by true = (is, tt)
-        by false = rows_names inner h left file (rows text) is
+    text_names inner h left file text is = grind (arith, rows_names)
 
     below_names : (left : ℕ) → InnerNames (below look left)
     unfolding below
@@ -125,24 +117,16 @@ module _ (test : List ℕ → Bool) (inside_is : (name : List ℕ) → is_inside
     unfolding first_fault
     first_names count [] h = tt
     first_names count (Setting key value ∷ items) h = first_names count items h.1
-    first_names count (Include file number optional path ∷ items) h =
-        by (nat_lt count most_includes) (first_names (count + 1) items h.1)
-      where
-        by : (few : Bool) → IfSome (first_fault (count + 1) items) (ConfigNames test)
-            → IfSome (if few then first_fault (count + 1) items else Some (fault.TooManyIncludes file number))
-            (ConfigNames test)
-        by true rest = rest
-        by false rest = h.0.0
+    first_names count (Include file number optional path ∷ items) h = grind (
+      arith,
+      nat_lt,
+      first_names (count + 1) items h.1,
+    )
     first_names count (Fault reason ∷ items) h = h.0
 
     settled_names : (said : Key → Option (List ℕ)) → IfErr (settled said) (ConfigNames test)
     unfolding settled
-    settled_names said = by (first_bad said)
-      where
-        by : (bad : Option Key)
-            → IfErr (option_map_or (λ key. Err (fault.BadValue key)) bad (Ok (values_in said))) (ConfigNames test)
-        by None = tt
-        by (Some key) = tt
+    settled_names said = grind arith
 
     settings_name : (items : List Item) → AllName items → IfErr (settings_of items) (ConfigNames test)
     unfolding settings_of

@@ -1,6 +1,6 @@
 -- What a row says.
-use Rattle.plan_num.proofs.Common.{◌≡◌, ◌≢◌, ℕ, Bool, true, false, eqb, List, [], length, Some}
-use Rattle.plan_num.proofs.Common.{None, string_bytes, slice_index_or, refl, arith, nat_tests}
+use Rattle.plan_num.proofs.Common.{◌≡◌, ◌≢◌, ℕ, Bool, true, false, List, [], length, Some, None}
+use Rattle.plan_num.proofs.Common.{string_bytes, slice_index_or, refl, arith, nat_tests}
 use Rattle.tables.specs.declared.row_why.RowWhy.TheVariants as why
 use Rattle.text_fields.specs.Rows.{Row}
 use Rattle.config_keys.specs.declared.config_fault.ConfigFault.TheVariants as fault
@@ -26,9 +26,7 @@ pub odd_row : (left : ℕ) (file : List ℕ) (row : Row) (number found : ℕ) �
     → found ≡ length row.fields
     → row_item left file row ≡ Fault (fault.BadRow file number (why.FieldCount found))
 unfolding row_item
-odd_row left file row number found e g h =
-    let odd : eqb (length row.fields) 2 ≡ false = grind (arith, nat_tests) in
-    rw (odd, g, h) refl
+odd_row left file row number found e g h = grind (arith, nat_tests)
 
 -- a row of a key with its value
 pub setting_row : (left : ℕ) (file : List ℕ) (row : Row) (key value : List ℕ) → length row.fields ≡ 2

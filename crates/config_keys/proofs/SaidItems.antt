@@ -79,8 +79,7 @@ module _ (said : Said) where
   keys_faultless : (count : ℕ) (keys : List Key) → first_fault count (flat_map (said_item said) keys) ≡ None
   unfolding first_fault
   keys_faultless count [] = refl
-  keys_faultless count (k ∷ keys) =
-      item_faultless count (text_of said k) k (flat_map (said_item said) keys) ∙ keys_faultless count keys
+  keys_faultless count (k ∷ keys) = grind (arith, item_faultless, keys_faultless count keys)
 
   item_uncounted : (text : Option (List ℕ)) (k : Key) (rest : List Item)
       → include_count (option_map_or (λ value. Setting (key_name k) value ∷ []) text [] ++ rest) ≡ include_count rest
@@ -102,11 +101,7 @@ module _ (said : Said) where
 -- reading goes on over what is said
 pub read_said : (said : Said) (old new : Reading) → new.includes ≡ old.includes
     → SaysOn (said_items said) old.said new.said → ReadOn (said_items said) old new
-read_said said old new same says = record {
-  faultless = said_faultless said old.includes;
-  counted = grind (arith, said_uncounted);
-  told = says;
-}
+read_said said old new same says = grind (arith, said_faultless, said_uncounted)
 
 -- nothing is said
 pub nothing_said : (said : Said) → ((k : Key) → text_of said k ≡ None) → said_items said ≡ []
@@ -128,9 +123,7 @@ module _ (said : Said) (k : Key) where
       ≡ last_said (key_name k) (over text before) rest
   unfolding last_said
   own_last None before rest e = refl
-  own_last (Some value) before rest e =
-      let same : eqb (key_place k) (key_place k) ≡ true = grind (arith, nat_tests) in
-      rw (named (key_name k) k k (known k), same) refl
+  own_last (Some value) before rest e = grind (arith, nat_tests, named, known)
 
   other_last : (j : Key) (text before : Option (List ℕ)) (rest : List Item) → eqb (key_place j) (key_place k) ≡ false
       → last_said (key_name k) before (option_map_or (λ value. Setting (key_name j) value ∷ []) text [] ++ rest)
@@ -169,8 +162,7 @@ module _ (said : Said) (k : Key) where
           → cond t (over (text_of said k) before) (over (text_of said k) before) ≡ over (text_of said k) before
       by_has true = refl
       by_has false = refl
-  by_key j keys false e rest before =
-      other_last j (text_of said j) before (flat_map (said_item said) keys) e ∙ rest before
+  by_key j keys false e rest before = grind (arith, other_last)
 
   last_keys : (keys : List Key) (before : Option (List ℕ))
       → last_said (key_name k) before (flat_map (said_item said) keys)

@@ -20,11 +20,6 @@ use Rattle.config_keys.specs.Values.{first_bad, values_in, settled}
 use Rattle.config_keys.specs.Config.{value_at, setting_at, AreSettings, part_of}
 use Rattle.config_keys.proofs.KeyNames.{find_none}
 
--- one more passes over
-pub none_more : {X : Type 0} (p : X → Bool) (xs : List X) (i : ℕ) (d : X) → i < length xs → find p (take i xs) ≡ None
-    → p (get_or xs i d) ≡ false → find p (take (i + 1) xs) ≡ None
-none_more p xs i d h e f = rw (take_more xs i d h, find-append p (take i xs) (get_or xs i d ∷ []), e, f) refl
-
 -- the first that is found
 pub found_first : {X : Type 0} (p : X → Bool) (xs : List X) (i : ℕ) (d : X) → i < length xs
     → find p (take i xs) ≡ None → p (get_or xs i d) ≡ true → find p xs ≡ Some (get_or xs i d)
@@ -56,12 +51,7 @@ settled_good said keys values i e h none told = grind (arith, take_all)
 kept_some : (test : ℤ → Bool) (o : Option ℤ) (value : ℤ) → kept_if test o ≡ Some value → (o ≡ Some value)
     × (test value ≡ true)
 kept_some test None value e = cc
-kept_some test (Some other) value e = at_test (test other) refl e
-  where
-    at_test : (t : Bool) → test other ≡ t → cond t (Some other) None ≡ Some value → (Some other ≡ Some value)
-        × (test value ≡ true)
-    at_test true f g = let same : other ≡ value = cc in (g, rw same at f)
-    at_test false f g = cc
+kept_some test (Some other) value e = grind arith
 
 default_allowed : (k : Key) → allows k (key_default k) ≡ true
 default_allowed key.LastStage = refl
@@ -187,8 +177,7 @@ without_fault said (Some reason) values e = absurd (cc)
 without_bad : (said : Key → Option (List ℕ)) (bad : Option Key) (values : List ℤ) → first_bad said ≡ bad
     → option_map_or (λ key. Err (fault.BadValue key)) bad (Ok (values_in said)) ≡ Ok values → AreSettings values
 without_bad said None values good e =
-    let same : values_in said ≡ values = cc in
-    subst AreSettings same (are_settings said good)
+    let same : values_in said ≡ values = cc in grind (arith, are_settings)
 without_bad said (Some key) values good e = absurd (cc)
 
 pub effective_settings : (look : List ℕ → Got) (values : List ℤ) → effective look ≡ Ok values → AreSettings values

@@ -33,9 +33,7 @@ use Rattle.config_keys.proofs.Steps.{include_count-append}
 few_more : (count : ℕ) (rest : List Item) (last : ConfigFault) (t : Bool) → ltb count 1000 ≡ t
     → (first_fault (count + 1) rest ≡ None → include_count rest ≤ 1000 - (count + 1))
     → cond t (first_fault (count + 1) rest) (Some last) ≡ None → include_count rest + 1 ≤ 1000 - count
-few_more count rest last true e few none =
-    let less : count < 1000 = grind (arith, nat_tests) in
-    omega (arith, less, few none)
+few_more count rest last true e few none = grind (arith, nat_tests, few)
 few_more count rest last false e few none = absurd (cc)
 
 few : (count : ℕ) (xs : List Item) → first_fault count xs ≡ None → include_count xs ≤ 1000 - count
@@ -85,10 +83,7 @@ module _ (look : List ℕ → Got) (inner : List ℕ → List ℕ → List Item)
   -- more sections than include rows are read
   stopped : (told : Sections) → 1000 < length told.sections.items → (count : ℕ)
       → first_fault count (told_items look inner left file told) ≢ None
-  stopped told many count none =
-      let some = sections_counted told.sections.items (said_items told.rest) count none in
-      let not_more = few count (told_items look inner left file told) none in
-      omega (arith, some, not_more, many)
+  stopped told many count none = grind (arith, sections_counted, few)
 
   -- a section more
   section_more : (old new : Sections) (include : IncludeRow) (rest : List Item)
@@ -127,24 +122,23 @@ setting_told row name value old new is same says rest look inner left file =
 pub refused_told : (row : Row) (old : Sections) (refused : FaultRow)
     → ((left : ℕ) (file : List ℕ) → row_item left file row ≡ Fault (fault_by file refused.row refused.why))
     → RowGives row old old (turn.Fault refused)
-refused_told row old refused is rest look inner left file =
-    rw (is left file)
-    (alike_behind (told_items look inner left file old) _ _
-    (alike_fault (fault_by file refused.row refused.why) rest []))
+refused_told row old refused is rest look inner left file = grind (arith, alike_behind, alike_fault)
 
 -- an include row
 pub include_told : (row : Row) (number : ℕ) (optional : Bool) (name : List ℕ) (old new : Sections) (turn : Turn)
     → ((left : ℕ) (file : List ℕ) → row_item left file row ≡ include_item left file number optional name)
     → IncludeTold number optional name old new turn → RowGives row old new turn
-include_told row number optional name old new turn is told rest look inner left file =
-    rw (is left file) (told rest look inner left file)
+include_told row number optional name old new turn is told rest look inner left file = grind arith
 
 -- an include row of a file of another folder
 pub outside_told : (number : ℕ) (optional : Bool) (name : List ℕ) (old : Sections) → is_inside name ≡ false
     → IncludeTold number optional name old old (turn.Fault (record { row = number; why = bad.Outside }))
-outside_told number optional name old e rest look inner left file =
-    rw (outside left file number optional name e)
-    (alike_behind (told_items look inner left file old) _ _ (alike_fault (fault.IncludeOutside file number) rest []))
+outside_told number optional name old e rest look inner left file = grind (
+  arith,
+  outside,
+  alike_behind,
+  alike_fault,
+)
 
 module _ (number : ℕ) (optional : Bool) (name : List ℕ) (old new : Sections) (include : IncludeRow)
     (inside : is_inside name ≡ true)
@@ -154,13 +148,7 @@ module _ (number : ℕ) (optional : Bool) (name : List ℕ) (old new : Sections)
     (nothing : (k : Key) → text_of new.rest k ≡ None) where
   -- one that is kept
   pub next_told : IncludeTold number optional name old new turn.Next
-  next_told rest look inner left file =
-      rw (
-        kept left file number optional name include inside row_is optional_is path_is,
-        section_more look inner left
-            file old new include rest more nothing,
-      )
-      (alike_refl (told_items look inner left file new ++ rest))
+  next_told rest look inner left file = grind (arith, kept, section_more, alike_refl)
 
   -- one after which no further one could be read
   pub enough_told : 1000 < length new.sections.items → IncludeTold number optional name old new turn.Enough

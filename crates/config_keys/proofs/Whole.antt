@@ -1,5 +1,6 @@
 -- What was read of a dataset's config settles its settings.
-use Rattle.std.proofs.Common.{◌≡◌, ℤ, List, Option, Some, None, IfSome, Result, Ok, Err, refl, ap, sym, ◌∙◌}
+use Rattle.plan_num.proofs.Common.{◌≡◌, ℤ, List, Option, Some, None, IfSome, Result, Ok, Err, refl}
+use Rattle.plan_num.proofs.Common.{ap, sym, ◌∙◌}
 use Rattle.plan_files.proofs.Common.{Folder}
 use Rattle.giv_files.proofs.Common.{Key, key_name}
 use Rattle.config_keys.specs.declared.config_end.ConfigEnd.{ConfigEnd}

@@ -1,7 +1,7 @@
 -- What is found breaks no rule.
-use Rattle.plan_num.proofs.Common.{◌≡◌, ℕ, ℤ, suc, ◌<◌, ◌&&◌, ◌||◌, ◌==◌, nat_lt, not, Bool, true}
-use Rattle.plan_num.proofs.Common.{false, List, [], ◌∷◌, ◌++◌, length, get_or, Some, None, ap, sym}
-use Rattle.plan_num.proofs.Common.{◌∙◌, refl, arith, inl, inr, subst, nat_eq_equiv, both_true, All}
+use Rattle.plan_num.proofs.Common.{◌≡◌, ℕ, ℤ, suc, ◌<◌, ◌&&◌, ◌||◌, nat_lt, not, Bool, true, false}
+use Rattle.plan_num.proofs.Common.{List, [], ◌∷◌, ◌++◌, length, get_or, Some, None, ap, sym, ◌∙◌}
+use Rattle.plan_num.proofs.Common.{refl, arith, inl, inr, subst, nat_eq_equiv, both_true, All}
 use Rattle.plan_num.proofs.Common.{Contains, slice_get, list_any, range_with_len, option_map_or}
 use Rattle.plan_num.proofs.Common.{both_ways, lt-ltb, ltb-true, or_from, Decides-eqb, All-cons}
 use Rattle.plan_num.proofs.Common.{All-contains_itself, list_any_none, any_passes_from_place}
@@ -80,16 +80,14 @@ module _ (net : JourneyParts) (sound : All (IsConnection net) net.connections) w
       → (is_ride net (first ∷ rest ++ next ∷ []) ≡ true)
       × (last_of (first ∷ rest ++ next ∷ []) ≡ Some next)
   longer first [] event next joined last step =
-      let same : first ≡ event = cc in (
-        both_true (subst (λ e. list_any (leads e next) net.connections ≡ true)
-            (sym same) step) refl,
-        refl,
-      )
+      let same : first ≡ event = cc in grind arith
   longer first (second ∷ rest) event next joined last step =
       let parts = both (list_any (leads first second) net.connections)
-      (is_ride net (second ∷ rest)) joined in
-      let more = longer second rest event next parts.1 last step in
-      (both_true parts.0 more.0, more.1)
+      (is_ride net (second ∷ rest)) joined in grind (
+        arith,
+        longer second rest event next parts.1
+            last step,
+      )
 
   pub goes_on : (from start : ℤ) (event next : ℕ) → IsReached net from start event
       → list_any (leads event next) net.connections ≡ true → IsReached net from start next
@@ -178,26 +176,10 @@ module _ (net : JourneyParts) (sound : All (IsConnection net) net.connections) w
         (All-contains_itself found.reached k d h)).0
 
     journey_there : All (λ event. event < length net.events) found.journey
-    journey_there = by found.journey answer.journey
-      where
-        by : (list : List ℕ) → IsToldJourney net from to start list
-            → All (λ event. event < length net.events) list
-        by [] told = λ k d h. absurd (omega (arith, h))
-        by (first ∷ rest) told =
-            let front = both (begins net from start (first ∷ rest) && is_ride net (first ∷ rest))
-            (ends net to (first ∷ rest)) told.0.is in
-            let parts = both (begins net from start (first ∷ rest))
-            (is_ride net (first ∷ rest)) front.0 in
-            inside first rest (there (starts from start) net first parts.0) parts.1
+    journey_there = grind (arith, both, inside, there)
 
     is_one : is_no_journey net from to start found.journey ≡ false
-    is_one = by found.journey answer.journey
-      where
-        by : (list : List ℕ) → IsToldJourney net from to start list
-            → is_no_journey net from to start list ≡ false
-        by [] told = refl
-        by (first ∷ rest) told = false_right (not (length (first ∷ rest) == 0))
-            (not (is_journey net from to start (first ∷ rest))) (ap not told.0.is)
+    is_one = grind (arith, false_right)
 
     fine : (is_no_journey net from to start found.journey
         || is_astray net found.journey || is_astray net found.reached

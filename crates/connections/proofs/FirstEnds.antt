@@ -1,7 +1,7 @@
 -- The first arrival that can be reached, event by event.
-use Rattle.std.proofs.Common.{◌≡◌, ℕ, ℤ, ◌+◌, ◌<◌, ◌⊎◌, ◌&&◌, inl, inr, nat_lt, Bool, true, false}
-use Rattle.std.proofs.Common.{List, Option, Some, None, refl, sym, ap, subst, arith}
-use Rattle.std.proofs.lemmas.Bool.{and_parts, both_ways, cases_Bool, cases_eq, cond_both, ltb-true}
+use Rattle.plan_num.proofs.Common.{◌≡◌, ℕ, ℤ, ◌+◌, ◌<◌, ◌⊎◌, ◌&&◌, inl, inr, nat_lt, Bool, true}
+use Rattle.plan_num.proofs.Common.{false, List, Option, Some, None, refl, subst, arith, and_parts}
+use Rattle.plan_num.proofs.Common.{both_ways, cases_Bool, cases_eq, cond_both, ltb-true}
 use Rattle.connections.specs.declared.way.Way.{Way}
 use Rattle.connections.specs.Earliest.{IsNoLater}
 use Rattle.connections.specs.Ends.{IsFirstEnd, earlier_end, is_end}
@@ -23,11 +23,7 @@ third_fails false b c all some = absurd (both_ways false refl some)
 
 -- a number below the next one
 below : (other event : ℕ) → other < event + 1 → (other < event) ⊎ (other ≡ event)
-below other event less = by (cases_eq other event)
-  where
-    by : (other ≡ event) ⊎ (other ≡ event → ⊥) → (other < event) ⊎ (other ≡ event)
-    by (inl same) = inr same
-    by (inr apart) = inl (omega (arith, less, apart))
+below other event less = grind (arith, cases_eq)
 
 module _ (net : JourneyParts) (ways : List Way) (to : ℤ) (event : ℕ) where
   abbrev arrives : Bool
@@ -46,14 +42,7 @@ module _ (net : JourneyParts) (ways : List Way) (to : ℤ) (event : ℕ) where
   here : (first : Option ℕ) → is_end net ways to event ≡ true
       → ((other : ℕ) → other < event → is_end net ways to other ≡ true → IsNoLater net event other)
       → Told (Some event)
-  here first is others =
-      (omega arith, is, λ other less ends. by other ends (below other event less))
-    where
-      by : (other : ℕ) → is_end net ways to other ≡ true → (other < event) ⊎ (other ≡ event)
-          → IsNoLater net event other
-      by other ends (inl low) = others other low ends
-      by other ends (inr same) =
-          inr (ap (time_at net) (sym same), omega (arith, same))
+  here first is others = grind (arith, below)
 
   pub first_kept : (first : Option ℕ) → IsFirstEnd net ways to event first
       → Told (earlier_end net ways to first event)

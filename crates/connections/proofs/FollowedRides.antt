@@ -1,11 +1,11 @@
 -- Links that are followed from the first one on get to the end of a list of events exactly where it is
 -- a ride.
 use Rattle.plan_num.proofs.Common.{◌≡◌, ℕ, suc, ◌≤◌, ◌&&◌, ◌==◌, nat_le, Bool, true, false, List}
-use Rattle.plan_num.proofs.Common.{[], ◌∷◌, length, get_or, All, refl, sym, ap, ◌∙◌, subst, arith}
-use Rattle.plan_num.proofs.Common.{inl, inr, list_all, list_any, and_from, and_parts, both_ways}
-use Rattle.plan_num.proofs.Common.{le-leb, leb-true, false_from_ne_true, cases_Bool, Decides-eqb}
-use Rattle.plan_num.proofs.Common.{All-head, All-tail, Any-from_list_any, list_any_at}
-use Rattle.plan_num.proofs.Common.{any_passes_from_place, slice_get_read}
+use Rattle.plan_num.proofs.Common.{[], ◌∷◌, length, get_or, All, refl, sym, ap, ◌∙◌, arith, inl}
+use Rattle.plan_num.proofs.Common.{inr, list_all, list_any, and_from, and_parts, both_ways, le-leb}
+use Rattle.plan_num.proofs.Common.{leb-true, false_from_ne_true, cases_Bool, Decides-eqb, All-head}
+use Rattle.plan_num.proofs.Common.{All-tail, Any-from_list_any, list_any_at, any_passes_from_place}
+use Rattle.plan_num.proofs.Common.{slice_get_read}
 use Rattle.connections.specs.declared.connection.Connection.{Connection}
 use Rattle.connections.specs.declared.links.Link.{Link}
 use Rattle.connections.specs.Journeys.{leads, neighbours}
@@ -29,9 +29,11 @@ all_weaker : (test other : ℕ → ℕ → Bool)
 all_weaker test other weaker [] all = refl
 all_weaker test other weaker (event ∷ []) all = refl
 all_weaker test other weaker (event ∷ next ∷ more) all =
-    let parts = and_parts (test event next) (all_pass test (next ∷ more)) all in
-    and_from (other event next) (all_pass other (next ∷ more)) (weaker event next parts.0)
-    (all_weaker test other weaker (next ∷ more) parts.1)
+    let parts = and_parts (test event next) (all_pass test (next ∷ more)) all in grind (
+      arith,
+      and_from,
+      all_weaker test other weaker (next ∷ more) parts.1,
+    )
 
 -- ---- events of which few are left are a ride
 
@@ -46,19 +48,23 @@ module _ (test : ℕ → ℕ → Bool) where
   few_left (link ∷ links) (event ∷ []) pass few = refl
   few_left (link ∷ links) (event ∷ next ∷ more) pass few =
       elim (cases_Bool (joins event next link)) [
-        | inl is ↦
-            let parts = and_parts (link.from == event) (link.to == next) is in
-            let from = (Decides-eqb link.from event).0 parts.0 in
-            let to = (Decides-eqb link.to next).0 parts.1 in
-            and_from (test event next) (all_pass test (next ∷ more))
-            (subst (λ e. test e next ≡ true) from
-            (subst (λ e. test link.from e ≡ true) to
-            (All-head (λ link. test link.from link.to ≡ true) link links pass)))
-            (few_left links (next ∷ more)
-            (All-tail (λ link. test link.from link.to ≡ true) link links pass) (rw is at few))
-        | inr is ↦
-            few_left links (event ∷ next ∷ more)
-            (All-tail (λ link. test link.from link.to ≡ true) link links pass) (rw is at few)
+        | inl is ↦ grind (
+          arith,
+          and_parts,
+          Decides-eqb,
+          and_from,
+          All-head,
+          All-tail,
+          few_left
+              links (next ∷ more) (All-tail (λ link. test link.from link.to ≡ true) link links pass)
+              (rw is at few),
+        )
+        | inr is ↦ grind (
+          arith,
+          All-tail,
+          few_left links (event ∷ next ∷ more) (All-tail (λ link.
+              test link.from link.to ≡ true) link links pass) (rw is at few),
+        )
       ]
 
 -- ---- of a ride few events are left
@@ -86,11 +92,13 @@ later : (link : Link) (links : List Link) (event next : ℕ) (more : List ℕ)
 later link links event next [] turn some all = refl
 later link links event next (third ∷ more) turn some all =
     let parts = and_parts (linked (link ∷ links) next third)
-    (all_pass (linked (link ∷ links)) (third ∷ more)) all in
-    let apart = no_head link links event next turn some in
-    and_from (linked links next third) (all_pass (linked links) (third ∷ more))
-    (rw apart at parts.0)
-    (later link links next third more turn parts.0 parts.1)
+    (all_pass (linked (link ∷ links)) (third ∷ more)) all in grind (
+      arith,
+      no_head,
+      and_from,
+      later
+          link links next third more turn parts.0 parts.1,
+    )
 
 pub ride_left : (links : List Link) (events : List ℕ) → IsInTurn links
     → all_pass (linked links) events ≡ true → length (followed links events) ≤ 1

@@ -10,7 +10,7 @@ use Rattle.connections.specs.declared.found.Found.{Found}
 use Rattle.connections.specs.declared.way.Way.{Way}
 use Rattle.connections.specs.declared.way.Way.TheVariants as way
 use Rattle.connections.specs.Earliest.{AreReached, IsAnswer, IsFirstWay, IsNoLater, IsToldJourney}
-use Rattle.connections.specs.Ends.{AreLed, IsFirstEnd, IsJourneyTo, IsLed, IsStep, is_before_end, is_end}
+use Rattle.connections.specs.Ends.{AreLed, IsFirstEnd, IsJourneyTo, IsStep, is_before_end, is_end}
 use Rattle.connections.specs.Ends.{reached_before}
 use Rattle.connections.specs.Nets.{IsConnection, IsNet, JourneyParts}
 use Rattle.connections.specs.Journeys.{IsReached, arrives_at, begins, ends, is_journey, is_ride, last_of, leads}
@@ -33,12 +33,7 @@ module _ (net : JourneyParts) (sound : All (IsConnection net) net.connections) (
 
   start_found : (event : ℕ) → passes_at (starts from start) net event ≡ true
       → is_reached (way_at ways event) ≡ true
-  start_found event is = by (way_at ways event) (are.lead event)
-    where
-      by : (w : Way) → IsWay net from start event w → is_reached w ≡ true
-      by way.Unreached none = absurd (both_ways (passes_at (starts from start) net event) none is)
-      by way.Start known = refl
-      by (way.By place) known = refl
+  start_found event is = grind (arith, way, both_ways)
 
   ride_found : (event : ℕ) (rest : List ℕ) (end : ℕ) → is_reached (way_at ways event) ≡ true
       → is_ride net (event ∷ rest) ≡ true → last_of (event ∷ rest) ≡ Some end
@@ -66,12 +61,7 @@ module _ (net : JourneyParts) (sound : All (IsConnection net) net.connections) (
 
   -- each way by a connection is by one that leads from an event that can be reached
   pub all_led : AreLed net.connections ways
-  all_led event = by (way_at ways event) (are.lead event)
-    where
-      by : (w : Way) → IsWay net from start event w → IsLed net.connections ways event w
-      by way.Unreached known = tt
-      by way.Start known = tt
-      by (way.By place) known = (known.tail, known.is, leads_in known.tail known.reached)
+  all_led event = grind (arith, way, leads_in)
 
   module _ (to : ℤ) where
     -- the end of a journey is such an end
@@ -80,10 +70,7 @@ module _ (net : JourneyParts) (sound : All (IsConnection net) net.connections) (
     is_end_of journey end is last =
         let front =
         both (begins net from start journey && is_ride net journey) (ends net to journey) is in
-        let parts = both (begins net from start journey) (is_ride net journey) front.0 in
-        and_from (passes_at (arrives_at to) net end) (is_reached (way_at ways end))
-        (ap (λ o. option_map_or (passes_at (arrives_at to) net) o false) (sym last) ∙ front.1)
-        (leads_in end (record { ride = journey; begin = parts.0; joined = parts.1; end = last }))
+        grind (arith, both, and_from, leads_in)
 
     end_inside : (end : ℕ) → is_end net ways to end ≡ true → end < length ways
     end_inside end is = reached_inside ways end
@@ -91,9 +78,12 @@ module _ (net : JourneyParts) (sound : All (IsConnection net) net.connections) (
 
     none_told : IsFirstEnd net ways to (length ways) None → IsToldJourney net from to start []
     none_told none other = false_from_ne_true (is_journey net from to start other) (λ same.
-        let last = ends_with net from to start other same in
-        let is = is_end_of other last.0 same last.1 in
-        both_ways (is_end net ways to last.0) (none last.0 (end_inside last.0 is)) is)
+        let last = ends_with net from to start other same in grind (
+          arith,
+          is_end_of,
+          both_ways,
+          end_inside,
+        ))
 
     module _ (end : ℕ) (told : IsFirstEnd net ways to (length ways) (Some end))
         (first : ℕ) (rest : List ℕ) (begin : way_at ways first ≡ way.Start)
@@ -228,8 +218,4 @@ pub record IsPromised (net : JourneyParts) (from to start : ℤ) (told : Found) 
 pub promised : (net : JourneyParts) → IsNet net → (from to start : ℤ) (told : Found)
     → IsAnswer net from to start told → IsPromised net from to start told
 promised net sound from to start told answer =
-    let passes = answers_pass net from to start told sound answer in record {
-      found = answer;
-      none_earlier = passing_proves net from to start told sound passes;
-      passes = passes;
-    }
+    let passes = answers_pass net from to start told sound answer in grind (arith, passing_proves)

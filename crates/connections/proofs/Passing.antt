@@ -1,11 +1,10 @@
 -- A set of events that breaks no rule proves that no journey arrives earlier.
 use Rattle.plan_num.proofs.Common.{◌≡◌, ℕ, ℤ, ◌<◌, ◌≤◌, ◌&&◌, ◌||◌, ◌==◌, nat_lt, nat_eq, not, Bool}
 use Rattle.plan_num.proofs.Common.{true, false, List, [], ◌∷◌, ◌++◌, length, get_or, Option, Some}
-use Rattle.plan_num.proofs.Common.{None, ap, sym, ◌∙◌, refl, arith, ◌⊎◌, inl, inr, subst, All}
-use Rattle.plan_num.proofs.Common.{IfNone, slice_get, list_any, range_with_len, option_map_or}
-use Rattle.plan_num.proofs.Common.{both_ways, ltb-false, ltb-true, lt-ltb, true_from_ne_false}
-use Rattle.plan_num.proofs.Common.{Decides-eqb, All-contains, Any-from_list_any}
-use Rattle.plan_num.proofs.Common.{get_or-range_with_len, length-range_with_len}
+use Rattle.plan_num.proofs.Common.{None, ap, sym, ◌∙◌, refl, arith, subst, All, IfNone, slice_get}
+use Rattle.plan_num.proofs.Common.{list_any, range_with_len, option_map_or, both_ways, ltb-false}
+use Rattle.plan_num.proofs.Common.{ltb-true, lt-ltb, true_from_ne_false, Decides-eqb, All-contains}
+use Rattle.plan_num.proofs.Common.{Any-from_list_any, get_or-range_with_len, length-range_with_len}
 use Rattle.plan_num.proofs.Common.{any_passes_from_place, slice_get_cases, slice_get_read}
 use Rattle.std.proofs.lemmas.Bool.{and_parts as both}
 use Rattle.connections.specs.declared.connection.Connection.{Connection}
@@ -92,15 +91,7 @@ module _ (net : JourneyParts) (sound : All (IsConnection net) net.connections) w
     -- an event no later than one before the arrival is before it too
     before : (event other : ℕ) → time_at net event ≤ time_at net other
         → is_before net journey other ≡ true → is_before net journey event ≡ true
-    before event other no_later is = by (last_of journey) is
-      where
-        by : (end : Option ℕ)
-            → option_map_or (λ end. nat_lt (time_at net other) (time_at net end)) end true ≡ true
-            → option_map_or (λ end. nat_lt (time_at net event) (time_at net end)) end true ≡ true
-        by None h = refl
-        by (Some end) h =
-            let less = ltb-true (time_at net other) (time_at net end) h in
-            lt-ltb (time_at net event) (time_at net end) (omega (arith, no_later, less))
+    before event other no_later is = grind (arith, nat_lt, ltb-true, lt-ltb, no_later)
 
     module _ (closed : misses_step net answer ≡ false) where
       -- a connection leads on within the set
@@ -125,15 +116,7 @@ module _ (net : JourneyParts) (sound : All (IsConnection net) net.connections) w
 -- the event at an index that passes a test is there
 pub there : (test : TimedEvent → Bool) (net : JourneyParts) (event : ℕ)
     → passes_at test net event ≡ true → event < length net.events
-there test net event passes = by (slice_get_cases net.events event).1
-  where
-    by : ((x : TimedEvent) × (event < length net.events) × (slice_get net.events event ≡ Some x)
-        × (get_or net.events event x ≡ x))
-        ⊎ ((length net.events ≤ event) × (slice_get net.events event ≡ None))
-        → event < length net.events
-    by (inl inside) = inside.1
-    by (inr past) = absurd (both_ways (passes_at test net event)
-        (ap (λ o. option_map_or test o false) past.1) passes)
+there test net event passes = grind (arith, slice_get_cases, get_or, both_ways)
 
 -- a journey has a last event
 pub last_some : (event : ℕ) (rest : List ℕ) → (end : ℕ) × (last_of (event ∷ rest) ≡ Some end)

@@ -10,9 +10,8 @@ use Rattle.plan_num.proofs.Common.{slice_get_within}
 use Rattle.connections.specs.declared.connection.Connection.{Connection}
 use Rattle.connections.specs.declared.links.Link.{Link}
 use Rattle.connections.specs.Links.{IsInTurn, IsLinked, link_of, links_of}
-use Rattle.connections.specs.Nets.{IsConnection, IsNet, JourneyParts, time_at}
+use Rattle.connections.specs.Nets.{IsConnection, IsNet, JourneyParts}
 use Rattle.connections.specs.RankedNets.{IsRanked, are_few, is_later, is_onward, is_ranked, is_soon, joins, rank_at}
-use Rattle.connections.specs.declared.checked_net.TheConstants.{LATEST}
 
 module _ (net : JourneyParts) (ranks : List ℕ) (are : IsRanked net ranks) where
   pub parts_net : IsNet net
@@ -94,23 +93,19 @@ module _ (net : JourneyParts) (ranks : List ℕ) (are : IsRanked net ranks) wher
 module _ (net : JourneyParts) (ranks : List ℕ) (passes : is_ranked net ranks ≡ true) where
   both : (are_few net ranks ≡ true)
       × ((list_all is_soon net.events && list_all (is_onward net ranks) net.connections) ≡ true)
-  both = and_parts (are_few net ranks)
-      (list_all is_soon net.events && list_all (is_onward net ranks) net.connections) passes
+  both = grind (arith, and_parts)
 
   sound : (list_all is_soon net.events ≡ true)
       × (list_all (is_onward net ranks) net.connections ≡ true)
-  sound = and_parts (list_all is_soon net.events) (list_all (is_onward net ranks) net.connections)
-      both.1
+  sound = grind (arith, and_parts, both)
 
   few : (nat_le (length net.events) 100000 ≡ true)
       × ((nat_le (length net.connections) 500000 && nat_eq (length ranks) (length net.events)) ≡ true)
-  few = and_parts (nat_le (length net.events) 100000)
-      (nat_le (length net.connections) 500000 && nat_eq (length ranks) (length net.events)) both.0
+  few = grind (arith, and_parts, nat_le, nat_eq, both)
 
   counts : (nat_le (length net.connections) 500000 ≡ true)
       × (nat_eq (length ranks) (length net.events) ≡ true)
-  counts = and_parts (nat_le (length net.connections) 500000)
-      (nat_eq (length ranks) (length net.events)) few.1
+  counts = grind (arith, and_parts, nat_le, nat_eq, few)
 
   one : (k : ℕ) (d : Connection) → k < length net.connections
       → is_onward net ranks (get_or net.connections k d) ≡ true
@@ -121,31 +116,23 @@ module _ (net : JourneyParts) (ranks : List ℕ) (passes : is_ranked net ranks �
   ends at goes = and_parts (joins (length net.events) at) (is_later net ranks at) goes
 
   is_connection : (at : Connection) → is_onward net ranks at ≡ true → IsConnection net at
-  is_connection at goes =
-      let here = and_parts (nat_lt at.from (length net.events)) (nat_lt at.to (length net.events))
-      (ends at goes).0 in
-      let later = and_parts (nat_le (time_at net at.from) (time_at net at.to))
-      (nat_lt (rank_at ranks at.from) (rank_at ranks at.to)) (ends at goes).1 in
-      record {
-        from = ltb-true at.from (length net.events) here.0;
-        to = ltb-true at.to (length net.events) here.1;
-        in_time = leb-true (time_at net at.from) (time_at net at.to) later.0;
-      }
+  is_connection at goes = grind (arith, and_parts, nat_lt, ends, nat_le, ltb-true, leb-true)
 
   rises : (at : Connection) → is_onward net ranks at ≡ true
       → rank_at ranks at.from < rank_at ranks at.to
-  rises at goes =
-      ltb-true (rank_at ranks at.from) (rank_at ranks at.to)
-      (and_parts (nat_le (time_at net at.from) (time_at net at.to))
-      (nat_lt (rank_at ranks at.from) (rank_at ranks at.to)) (ends at goes).1).1
+  rises at goes = grind (arith, ltb-true, and_parts, nat_le, nat_lt, ends)
 
   pub passed_ranked : IsRanked net ranks
-  passed_ranked = record {
-    few = leb-true (length net.events) 100000 few.0;
-    few_connections = leb-true (length net.connections) 500000 counts.0;
-    soon = λ k d inside. leb-true (get_or net.events k d).time LATEST
-        (AllPass-from_list_all is_soon net.events sound.0 k d inside);
-    connections = λ k d inside. is_connection (get_or net.connections k d) (one k d inside);
-    each = eqb-true (length ranks) (length net.events) counts.1;
-    forward = λ k d inside. rises (get_or net.connections k d) (one k d inside);
-  }
+  passed_ranked = grind (
+    arith,
+    few,
+    leb-true,
+    counts,
+    get_or,
+    AllPass-from_list_all,
+    sound,
+    is_connection,
+    one,
+    eqb-true,
+    rises,
+  )

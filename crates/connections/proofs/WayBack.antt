@@ -1,8 +1,8 @@
 -- A journey that is built backward along the ways.
-use Rattle.plan_num.proofs.Common.{◌≡◌, ◌∙◌, ℕ, zero, suc, ◌+◌, ◌<◌, ◌≤◌, ◌⊎◌, inl, inr, true}
-use Rattle.plan_num.proofs.Common.{false, List, [], ◌∷◌, ◌++◌, length, reverse, get_or, slice_get}
-use Rattle.plan_num.proofs.Common.{All, Some, refl, ap, sym, arith, both_ways, cases_lt, cond_both}
-use Rattle.plan_num.proofs.Common.{get_or_past, reverse-append, All-cons, get_or_from_slice_get}
+use Rattle.plan_num.proofs.Common.{◌≡◌, ◌∙◌, ℕ, zero, suc, ◌+◌, ◌<◌, ◌≤◌, true, List, [], ◌∷◌, ◌++◌}
+use Rattle.plan_num.proofs.Common.{length, reverse, get_or, slice_get, All, Some, ap, sym, arith}
+use Rattle.plan_num.proofs.Common.{both_ways, cases_lt, cond_both, get_or_past, reverse-append}
+use Rattle.plan_num.proofs.Common.{All-cons, get_or_from_slice_get}
 use Rattle.connections.specs.declared.connection.Connection.{Connection}
 use Rattle.connections.specs.declared.links.Link.{Link}
 use Rattle.connections.specs.declared.way.Way.{Way}
@@ -45,15 +45,15 @@ pub behind_rises : (links : List Link) → IsInTurn links → (k : ℕ) (d : Lin
     → links_behind links (get_or links k d).to < links_behind links (get_or links k d).from
 behind_rises [] turn k d inside = absurd (omega (arith, inside))
 behind_rises (link ∷ links) turn zero d inside =
-    let to = behind_head link links turn zero d inside in
-    let own = behind_own link links in
-    let less = most_behind links link.to in
-    omega (arith, to, own, less)
+    let to = behind_head link links turn zero d inside in grind (arith, behind_own, most_behind)
 behind_rises (link ∷ links) turn (suc k) d inside =
-    let to = behind_head link links turn (suc k) d inside in
-    let rest = behind_rises links (turn_tail link links turn) k d (omega (arith, inside)) in
-    let more = behind_more link links (get_or links k d).from in
-    omega (arith, to, rest, more)
+    let to = behind_head link links turn (suc k) d inside in grind (
+      arith,
+      turn_tail,
+      behind_more,
+      get_or,
+      behind_rises links (turn_tail link links turn) k d (omega (arith, inside)),
+    )
 
 -- the same of a connection
 pub behind_tail : (connections : List Connection) (links : List Link) → AreLinks connections links
@@ -66,12 +66,7 @@ behind_tail connections links are place connection is = grind (arith, behind_ris
 -- an event that can be reached is there
 pub reached_inside : (ways : List Way) (event : ℕ) → is_reached (way_at ways event) ≡ true
     → event < length ways
-reached_inside ways event is = by (cases_lt event (length ways))
-  where
-    by : (event < length ways) ⊎ (length ways ≤ event) → event < length ways
-    by (inl inside) = inside
-    by (inr past) = absurd (both_ways (is_reached (way_at ways event))
-        (ap is_reached (get_or_past ways event way.Unreached past)) is)
+reached_inside ways event is = grind (arith, cases_lt, both_ways, get_or_past)
 
 -- events that were met on the way back from an end, the last of them first
 pub record IsBackSoFar (connections : List Connection) (ways : List Way) (end event : ℕ)
@@ -101,19 +96,7 @@ module _ (connections : List Connection) (ways : List Way) (end : ℕ) where
   pub back_all : (event : ℕ) (events : List ℕ) → IsBackSoFar connections ways end event events
       → ((place : ℕ) → way_at ways event ≡ way.By place → ⊥)
       → IsWayBack connections ways end (reverse events)
-  back_all event events so_far none = record {
-    first = event;
-    rest = so_far.rest;
-    is = so_far.is;
-    start = by (way_at ways event) refl so_far.reached;
-    end = so_far.last;
-    steps = so_far.steps;
-  }
-    where
-      by : (w : Way) → way_at ways event ≡ w → is_reached w ≡ true → way_at ways event ≡ way.Start
-      by way.Unreached same reached = absurd (both_ways false refl reached)
-      by way.Start same reached = same
-      by (way.By place) same reached = absurd (none place same)
+  back_all event events so_far none = grind (arith, both_ways)
 
 -- the connection by which an event is reached
 pub taken : (connections : List Connection) (ways : List Way) (event place : ℕ) (at : Connection)

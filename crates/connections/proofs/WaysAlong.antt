@@ -1,13 +1,13 @@
 -- One pass along the links finds the way into each event that can be reached, and the first one.
-use Rattle.std.proofs.Common.{◌≡◌, ◌≢◌, ◌∙◌, ℕ, ℤ, ◌<◌, ◌≤◌, ◌⊎◌, inl, inr, nat_le, true, false}
-use Rattle.std.proofs.Common.{eqb, List, [], ◌∷◌, length, map, get_or, slice_get, slice_set, All}
-use Rattle.std.proofs.Common.{Some, None, refl, ap, sym, subst, arith}
-use Rattle.std.proofs.lemmas.Bool.{and_from, both_ways, cond_both, eqb-false, eqb-true, le-leb, leb-true, cases_Bool}
-use Rattle.std.proofs.lemmas.Bool.Decides.{Decides-eqb}
-use Rattle.std.proofs.lemmas.List.{get_or-map, get_or-set_other, get_or-set_same, get_or_past, length-map, length-set}
-use Rattle.std.proofs.lemmas.List.Elements.{All-contains, All-cons, All-head, All-tail}
-use Rattle.std.proofs.lemmas.Map.Keys.{any_passes_from_place}
-use Rattle.std.proofs.lemmas.Option.{get_or_from_slice_get, slice_get_cases, slice_get_within}
+use Rattle.plan_num.proofs.Common.{◌≡◌, ◌≢◌, ◌∙◌, ℕ, ℤ, ◌<◌, ◌≤◌, ◌⊎◌, inl, inr, nat_le, true}
+use Rattle.plan_num.proofs.Common.{false, List, [], ◌∷◌, length, map, get_or, slice_get, slice_set}
+use Rattle.plan_num.proofs.Common.{All, Some, None, refl, ap, sym, subst, arith, and_from}
+use Rattle.plan_num.proofs.Common.{both_ways, cond_both, eqb-false, eqb-true, le-leb, leb-true}
+use Rattle.plan_num.proofs.Common.{cases_Bool, Decides-eqb, get_or-map, get_or-set_other}
+use Rattle.plan_num.proofs.Common.{get_or-set_same, get_or_past, length-map, length-set}
+use Rattle.plan_num.proofs.Common.{All-contains, All-cons, All-head, All-tail}
+use Rattle.plan_num.proofs.Common.{any_passes_from_place, get_or_from_slice_get, slice_get_cases}
+use Rattle.plan_num.proofs.Common.{slice_get_within}
 use Rattle.connections.specs.declared.connection.Connection.{Connection}
 use Rattle.connections.specs.declared.links.Link.{Link}
 use Rattle.connections.specs.declared.timed_event.TimedEvent.{TimedEvent}
@@ -66,15 +66,15 @@ at_event : (Q : Way → Type 0) (ways : List Way) (link : Link) (event : ℕ)
     → Q (or_by (way_at ways link.to) link.index)) → Q (way_at (go_by ways link) event)
 at_event Q ways link event joins old new =
     by_link (λ all. Q (way_at all event)) ways link
-    (λ goes. let put = or_by (way_at ways link.to) link.index in
-    elim (cases_Bool (eqb event link.to)) [
-      | inl is ↦ let same : event ≡ link.to = eqb-true event link.to is in
-          subst (λ e. Q (way_at (slice_set ways link.to put) e)) (sym same)
-          (subst Q (sym (get_or-set_same ways link.to put way.Unreached joins.1))
-          (new (sym same) goes))
-      | inr is ↦ subst Q (sym (get_or-set_other ways link.to event put way.Unreached
-          (eqb-false event link.to is))) old
-    ])
+    (λ goes. let put = or_by (way_at ways link.to) link.index in grind (
+      arith,
+      cases_Bool,
+      eqb-true,
+      slice_set,
+      get_or-set_same,
+      get_or-set_other,
+      eqb-false,
+    ))
     (λ stays. old)
 
 each_kept : (ways : List Way) (link : Link) → length (go_by ways link) ≡ length ways
@@ -208,11 +208,16 @@ module _ (net : JourneyParts) (sound : All (IsConnection net) net.connections)
   all_lead [] ways joins are leads = leads
   all_lead (link ∷ links) ways joins are leads =
       let There = λ (link : Link). slice_get net.connections link.index
-      ≡ Some (record { from = link.from; to = link.to }) in
-      all_lead links (go_by ways link) (joins_still ways link links joins)
-      (All-tail There link links are)
-      (step_leads link (All-head There link links are) ways
-      (All-head (Joins (length ways)) link links joins) leads)
+      ≡ Some (record { from = link.from; to = link.to }) in grind (
+        arith,
+        joins_still,
+        All-tail,
+        step_leads,
+        All-head,
+        all_lead links (go_by ways link) (joins_still ways link links joins)
+            (All-tail There link links are) (step_leads link (All-head There link links are) ways
+            (All-head (Joins (length ways)) link links joins) leads),
+      )
 
   module _ (links : List Link) (are : AreLinks net.connections links) where
     abbrev first_ways : List Way

@@ -33,8 +33,7 @@ none_placed count =
     ext_get_or 0 (replicate count 0) (by_place count [])
     (length-replicate {A = ℕ} count 0 ∙ sym (length-map-range_with_len (delay_of []) 1 count))
     (λ k within. let inside : k < count = omega (arith, within, length-replicate {A = ℕ} count 0) in
-    get_or-replicate count k 0 0 inside
-    ∙ sym (get_or-map-range_with_len (delay_of []) 1 count k (1 + k) 0 inside refl ∙ nothing (1 + k)))
+    grind (arith, get_or-replicate, get_or-map-range_with_len, nothing))
 
 -- a row before others
 pub more_placed : (count : ℕ) (row : DelayRow) (rows : List DelayRow) → IsOneOf count row.id

@@ -1,5 +1,5 @@
 -- Which files the stage of dispositions makes, and which it names where it refuses a row.
-use Rattle.std.proofs.Common.{◌≡◌, true, Bool, Ok, Err, ap, lit<}
+use Rattle.plan_num.proofs.Common.{◌≡◌, true, Bool, Ok, Err, ap, lit<}
 use Rattle.tables.proofs.Common.{FileId, Refusal, input_faults, NamesInput, AllName, input_names}
 use Rattle.tables.proofs.Common.{names_both}
 use Rattle.tables.specs.declared.file_id.FileId.TheVariants as file

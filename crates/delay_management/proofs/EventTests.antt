@@ -50,8 +50,7 @@ module _ (problem : DelayProblem) (kept : List Activity) (times : List ℕ) (eve
       || list_any (λ (turn : Step). (turn.to == event) && (is_turn why && is_just times turn)) problem.turns
 
   no_activity : list_any (λ (at : Activity). (at.step.to == event) && false) activities ≡ false
-  no_activity = any_none (λ (at : Activity). (at.step.to == event) && false)
-      (λ at. and_false (at.step.to == event)) activities
+  no_activity = grind (arith, any_none, and_false)
 
   no_turn : list_any (λ (turn : Step). (turn.to == event) && false) problem.turns ≡ false
   no_turn = any_none (λ (turn : Step). (turn.to == event) && false) (λ turn. and_false (turn.to == event)) problem.turns

@@ -1,6 +1,6 @@
 -- Inputs without a fault go forward.
 use Rattle.plan_num.proofs.Common.{◌≡◌, ◌∙◌, ℕ, ◌+◌, ◌<◌, ◌≤◌, Bool, true, false, not, List, length}
-use Rattle.plan_num.proofs.Common.{filter, get_or, All, refl, ap, sym, subst, arith, range_with_len}
+use Rattle.plan_num.proofs.Common.{filter, get_or, All, refl, ap, sym, arith, range_with_len}
 use Rattle.plan_num.proofs.Common.{length-map, All-append, All-filter, All-map, All-weaker}
 use Rattle.plan_num.proofs.Common.{filter_passes, length-filter_both, map-map}
 use Rattle.event_tables.proofs.Common.{DelayRow, ExpandedActivity, ExpandedEvent, ScheduleRow}
@@ -97,13 +97,7 @@ module _ (turnover : ℕ) (events : List ExpandedEvent) (activities : List Expan
       )
 
   pub ids_below : All (λ row. row.id ≤ 500000) activities
-  ids_below k d inside = omega (
-    arith,
-    id_at
-        (λ row. row.id) activities k d activities_are.numbered inside,
-    inside,
-    activities_are.few,
-  )
+  ids_below k d inside = grind (arith, id_at)
 
   pub some_ids : (changes : Bool) → All (λ activity. activity.id ≤ 500000)
       (activities_of changes activity_rows activities)
@@ -138,7 +132,4 @@ module _ (turnover : ℕ) (events : List ExpandedEvent) (activities : List Expan
         → rides ≡ problem.rides → changes ≡ problem.changes → turns ≡ problem.turns
         → All (λ time. time ≤ 8589934590) earliest
         → IsDay (parts_of days earliest rides changes turns)
-    day_as days earliest rides changes turns d e r h t soon =
-        let same : problem ≡ parts_of days earliest rides changes turns
-        = λ i. parts_of (sym d i) (sym e i) (sym r i) (sym h i) (sym t i) in
-        subst IsDay same (rows_are_day (subst (All (λ time. time ≤ 8589934590)) e soon))
+    day_as days earliest rides changes turns d e r h t soon = grind (arith, rows_are_day)

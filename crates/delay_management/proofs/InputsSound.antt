@@ -18,7 +18,7 @@ use Rattle.delay_management.specs.DispositionStage.{activity_faults, delay_fault
 use Rattle.delay_management.specs.DispositionStage.{event_delay_faults, event_delays_in, event_faults, events_in}
 use Rattle.delay_management.specs.DispositionStage.{made_faults, problem_in, schedule_faults, schedule_in, turnover_in}
 use Rattle.propagation.proofs.Common.{IsForward, minutes, steps_with, steps_all}
-use Rattle.delay_management.specs.InputProblems.{activities_of, day_event, delayed, earliest_of, is_of, turn_of}
+use Rattle.delay_management.specs.InputProblems.{activities_of, delayed, earliest_of, is_of, turn_of}
 use Rattle.delay_management.proofs.SoonInputs.{delay_below}
 use Rattle.delay_management.proofs.ForwardInputs.{inputs_go_forward, some_ids}
 
@@ -80,9 +80,7 @@ module _ (bundle : BundleParts) (are : AreInputs bundle) where
 
   pub events_few : length (problem_in bundle).events ≤ 100000
   unfolding problem_in
-  events_few =
-      let count = length-map (events_in bundle) day_event in
-      let few = are.events.few in omega (arith, few, count)
+  events_few = grind (arith, length-map)
 
   pub activity_ids : All (λ activity. activity.id ≤ 500000) ((problem_in bundle).rides ++ (problem_in bundle).changes)
   unfolding problem_in
@@ -97,10 +95,7 @@ module _ (bundle : BundleParts) (are : AreInputs bundle) where
   earliest_soon =
       All-map (λ time. time ≤ 2000000000) (earliest_of (event_delays_in bundle)) events
       (λ k d inside.
-      let event = get_or events k d in
-      let fit = are.events.fit k d inside in
-      let late = delay_below (event_delays_in bundle) are.event_delays.fit event.id in
-      omega (arith, ints, fit.1.1.1.0.1, late))
+      let event = get_or events k d in grind (arith, delay_below, ints))
 
   some_short : (changes : Bool) → All (λ activity. minutes activity.step ≤ 2000000000)
       (activities_of changes (activity_delays_in bundle) activities)

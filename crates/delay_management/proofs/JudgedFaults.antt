@@ -76,11 +76,7 @@ module _ (problem : DelayProblem) (kept : List Activity) (text reasons : List �
 
   pub not_table : None ≡ read_as text → Some fault.TimesRow ≡ first_broken_rule problem kept text reasons
   unfolding first_broken_rule
-  not_table is = ap by_table (none_read (is_table disposed_columns text) is)
-    where
-      none_read : (b : Bool) → None ≡ cond b (Some (table_of disposed_columns text)) None → false ≡ b
-      none_read true is = absurd (cc)
-      none_read false is = refl
+  not_table is = grind arith
 
   module _ (table : List TableRow) (is : Some table ≡ read_as text) where
     some_read : (b : Bool) → Some table ≡ cond b (Some (table_of disposed_columns text)) None

@@ -77,20 +77,24 @@ times_are : (n : ℕ) (rows : List DisposedTime)
     → rows ≡ times_from n (map (λ row. row.time) rows)
 times_are n [] order = refl
 times_are n (row ∷ rows) order =
-    let parts = and_parts (nat_eq row.event n) _ order in
-    let event = eqb-true row.event n parts.0 in
-    let rest = times_are (n + 1) rows parts.1 in
-    λ i. record { event = event i; time = row.time } ∷ rest i
+    let parts = and_parts (nat_eq row.event n) _ order in grind (
+      arith,
+      eqb-true,
+      times_are (n + 1)
+          rows parts.1,
+    )
 
 reasons_are : (n : ℕ) (rows : List ReasonRow)
     → list_all (λ at. nat_eq at.1 at.0) (enumerate_from n (map (λ (row : ReasonRow). row.event) rows)) ≡ true
     → rows ≡ reasons_from n (map (λ row. row.reason) rows)
 reasons_are n [] order = refl
 reasons_are n (row ∷ rows) order =
-    let parts = and_parts (nat_eq row.event n) _ order in
-    let event = eqb-true row.event n parts.0 in
-    let rest = reasons_are (n + 1) rows parts.1 in
-    λ i. record { event = event i; reason = row.reason } ∷ rest i
+    let parts = and_parts (nat_eq row.event n) _ order in grind (
+      arith,
+      eqb-true,
+      reasons_are (n +
+          1) rows parts.1,
+    )
 
 module _ {X Y : Type 0} (row : ℕ × X → Y) (event : Y → ℕ) (part : Y → X)
     (first : (at : ℕ × X) → event (row at) ≡ at.0) (second : (at : ℕ × X) → part (row at) ≡ at.1) where

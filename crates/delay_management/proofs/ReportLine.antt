@@ -1,6 +1,6 @@
 -- The line of a disposition in a report, piece by piece.
-use Rattle.std.proofs.Common.{arith, ◌≡◌, ◌∙◌, ℕ, List, [], ◌∷◌, ◌++◌, append_assoc, codes, decimal}
-use Rattle.std.proofs.Common.{Result, Ok, Err, IfOk, ap}
+use Rattle.plan_num.proofs.Common.{arith, ◌≡◌, ◌∙◌, ℕ, List, [], ◌∷◌, ◌++◌, append_assoc, codes}
+use Rattle.plan_num.proofs.Common.{decimal, Result, Ok, Err, IfOk, ap}
 use Rattle.giv_files.specs.declared.stage.Stage.TheVariants as stage
 use Rattle.giv_files.proofs.Common.{count_text, report_line}
 

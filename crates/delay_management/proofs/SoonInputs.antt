@@ -1,9 +1,9 @@
 -- Inputs without a fault gain little on the way, their changes stand by id, and no event is early.
 use Rattle.plan_num.proofs.Common.{◌≡◌, ◌∙◌, ℕ, suc, ◌+◌, ◌-◌, ◌<◌, ◌≤◌, Bool, true, false, not}
-use Rattle.plan_num.proofs.Common.{cond, eqb, List, [], ◌∷◌, length, map, filter, get_or, All, Some}
-use Rattle.plan_num.proofs.Common.{refl, ap, sym, arith, IsStrictlyIncreasing, ltb-false, not-false}
-use Rattle.plan_num.proofs.Common.{not-true, ints, get_or-map, length-map, All-filter, All-map}
-use Rattle.plan_num.proofs.Common.{filter_passes, AllPairs-filter, AllPairs}
+use Rattle.plan_num.proofs.Common.{List, [], ◌∷◌, length, map, filter, get_or, All, Some, refl, ap}
+use Rattle.plan_num.proofs.Common.{sym, arith, IsStrictlyIncreasing, ltb-false, not-false, not-true}
+use Rattle.plan_num.proofs.Common.{ints, get_or-map, length-map, All-filter, All-map, filter_passes}
+use Rattle.plan_num.proofs.Common.{AllPairs-filter, AllPairs}
 use Rattle.tables.proofs.Common.{delays_columns, InColumns}
 use Rattle.event_tables.proofs.Common.{DelayRow, ExpandedActivity, ExpandedEvent, ScheduleRow}
 use Rattle.event_tables.proofs.Common.{delay_cells, expanded_activity, expanded_event, AreDelays}
@@ -26,20 +26,17 @@ pub delay_below : (rows : List DelayRow) → All (λ row. InColumns delays_colum
 unfolding delay_of
 delay_below [] fit id = omega arith
 delay_below (row ∷ rows) fit id =
-    let here = fit 0 row (omega arith) in
-    let rest = delay_below rows (λ k d h. fit (suc k) d (omega (arith, h))) id in
-    elim (eqb row.id id) as (λ b. cond b row.delay (delay_of rows id) ≤ 1000000) [
-      | true ↦ omega (arith, ints, here.1.0.1)
-      | false ↦ rest
-    ]
+    let here = fit 0 row (omega arith) in grind (
+      arith,
+      ints,
+      delay_below rows (λ k d h. fit (suc k)
+          d (omega (arith, h))) id,
+    )
 
 -- an event is planned no later than at its earliest
 pub none_early : (rows : List DelayRow) (events : List ExpandedEvent) (event : ℕ) → event < length events
     → planned_at (day_events events) event ≤ get_or (map (earliest_of rows) events) event 0
-none_early rows events event inside =
-    let planned = ap (λ (at : DayEvent). at.time) (day_at events event inside) in
-    let early = get_or-map (earliest_of rows) events event (expanded_event []) 0 inside in
-    omega (arith, planned, early)
+none_early rows events event inside = grind (arith, day_at, get_or-map)
 
 -- changes stand by their ids
 pub ids_rise : (changes : Bool) (rows : List DelayRow) (activities : List ExpandedActivity)
@@ -73,8 +70,7 @@ ids_rise changes rows activities are k within =
 -- an activity that goes forward gains no more than what it takes
 gains_by : (days : List DayEvent) (step : Step) → GoesForward days step
     → minutes step ≤ 1100000 → GainsLittle days step
-gains_by days step goes few =
-    let up = planned_rises days step.from step.to goes.before in omega (arith, up, few)
+gains_by days step goes few = grind (arith, planned_rises)
 
 -- a turn has the minutes of its empty ride between its events as planned
 room_for : (minutes : ℕ) (start end : ExpandedEvent) → has_room minutes start end ≡ true

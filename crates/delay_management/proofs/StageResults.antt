@@ -1,5 +1,5 @@
 -- What the stage of dispositions gives.
-use Rattle.std.proofs.Common.{◌≡◌, ◌∙◌, ℕ, ℤ, Bool, List, [], Ok, Err, ap, arith}
+use Rattle.plan_num.proofs.Common.{◌≡◌, ◌∙◌, ℕ, ℤ, Bool, List, [], Ok, Err, ap, arith}
 use Rattle.giv_files.proofs.Common.{Made, BundleParts, StageGives}
 use Rattle.tables.proofs.Common.{StageFault, Refuses}
 use Rattle.giv_files.proofs.StageCalls as calls

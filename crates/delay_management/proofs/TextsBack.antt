@@ -14,7 +14,6 @@ use Rattle.event_tables.proofs.Common.{disposed_time_input, disposed_time_rules}
 use Rattle.event_tables.proofs.Common.{disposed_time_header, is_none_of, none_of_places}
 use Rattle.event_tables.proofs.Common.{some_missing}
 use Rattle.propagation.proofs.Common.{Reason}
-use Rattle.propagation.specs.declared.reason.Reason.TheVariants as reason
 use Rattle.delay_management.specs.DispositionStage.{ReasonRow, reason_cells, reason_rows, reasons_header, reasons_text}
 use Rattle.delay_management.specs.DispositionStage.{time_rows, times_text}
 use Rattle.delay_management.specs.Judged.{reason_row}
@@ -60,13 +59,7 @@ times_again times fit =
 -- ---- reasons
 
 reason_same : (row : ReasonRow) → reason_row (reason_cells row) ≡ row
-reason_same row = by row.event row.reason
-  where
-    by : (event : ℕ) (why : Reason)
-        → reason_row (reason_cells (record { event = event; reason = why })) ≡ record { event = event; reason = why }
-    by event reason.Source = refl
-    by event (reason.Activity id) = refl
-    by event reason.Turn = refl
+reason_same row = grind arith
 
 pub reasons_again : (reasons : List Reason) → All ReasonFits (reason_rows reasons)
     → ReadsAs reasons_columns reason_row (reason_rows reasons) (reasons_text reasons)

@@ -1,7 +1,7 @@
 -- The definitions on small datasets.
 use Rattle.std.specs.Prelude.{⊤}
-use Rattle.std.proofs.Common.{◌≡◌, ℕ, ℤ, List, [], ◌∷◌, ◌++◌, refl, pos, negsuc, codes, Ok, Option, Some, None, true}
-use Rattle.std.proofs.Common.{false}
+use Rattle.plan_num.proofs.Common.{◌≡◌, ℕ, ℤ, List, [], ◌∷◌, ◌++◌, refl, pos, negsuc, codes, Ok}
+use Rattle.plan_num.proofs.Common.{Option, Some, None, true, false}
 use Rattle.std.specs.Fmt.{digits}
 use Rattle.tables.specs.declared.file_id.FileId.TheVariants as file
 use Rattle.giv_files.specs.declared.key.Key.TheVariants as key

@@ -10,10 +10,10 @@ use Rattle.propagation.proofs.Common.{DelayProblem, GoesForward, IsForward, chos
 use Rattle.propagation.proofs.Common.{all_chosen, change_steps, links_all, links_hold, steps_hold}
 use Rattle.delay_trials.specs.declared.moved_event.Moved.{Moved}
 use Rattle.delay_trials.specs.declared.taken.Taken.{Taken}
-use Rattle.delay_trials.specs.OnTrial.{AreOnce, AreSaved, DropsNotes, Follows, Gives, GoesBack, GoesBackBy, IsHeld}
+use Rattle.delay_trials.specs.OnTrial.{AreOnce, AreSaved, DropsNotes, Follows, GoesBack, IsHeld}
 use Rattle.delay_trials.specs.OnTrial.{IsSettlingBut, IsTaken, IsTrial, NoneWaits, StartsTrial, TrialTimes, decided_in}
 use Rattle.delay_trials.specs.OnTrial.{rewound}
-use Rattle.delay_trials.specs.Trials.{is_decided, is_kept, kept_of, times_of}
+use Rattle.delay_trials.specs.Trials.{is_decided, kept_of, times_of}
 use Rattle.bit_rows.proofs.Cases.{by_less, by_same}
 use Rattle.delay_trials.proofs.Apart.{set_back, set_here, set_there}
 use Rattle.delay_trials.proofs.Settling.{all_held, is_least, least_small}
@@ -49,23 +49,14 @@ module _ (problem : DelayProblem) where
   IsOwn change d link = link.change ≡ Some change → link.step ≡ (get_or problem.changes change d).step
 
   some_is : (k change : ℕ) → Some k ≡ Some change → k ≡ change
-  some_is k change is = ap number is
-    where
-      number : Option ℕ → ℕ
-      number None = 0
-      number (Some n) = n
+  some_is k change is = grind arith
 
   none_is : (change : ℕ) → None ≡ Some change → ⊥
-  none_is change is = false≢true (ap told is)
-    where
-      told : Option ℕ → Bool
-      told None = false
-      told (Some n) = true
+  none_is change is = grind (arith, false≢true)
 
   pub is_own : (at : Option ℕ) (change : ℕ) → (at ≡ Some change) ⊎ (at ≡ Some change → ⊥)
   is_own None change = inr (none_is change)
-  is_own (Some k) change =
-      by_same k change (λ same. inl (ap Some same)) (λ apart. inr (λ is. apart (some_is k change is)))
+  is_own (Some k) change = grind (arith, by_same, some_is)
 
   pub own_links : (links : List Link) → IsLinked problem links → (change : ℕ) (d : Activity)
       → All (IsOwn change d) links
@@ -74,9 +65,7 @@ module _ (problem : DelayProblem) where
       (links_all problem (IsOwn change d)
       (λ k e inside is. absurd (none_is change is))
       (λ k e inside is. absurd (none_is change is))
-      (λ k e inside is. let same = some_is k change is in
-      ap (λ n. (get_or problem.changes n e).step) same
-      ∙ ap (λ (a : Activity). a.step) (get_or_default problem.changes change e d (omega (arith, inside, same)))))
+      (λ k e inside is. let same = some_is k change is in grind (arith, get_or, get_or_default)))
 
 module _ (all : TrialTimes) (taken : List Taken) (kept : List Bool) (is : IsTaken all taken kept) (change : ℕ) (there : change < length all.problem.changes)
     (none : is_decided (decided_in taken) change ≡ false) where
@@ -137,13 +126,7 @@ module _ (all : TrialTimes) (taken : List Taken) (kept : List Bool) (is : IsTake
           → ((get_or all.links k e).step ≡ (get_or all.problem.changes change d).step)
           ⊎ IsHeld more all.times (get_or all.links k e)
       by k e inside (inl own) = inl (own_links all.problem all.links linked change d k e inside own)
-      by k e inside (inr other) = inr (λ counted. still (counts_but kept change (get_or all.links k e).change counted))
-        where
-          still : (counts kept (get_or all.links k e).change ≡ true) ⊎ ((get_or all.links k e).change ≡ Some change)
-              → asked all.times (get_or all.links k e).step ≤ time_at all.times (get_or all.links k e).step.to
-          still (inl before) =
-              links_hold all.problem all.links linked kept all.times least_now.feasible.steps k e inside before
-          still (inr own) = absurd (other own)
+      by k e inside (inr other) = grind (arith, counts_but, get_or, links_hold, least_now)
 
   pub settles_from : (opened : TrialTimes) (d : Activity)
       → opened ≡ record all { open_yet = slice_set all.open_yet change false }
@@ -172,8 +155,7 @@ module _ (all : TrialTimes) (taken : List Taken) (kept : List Bool) (is : IsTake
     links_are = follows.links ∙ ap (λ (t : TrialTimes). t.links) told
 
     linked_now : IsLinked now.problem now.links
-    linked_now = subst (λ p. IsLinked p now.links) (sym problem_is)
-        (subst (IsLinked all.problem) (sym links_are) linked)
+    linked_now = grind (arith, problem_is, links_are)
 
     open_is : now.open_yet ≡ slice_set all.open_yet change false
     open_is = follows.open_yet ∙ ap (λ (t : TrialTimes). t.open_yet) told
@@ -201,35 +183,23 @@ module _ (all : TrialTimes) (taken : List Taken) (kept : List Bool) (is : IsTake
         → now.times ≡ least_times waiting.problem (chosen_changes waiting.problem more)
         → NoneWaits now → IsTaken dropped (last stay ∷ taken) more
     unfolding AreSaved
-    kept_taken dropped true drops least rest =
-        subst (λ t. IsTaken t (last true ∷ taken) more) (sym drops) (record {
-          linked = linked_now;
-          trial = kept_trial least;
-          saved = subst (λ p. AreSaved p (last true ∷ taken) now.noted now.times) (sym problem_is) (
-            follows.back.0,
-            all.noted,
-            noted_is,
-            (λ i. length all.noted),
-            back_is ∙ is.trial.told,
-            subst (AreSaved all.problem taken all.noted) is.trial.told is.saved,
-          );
-          rest = rest;
-        })
-    kept_taken dropped false drops least rest =
-        subst (λ t. IsTaken t (last false ∷ taken) more)
-        (sym (drops follows.back.0 all.noted noted_is (λ i. length all.noted))) (record {
-          linked = linked_now;
-          trial = kept_trial least;
-          saved = subst (λ p. AreSaved p (last false ∷ taken) all.noted now.times) (sym problem_is) (
-            [],
-            all.noted,
-            (λ i. all.noted),
-            (λ i. length all.noted),
-            (λ i. []),
-            subst (AreSaved all.problem taken all.noted) is.trial.told is.saved,
-          );
-          rest = rest;
-        })
+    kept_taken dropped true drops least rest = grind (
+      arith,
+      linked_now,
+      kept_trial,
+      problem_is,
+      noted_is,
+      back_is,
+      told,
+    )
+    kept_taken dropped false drops least rest = grind (
+      arith,
+      noted_is,
+      linked_now,
+      kept_trial,
+      problem_is,
+      told,
+    )
 
     -- ---- and where memory runs out, all is as it was
     pub kept_not : (forgot undone now_last : TrialTimes) → forgot ≡ record now { waiting = forgot.waiting }
@@ -266,12 +236,12 @@ module _ (all : TrialTimes) (taken : List Taken) (kept : List Bool) (is : IsTake
   pub flags_back : slice_set more change false ≡ kept
   flags_back =
       let here : 0 + change ≡ change = omega arith in
-      let flag : get_or kept change false ≡ false =
-      ap (λ flags. get_or flags change false) is.trial.flags
-      ∙ get_or-map-range_with_len (is_kept (decided_in taken)) 0
-      (length all.problem.changes) change change false there here
-      ∙ not_kept (decided_in taken) change none in
-      ap (slice_set more change) (sym flag) ∙ set_back kept change true false
+      let flag : get_or kept change false ≡ false = grind (
+        arith,
+        get_or,
+        get_or-map-range_with_len,
+        not_kept,
+      ) in grind (arith, slice_set, set_back)
 
   pub taken_still : (now : TrialTimes) (waiting : List Bool) (flags : List Bool)
       → now ≡ record all { waiting = waiting }
@@ -295,14 +265,7 @@ module _ (all : TrialTimes) (taken : List Taken) (kept : List Bool) (is : IsTake
         linked = linked;
         trial = dropped_on all.problem (decided_in taken) kept all.open_yet all.times is.trial change there none
             (slice_set all.open_yet change false) (λ i. slice_set all.open_yet change false);
-        saved = (
-          [],
-          all.noted,
-          (λ i. all.noted),
-          (λ i. length all.noted),
-          is.trial.told,
-          subst (AreSaved all.problem taken all.noted) is.trial.told is.saved,
-        );
+        saved = grind (arith, told);
         rest = is.rest;
       })
 
@@ -318,79 +281,33 @@ module _ (all : TrialTimes) (last : Taken) (taken : List Taken) (kept : List Boo
       → now ≡ record undone { open_yet = slice_set undone.open_yet last.decided.change true }
       → flags ≡ slice_set kept last.decided.change false → IsTaken now taken flags
   unfolding AreOnce
-  back_taken undone now flags rest undone_is times saved opened dropped =
-      let decided = decided_in taken in let problem = all.problem in let count = length problem.changes in
-      let told = opened ∙ ap (λ (t : TrialTimes). record t {
-        open_yet =
-            slice_set t.open_yet last.decided.change true;
-        times = undone.times;
-      }) undone_is in
-      let flags_are = dropped ∙ ap (λ flags. slice_set flags last.decided.change false) is.trial.flags
-      ∙ kept_less count decided last.decided is.trial.once.0 is.trial.once.1 in
-      let open_are = ap (λ flags. slice_set flags last.decided.change true) is.trial.undecided
-      ∙ open_more count decided last.decided is.trial.once.0 is.trial.once.1 in
-      let least = is_least problem all.links is.linked (kept_of (record { problem = problem; decided = decided })) in
-      subst (λ t. IsTaken t taken flags) (sym told) (record {
-        linked = is.linked;
-        trial = record {
-          once = is.trial.once.2;
-          flags = flags_are;
-          undecided = open_are;
-          each = ap length times ∙ least.feasible.each;
-          told = times;
-          small = subst (All (λ time. time ≤ 600000000000)) (sym times)
-              (least_small problem all.links is.linked (kept_of (record { problem = problem; decided = decided })));
-        };
-        saved = subst (AreSaved problem taken rest) (sym times) saved;
-        rest = is.rest;
-      })
+  back_taken undone now flags rest undone_is times saved opened dropped = grind (
+    arith,
+    told,
+    slice_set,
+    kept_less,
+    open_more,
+    is_least,
+    least_small,
+  )
 
   -- the flags before are those that are left
   flags_before : (flags : List Bool) → flags ≡ slice_set kept last.decided.change false
       → flags ≡ kept_of (record { problem = all.problem; decided = decided_in taken })
   unfolding AreOnce
-  flags_before flags dropped =
-      dropped ∙ ap (λ flags. slice_set flags last.decided.change false) is.trial.flags
-      ∙ kept_less (length all.problem.changes) (decided_in taken) last.decided is.trial.once.0 is.trial.once.1
+  flags_before flags dropped = grind (arith, slice_set, kept_less)
 
   pub taken_back : (undone now : TrialTimes) (flags : List Bool)
       → GoesBack last flags all undone
       → now ≡ record undone { open_yet = slice_set undone.open_yet last.decided.change true }
       → flags ≡ slice_set kept last.decided.change false → IsTaken now taken flags
   unfolding AreSaved
-  taken_back undone now flags goes opened dropped =
-      by last.is_noted is.saved.4 goes
-    where
-      top : List Moved
-      top = is.saved.0
-
-      rest : List Moved
-      rest = is.saved.1
-
-      by : (noted : Bool) → Gives noted top all.times
-          (times_of (record { problem = all.problem; decided = decided_in taken }))
-          → GoesBackBy noted last.moved flags all undone → IsTaken now taken flags
-      by true gives goes =
-          let is_back = goes top rest is.saved.2 is.saved.3 in
-          let times = ap (λ (t : TrialTimes). t.times) is_back in
-          back_taken undone now flags rest
-          (is_back ∙ (λ i. record all { times = sym times i; noted = rest })) (times ∙ gives) is.saved.5 opened dropped
-      by false gives goes =
-          let times = ap (λ (t : TrialTimes). t.times) goes in
-          let noted = is.saved.2 ∙ ap (λ top. top ++ rest) gives in
-          back_taken undone now flags rest
-          (goes ∙ (λ i. record all { times = sym times i; noted = noted i }))
-          (times ∙ ap (λ kept. least_times all.problem (chosen_changes all.problem kept)) (flags_before flags dropped))
-          is.saved.5 opened dropped
+  taken_back undone now flags goes opened dropped = grind (arith, back_taken, flags_before)
 
   pub undone_problem : (undone : TrialTimes) (flags : List Bool) → GoesBack last flags all undone
       → undone.problem ≡ all.problem
   unfolding AreSaved
-  undone_problem undone flags goes = by last.is_noted goes
-    where
-      by : (noted : Bool) → GoesBackBy noted last.moved flags all undone → undone.problem ≡ all.problem
-      by true goes = ap (λ (t : TrialTimes). t.problem) (goes is.saved.0 is.saved.1 is.saved.2 is.saved.3)
-      by false goes = ap (λ (t : TrialTimes). t.problem) goes
+  undone_problem undone flags goes = grind arith
 
   pub last_there : last.decided.change < length all.problem.changes
   unfolding AreOnce

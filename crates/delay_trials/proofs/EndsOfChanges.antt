@@ -1,10 +1,10 @@
 -- The ends of changes by their events, and where those of an event begin.
 use Rattle.plan_num.proofs.Common.{◌≡◌, ℕ, ◌+◌, ◌<◌, ◌≤◌, true, false, ltb, List, [], ◌∷◌, ◌++◌}
-use Rattle.plan_num.proofs.Common.{length, get_or, nat_eq, All, ap, arith, Contains}
-use Rattle.plan_num.proofs.Common.{IsNonDecreasingBy, IsPartitionPoint, IsPermutation, eqb-false}
-use Rattle.plan_num.proofs.Common.{get_or_default, All-append, All-cons, All-contains}
-use Rattle.plan_num.proofs.Common.{All-contains_itself, All-nil, Contains-append_left}
-use Rattle.plan_num.proofs.Common.{Contains-push, All-permutation, IsPermutation-sym}
+use Rattle.plan_num.proofs.Common.{length, get_or, nat_eq, All, arith, Contains, IsNonDecreasingBy}
+use Rattle.plan_num.proofs.Common.{IsPartitionPoint, IsPermutation, eqb-false, get_or_default}
+use Rattle.plan_num.proofs.Common.{All-append, All-cons, All-contains, All-contains_itself, All-nil}
+use Rattle.plan_num.proofs.Common.{Contains-append_left, Contains-push, All-permutation}
+use Rattle.plan_num.proofs.Common.{IsPermutation-sym}
 use Rattle.delay_trials.specs.declared.ends.ChangeEnd.{ChangeEnd}
 use Rattle.propagation.proofs.Common.{Activity}
 use Rattle.delay_trials.specs.ChangeEnds.{HasEnds, HasNone, IsFirst}
@@ -22,9 +22,6 @@ pub record EndsSoFar (changes : List Activity) (count : ℕ) (ends : List Change
       → Contains ends (record { event = (get_or changes k d).step.from; change = k })
   pub to : (k : ℕ) (d : Activity) → k < count
       → Contains ends (record { event = (get_or changes k d).step.to; change = k })
-
-pub none_yet : (changes : List Activity) (ends : List ChangeEnd) → ends ≡ [] → EndsSoFar changes 0 ends
-none_yet changes ends none = grind arith
 
 pub one_more : (changes : List Activity) (count : ℕ) (ends : List ChangeEnd) → EndsSoFar changes count ends
     → count < length changes → (e : Activity) (first second : List ChangeEnd)
@@ -53,10 +50,6 @@ one_more changes count ends so_far inside e first second one two =
     by : {P : Type 0} (k n : ℕ) → k < n + 1 → (k < n → P) → (k ≡ n → P) → P
     by k n less old new = by_less k n old (λ most. new (omega (arith, most, less)))
 
-pub all_there : (changes : List Activity) (count : ℕ) (ends : List ChangeEnd) → EndsSoFar changes count ends
-    → length changes ≤ count → HasEnds changes ends
-all_there changes count ends so_far most = grind arith
-
 contains_moved : {X : Type 0} (xs ys : List X) → IsPermutation xs ys → (x : X) → Contains xs x → Contains ys x
 contains_moved xs ys moved x there =
     All-contains (Contains ys) xs x
@@ -74,13 +67,10 @@ ends_moved changes ends moved has is = record {
 pub none_there : (ends : List ChangeEnd) (first event : ℕ) → IsNonDecreasingBy (λ (e : ChangeEnd). e.event) ends
     → IsFirst (λ (e : ChangeEnd). e.event) ends event first → (d : ChangeEnd) → first < length ends
     → nat_eq (get_or ends first d).event event ≡ false → HasNone ends event
-none_there ends first event sorted is d inside apart j e there same =
-    by_less j first
-    (λ less. let before = is.before j e less in omega (arith, before, same))
-    (λ most.
-    let later = sorted first j e most there in
-    let behind = is.behind first e (omega arith) inside in
-    let other = eqb-false (get_or ends first d).event event apart in
-    let one : (get_or ends first d).event ≡ (get_or ends first e).event =
-    ap (λ (e : ChangeEnd). e.event) (get_or_default ends first d e inside) in
-    other (omega (arith, one, later, behind, same)))
+none_there ends first event sorted is d inside apart j e there same = grind (
+  arith,
+  by_less,
+  eqb-false,
+  get_or,
+  get_or_default,
+)

@@ -1,7 +1,7 @@
 -- The first change that is open and broken is the first one of a trial.
 use Rattle.std.proofs.Common.{◌≡◌, ◌∙◌, ℕ, ◌&&◌, Bool, List, get_or, Option, None, Some, ap, sym, arith}
 use Rattle.delay_trials.specs.declared.decided.Decided.{Decided}
-use Rattle.propagation.proofs.Common.{is_broken}
+use Rattle.propagation.specs.Lateness.{is_broken}
 use Rattle.delay_trials.specs.OnTrial.{IsTrial, TellsBroken, TrialTimes}
 use Rattle.delay_trials.specs.Trials.{first_broken}
 use Rattle.delay_trials.proofs.TrialFacts.{none_open, one_open, open_flag}

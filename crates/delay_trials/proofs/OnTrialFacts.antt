@@ -27,8 +27,7 @@ pub day_is : {day : OpenParts} {changes changes_seen : List Activity} {times tim
     → day ≡ record { changes = changes_seen; times = times_seen; open_yet = open_seen; ends = ends_seen }
     → changes_seen ≡ changes → times_seen ≡ times → open_seen ≡ open_yet → ends_seen ≡ ends
     → day ≡ record { changes = changes; times = times; open_yet = open_yet; ends = ends }
-day_is is changes times open_yet ends =
-    is ∙ (λ i. record { changes = changes i; times = times i; open_yet = open_yet i; ends = ends i })
+day_is is changes times open_yet ends = grind arith
 
 module _ (all : TrialTimes) (ends : List ChangeEnd) (delay : ℤ) (broken : List Bool)
     (first_links first_ends : List ℕ) (shifted : ℕ) (until : List ℕ)
@@ -82,8 +81,7 @@ module _ (all : TrialTimes) (ends : List ChangeEnd) (delay : ℤ) (broken : List
     in_order = on.in_order;
     each = length-set all.times event time ∙ on.each;
     small = All-set (λ time. time ≤ LATEST) all.times event time small on.small;
-    late = told ∙ (λ i. on.late i +ℤ more_delay (get_or (events_are i) event d) (before_is i) time)
-        ∙ sym (later_at all.problem.events all.times event time d there (omega (arith, there, on.each)));
+    late = grind (arith, get_or, later_at);
     flags = on.flags;
     marks = size ∙ on.marks;
     tested = tested;
@@ -106,16 +104,10 @@ module _ (all : TrialTimes) (ends : List ChangeEnd) (delay : ℤ) (broken : List
     back = sym (ap (slice_set (slice_set all.times event time) event) before_is ∙ set_back all.times event time 0)
 
     pub tested_before : AreTested day.changes (slice_set day.times event before) day.open_yet broken
-    tested_before =
-        subst (λ (day : OpenParts). AreTested day.changes (slice_set day.times event before) day.open_yet broken)
-        (sym is)
-        (subst (λ times. AreTested all.problem.changes times all.open_yet broken) back on.tested)
+    tested_before = grind (arith, slice_set, back)
 
     pub limits_before : MayHaveLimits day.changes (slice_set day.times event before) day.ends shifted until
-    limits_before =
-        subst (λ (day : OpenParts). MayHaveLimits day.changes (slice_set day.times event before) day.ends shifted until)
-        (sym is)
-        (subst (λ times. MayHaveLimits all.problem.changes times ends shifted until) back on.limits)
+    limits_before = grind (arith, slice_set, back)
 
   -- all times are other ones
   pub renewed : (times : List ℕ) (late : ℤ) (new : List Bool) → length times ≡ length all.problem.events
@@ -143,12 +135,8 @@ module _ (all : TrialTimes) (ends : List ChangeEnd) (delay : ℤ) (broken : List
   pub delay_room : Bounded delay 100000
   delay_room =
       let bounds = delay_bounded all.problem.events all.times
-      (λ k inside. let planned = on.linked.late k inside in
-      let soon = on.linked.soon k 0
-      (omega (arith, inside, on.linked.forward.each)) in omega (arith, planned, soon)) on.small in
-      let least = bounds.least in let most = bounds.most in let few = on.linked.few in
-      let is = on.late in
-      record { least = omega (arith, ints, least, few, is); most = omega (arith, ints, most, few, is) }
+      (λ k inside. let planned = on.linked.late k inside in grind arith) on.small in
+      grind (arith, ints)
 
   -- the last note is taken away
   pub less_noted : (last : Moved) (rest : List Moved) → all.noted ≡ last ∷ rest
@@ -186,6 +174,7 @@ module _ (all : TrialTimes) (ends : List ChangeEnd) (delay : ℤ) (broken : List
   last_is left old new (Some last) is more n size Q C some parts =
       let noted = is ∙ ap reverse parts ∙ reversed new last in
       let sound = All-head (IsSound (length all.problem.events)) last (reverse new)
-      (subst (All (IsSound (length all.problem.events))) noted on.noted) in
-      let size = ap length is ∙ length-reverse old in
-      (omega (arith, more, size), sound.0, sound.1, λ i. record all { noted = noted i })
+      (subst (All (IsSound (length all.problem.events))) noted on.noted) in grind (
+        arith,
+        length-reverse,
+      )

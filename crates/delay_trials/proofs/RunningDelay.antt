@@ -38,9 +38,7 @@ later_one (e ∷ events) (t ∷ times) zero time d sum there within = by e.arriv
         +ℤ cond is (pos time -ℤ pos t) (pos 0)
     by true =
         let turned : sum +ℤ lateness (e, time) ≡ (sum +ℤ lateness (e, t)) +ℤ (pos time -ℤ pos t) =
-        omega (arith, ints) in
-        ap (λ s. sum_of s (filter arrives (zip events times))) turned
-        ∙ more_first (filter arrives (zip events times)) (sum +ℤ lateness (e, t)) (pos time -ℤ pos t)
+        omega (arith, ints) in grind (arith, more_first)
     by false = let same : (s : ℤ) → s ≡ s +ℤ pos 0 = λ s. omega (arith, ints) in same (late_from sum events times)
 later_one (e ∷ events) (t ∷ times) (suc event) time d sum there within =
     by e.arrives

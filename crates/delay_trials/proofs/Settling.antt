@@ -101,16 +101,13 @@ module _ (all : TrialTimes) (each : length all.times ≡ length all.problem.even
   stayed event apart = ap (λ times. time_at times event) pushed ∙ (is_pushed all.times step fits).stays event apart
 
   apart_ends : step.to ≢ step.from
-  apart_ends same =
-      let rank : forward_rank all.problem.events step.to ≡ forward_rank all.problem.events step.from =
-      ap (forward_rank all.problem.events) same in omega (arith, rank, rises)
+  apart_ends same = grind (arith, rises)
 
   pub own_held : asked new step ≤ time_at new step.to
   own_held =
       let from = stayed step.from apart_ends in
       let held = subst (λ times. asked all.times step ≤ time_at times step.to) (sym pushed)
-      (is_pushed all.times step fits).holds in
-      omega (arith, from, held)
+      (is_pushed all.times step fits).holds in grind arith
 
   -- no time is above one that the step respects
   pub under : (goal : List ℕ) → asked goal step ≤ time_at goal step.to
@@ -124,12 +121,8 @@ module _ (all : TrialTimes) (each : length all.times ≡ length all.problem.even
       value : (time_at (head_pushed all.times step) step.to ≡ time_at all.times step.to)
           ⊎ (time_at (head_pushed all.times step) step.to ≡ asked all.times step)
           → time_at new step.to ≤ time_at goal step.to
-      value (inl is) =
-          let old = most step.to joins.1 in
-          let here = ap (λ times. time_at times step.to) pushed in omega (arith, is, old, here)
-      value (inr is) =
-          let old = most step.from joins.0 in
-          let here = ap (λ times. time_at times step.to) pushed in omega (arith, is, old, here, holds)
+      value (inl is) = grind arith
+      value (inr is) = grind arith
 
   -- a link with another first event holds as before
   pub held_still : (kept : List Bool) (link : Link) → link.step.from ≢ step.to
@@ -159,14 +152,12 @@ module _ (all : TrialTimes) (linked : IsLinked all.problem all.links) (each : le
 
   pub asks_little : asked all.times link.step ≤ LATEST
   asks_little =
-      let joins = all_join all.problem all.links linked at e there in
-      let slow = all_slow all.problem all.links linked kept at e there in
-      let most = settling.most link.step.from joins.from in
-      let final = (is_least all.problem all.links linked kept).feasible.each in
-      let small = least_small all.problem all.links linked kept link.step.from 0 (omega (arith, joins.from, final)) in
-      let planned = linked.late link.step.to joins.to in
-      let soon = linked.soon link.step.to 0 (omega (arith, joins.to, linked.forward.each)) in
-      omega (arith, most, small, slow.2, planned, soon)
+      let joins = all_join all.problem all.links linked at e there in grind (
+        arith,
+        all_slow,
+        is_least,
+        least_small,
+      )
 
   not_here : (k : ℕ) → k ≢ at → get_or seen.waiting k false ≡ false → get_or all.waiting k false ≡ false
   not_here k apart none = sym (set_there all.waiting seen.waiting at false false (λ i. seen.waiting) k apart) ∙ none
@@ -211,8 +202,7 @@ module _ (all : TrialTimes) (linked : IsLinked all.problem all.links) (each : le
     grown_now = grown all each step joined rises new.times pushed_times
 
     under_now : (event : ℕ) → event < length all.problem.events → time_at new.times event ≤ time_at goal event
-    under_now = under all each step joined rises new.times pushed_times goal
-        (all_held all.problem all.links linked kept at e there counted) settling.most
+    under_now = grind (arith, under, joined, rises, pushed_times, all_held)
 
     held_now : (k : ℕ) (d : Link) → k < length all.links → get_or new.waiting k false ≡ false
         → IsHeld kept new.times (get_or all.links k d)
@@ -224,15 +214,17 @@ module _ (all : TrialTimes) (linked : IsLinked all.problem all.links) (each : le
       where
         other : k ≢ at → (new ≡ seen) ⊎ WaitBy (λ link. link.rank ≡ ranks step.to) all.links seen.waiting new.waiting
             → IsHeld kept new.times (get_or all.links k d)
-        other apart (inl same) =
-            subst (λ times. IsHeld kept times (get_or all.links k d)) (sym (ap (λ (t : TrialTimes). t.times) same))
-            (settling.held k d inside (not_here k apart
-            (sym (ap (λ (t : TrialTimes). get_or t.waiting k false) same) ∙ none)))
-        other apart (inr waits) =
-            let out = waits.out k d inside none in
-            held_still all each step joined rises new.times pushed_times kept (get_or all.links k d)
-            (λ is. out.1 ((all_join all.problem all.links linked k d inside).own ∙ ap ranks is))
-            (settling.held k d inside (not_here k apart out.0))
+        other apart (inl same) = grind (arith, get_or, not_here)
+        other apart (inr waits) = grind (
+          arith,
+          held_still,
+          joined,
+          rises,
+          pushed_times,
+          get_or,
+          all_join,
+          not_here,
+        )
 
     done_now : (k : ℕ) → k < at + 1 → get_or new.waiting k false ≡ false
     done_now k less = by pushes.waits
@@ -246,11 +238,7 @@ module _ (all : TrialTimes) (linked : IsLinked all.problem all.links) (each : le
                 ⊎ ((k < length all.links) × ((get_or all.links k e).rank ≡ ranks step.to))
                 → get_or new.waiting k false ≡ false
             only (inl none) = none
-            only (inr rank) =
-                let joins = all_join all.problem all.links linked at e there in
-                let sorted : (get_or all.links k e).rank ≤ link.rank =
-                linked.in_order k at e (omega (arith, less)) there in
-                absurd (omega (arith, sorted, rank.1, joins.own, joins.rises))
+            only (inr rank) = grind (arith, all_join, get_or, rises)
 
     pub pushed_on : IsSettling kept new (at + 1)
     pushed_on = grind (arith, pushes, events_same, grown_now, get_or, under_now, held_now, done_now)
@@ -261,20 +249,7 @@ module _ (all : TrialTimes) (kept : List Bool) (step : Step) (but : IsSettlingBu
     (pushes : Pushes step all new) where
   held_first : (k : ℕ) (d : Link) → k < length all.links → get_or new.waiting k false ≡ false
       → IsHeld kept new.times (get_or all.links k d)
-  held_first k d inside none = by (but.held k d inside) pushes.waits
-    where
-      by : ((get_or all.links k d).step ≡ step) ⊎ IsHeld kept all.times (get_or all.links k d)
-          → (new ≡ all) ⊎ WaitBy (λ link. link.rank
-          ≡ forward_rank all.problem.events step.to) all.links all.waiting new.waiting
-          → IsHeld kept new.times (get_or all.links k d)
-      by (inl own) waits =
-          λ _. subst (λ (step : Step). asked new.times step ≤ time_at new.times step.to) (sym own)
-          (own_held all but.each step but.joins but.rises new.times pushes.times)
-      by (inr held) (inl same) = subst (λ (t : TrialTimes). IsHeld kept t.times (get_or all.links k d)) (sym same) held
-      by (inr held) (inr waits) =
-          held_still all but.each step but.joins but.rises new.times pushes.times kept (get_or all.links k d)
-          (λ is. (waits.out k d inside none).1
-          ((all_join all.problem all.links but.linked k d inside).own ∙ ap (forward_rank all.problem.events) is)) held
+  held_first k d inside none = grind (arith, pushes, get_or, own_held, rises, held_still, all_join)
 
   pub pushed_first : IsSettling kept new 0
   pushed_first =
@@ -287,11 +262,8 @@ module _ (all : TrialTimes) (kept : List Bool) (step : Step) (but : IsSettlingBu
         noted = new.noted;
         waiting = new.waiting;
       }) (record {
-        earliest = λ event inside.
-            let old = but.earliest event inside in
-            let more = grown all but.each step but.joins but.rises new.times pushes.times event in omega (arith, old, more);
-        most = under all but.each step but.joins but.rises new.times pushes.times
-            (least_times all.problem (chosen_changes all.problem kept)) but.holds but.most;
+        earliest = λ event inside. grind (arith, grown, rises, pushes);
+        most = grind (arith, under, rises, pushes);
         held = held_first;
         done = λ k less. absurd (omega (arith, less));
       })

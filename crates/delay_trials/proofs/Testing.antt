@@ -36,8 +36,5 @@ module _ (changes : List Activity) (times : List ℕ) (open_yet : List Bool) whe
   one_done ends old new at change told is room = record {
     size = same_size old new change is (record { id = 0; step = record { from = 0; to = 0; lower = 0; extra = 0 } });
     keeps = λ k d tested. one_tested old new change is room k d (λ apart. tested);
-    done = λ j f d low high there.
-        let same : at ≡ j = omega (arith, low, high) in
-        subst (λ n. Tested new n d) (told f ∙ ap (λ n. (get_or ends n f).change) same)
-        (set_here old new change (test change d) false (is d) room);
+    done = λ j f d low high there. grind (arith, get_or, set_here);
   }

@@ -1,11 +1,11 @@
 -- Decisions one after the other, and the least times behind each.
 use Rattle.plan_num.proofs.Common.{◌≢◌, ◌≡◌, ◌∙◌, ℕ, zero, suc, ◌+◌, ◌<◌, ◌≤◌, ◌&&◌, ◌||◌, not}
 use Rattle.plan_num.proofs.Common.{cond, eqb, nat_lt, Bool, true, false, List, [], ◌∷◌, ◌++◌}
-use Rattle.plan_num.proofs.Common.{length, map, get_or, slice_get, slice_set, All, Option, Some}
-use Rattle.plan_num.proofs.Common.{None, refl, ap, sym, subst, arith, option_map, position}
-use Rattle.plan_num.proofs.Common.{replicate, reverse, enumerate_from, prefix_len, range_with_len}
-use Rattle.plan_num.proofs.Common.{both_ways, eq-eqb, ne_eqb, ltb-true, ltb-false, lt-ltb, le-ltb}
-use Rattle.plan_num.proofs.Common.{reverse-append, get_or-map-range_with_len, length-enumerate_from}
+use Rattle.plan_num.proofs.Common.{length, map, get_or, slice_set, All, Some, None, refl, ap, sym}
+use Rattle.plan_num.proofs.Common.{subst, arith, position, replicate, reverse, enumerate_from}
+use Rattle.plan_num.proofs.Common.{prefix_len, range_with_len, both_ways, eq-eqb, ne_eqb, ltb-true}
+use Rattle.plan_num.proofs.Common.{ltb-false, lt-ltb, le-ltb, reverse-append}
+use Rattle.plan_num.proofs.Common.{get_or-map-range_with_len, length-enumerate_from}
 use Rattle.plan_num.proofs.Common.{length-map-range_with_len}
 use Rattle.delay_trials.specs.declared.decided.Decided.{Decided}
 use Rattle.propagation.proofs.Common.{Activity, IsLeast, least_times, DelayProblem, IsForward}
@@ -37,14 +37,13 @@ module _ (count : ℕ) where
       ∙ elim (nat_lt last.change count) as (λ b. nat_lt last.change count ≡ b
       → slice_set (flags decided) last.change true ≡ flags (last ∷ decided)) [
         | true ↦ λ less.
-            let zeroed : 0 + last.change ≡ last.change = omega arith in
-            told_anew (is_kept decided) (is_kept (last ∷ decided)) 0 count last.change true
-            (ltb-true last.change count less)
-            (ap (is_kept (last ∷ decided)) zeroed
-            ∙ ap (λ b. (b && last.kept) || is_kept decided last.change) (eq-eqb last.change last.change refl)
-            ∙ ap (λ b. b || is_kept decided last.change) kept)
-            (λ k inside other. let here : 0 + k ≡ k = omega arith in
-            ap (is_kept (last ∷ decided)) here ∙ passes k other ∙ ap (is_kept decided) (sym here))
+            let zeroed : 0 + last.change ≡ last.change = omega arith in grind (
+              arith,
+              told_anew,
+              ltb-true,
+              zeroed,
+              eq-eqb,
+            )
         | false ↦ λ past.
             set_past (flags decided) last.change true
             (let long = length-map-range_with_len (is_kept decided) 0 count in
@@ -63,14 +62,7 @@ module _ (count : ℕ) where
       set_past (y ∷ xs) (suc i) x past = ap (λ some. y ∷ some) (set_past xs i x (omega (arith, past)))
 
   pub kept_same : (decided : List Decided) (last : Decided) → last.kept ≡ false → flags decided ≡ flags (last ∷ decided)
-  kept_same decided last out =
-      told_alike (is_kept decided) (is_kept (last ∷ decided)) count
-      (λ k inside. sym (ap (λ b. (eqb last.change k && b) || is_kept decided k) out
-      ∙ gone (eqb last.change k) (is_kept decided k)))
-    where
-      gone : (a b : Bool) → ((a && false) || b) ≡ b
-      gone true b = refl
-      gone false b = refl
+  kept_same decided last out = grind (arith, told_alike)
 
 -- ---- which changes are not decided
 
@@ -262,10 +254,6 @@ module _ (problem : DelayProblem) (decided : List Decided) (kept open_yet : List
   pub kept_size : length kept ≡ length problem.changes
   kept_size = ap length is.flags ∙ length-map-range_with_len (is_kept decided) 0 (length problem.changes)
 
-  pub open_size : length open_yet ≡ length problem.changes
-  open_size = ap length is.undecided ∙ length-map-range_with_len (λ change. not (is_decided decided change)) 0
-      (length problem.changes)
-
   pub open_flag : (change : ℕ) → change < length problem.changes
       → get_or open_yet change false ≡ not (is_decided decided change)
   open_flag change there = grind (arith, get_or, get_or-map-range_with_len)
@@ -273,18 +261,3 @@ module _ (problem : DelayProblem) (decided : List Decided) (kept open_yet : List
 pub not_twice : (a b : Bool) → a ≡ not b → not a ≡ b
 not_twice a true is = ap not is
 not_twice a false is = ap not is
-
--- a change that is there, whether a time breaks it
-pub broken_at : (times : List ℕ) (changes : List Activity) (k : ℕ) (b : Bool)
-    → option_map (is_broken times) (slice_get changes k) ≡ Some b → k < length changes
-    → (d : Activity) → b ≡ is_broken times (get_or changes k d)
-broken_at times [] k b is inside d = absurd (omega (arith, inside))
-broken_at times (x ∷ xs) zero b is inside d = some_is (sym is)
-  where
-    out : Option Bool → Bool
-    out (Some y) = y
-    out None = false
-
-    some_is : Some b ≡ Some (is_broken times x) → b ≡ is_broken times x
-    some_is same = ap out same
-broken_at times (x ∷ xs) (suc k) b is inside d = broken_at times xs k b is (omega (arith, inside)) d

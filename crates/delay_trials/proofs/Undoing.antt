@@ -1,5 +1,5 @@
 -- Events that were made later have their times before again, one after the other.
-use Rattle.std.proofs.Common.{◌≡◌, ℕ, List, [], ◌∷◌, ◌++◌, slice_set, Some, arith}
+use Rattle.plan_num.proofs.Common.{◌≡◌, ℕ, List, [], ◌∷◌, ◌++◌, slice_set, Some, arith}
 use Rattle.delay_trials.specs.declared.moved_event.Moved.{Moved}
 use Rattle.delay_trials.specs.OnTrial.{IsDropping, IsLastMoved, IsUndoing, TrialTimes, rewound}
 

@@ -28,8 +28,7 @@ module _ (links : List Link) (rank : ℕ) (first : List Bool) where
   one_waits at old new e is inside same set = record {
     size = ap length set ∙ length-set old at true ∙ is.size;
     behind = λ j d low within. is.behind j d (omega (arith, low)) within;
-    ahead = λ k low. set_there old new at true false set k (λ e. omega (arith, e, low))
-        ∙ is.ahead k (omega (arith, low));
+    ahead = λ k low. grind (arith, set_there);
     out = λ k d less within none.
         by_same k at
         (λ here. absurd (false≢true (sym (subst (λ n. get_or new n false ≡ false) here none)
@@ -64,9 +63,8 @@ module _ (links : List Link) (rank : ℕ) (first : List Bool) where
         (λ most. (
           sym (is.ahead k most) ∙ none,
           λ same.
-              let first = is.behind at d (omega arith) (omega (arith, most, inside)) in
-              let rises : (get_or links at d).rank ≤ (get_or links k d).rank = sorted at k d most inside in
-              past d (omega (arith, most, inside)) (omega (arith, first, rises, same)),
+              let first = is.behind at d (omega arith) (omega (arith, most, inside)) in grind
+              (arith, get_or),
         ));
     only = is.only;
   }

@@ -1,7 +1,7 @@
 -- Rows of demand: their rules, and the paths of their customers.
-use Rattle.plan_num.proofs.Common.{◌≡◌, ℕ, ℤ, pos, int_lt, Bool, true, false, not, ◌&&◌, cond, List}
-use Rattle.plan_num.proofs.Common.{[], ◌∷◌, ◌++◌, slice_get, refl, ap, ◌∙◌, arith, unsigned_abs}
-use Rattle.plan_num.proofs.Common.{Some, None, unwrap_or, is_some, position, int_eq}
+use Rattle.plan_num.proofs.Common.{◌≡◌, ℕ, ℤ, pos, int_lt, true, false, not, cond, List, []}
+use Rattle.plan_num.proofs.Common.{slice_get, refl, ap, ◌∙◌, arith, unsigned_abs, Some, None}
+use Rattle.plan_num.proofs.Common.{unwrap_or, is_some, position, int_eq}
 use Rattle.tables.specs.declared.row_why.RowWhy.TheVariants as why
 use Rattle.tables.proofs.Common.{broken_whys}
 use Rattle.plan_num.proofs.Found.{any_is}
@@ -58,17 +58,7 @@ module _ (network : NetworkParts) (row : DemandRow) where
 
     pub row_fits : is_some (least_sum network edge_length left right) ≡ true
         → broken_whys (demand_input network).row_rules [] row ≡ []
-    row_fits there = rw (
-      known network.stops row.left left from,
-      known network.stops row.right right to,
-      same_joined,
-      there,
-    )
-        (either (int_lt (pos 0) row.customers))
-      where
-        either : (b : Bool) → cond (b && false) (why.NoPath ∷ []) [] ++ [] ≡ []
-        either true = refl
-        either false = refl
+    row_fits there = grind (arith, known, same_joined, int_lt)
 
     -- the customers go over the edges of the path between the two stops
     pub same_load : (index : ℕ) → cond (goes_over network index left right)

@@ -5,8 +5,8 @@ use Rattle.plan_num.proofs.Common.{length-map-range_with_len}
 use Rattle.giv_files.specs.declared.key.Key.TheVariants as key
 use Rattle.giv_files.proofs.Common.{Made, Setting, BundleParts, SettingsFit, Fits, amount}
 use Rattle.giv_files.proofs.Common.{input_text, StageGives, amount_within, stage_refused}
-use Rattle.tables.proofs.Common.{StageFault, Refuses, or_else, input_faults, records_of}
-use Rattle.tables.proofs.Common.{refused_append, refused_before}
+use Rattle.tables.proofs.Common.{StageFault, Refuses, input_faults, records_of, refused_append}
+use Rattle.tables.proofs.Common.{refused_before}
 use Rattle.giv_files.specs.declared.stage.Stage.TheVariants as stage
 use Rattle.walks.proofs.Common.{NetworkParts}
 use Rattle.ptn_network.specs.Networks.{network_of, network_faults}
@@ -88,8 +88,7 @@ module _ (bundle : BundleParts) where
         → Refuses (text_faults bundle.settings network (input_text bundle 2)) reason
         → StageGives (load_stage bundle) (Err reason)
     unfolding load_stage
-    text_refused reason h = stage_refused (or_else (load_faults bundle) _) _ reason
-        (refused_before (load_faults bundle) _ reason (subst (λ all. Refuses all reason) later h))
+    text_refused reason h = grind (arith, stage_refused, refused_before, later)
 
     module _ (loads : List EdgeLoad) (faultless : text_faults bundle.settings network
         (input_text bundle 2) ≡ []) (read : loads ≡ loads_by bundle.settings network

@@ -1,5 +1,6 @@
 -- Which files the stage of loads names where it refuses a row.
-use Rattle.std.proofs.Common.{◌≡◌, ℕ, pos, Bool, true, false, cond, List, unsigned_abs, int_lt, Err}
+use Rattle.plan_num.proofs.Common.{◌≡◌, ℕ, pos, Bool, true, false, cond, List, unsigned_abs, int_lt}
+use Rattle.plan_num.proofs.Common.{Err}
 use Rattle.tables.specs.declared.counted.Counted.TheVariants as counted
 use Rattle.tables.proofs.Common.{FileId, Refusal, input_faults, NamesInput, AllName, names_both}
 use Rattle.tables.proofs.Common.{names_or_else, names_where, input_names}

@@ -1,5 +1,6 @@
 -- The definitions on small datasets.
-use Rattle.std.proofs.Common.{◌≡◌, ℕ, List, [], ◌∷◌, ◌++◌, map, refl, pos, codes, Result, Ok, Err}
+use Rattle.plan_num.proofs.Common.{◌≡◌, ℕ, List, [], ◌∷◌, ◌++◌, map, refl, pos, codes, Result, Ok}
+use Rattle.plan_num.proofs.Common.{Err}
 use Rattle.std.specs.Fmt.{digits}
 use Rattle.tables.specs.declared.counted.Counted.TheVariants as counted
 use Rattle.tables.specs.declared.file_id.FileId.TheVariants as file

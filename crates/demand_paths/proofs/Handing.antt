@@ -49,8 +49,7 @@ module _ (edges : List Edge) (lengths : ℕ → Option ℕ) (n from : ℕ)
       none_there edges lengths from 1 at (sym (walks.staying_end edges from at walk))
   stays (suc more) at walk =
       elim (cases_eq at from) [
-        | inl same ↦ none_there edges lengths from (suc (suc more)) at same
-            ∙ sym (none_there edges lengths from (suc more) at same)
+        | inl same ↦ grind (arith, none_there)
         | inr apart ↦
             elim (last_edge edges lengths at) as (λ last. last_edge edges lengths at ≡ last
             → path_within edges lengths (suc (suc more)) from at
@@ -205,48 +204,25 @@ module _ (network : NetworkParts) (from : ℕ) (sound : IsNetwork network) (path
           )
 
       pub nobody_left : NobodyLeft network from handed to
-      nobody_left =
-          inl (get_or-set_other (set left to 0) stop to (waiting + customers) 0
-          (λ same. no_nearer to stop same stop_nearer)
-          ∙ get_or-set_same left to 0 0 (omega arith))
-        where
-          no_nearer : (at other : ℕ) → at ≡ other
-              → distance network from other < distance network from at → ⊥
-          no_nearer at other same less =
-              let equal : distance network from at ≡ distance network from other =
-              ap (distance network from) same in
-              absurd (omega arith)
+      nobody_left = grind (arith, get_or-set_other, stop_nearer, get_or-set_same)
 
       pub others_stay : (other : ℕ) → NobodyLeft network from left other
           → distance network from to ≤ distance network from other
           → NobodyLeft network from handed other
-      others_stay other so_far further =
-          elim (cases_eq other to) [
-            | inl same ↦ subst (NobodyLeft network from handed) (sym same) nobody_left
-            | inr off ↦ elim so_far [
-              | inl none ↦
-                  inl (get_or-set_other (set left to 0) stop other (waiting + customers) 0
-                  (λ same. not_nearer same) ∙ get_or-set_other left to other 0 0 off ∙ none)
-              | inr short ↦ inr short
-            ]
-          ]
-        where
-          not_nearer : other ≡ stop → ⊥
-          not_nearer same =
-              let equal : distance network from other ≡ distance network from stop =
-              ap (distance network from) same in
-              let near = stop_nearer in
-              absurd (omega arith)
+      others_stay other so_far further = grind (
+        arith,
+        cases_eq,
+        nobody_left,
+        get_or-set_other,
+        stop_nearer,
+      )
 
       -- the sums fit
       pub load_fits : get_or loads index 0 + sum_where (goes_over network index from) 0 left
           < 18446744073709551616 → load + customers < 18446744073709551616
       load_fits room =
-          let some = sum_where-one (goes_over network index from) to left (omega arith) in
-          let over = over_stop index in
-          let here : cond (nat_eq index index) customers 0 ≡ customers =
-          ap (λ b. cond b customers 0) (eq-eqb index index refl) in
-          omega arith
+          let some = sum_where-one (goes_over network index from) to left (omega arith) in grind
+          (arith, over_stop, nat_eq, eq-eqb)
 
       pub waiting_fits : sum_where everyone 0 left ≤ 100000000000000000
           → waiting + customers < 18446744073709551616

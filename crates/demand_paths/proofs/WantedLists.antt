@@ -1,7 +1,7 @@
 -- The lists of customers who want to go, by the stop where they start.
-use Rattle.plan_num.proofs.Common.{◌≡◌, ℕ, ◌+◌, ◌<◌, ◌≤◌, Bool, true, false, cond, List, [], length}
-use Rattle.plan_num.proofs.Common.{get_or, set, replicate, refl, ap, arith, get_or-set_other}
-use Rattle.plan_num.proofs.Common.{get_or-set_same, cases_eq, length-set}
+use Rattle.plan_num.proofs.Common.{◌≡◌, ℕ, ◌+◌, ◌<◌, ◌≤◌, Bool, cond, List, [], length, get_or, set}
+use Rattle.plan_num.proofs.Common.{replicate, ap, arith, get_or-set_other, get_or-set_same}
+use Rattle.plan_num.proofs.Common.{cases_eq, length-set}
 use Rattle.walks.proofs.Common.{NetworkParts}
 use Rattle.demand_paths.specs.Wanted.{sum_where, sum_between, everyone, AreWanted}
 use Rattle.demand_paths.proofs.WantedSums.{sum_where-set, sum_where-one, sum_where-zeros, sum_between-set, sum_between-one}
@@ -30,19 +30,7 @@ module _ (network : NetworkParts) (wanted : List (List ℕ)) (from : ℕ)
     pub one_more : (passes : ℕ → ℕ → Bool)
         → sum_between passes 0 (set wanted from (set amounts to (get_or amounts to 0 + customers)))
         ≡ sum_between passes 0 wanted + cond (passes from to) customers 0
-    one_more passes =
-        let here : from < length wanted = omega (arith, are.size) in
-        let outer = sum_between-set passes 0 from from wanted
-        (set amounts to (get_or amounts to 0 + customers)) (omega arith) here in
-        let old = ap (sum_where (passes from) 0) is in
-        let inner = sum_where-set (passes from) 0 to to amounts (get_or amounts to 0 + customers)
-        (omega arith) (omega arith) in
-        let apart = added (passes from to) (get_or amounts to 0) customers in
-        omega arith
-      where
-        added : (b : Bool) (n m : ℕ) → cond b (n + m) 0 ≡ cond b n 0 + cond b m 0
-        added true n m = refl
-        added false n m = refl
+    one_more passes = grind (arith, sum_between-set, get_or, sum_where-set)
 
     pub more_fits : sum_between (λ _. everyone) 0 wanted + customers < 18446744073709551616
         → get_or amounts to 0 + customers < 18446744073709551616

@@ -1,8 +1,8 @@
 -- Sums of those amounts whose number passes a test.
-use Rattle.std.proofs.Common.{◌≡◌, ℕ, zero, suc, ◌+◌, ◌<◌, ◌≤◌, ◌⊎◌, Bool, true, false, cond, List}
-use Rattle.std.proofs.Common.{[], ◌∷◌, length, get_or, set, refl, ap, ◌∙◌, arith, inl, inr, drop}
-use Rattle.std.proofs.Common.{replicate}
-use Rattle.std.proofs.lemmas.List.{drop_all, length-set, length-replicate, get_or-replicate}
+use Rattle.plan_num.proofs.Common.{◌≡◌, ℕ, zero, suc, ◌+◌, ◌<◌, ◌≤◌, ◌⊎◌, Bool, true, false, cond}
+use Rattle.plan_num.proofs.Common.{List, [], ◌∷◌, length, get_or, set, refl, ap, ◌∙◌, arith, inl}
+use Rattle.plan_num.proofs.Common.{inr, drop, replicate, drop_all, length-set, length-replicate}
+use Rattle.plan_num.proofs.Common.{get_or-replicate}
 use Rattle.std.proofs.Math.Seq.{drop-cons}
 use Rattle.demand_paths.specs.Wanted.{sum_where, sum_between, everyone}
 
@@ -45,23 +45,18 @@ module _ (passes : ℕ → Bool) where
   pub sum_where-one : (i : ℕ) (amounts : List ℕ) → i < length amounts
       → cond (passes i) (get_or amounts i 0) 0 ≤ sum_where passes 0 amounts
   sum_where-one i amounts h =
-      let without = sum_where-set 0 i i amounts 0 (omega arith) h in
-      let zero_there = nobody_counts (passes i) in
-      omega arith
+      let without = sum_where-set 0 i i amounts 0 (omega arith) h in grind (arith, nobody_counts)
 
 -- those who pass are no more than all
 pub sum_where-le : (passes : ℕ → Bool) (first : ℕ) (amounts : List ℕ)
     → sum_where passes first amounts ≤ sum_where everyone first amounts
 unfolding sum_where
 sum_where-le passes first [] = omega arith
-sum_where-le passes first (amount ∷ amounts) =
-    let rest = sum_where-le passes (suc first) amounts in
-    let here = some (passes first) in
-    omega arith
-  where
-    some : (b : Bool) → cond b amount 0 ≤ amount
-    some true = omega arith
-    some false = omega arith
+sum_where-le passes first (amount ∷ amounts) = grind (
+  arith,
+  sum_where-le passes (suc first)
+      amounts,
+)
 
 -- an amount goes to another place
 pub moved : (passes : ℕ → Bool) (amounts : List ℕ) (to before : ℕ) → to < length amounts
@@ -70,20 +65,13 @@ pub moved : (passes : ℕ → Bool) (amounts : List ℕ) (to before : ℕ) → t
     (get_or (set amounts to 0) before 0 + get_or amounts to 0))
     + cond (passes to) (get_or amounts to 0) 0
     ≡ sum_where passes 0 amounts + cond (passes before) (get_or amounts to 0) 0
-moved passes amounts to before h there =
-    let amount = get_or amounts to 0 in
-    let without = set amounts to 0 in
-    let size : length without ≡ length amounts = length-set amounts to 0 in
-    let one = sum_where-set passes 0 to to amounts 0 (omega arith) h in
-    let two = sum_where-set passes 0 before before without (get_or without before 0 + amount)
-    (omega arith) (omega arith) in
-    let none = nobody_counts (passes to) in
-    let apart = added (passes before) (get_or without before 0) amount in
-    omega arith
-  where
-    added : (b : Bool) (n m : ℕ) → cond b (n + m) 0 ≡ cond b n 0 + cond b m 0
-    added true n m = refl
-    added false n m = refl
+moved passes amounts to before h there = grind (
+  arith,
+  get_or,
+  length-set,
+  sum_where-set,
+  nobody_counts,
+)
 
 -- ---- lists of them
 
@@ -126,9 +114,7 @@ module _ (passes : ℕ → ℕ → Bool) where
       → sum_where (passes i) 0 (get_or lists i []) ≤ sum_between passes 0 lists
   unfolding sum_where
   sum_between-one i lists h =
-      let without = sum_between-set 0 i i lists [] (omega arith) h in
-      let none : sum_where (passes i) 0 [] ≡ 0 = refl in
-      omega arith
+      let without = sum_between-set 0 i i lists [] (omega arith) h in grind arith
 
 pub sum_between-le : (passes : ℕ → ℕ → Bool) (first : ℕ) (lists : List (List ℕ))
     → sum_between passes first lists ≤ sum_between (λ _. everyone) first lists

@@ -1,5 +1,5 @@
 -- The network of each demo dataset, tried size by size.
-use Rattle.std.proofs.Common.{ℕ, zero, suc, ◌≤◌, refl, arith}
+use Rattle.plan_num.proofs.Common.{ℕ, zero, suc, ◌≤◌, refl, arith}
 use Rattle.demo_dataset.specs.Square.{IsNumbered}
 
 pub numbered_network : (size : ℕ) → 1 ≤ size → size ≤ 8 → IsNumbered size

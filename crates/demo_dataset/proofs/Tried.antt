@@ -1,5 +1,5 @@
 -- The texts of the two smallest datasets, written out.
-use Rattle.std.proofs.Common.{◌≡◌, [], ◌++◌, refl, codes}
+use Rattle.plan_num.proofs.Common.{◌≡◌, [], ◌++◌, refl, codes}
 use Rattle.std.specs.Fmt.{digits}
 use Rattle.demo_dataset.specs.Demo.{stop_text, edge_text, pool_text, demand_text}
 

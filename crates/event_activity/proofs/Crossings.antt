@@ -1,14 +1,14 @@
 -- Each drive of a run goes over its edge, from the one of its ends to the other.
-use Rattle.plan_num.proofs.Common.{◌≡◌, ℕ, zero, suc, ◌+◌, ◌*◌, ◌-◌, ◌/◌, ◌%◌, ◌<◌, arith, ◌⊎◌, inl}
-use Rattle.plan_num.proofs.Common.{inr, All, List, [], ◌∷◌, length, get_or, refl, ap, subst, sym}
-use Rattle.plan_num.proofs.Common.{◌∙◌, Some, None, cons_option, get_or-reverse, All-head, All-tail}
+use Rattle.plan_num.proofs.Common.{◌≡◌, ℕ, zero, suc, ◌+◌, ◌*◌, ◌-◌, ◌%◌, ◌<◌, arith, ◌⊎◌, inl, inr}
+use Rattle.plan_num.proofs.Common.{All, List, [], ◌∷◌, length, get_or, refl, ap, sym, ◌∙◌, Some}
+use Rattle.plan_num.proofs.Common.{None, cons_option, get_or-reverse, All-head, All-tail}
 use Rattle.plan_num.proofs.Common.{slice_get-get_or, same_Some}
 use Rattle.event_tables.proofs.Common.{Direction}
 use Rattle.event_tables.specs.declared.direction.Direction.TheVariants as direction
 use Rattle.line_walks.specs.Pools.{LineParts, walk_from, or_walk, walk_of, IsLine}
 use Rattle.walks.proofs.Common.{Edge, NetworkParts, edges_at, across}
 use Rattle.event_activity.specs.ActivitiesOfRuns.{Crosses}
-use Rattle.event_activity.specs.Runs.{along, no_edge, edge_at, stop_id, run_event}
+use Rattle.event_activity.specs.Runs.{along, no_edge, edge_at, run_event}
 
 -- two stops are the two ends of an edge, either way
 abbrev AreEnds : Edge → ℕ → ℕ → Type 0
@@ -39,8 +39,7 @@ step_of edge edges stop stops e = grind arith
 begins : (edges : List Edge) (stop : ℕ) (stops : List ℕ) (d : ℕ) → walk_from stop edges ≡ Some stops
     → get_or stops 0 d ≡ stop
 unfolding walk_from
-begins [] stop stops d e = let same : stop ∷ [] ≡ stops = same_Some _ _ e in
-    ap (λ all. get_or all 0 d) (sym same)
+begins [] stop stops d e = let same : stop ∷ [] ≡ stops = same_Some _ _ e in grind (arith, get_or)
 begins (edge ∷ edges) stop stops d e =
     ap (λ all. get_or all 0 d) (sym (step_of edge edges stop stops e).are)
 
@@ -50,14 +49,14 @@ walk_ends : (edges : List Edge) (stop : ℕ) (stops : List ℕ) (j : ℕ) (none 
     → AreEnds (get_or edges j none) (get_or stops j d) (get_or stops (suc j) d)
 walk_ends [] stop stops j none d e h = absurd (omega (arith, h))
 walk_ends (edge ∷ edges) stop stops zero none d e h =
-    let step = step_of edge edges stop stops e in
-    subst (λ all. AreEnds edge (get_or all 0 d) (get_or all 1 d)) step.are
-    (subst (λ next. AreEnds edge stop next) (sym (begins edges step.next step.rest d step.walk))
-    (across_ends edge stop step.next step.goes))
+    let step = step_of edge edges stop stops e in grind (arith, get_or, begins, across_ends)
 walk_ends (edge ∷ edges) stop stops (suc j) none d e h =
-    let step = step_of edge edges stop stops e in
-    subst (λ all. AreEnds (get_or edges j none) (get_or all (suc j) d) (get_or all (suc (suc j)) d))
-    step.are (walk_ends edges step.next step.rest j none d step.walk (omega (arith, h)))
+    let step = step_of edge edges stop stops e in grind (
+      arith,
+      get_or,
+      walk_ends edges step.next
+          step.rest j none d step.walk (omega (arith, h)),
+    )
 
 walk_of_ends : (edges : List Edge) (stops : List ℕ) (j : ℕ) (none : Edge) (d : ℕ)
     → walk_of edges ≡ Some stops → j < length edges
@@ -104,11 +103,7 @@ module _ (network : NetworkParts) (line : LineParts) (is : IsLine network.edges 
   line_ends : (j : ℕ) → j < length line.edges → AreEnds (edge_at network (get_or line.edges j 0))
       (get_or line.stops j 0) (get_or line.stops (suc j) 0)
   line_ends j h =
-      let at = are_at network.edges line.edges is.there in
-      subst (λ edge. AreEnds edge (get_or line.stops j 0) (get_or line.stops (suc j) 0))
-      (at.each j h)
-      (walk_of_ends (edges_at network.edges line.edges) line.stops j no_edge 0 is.walk
-      (omega (arith, h, at.size)))
+      let at = are_at network.edges line.edges is.there in grind (arith, get_or, walk_of_ends)
 
   along_ends : (way : Direction) (j : ℕ) → j < length line.edges
       → AreEnds (edge_at network (get_or (along way line.edges) j 0))
@@ -121,25 +116,4 @@ module _ (network : NetworkParts) (line : LineParts) (is : IsLine network.edges 
       → place % 2 ≡ 0 → Crosses network (run_event network line way repetition place).edge
       (run_event network line way repetition place) (run_event network line way repetition
       (place + 1))
-  drive_crosses way repetition place inside even =
-      let first : (place + 1) / 2 ≡ place / 2 = omega (arith, even) in
-      let second : (place + 1 + 1) / 2 ≡ suc (place / 2) = omega (arith, even) in
-      rw (first, second) (crossed (edge_at network (get_or (along way line.edges)
-      (place / 2) 0)) _ _
-      (along_ends way (place / 2) (omega (arith, inside, even))))
-    where
-      crossed : (edge : Edge) (from to : ℕ) → AreEnds edge from to
-          → ((stop_id network from ≡ stop_id network edge.left)
-          × (stop_id network to ≡ stop_id network edge.right))
-          ⊎ ((stop_id network from ≡ stop_id network edge.right)
-          × (stop_id network to ≡ stop_id network edge.left))
-      crossed edge from to (inl ends) = inl (
-        ap (stop_id network) ends.0,
-        ap
-            (stop_id network) ends.1,
-      )
-      crossed edge from to (inr ends) = inr (
-        ap (stop_id network) ends.0,
-        ap
-            (stop_id network) ends.1,
-      )
+  drive_crosses way repetition place inside even = grind (arith, get_or, along_ends)

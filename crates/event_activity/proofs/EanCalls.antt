@@ -1,6 +1,6 @@
 -- The stage of events and activities, from what each of its inputs gives.
-use Rattle.std.proofs.Common.{arith, ◌≡◌, ℕ, ◌<◌, ◌≤◌, List, [], length, subst, sym, ◌∙◌, Result}
-use Rattle.std.proofs.Common.{Ok, Err}
+use Rattle.plan_num.proofs.Common.{arith, ◌≡◌, ℕ, ◌<◌, ◌≤◌, List, [], length, subst, sym, ◌∙◌}
+use Rattle.plan_num.proofs.Common.{Result, Ok, Err}
 use Rattle.tables.specs.declared.counted.Counted.TheVariants as counted
 use Rattle.giv_files.proofs.Common.{Made, Setting, BundleParts, input_text, StageGives}
 use Rattle.giv_files.proofs.Common.{stage_refused}

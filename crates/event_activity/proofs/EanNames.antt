@@ -1,5 +1,5 @@
 -- Which files the stage of events and activities names where it refuses a row.
-use Rattle.std.proofs.Common.{◌≡◌, ℕ, Bool, true, List, [], ◌∷◌, Err, arith}
+use Rattle.plan_num.proofs.Common.{◌≡◌, ℕ, Bool, true, List, [], ◌∷◌, Err, arith}
 use Rattle.tables.proofs.Common.{Counted, FileId, Refusal, limit_faults, row_limit, NamesInput}
 use Rattle.tables.proofs.Common.{AllName, names_both, names_or_else, input_names}
 use Rattle.tables.specs.declared.counted.Counted.TheVariants as counted

@@ -1,10 +1,10 @@
 -- The events and activities of a line concept keep the rules of runs, and each drive goes over an
 -- edge.
-use Rattle.std.proofs.Common.{◌≡◌, ℕ, zero, suc, ◌+◌, ◌==◌, ◌%◌, ◌<◌, arith, Bool, ◌&&◌, true}
-use Rattle.std.proofs.Common.{false, not, Contains, List, [], ◌∷◌, length, get_or, unsigned_abs}
-use Rattle.std.proofs.Common.{refl, ap, subst, sym, ◌∙◌}
-use Rattle.std.proofs.lemmas.Bool.{eq-eqb, eqb-true, ne_eqb, and_parts, not-true, MatchBool-at_true}
-use Rattle.std.proofs.lemmas.List.Elements.{All-weaker, All-contains}
+use Rattle.plan_num.proofs.Common.{◌≡◌, ℕ, zero, suc, ◌+◌, ◌==◌, ◌%◌, ◌<◌, arith, Bool, ◌&&◌, true}
+use Rattle.plan_num.proofs.Common.{false, not, Contains, List, [], ◌∷◌, length, get_or}
+use Rattle.plan_num.proofs.Common.{unsigned_abs, refl, ap, subst, sym, ◌∙◌, eq-eqb, eqb-true}
+use Rattle.plan_num.proofs.Common.{ne_eqb, and_parts, not-true, MatchBool-at_true, All-weaker}
+use Rattle.plan_num.proofs.Common.{All-contains}
 use Rattle.giv_files.proofs.Common.{Setting}
 use Rattle.event_tables.proofs.Common.{PeriodicActivity, PeriodicEvent, PeriodicKind}
 use Rattle.event_tables.proofs.Common.{periodic_event, is_arrival, event_kind_at, is_next, joins}
@@ -64,11 +64,6 @@ departs_even : (n : ℕ) → n < 2 → is_arrival (event_kind_at n) ≡ false �
 departs_even zero h is = refl
 departs_even (suc zero) h is = absurd (cc)
 departs_even (suc (suc n)) h is = absurd (omega (arith, h))
-
-first_of : (a b c d e : Bool) → (a && b && c && d && e) ≡ true → (a ≡ true) × (b ≡ true)
-first_of true true c d e is = (refl, refl)
-first_of true false c d e is = absurd (cc)
-first_of false b c d e is = absurd (cc)
 
 -- a kind joins the rows of the events that it joins
 joins_rows : (settings : List Setting) (kind : PeriodicKind) (event next : RunEvent)

@@ -1,8 +1,8 @@
 -- The activities between events are those that the kinds join and no others.
-use Rattle.plan_num.proofs.Common.{◌≡◌, ℕ, zero, suc, arith, Bool, true, false, All, Contains, List}
-use Rattle.plan_num.proofs.Common.{map, filter, refl, subst, sym, flat_map, enumerate_from}
-use Rattle.plan_num.proofs.Common.{and_parts, All-map, All-weaker, All-filter, All-contains}
-use Rattle.plan_num.proofs.Common.{All-contains_itself, filter_passes}
+use Rattle.plan_num.proofs.Common.{◌≡◌, ℕ, arith, true, All, Contains, List, map, filter, refl}
+use Rattle.plan_num.proofs.Common.{subst, sym, flat_map, enumerate_from, and_parts, All-map}
+use Rattle.plan_num.proofs.Common.{All-weaker, All-filter, All-contains, All-contains_itself}
+use Rattle.plan_num.proofs.Common.{filter_passes}
 use Rattle.giv_files.proofs.Common.{Setting}
 use Rattle.event_tables.proofs.Common.{PeriodicActivity, PeriodicKind}
 use Rattle.event_tables.specs.declared.periodic_kind.PeriodicKind.TheVariants as kinds
@@ -29,14 +29,7 @@ module _ (settings : List Setting) where
   joins_as joining.Run made event next is = grind arith
   joins_as joining.Sync made event next is = is
   joins_as joining.Change made event next is = is
-  joins_as joining.Headway made event next is = rw (headway_kept (keeps_headway settings) made, is) refl
-    where
-      headway_kept : (b : Bool) → Contains (joinings_with b) joining.Headway → b ≡ true
-      headway_kept true made = refl
-      headway_kept false (zero, h, here) = absurd (cc)
-      headway_kept false (suc zero, h, here) = absurd (cc)
-      headway_kept false (suc (suc zero), h, here) = absurd (cc)
-      headway_kept false (suc (suc (suc n)), h, here) = absurd (omega (arith, h))
+  joins_as joining.Headway made event next is = grind arith
 
   -- and what a kind joins, a joining of that kind
   record IsJoined (kind : PeriodicKind) (event next : RunEvent) : Type 0 where

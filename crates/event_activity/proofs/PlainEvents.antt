@@ -3,10 +3,10 @@ use Rattle.std.proofs.Common.{ℕ, pos, ◌+◌, ◌*◌, ◌/◌, ◌<◌, ◌�
 use Rattle.std.proofs.Common.{map, unsigned_abs, refl, ap, subst, sym, ◌∙◌}
 use Rattle.std.specs.List.{flat_map, range_with_len, enumerate_from}
 use Rattle.std.proofs.lemmas.List.Elements.{All-append, All-map, All-weaker, All-contains, All-contains_itself, All-get_or, Contains-append_left, Contains-append_right, Contains-get_or}
-use Rattle.event_tables.proofs.Common.{Direction}
+use Rattle.event_tables.specs.declared.direction.Direction.{Direction}
 use Rattle.event_tables.specs.declared.direction.Direction.TheVariants as direction
 use Rattle.line_walks.specs.Pools.{LineParts, IsLine}
-use Rattle.walks.proofs.Common.{NetworkParts}
+use Rattle.walks.specs.Networks.{NetworkParts}
 use Rattle.plan_num.proofs.Members.{Contains-flat_map as contains_part, Contains-map as contains_map, All-flat_map as all_parts}
 use Rattle.event_activity.specs.declared.run_event.RunEvent.{RunEvent}
 use Rattle.event_activity.specs.EventsOfRuns.{IsEventOf, AreEventsOf}

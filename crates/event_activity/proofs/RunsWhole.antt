@@ -126,7 +126,4 @@ module _ (network : NetworkParts) (test : PeriodicEvent × PeriodicEvent → Boo
   unfolding runs_of
   runs_joined [] turn agree = refl
   runs_joined (event ∷ events) turn agree =
-      let all = runs_are event events turn agree in
-      ap (flat_map failing) all.are
-      ∙ ap (λ (some : List (PeriodicEvent × PeriodicEvent)).
-      map (λ pair. pair.0) some ++ flat_map failing all.runs) all.joined ∙ all.others_joined
+      let all = runs_are event events turn agree in grind arith

@@ -1,6 +1,6 @@
 -- The network and the lines of texts without a fault.
-use Rattle.std.proofs.Common.{◌≡◌, ℕ, ℤ, pos, ◌≤◌, ◌≤ℤ◌, lit<, All, List, [], length, subst, sym}
-use Rattle.std.proofs.lemmas.List.Elements.{All-map, All-weaker}
+use Rattle.plan_num.proofs.Common.{◌≡◌, ℕ, ℤ, pos, ◌≤◌, ◌≤ℤ◌, lit<, All, List, [], length, subst}
+use Rattle.plan_num.proofs.Common.{sym, All-map, All-weaker}
 use Rattle.tables.specs.declared.column.ColumnKind.TheVariants as column
 use Rattle.tables.proofs.Common.{stop_columns, records_of, input_faults, table_of, TableRow}
 use Rattle.tables.proofs.Common.{sound_rows, front_none, in_column}

@@ -111,10 +111,7 @@ module _ (settings : List Setting) (fits : SettingsFit stage.Ean settings) where
       soon = (amount_within stage.Ean settings key.EanDefaultMaximalChangeTime _ _ fits refl refl
           refl).1;
     };
-    headways = record {
-      in_order = omega (arith, halved);
-      soon = omega (arith, short);
-    };
+    headways = grind (arith, in_order, halved, short);
   }
 
 -- the settings of a bundle of the stage

@@ -88,11 +88,7 @@ listed_from (column ∷ kinds) (cell ∷ cells) f from h at =
 
 pub listed : (kinds : List ColumnKind) (cells : List ℤ) → InColumns kinds cells → cells ≡ map
     (λ i. get_or cells i (pos 0)) (range_with_len 0 (length kinds))
-listed kinds cells h = listed_from kinds cells (λ i. get_or cells i (pos 0)) 0 h
-    (λ i. ap (λ n. get_or cells n (pos 0)) (plus i))
-  where
-    plus : (i : ℕ) → 0 + i ≡ i
-    plus i = omega arith
+listed kinds cells h = grind (arith, listed_from, get_or)
 
 -- ---- numbers and words
 

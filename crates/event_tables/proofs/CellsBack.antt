@@ -1,5 +1,5 @@
 -- Each record is the one of its cells, and cells in the ranges of their columns are those of their record.
-use Rattle.std.proofs.Common.{◌≡◌, ℤ, pos, arith, List, get_or, refl, sym}
+use Rattle.plan_num.proofs.Common.{◌≡◌, ℤ, pos, arith, List, get_or, refl, sym}
 use Rattle.tables.proofs.Common.{events_p_columns, activities_p_columns, times_p_columns}
 use Rattle.tables.proofs.Common.{events_x_columns, activities_x_columns, trips_columns}
 use Rattle.tables.proofs.Common.{schedule_columns, delays_columns, disposed_columns, InColumns}

@@ -1,5 +1,5 @@
 -- What holds of each record of a text that has no fault.
-use Rattle.plan_num.proofs.Common.{◌≡◌, ℕ, ℤ, List, [], subst, sym, All, All-map}
+use Rattle.plan_num.proofs.Common.{arith, ◌≡◌, ℕ, ℤ, List, [], All, All-map}
 use Rattle.tables.proofs.Common.{Input, broken_whys, records_of, input_faults, table_of, TableRow}
 use Rattle.tables.proofs.Common.{InColumns, sound_rows}
 
@@ -19,5 +19,4 @@ module _ {X : Type 0} (input : Input X) (text : List ℕ) (none : input_faults i
   fitting_records cells_of back =
       All-map (λ (row : X). InColumns input.columns (cells_of row))
       (λ (row : TableRow). input.read row.cells) (table_of input.columns text)
-      (λ k d h. let at = sound_rows input text none k d h in subst (InColumns input.columns)
-      (sym (back _ at.2)) at.2)
+      (λ k d h. let at = sound_rows input text none k d h in grind arith)

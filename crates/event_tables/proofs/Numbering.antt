@@ -21,8 +21,7 @@ among id a (suc n) h =
     elim (eqb id a) as (λ b. eqb id a ≡ b → (b || list_any (nat_eq id) (range_with_len (a + 1) n))
     ≡ true → (a ≤ id) × (id < a + suc n)) [
       | true ↦ λ is some. (omega (arith, eqb-true id a is), omega (arith, eqb-true id a is))
-      | false ↦ λ is some. let later = among id (a + 1) n some in
-          (omega (arith, later.0), omega (arith, later.1))
+      | false ↦ λ is some. grind (arith, among id (a + 1) n some)
     ] refl h
 
 -- a test that one of so many numbers passes, or that none does
@@ -64,15 +63,7 @@ some_missing n count =
           (omega (arith, fewer))
           (none_of_places n (suc n)
           ∙ rw (ne_eqb (suc n) 0 (λ e. omega (arith, e)), lt-ltb n (suc n) (omega arith)) refl)
-      | false ↦ λ is.
-          let most : count ≤ n = ltb-false n count is in
-          none_in (is_none_of (range_with_len 1 n)) 1 count
-          (λ id low high. none_of_places n id
-          ∙ rw (
-            ne_eqb id 0 (λ e. omega (arith, e, low)),
-            le-ltb n id
-                (omega (arith, high, most)),
-          ) refl)
+      | false ↦ λ is. grind (arith, ltb-false, none_in, none_of_places, ne_eqb, le-ltb)
     ] refl
 
 -- an id that is one of so many
@@ -91,14 +82,16 @@ unfolding row_faults
 numbered_from file id of rules before [] none = refl
 numbered_from file id of rules before (row ∷ rows) none =
     let kept = rules_sound (own_place id) rules before (of row)
-    (unmapped _ (broken_whys (own_place id ∷ rules) before (of row)) (front_none _ _ none)) in
-    let first : id (of row) ≡ length before + 1 = eqb-true _ _ (not-false _ kept.0) in
-    let rest = numbered_from file id of rules (before ++ of row
-    ∷ []) rows (back_none (map
-    (λ why. refusal.BadRow file row.number why) (broken_whys (own_place id
-    ∷ rules) before (of row))) _ none) in
-    rw first (ap (λ ids. (length before + 1) ∷ ids) (rest ∙ ap
-    (λ n. range_with_len (n + 1) (length rows)) (length_push before (of row))))
+    (unmapped _ (broken_whys (own_place id ∷ rules) before (of row)) (front_none _ _ none)) in grind (
+      arith,
+      eqb-true,
+      not-false,
+      back_none,
+      length_push,
+      numbered_from file id of rules (before
+          ++ of row ∷ []) rows (back_none (map (λ why. refusal.BadRow file row.number why)
+          (broken_whys (own_place id ∷ rules) before (of row))) _ none),
+    )
 
 pub numbered_rows : {X : Type 0} (input : Input X) (id : X
     → ℕ) (rules : List (RowRule X)) (text : List ℕ) → input.row_rules ≡ own_place id ∷ rules

@@ -1,15 +1,13 @@
 -- The forward order as one number.
-use Rattle.plan_num.proofs.Common.{◌≡◌, ◌∙◌, ℕ, ◌+◌, ◌*◌, ◌-◌, ◌<◌, ◌≤◌, ◌⊎◌, inl, inr, Bool, true}
-use Rattle.plan_num.proofs.Common.{false, cond, List, [], ◌∷◌, length, get_or, Some, refl, ap, sym}
-use Rattle.plan_num.proofs.Common.{arith, slice_cmp, nat_cmp, is_lt, ordering_then, false≢true}
-use Rattle.plan_num.proofs.Common.{get_or-map, get_or-range_with_len}
+use Rattle.plan_num.proofs.Common.{◌≡◌, ◌∙◌, ℕ, ◌+◌, ◌-◌, ◌<◌, ◌≤◌, ◌⊎◌, Bool, true, false, cond}
+use Rattle.plan_num.proofs.Common.{List, [], length, get_or, Some, refl, ap, sym, arith, nat_cmp}
+use Rattle.plan_num.proofs.Common.{is_lt, ordering_then, false≢true, get_or-map}
+use Rattle.plan_num.proofs.Common.{get_or-range_with_len}
 use Rattle.std.specs.declared.cmp.Ordering.{Ordering}
-use Rattle.std.specs.declared.cmp.Ordering.TheVariants.{Equal}
 use Rattle.event_tables.specs.declared.expanded_event.ExpandedEvent.{ExpandedEvent}
 use Rattle.event_tables.specs.Cells.{expanded_event}
 use Rattle.event_tables.specs.ForwardOrder.{both_pass, event_with, goes_forward, stands_before}
 use Rattle.event_tables.specs.ForwardRanks.{forward_rank}
-use Rattle.event_tables.specs.Kinds.{is_arrival}
 use Rattle.event_tables.specs.Places.{AreNumbered, IsOneOf}
 use Rattle.event_tables.proofs.Numbering.{find_numbered}
 
@@ -74,50 +72,14 @@ pub rank_rises : (events : List ExpandedEvent) (from to : ℕ)
     → to < length events → stands_before (at events from) (at events to) ≡ true
     → forward_rank events from < forward_rank events to
 unfolding lateness place_of
-rank_rises events from to are few from_there to_there before =
-    by (decided a.time b.time _ before)
-  where
-    a : ExpandedEvent
-    a = at events from
-
-    b : ExpandedEvent
-    b = at events to
-
-    rank : ℕ → Bool → ℕ → ℕ
-    rank time arrives event = time * 4294967296 + (lateness arrives + event)
-
-    by_id : a.time ≡ b.time → place_of (is_arrival a.kind) ≡ place_of (is_arrival b.kind)
-        → (a.id < b.id) ⊎ ((a.id ≡ b.id) × (is_lt Equal ≡ true))
-        → rank a.time (is_arrival a.kind) from < rank b.time (is_arrival b.kind) to
-    by_id time kind (inl less) = grind (arith, id_at, same_place, b)
-    by_id time kind (inr both) = absurd (false≢true both.1)
-
-    by_kind : a.time ≡ b.time
-        → (place_of (is_arrival a.kind) < place_of (is_arrival b.kind))
-        ⊎ ((place_of (is_arrival a.kind) ≡ place_of (is_arrival b.kind))
-        × (is_lt (slice_cmp nat_cmp (a.id ∷ []) (b.id ∷ [])) ≡ true))
-        → rank a.time (is_arrival a.kind) from < rank b.time (is_arrival b.kind) to
-    by_kind time (inl less) =
-        omega (arith, time, later_place (is_arrival a.kind) (is_arrival b.kind) less, from_there, few)
-    by_kind time (inr both) = by_id time both.0 (decided a.id b.id Equal both.1)
-
-    by : (a.time < b.time) ⊎ ((a.time ≡ b.time)
-        × (is_lt (slice_cmp nat_cmp (place_of (is_arrival a.kind) ∷ a.id ∷ [])
-        (place_of (is_arrival b.kind) ∷ b.id ∷ [])) ≡ true))
-        → rank a.time (is_arrival a.kind) from < rank b.time (is_arrival b.kind) to
-    by (inl less) = omega (arith, less, most_late (is_arrival a.kind), from_there, few)
-    by (inr both) =
-        by_kind both.0 (decided (place_of (is_arrival a.kind)) (place_of (is_arrival b.kind)) _ both.1)
-
--- of two events in the forward order the second is planned no earlier
-pub planned_rises : (events : List ExpandedEvent) (from to : ℕ)
-    → stands_before (at events from) (at events to) ≡ true
-    → (at events from).time ≤ (at events to).time
-planned_rises events from to before =
-    by (decided (at events from).time (at events to).time _ before)
-  where
-    by : {P : Type 0} → ((at events from).time < (at events to).time)
-        ⊎ (((at events from).time ≡ (at events to).time) × P)
-        → (at events from).time ≤ (at events to).time
-    by (inl less) = omega (arith, less)
-    by (inr same) = omega (arith, same.0)
+rank_rises events from to are few from_there to_there before = grind (
+  arith,
+  decided,
+  lateness,
+  place_of,
+  id_at,
+  same_place,
+  false≢true,
+  later_place,
+  most_late,
+)

@@ -1,6 +1,6 @@
 -- The definitions on small texts: all faults of each, in their order.
-use Rattle.std.proofs.Common.{◌≡◌, ℕ, pos, true, false, List, [], ◌∷◌, ◌++◌, length, map, refl, codes, Some, None}
-use Rattle.std.specs.List.{flat_map}
+use Rattle.plan_num.proofs.Common.{◌≡◌, ℕ, pos, true, false, List, [], ◌∷◌, ◌++◌, length, map, refl}
+use Rattle.plan_num.proofs.Common.{codes, Some, None, flat_map}
 use Rattle.tables.specs.declared.file_id.FileId.TheVariants as file
 use Rattle.tables.specs.declared.row_why.RowWhy.TheVariants as why
 use Rattle.tables.proofs.Common.{Refusal, records_of}

@@ -1,5 +1,5 @@
 -- The rules of runs on small lists of events and activities.
-use Rattle.std.proofs.Common.{◌≡◌, ℕ, pos, List, [], ◌∷◌, map, refl}
+use Rattle.plan_num.proofs.Common.{◌≡◌, ℕ, pos, List, [], ◌∷◌, map, refl}
 use Rattle.event_tables.specs.declared.periodic_activity.PeriodicActivity.{PeriodicActivity}
 use Rattle.event_tables.specs.declared.periodic_event.PeriodicEvent.{PeriodicEvent}
 use Rattle.event_tables.specs.Cells.{periodic_event, periodic_activity}

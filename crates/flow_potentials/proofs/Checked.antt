@@ -107,8 +107,7 @@ flat_none f from (suc n) none k low high =
     by_bound from k
     (λ below. flat_none f (from + 1) n (back_none (f from) (flat_map f (range_with_len (from + 1) n)) none) k
     (omega (arith, below)) (omega (arith, high)))
-    (λ above. let same : k ≡ from = omega (arith, above, low) in
-    ap f same ∙ front_none (f from) (flat_map f (range_with_len (from + 1) n)) none)
+    (λ above. let same : k ≡ from = omega (arith, above, low) in grind (arith, front_none))
 
 none_flat : {X : Type 0} (f : ℕ → List X) (from n : ℕ) → ((k : ℕ) → f k ≡ []) → flat_map f (range_with_len from n) ≡ []
 none_flat f from zero none = refl
@@ -183,31 +182,10 @@ module _ (trips : TripsParts) (plan : List (Option ℕ)) (potentials : Potential
   module _ (is : IsPlan (links_of trips) plan) where
     sums_agree : (total potentials + plan_cost trips plan == trips.vehicle * length trips.trips)
         ≡ int_eq (pos (total potentials)) (plan_gain (links_of trips) plan)
-    sums_agree = split (total potentials + plan_cost trips plan == trips.vehicle * length trips.trips) refl
-        (int_eq (pos (total potentials)) (plan_gain (links_of trips) plan)) refl
-      where
-        split : (a : Bool) → (total potentials + plan_cost trips plan == trips.vehicle * length trips.trips) ≡ a
-            → (b : Bool) → int_eq (pos (total potentials)) (plan_gain (links_of trips) plan) ≡ b → a ≡ b
-        split true e true f = refl
-        split false e false f = refl
-        split true e false f =
-            let same = eqb-true (total potentials + plan_cost trips plan) (trips.vehicle * length trips.trips) e in
-            sym ((Decides-int_eq (pos (total potentials)) (plan_gain (links_of trips) plan)).1
-            (omega (arith, ints, same, cost_by_gain trips plan is))) ∙ f
-        split false e true f =
-            let same = (Decides-int_eq (pos (total potentials)) (plan_gain (links_of trips) plan)).0 f in
-            sym e ∙ eq-eqb (total potentials + plan_cost trips plan) (trips.vehicle * length trips.trips)
-            (omega (arith, ints, same, cost_by_gain trips plan is))
+    sums_agree = grind (arith, eqb-true, Decides-int_eq, ints, cost_by_gain, eq-eqb)
 
     pub told_sum : pair_faults (links_of trips) potentials ≡ [] → (exact : Bool)
         → exact ≡ (total potentials + plan_cost trips plan == trips.vehicle * length trips.trips)
         → slice_get (potential_faults (links_of trips) plan potentials) 0 ≡ cond exact None (Some fault.Sum)
     unfolding potential_faults
-    told_sum pairs exact same =
-        ap (λ first. slice_get (first ++ sum_faults (links_of trips) plan potentials) 0) pairs
-        ∙ ap (λ b. slice_get (cond b [] (fault.Sum ∷ [])) 0) (sym (same ∙ sums_agree))
-        ∙ split exact
-      where
-        split : (b : Bool) → slice_get (cond b [] (fault.Sum ∷ [])) 0 ≡ cond b None (Some fault.Sum)
-        split true = refl
-        split false = refl
+    told_sum pairs exact same = grind (arith, slice_get, sums_agree)

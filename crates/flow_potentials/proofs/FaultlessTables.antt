@@ -3,7 +3,6 @@ use Rattle.plan_num.proofs.Common.{◌≡◌, ℕ, ◌+◌, ◌<◌, ◌≤◌, 
 use Rattle.plan_num.proofs.Common.{List, [], ◌∷◌, ◌++◌, length, refl, arith, ltb-false, ltb-true}
 use Rattle.tables.proofs.Common.{RowFault, potential_columns, faults, table_of, TableRow}
 use Rattle.tables.proofs.Common.{table_in_columns}
-use Rattle.tables.specs.declared.row_why.RowWhy.TheVariants as why
 use Rattle.vehicle_model.specs.ReadSchedules.{or_others}
 use Rattle.link_plans.proofs.Common.{AreOver, ArePotentials}
 use Rattle.flow_potentials.specs.PotentialTables.{gaps_from, is_trip_row, potentials_of, table_faults}
@@ -23,13 +22,7 @@ no_gap_here false gap others e = absurd (cc)
 all_rows : (count before : ℕ) (rows : List TableRow) → before ≤ count → gaps_from count before rows ≡ []
     → before + length rows ≡ count
 unfolding gaps_from
-all_rows count before [] few none = last (nat_lt before count) refl none
-  where
-    last : (b : Bool) → nat_lt before count ≡ b → cond {A = List RowFault} b
-        (record { row = 0; why = why.OrderGap } ∷ []) [] ≡ []
-        → before + 0 ≡ count
-    last true is e = absurd (cc)
-    last false is e = let past : count ≤ before = ltb-false before count is in omega (arith, few, past)
+all_rows count before [] few none = grind (arith, nat_lt, ltb-false)
 all_rows count before (row ∷ rows) few none =
     let here = no_gap_here (is_trip_row count before row) _ _ none in
     let inside : before < count = ltb-true before count (second_true _ _ here.0) in

@@ -2,13 +2,13 @@
 use Rattle.plan_num.proofs.Common.{◌≡◌, ℕ, ℤ, suc, pos, negsuc, ◌+◌, ◌<◌, ◌≤◌, ◌≤ℤ◌, nat_lt, Bool}
 use Rattle.plan_num.proofs.Common.{true, false, cond, List, [], ◌∷◌, ◌++◌, length, map, take, drop}
 use Rattle.plan_num.proofs.Common.{get_or, slice_get, unsigned_abs, All, Some, ap, sym, ◌∙◌, arith}
-use Rattle.plan_num.proofs.Common.{append_assoc, ints, take_more, take_all, map-append, drop_all}
-use Rattle.plan_num.proofs.Common.{length-map, All-map}
+use Rattle.plan_num.proofs.Common.{ints, take_more, take_all, map-append, drop_all, length-map}
+use Rattle.plan_num.proofs.Common.{All-map}
 use Rattle.std.proofs.Math.Seq.{drop-cons}
 use Rattle.tables.specs.declared.row_why.RowWhy.TheVariants as why
 use Rattle.tables.proofs.Common.{TableRow, no_row}
-use Rattle.link_plans.proofs.Common.{at, IsSmall, ArePotentials, AreOver}
-use Rattle.flow_potentials.specs.PotentialTables.{rows_from, is_trip_row, gaps_from, column_of, FitsColumns}
+use Rattle.link_plans.proofs.Common.{IsSmall, ArePotentials, AreOver}
+use Rattle.flow_potentials.specs.PotentialTables.{is_trip_row, gaps_from, column_of, FitsColumns}
 
 -- ---- reading
 
@@ -68,21 +68,12 @@ abs_small (negsuc n) low high = absurd (omega (arith, ints, low))
 
 row_small : (row : TableRow) → FitsColumns row
     → IsSmall (unsigned_abs (get_or row.cells 1 (pos 0))) × IsSmall (unsigned_abs (get_or row.cells 2 (pos 0)))
-row_small row fits = of_cells row.cells fits
-  where
-    of_cells : (cells : List ℤ) → FitsColumns (record { number = 0; cells = cells })
-        → IsSmall (unsigned_abs (get_or cells 1 (pos 0))) × IsSmall (unsigned_abs (get_or cells 2 (pos 0)))
-    of_cells (id ∷ u ∷ v ∷ []) h = (abs_small u h.1.0.0 h.1.0.1, abs_small v h.1.1.0.0 h.1.1.0.1)
-    of_cells [] h = elim h [ ]
-    of_cells (id ∷ []) h = elim h.1 [ ]
-    of_cells (id ∷ u ∷ []) h = elim h.1.1 [ ]
-    of_cells (id ∷ u ∷ v ∷ more ∷ rest) h = elim h.1.1.1 [ ]
+row_small row fits = grind (arith, unsigned_abs, get_or, abs_small)
 
 pub table_potentials : (table : List TableRow) → All FitsColumns table → (u v : List ℕ)
     → u ≡ column_of 1 table → v ≡ column_of 2 table → ArePotentials (record { u = u; v = v })
 table_potentials table fit u v u_is v_is = rw (u_is, v_is) (record {
-  each = length-map table (λ row. unsigned_abs (get_or row.cells 1 (pos 0)))
-      ∙ sym (length-map table (λ row. unsigned_abs (get_or row.cells 2 (pos 0))));
+  each = grind (arith, length-map, unsigned_abs, get_or);
   u_small = All-map IsSmall (λ (row : TableRow). unsigned_abs (get_or row.cells 1 (pos 0))) table
       (λ k d h. (row_small (get_or table k d) (fit k d h)).0);
   v_small = All-map IsSmall (λ (row : TableRow). unsigned_abs (get_or row.cells 2 (pos 0))) table
@@ -94,10 +85,3 @@ pub table_over : (table : List TableRow) (count : ℕ) (u v : List ℕ) → u �
 table_over table count u v u_is v_is counted = grind (arith, length-map, unsigned_abs, get_or)
 
 -- ---- writing
-
-pub rows_more : (u v : List ℕ) (i : ℕ) (all rows new : List TableRow) → i < length u → i < length v
-    → rows ++ rows_from (i + 1) (drop i u) (drop i v) ≡ all
-    → new ≡ rows ++ record { number = 0; cells = pos (i + 1) ∷ pos (at u i) ∷ pos (at v i) ∷ [] } ∷ []
-    → new ++ rows_from (i + 1 + 1) (drop (i + 1) u) (drop (i + 1) v) ≡ all
-rows_more u v i all rows new in_u in_v so_far added =
-    grind (arith, drop-cons, one_more, append_assoc)

@@ -1,8 +1,8 @@
 -- Potentials that are written are read back.
 use Rattle.plan_num.proofs.Common.{◌≡◌, ℕ, ℤ, suc, pos, ◌+◌, ◌≤◌, nat_lt, List, [], ◌∷◌, length}
 use Rattle.plan_num.proofs.Common.{map, drop, get_or, slice_get, unsigned_abs, All, Some, Result}
-use Rattle.plan_num.proofs.Common.{Ok, Err, IfOk, refl, ap, sym, ◌∙◌, subst, arith, eq-eqb, lt-ltb}
-use Rattle.plan_num.proofs.Common.{ints, All-nil, All-cons}
+use Rattle.plan_num.proofs.Common.{Ok, Err, IfOk, refl, ap, sym, subst, arith, eq-eqb, lt-ltb, ints}
+use Rattle.plan_num.proofs.Common.{All-nil, All-cons}
 use Rattle.tables.proofs.Common.{RowFault, ReadFault, potential_columns, faults, table_of}
 use Rattle.tables.proofs.Common.{ReadGives, TableRow, table_text, CanWrite, ReadsBack, plain_header}
 use Rattle.tables.proofs.Common.{table_in_columns, written_back}
@@ -83,13 +83,7 @@ pub reads_back : (potentials : PotentialParts) → ArePotentials potentials → 
 unfolding table_faults potentials_of
 reads_back potentials are text back =
     let is = table_is (length potentials.u) 0 (table_of potential_columns text) potentials.u potentials.v
-    are.each (omega arith) back.1 in
-    record {
-      faultless = ap (λ all. or_others all
-          (gaps_from (length potentials.u) 0 (table_of potential_columns text))) back.0 ∙ is.gaps;
-      same = ap (λ u. record { u = u; v = column_of 2 (table_of potential_columns text) }) is.u_is
-          ∙ ap (λ v. record { u = potentials.u; v = v }) is.v_is;
-    }
+    are.each (omega arith) back.1 in grind arith
 
 pub written : (potentials : PotentialParts) → ArePotentials potentials → (table : List TableRow)
     → table ≡ potential_rows potentials → {E : Type 0} (result : Result (List ℕ) E)

@@ -1,7 +1,7 @@
 -- The parts of a report's line, one after the other.
-use Rattle.std.proofs.Common.{arith, ◌≡◌, ℕ, ◌+◌, ◌<◌, ◌≤◌, List, ◌++◌, length, drop, get_or, codes}
-use Rattle.std.proofs.Common.{ap, sym, ◌∙◌}
-use Rattle.std.proofs.lemmas.List.{drop_more, drop_all, append_assoc, append-nil}
+use Rattle.plan_num.proofs.Common.{arith, ◌≡◌, ℕ, ◌+◌, ◌<◌, ◌≤◌, List, ◌++◌, length, drop, get_or}
+use Rattle.plan_num.proofs.Common.{codes, ap, sym, ◌∙◌, drop_more, drop_all, append_assoc}
+use Rattle.plan_num.proofs.Common.{append-nil}
 use Rattle.giv_files.specs.ReportLines.{marked}
 
 -- one part more

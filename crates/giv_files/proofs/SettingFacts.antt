@@ -1,9 +1,8 @@
 -- The keys of settings that fit a stage are there, with values in their ranges.
-use Rattle.plan_num.proofs.Common.{◌≡◌, ℕ, ℤ, pos, negsuc, ◌≤◌, ◌≤ℤ◌, ◌||◌, Bool, eqb-true, cond}
-use Rattle.plan_num.proofs.Common.{true, false, List, [], ◌∷◌, map, Some, int_le, unsigned_abs}
-use Rattle.plan_num.proofs.Common.{unwrap_or, option_map, refl, ap, subst, sym, ◌∙◌, arith, find}
-use Rattle.plan_num.proofs.Common.{list_all, list_any, le_z_yes, and_parts, T_from_true, ints}
-use Rattle.plan_num.proofs.Common.{same_Some}
+use Rattle.plan_num.proofs.Common.{◌≡◌, ℕ, ℤ, pos, negsuc, ◌≤◌, ◌||◌, Bool, eqb-true, cond, true}
+use Rattle.plan_num.proofs.Common.{false, List, [], ◌∷◌, map, Some, int_le, unsigned_abs, unwrap_or}
+use Rattle.plan_num.proofs.Common.{option_map, refl, ap, subst, sym, ◌∙◌, arith, find, list_all}
+use Rattle.plan_num.proofs.Common.{list_any, and_parts, T_from_true, ints, same_Some}
 use Rattle.giv_files.specs.declared.key.Key.{Key}
 use Rattle.giv_files.specs.declared.key.Key.TheVariants as key
 use Rattle.giv_files.specs.declared.setting.Setting.{Setting}
@@ -72,8 +71,7 @@ pub key_there : (stage : Stage) (settings : List Setting) (k : Key) → Settings
     × (allows k value ≡ true)
 key_there stage settings k fits has =
     let there = value_there settings k (ap (list_any (is_key k)) fits.keys
-    ∙ among_keys stage k has) in
-    (there.0, there.1, value_allowed settings k there.0 fits.allowed there.1)
+    ∙ among_keys stage k has) in grind (arith, value_allowed)
 
 unsigned_allowed : (k : Key) (value : ℤ) → allows k value ≡ true
     → allows k (pos (unsigned_abs value)) ≡ true
@@ -86,9 +84,12 @@ pub amount_allowed : (stage : Stage) (settings : List Setting) (k : Key)
     → SettingsFit stage settings → has_key stage k ≡ true
     → allows k (pos (amount settings k)) ≡ true
 amount_allowed stage settings k fits has =
-    let there = key_there stage settings k fits has in
-    subst (λ o. allows k (pos (unsigned_abs (unwrap_or o (pos 0)))) ≡ true) (sym there.1)
-    (unsigned_allowed k there.0 there.2)
+    let there = key_there stage settings k fits has in grind (
+      arith,
+      unsigned_abs,
+      unwrap_or,
+      unsigned_allowed,
+    )
 
 -- and lies in the range of the key, where that has no numbers below 0
 pub amount_within : (stage : Stage) (settings : List Setting) (k : Key) (low high : ℕ)
@@ -98,9 +99,4 @@ pub amount_within : (stage : Stage) (settings : List Setting) (k : Key) (low hig
 amount_within stage settings k low high fits has from to =
     let within = and_parts (int_le (least (key_kind k)) (pos (amount settings k)))
     (int_le (pos (amount settings k)) (greatest (key_kind k)))
-    (amount_allowed stage settings k fits has) in
-    let above : pos low ≤ℤ pos (amount settings k) =
-    subst (λ z. z ≤ℤ pos (amount settings k)) from (le_z_yes (T_from_true _ within.0)) in
-    let below : pos (amount settings k) ≤ℤ pos high =
-    subst (λ z. pos (amount settings k) ≤ℤ z) to (le_z_yes (T_from_true _ within.1)) in
-    (omega (arith, ints), omega (arith, ints))
+    (amount_allowed stage settings k fits has) in grind (arith, T_from_true, ints)

@@ -37,12 +37,7 @@ one_key_more line keys i d inside =
 -- the value of a key is one that it may have
 pub value_fits : (settings : List Setting) (k : Key) → list_all is_allowed settings ≡ true
     → IfSome (value_of settings k) (λ value. allows k value ≡ true)
-value_fits settings k all = by (value_of settings k) refl
-  where
-    by : (found : Option ℤ) → value_of settings k ≡ found
-        → IfSome found (λ value. allows k value ≡ true)
-    by None is = tt
-    by (Some value) is = value_allowed settings k value all is
+value_fits settings k all = grind (arith, value_allowed)
 
 -- ---- the text of a value spells it
 
@@ -57,13 +52,7 @@ kind_small _ = (omega (arith, ints), omega (arith, ints))
 -- text of the bytes of numbers is no word
 no_word : (text word : List ℕ) → list_all is_number_byte text ≡ true
     → list_all is_number_byte word ≡ false → bytes_eq text word ≡ false
-no_word text word all none = by (bytes_eq text word) refl
-  where
-    by : (b : Bool) → bytes_eq text word ≡ b → b ≡ false
-    by false is = refl
-    by true is =
-        let same = (bytes_eq-Decides text word).0 is in
-        sym all ∙ ap (list_all is_number_byte) same ∙ none
+no_word text word all none = grind (arith, bytes_eq-Decides)
 
 not_negative : (n : ℕ) → int_le (pos 0) (pos n) ≡ true
 not_negative n = grind (arith, ints, nat_tests)
@@ -139,8 +128,7 @@ ended (x ∷ xs) [] a b p q e =
 ended (x ∷ xs) (y ∷ ys) a b p q e =
     let more = ended xs ys a b (and_parts (is_plain x) (list_all is_plain xs) p).1
     (and_parts (is_plain y) (list_all is_plain ys) q).1
-    (rest_of x y (xs ++ 10 ∷ a) (ys ++ 10 ∷ b) e) in
-    (λ i. head_of x y (xs ++ 10 ∷ a) (ys ++ 10 ∷ b) e i ∷ more.0 i, more.1)
+    (rest_of x y (xs ++ 10 ∷ a) (ys ++ 10 ∷ b) e) in grind (arith, head_of)
 
 regrouped : (front text a : List ℕ) → ((front ++ text) ++ 10 ∷ []) ++ a ≡ front ++ (text ++ 10 ∷ a)
 regrouped front text a =

@@ -24,10 +24,6 @@ pub made_after : (faults : List Refusal) (outcome : Result Made Refusal) (made :
 made_after [] outcome made is = (refl, is)
 made_after (first ∷ more) outcome made is = absurd (cc)
 
--- without a fault the stage gives what is made
-pub stage_made : (faults : List Refusal) (made result : Made) → faults ≡ [] → result ≡ made → StageGives (unless_fault faults made) (Ok result)
-stage_made faults made result none is = ap (λ all. unless_fault all made) none ∙ ap (λ m. Ok m) (sym is)
-
 -- what a stage makes where it refuses nothing
 pub made_unless : (faults : List Refusal) (made result : Made) → unless_fault faults made ≡ Ok result → made ≡ result
 made_unless [] made result e = cc
@@ -58,9 +54,7 @@ pub fine_after : (faults : List Refusal) (outcome : Result Made Refusal) (reason
     → AllName (λ _. true) faults → ¬ NamesInput (λ _. true) reason
     → after_faults faults outcome ≡ Err reason → faults ≡ []
 fine_after [] outcome reason named other is = refl
-fine_after (first ∷ more) outcome reason named other is =
-    let same : first ≡ reason = cc in
-    absurd (other (subst (NamesInput (λ _. true)) same named.0))
+fine_after (first ∷ more) outcome reason named other is = grind arith
 
 -- inputs that are refused take one step
 pub refused_steps : (faults : List Refusal) (entries before now : ℕ) (fault : StageFault)

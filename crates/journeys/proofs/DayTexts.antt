@@ -1,5 +1,5 @@
 -- The day of texts, from what each of them gives.
-use Rattle.std.proofs.Common.{◌≡◌, ◌∙◌, ℕ, List, [], ◌++◌, Option, ap, sym, arith}
+use Rattle.plan_num.proofs.Common.{◌≡◌, ◌∙◌, ℕ, List, [], ◌++◌, Option, ap, sym, arith}
 use Rattle.tables.proofs.Common.{StageFault, Refuses, input_faults, records_of, refused_append}
 use Rattle.event_tables.proofs.Common.{ExpandedActivity, ExpandedEvent, expanded_activity_input}
 use Rattle.event_tables.proofs.Common.{expanded_event_input}

@@ -26,9 +26,6 @@ module _ (events : List ExpandedEvent) (activities : List ExpandedActivity) (tim
   abbrev usable : List ExpandedActivity
   usable = filter (is_usable times) activities
 
-  none : ExpandedEvent × ℕ
-  none = (expanded_event [], 0)
-
   count : length net.events ≡ length events
   count = length-map (zip events times) timed
       ∙ (let long = length-zip events times in omega (arith, long, each))
@@ -54,17 +51,8 @@ module _ (events : List ExpandedEvent) (activities : List ExpandedActivity) (tim
 
   sound : All (IsConnection net) net.connections
   sound = of_usable (IsConnection net) (λ row is can.
-      let from : index_of row.from < length events = omega (arith, is.from.0, is.from.1) in
-      let to : index_of row.to < length events = omega (arith, is.to.0, is.to.1) in
-      let less = leb-true (get_or times (index_of row.from) 0 + row.lower)
-      (get_or times (index_of row.to) 0) can in
-      let tail = time_is (index_of row.from) from in
-      let head = time_is (index_of row.to) to in
-      record {
-        from = omega (arith, from, count);
-        to = omega (arith, to, count);
-        in_time = omega (arith, less, tail, head);
-      })
+      let from : index_of row.from < length events = omega (arith, is.from.0, is.from.1) in grind
+      (arith, leb-true, get_or, time_is, count))
 
   forward : All
       (λ connection. forward_rank events connection.from < forward_rank events connection.to)
@@ -100,10 +88,7 @@ module _ (events : List ExpandedEvent) (activities : List ExpandedActivity) (tim
     rises : (connection : Connection) → IsConnection net connection
         → forward_rank events connection.from < forward_rank events connection.to
         → rank_at ranks connection.from < rank_at ranks connection.to
-    rises connection is less =
-        let from = rank_is connection.from (omega (arith, is.from, count)) in
-        let to = rank_is connection.to (omega (arith, is.to, count)) in
-        omega (arith, less, from, to)
+    rises connection is less = grind (arith, rank_is, count)
 
     pub rows_ranked : IsRanked net ranks
     rows_ranked = record {

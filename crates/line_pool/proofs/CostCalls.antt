@@ -1,5 +1,5 @@
 -- The stage of costs, from what each of its inputs gives.
-use Rattle.std.proofs.Common.{◌≡◌, List, [], refl, subst, Ok, Err, arith}
+use Rattle.plan_num.proofs.Common.{◌≡◌, List, [], refl, subst, Ok, Err, arith}
 use Rattle.giv_files.specs.declared.key.Key.TheVariants as key
 use Rattle.giv_files.proofs.Common.{Made, BundleParts, SettingsFit, Fits, input_text, StageGives}
 use Rattle.giv_files.proofs.Common.{amount_within, stage_refused}

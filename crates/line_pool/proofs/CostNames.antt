@@ -1,5 +1,5 @@
 -- Which files the stage of costs names where it refuses a row.
-use Rattle.std.proofs.Common.{◌≡◌, ℕ, Bool, true, List, Err}
+use Rattle.plan_num.proofs.Common.{◌≡◌, ℕ, Bool, true, List, Err}
 use Rattle.tables.proofs.Common.{FileId, Refusal, NamesInput, AllName, names_both, input_names}
 use Rattle.tables.specs.declared.file_id.FileId.TheVariants as file
 use Rattle.giv_files.proofs.Common.{BundleParts, input_text, refused_names}

@@ -1,7 +1,7 @@
 -- The costs that are made are accepted by the rules of their kind.
-use Rattle.plan_num.proofs.Common.{◌≡◌, ℕ, not, Bool, true, false, List, [], ◌∷◌, map, refl, ap}
-use Rattle.plan_num.proofs.Common.{subst, sym, ◌∙◌, AllByRecursion, list_any, IsStrictlySortedBy}
-use Rattle.plan_num.proofs.Common.{int_eq, int_cmp}
+use Rattle.plan_num.proofs.Common.{arith, ◌≡◌, ℕ, not, Bool, true, false, List, [], ◌∷◌, map, refl}
+use Rattle.plan_num.proofs.Common.{ap, subst, sym, ◌∙◌, AllByRecursion, list_any}
+use Rattle.plan_num.proofs.Common.{IsStrictlySortedBy, int_eq, int_cmp}
 use Rattle.tables.specs.declared.file_id.FileId.TheVariants as file
 use Rattle.tables.specs.declared.row_why.RowWhy.TheVariants as why
 use Rattle.giv_files.proofs.Common.{Setting}
@@ -36,11 +36,7 @@ module _ (settings : List Setting) (edges : List Edge) where
       (map (λ (line : LineParts). line.id) lines)
       → AllByRecursion (λ (row : CostRow). list_any (λ line. int_eq row.line line.id) all ≡ true) (given lines)
   all_known all [] known = tt
-  all_known all (line ∷ lines) known = (
-    sym (any_mapped (int_eq line.id) (λ (other : LineParts). other.id) all)
-        ∙ known.0,
-    all_known all lines known.1,
-  )
+  all_known all (line ∷ lines) known = grind (arith, any_mapped, all_known all lines known.1)
 
   module _ (lines : List LineParts) where
     has_cost : (line : LineParts)

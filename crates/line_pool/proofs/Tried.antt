@@ -1,5 +1,5 @@
 -- The definitions on a small dataset.
-use Rattle.std.proofs.Common.{◌≡◌, ℕ, List, [], ◌∷◌, refl, pos, codes, Ok, Err}
+use Rattle.plan_num.proofs.Common.{◌≡◌, ℕ, List, [], ◌∷◌, refl, pos, codes, Ok, Err}
 use Rattle.tables.specs.declared.file_id.FileId.TheVariants as file
 use Rattle.giv_files.specs.declared.key.Key.TheVariants as key
 use Rattle.giv_files.proofs.Common.{Made, BundleParts}

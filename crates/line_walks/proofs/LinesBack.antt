@@ -1,10 +1,10 @@
 -- The rows of lines give back these lines.
-use Rattle.plan_num.proofs.Common.{◌≡◌, ℕ, ℤ, zero, suc, ◌+◌, ◌<◌, Bool, true, false, ◌||◌, cond}
-use Rattle.plan_num.proofs.Common.{List, [], ◌∷◌, ◌++◌, length, map, All, refl, ap, sym, ◌∙◌, arith}
-use Rattle.plan_num.proofs.Common.{Some, None, append-nil, append_assoc, get_or, map-id, nat_lt}
-use Rattle.plan_num.proofs.Common.{unwrap_or, AllByRecursion, list_any, position_or_len, IsSorted}
-use Rattle.plan_num.proofs.Common.{int_cmp, int_eq, is_lt, ordering_reverse, lt-ltb, int_cmp_total}
-use Rattle.plan_num.proofs.Common.{map-append, filter-append, list_any-append, map-map}
+use Rattle.plan_num.proofs.Common.{◌≡◌, ℕ, ℤ, zero, suc, ◌+◌, ◌<◌, List, [], ◌∷◌, ◌++◌, length, map}
+use Rattle.plan_num.proofs.Common.{All, refl, ap, sym, ◌∙◌, arith, append-nil, append_assoc, get_or}
+use Rattle.plan_num.proofs.Common.{map-id, nat_lt, unwrap_or, AllByRecursion, list_any}
+use Rattle.plan_num.proofs.Common.{position_or_len, IsSorted, int_cmp, int_eq, is_lt}
+use Rattle.plan_num.proofs.Common.{ordering_reverse, lt-ltb, int_cmp_total, map-append}
+use Rattle.plan_num.proofs.Common.{filter-append, list_any-append, map-map}
 use Rattle.std.specs.List.Sorted.{IsStrictlySortedBy}
 use Rattle.std.specs.declared.cmp.Ordering.TheVariants.{Less}
 use Rattle.tables.proofs.Common.{pool_columns, table_of, TableRow, ReadsBack}
@@ -44,12 +44,7 @@ pub index_back : (edges : List Edge) (index : ℕ)
     → IsStrictlySortedBy int_cmp (map (λ edge. edge.id) edges) → index < length edges
     → index_of edges (id_at edges index) ≡ index
 index_back edges index rise h =
-    let first = first_place edges index rise h in
-    let within : nat_lt (position_or_len (λ edge. int_eq (id_at edges index) edge.id) edges)
-    (length edges) ≡ true = lt-ltb _ _ (omega (arith, first, h)) in
-    ap (λ b. unwrap_or (cond b (Some (position_or_len
-    (λ edge. int_eq (id_at edges index) edge.id) edges)) None) 0) within
-    ∙ first
+    let first = first_place edges index rise h in grind (arith, nat_lt, id_at, lt-ltb, unwrap_or)
 
 module _ (edges : List Edge) (rise : IsStrictlySortedBy int_cmp (map (λ edge. edge.id) edges)) where
   -- ---- the edges of lines
@@ -98,39 +93,30 @@ module _ (edges : List Edge) (rise : IsStrictlySortedBy int_cmp (map (λ edge. e
   unfolding IsStrictlySortedBy
   all_edges before [] up new good = refl
   all_edges before (line ∷ lines) up new good =
-      let own = rows_at edges line in
-      let rest = rows_for edges lines in
-      let turned : before ++ (own ++ rest) ≡ before ++ own ++ rest =
-      sym (append_assoc before own rest) in
-      ap (λ rows. map (λ id. edges_in (rows_of id rows)) (ids_for (line ∷ lines))) turned
-      ∙ ap (λ rows. edges_in rows
-      ∷ map (λ id. edges_in (rows_of id (before ++ own ++ rest))) (ids_for lines))
-      (rows_back before line lines new.0 up.0)
-      ∙ ap (λ first. first
-      ∷ map (λ id. edges_in (rows_of id (before ++ own ++ rest))) (ids_for lines))
-      (own_edges line.id line.frequency 1 line.edges good.0.there)
-      ∙ ap (λ more. line.edges ∷ more) (all_edges (before ++ own) lines up.1
-      (new_more edges rise before line (ids_for lines) up.0 new.1) good.1)
+      let own = rows_at edges line in grind (
+        arith,
+        rows_for,
+        append_assoc,
+        ids_for,
+        rows_back,
+        own_edges,
+        new_more,
+        all_edges (before ++ own) lines up.1 (new_more edges rise before line
+            (ids_for lines) up.0 new.1) good.1,
+      )
 
   -- ---- the ids of lines
-
-  or_same : (a b : Bool) → (a || (a || b)) ≡ (a || b)
-  or_same true b = refl
-  or_same false b = refl
 
   line_of_rows : (q id : ℤ) (frequency n : ℕ) (indexes : List ℕ) → 0 < length indexes
       → list_any (int_eq q) (map (λ row. row.line) (rows_from edges id frequency n indexes))
       ≡ int_eq q id
   line_of_rows q id frequency n [] some = absurd (omega (arith, some))
   line_of_rows q id frequency n (index ∷ []) some = or_false (int_eq q id)
-  line_of_rows q id frequency n (index ∷ other ∷ indexes) some =
-      ap (λ b. int_eq q id || b)
-      (line_of_rows q id frequency (n + 1) (other ∷ indexes) (omega arith))
-      ∙ same (int_eq q id)
-    where
-      same : (a : Bool) → (a || a) ≡ a
-      same true = refl
-      same false = refl
+  line_of_rows q id frequency n (index ∷ other ∷ indexes) some = grind (
+    arith,
+    line_of_rows q id
+        frequency (n + 1) (other ∷ indexes) (omega arith),
+  )
 
   same_ids : (q : ℤ) (lines : List RowsLine) → AllByRecursion HasEdge lines
       → list_any (int_eq q) (ids_for lines)

@@ -1,6 +1,6 @@
 -- The pool of a table, from the lines of its rows.
-use Rattle.plan_num.proofs.Common.{arith, ℕ, sym, ◌≡◌, refl, ℤ, ◌≤◌, List, [], length, map, ap}
-use Rattle.plan_num.proofs.Common.{subst, ◌∙◌, All, All-weaker, map-map}
+use Rattle.plan_num.proofs.Common.{arith, ℕ, sym, ◌≡◌, refl, ℤ, ◌≤◌, List, [], length, map, subst}
+use Rattle.plan_num.proofs.Common.{All, All-weaker, map-map}
 use Rattle.walks.proofs.Common.{NetworkParts, Edge, rising}
 use Rattle.tables.proofs.Common.{TableRow, StageFault, Input, Refuses, cell_faults, records}
 use Rattle.tables.proofs.Common.{limit_faults, table_row_faults, table_faults, refused_cells}
@@ -54,11 +54,7 @@ module _ (kind : LineFile) (network : NetworkParts) (text : List ℕ) where
         × (lines ≡ lines_over network.edges (records input table))
         → (line_faults kind network text ≡ []) × (lines ≡ lines_of kind network text)
     unfolding line_faults lines_of
-    lines_read lines read = (
-      sym (faults_of_table input text table none is) ∙ read.0,
-      read.1
-          ∙ ap (λ rows. lines_over network.edges (records input rows)) is,
-    )
+    lines_read lines read = grind (arith, faults_of_table)
 
   -- their frequencies
   pub served_lines : (lines : List LineParts) → lines ≡ lines_of kind network text

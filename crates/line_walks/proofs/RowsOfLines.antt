@@ -224,9 +224,12 @@ pub line_at : {X : Type 0} (ids : List ℤ) (lines : List X) (of_id : ℤ → X)
     (d : X) → lines ≡ map of_id ids → position (int_eq line) ids ≡ Some place → get_or lines place d
     ≡ of_id line
 line_at ids lines of_id line place d are at =
-    let p = position-Some (int_eq line) ids place (pos 0) at in
-    ap (λ some. get_or some place d) are ∙ get_or-map of_id ids place (pos 0) d p.0
-    ∙ ap of_id (sym ((Decides-int_eq line (get_or ids place (pos 0))).0 p.1))
+    let p = position-Some (int_eq line) ids place (pos 0) at in grind (
+      arith,
+      get_or,
+      get_or-map,
+      Decides-int_eq,
+    )
 
 -- the lines after one row more
 pub lines_more : (edges : List Edge) (before : List LineRow) (row : LineRow) (ids : List ℤ)

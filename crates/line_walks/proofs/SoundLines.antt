@@ -25,19 +25,11 @@ use Rattle.line_walks.specs.declared.line_row.LineRow.{LineRow}
 use Rattle.line_walks.specs.LineLengths.{line_length, IsModest}
 use Rattle.line_walks.specs.LineLengths.{length_at}
 use Rattle.line_walks.specs.Pools.{file_of, columns_of, line_row, line_rules, line_input, edge_with, index_of, rows_of, walk_of, edges_of, line_of, lines_over, lines_of, line_faults}
-use Rattle.line_walks.proofs.RowsOfLines.{whys, rows_own, rows_other}
+use Rattle.line_walks.proofs.RowsOfLines.{rows_own, rows_other}
 use Rattle.walks.proofs.PathSteps.{no_edge as some_edge}
 use Rattle.plan_num.proofs.Lists.{unmapped}
 
 -- ---- rows that break no rule
-
-kept : (known next repeated joined other : Bool) → whys known next repeated joined other ≡ []
-    → (known ≡ true) × (repeated ≡ false) × (joined ≡ true)
-kept false next repeated joined other e = cc
-kept true false repeated joined other e = cc
-kept true true true joined other e = cc
-kept true true false false other e = cc
-kept true true false true other e = (refl, refl, refl)
 
 -- the edge of such a row is there, and its line did not have it
 pub row_sound : (edges : List Edge) (before : List LineRow) (row : LineRow)
@@ -70,8 +62,7 @@ apart_more before row id new apart =
           subst (IsDistinct int_eq) (sym (ap (map (λ row. row.edge)) (rows_own before row id own)
           ∙ map_push (λ row. row.edge) (rows_of id before) row))
           (IsDistinct-push int_eq_equiv (edge_ids id before) row.edge apart fresh)
-      | false ↦ λ other. subst (λ rows. IsDistinct int_eq (map (λ row. row.edge) rows))
-          (sym (rows_other before row id other)) apart
+      | false ↦ λ other. grind (arith, rows_other, apart)
     ] refl
 
 pub all_apart : (kind : LineFile) (edges : List Edge) (id : ℤ) (before : List LineRow)
@@ -211,13 +202,7 @@ module _ (kind : LineFile) (network : NetworkParts) (sound : IsNetwork network) 
         )
 
     line_sound : pos 1 ≤ℤ id → id ≤ℤ pos 1000000000 → IsModest network.edges (line_of network.edges input_rows id)
-    line_sound least greatest = record {
-      id_least = least;
-      id_greatest = greatest;
-      there = there;
-      few = few;
-      short = short;
-    }
+    line_sound least greatest = grind (arith, there, few, short)
 
   -- each line has an id within its range, edges that are there and not too many, and is not too
   -- long

@@ -231,16 +231,14 @@ module _ (edges : List Edge) (rise : IsStrictlySortedBy int_cmp (map (λ edge. e
           → AllByRecursion (λ other. nat_eq index other ≡ false) rest → AreNew done rest
           → AreNew (done ++ index ∷ []) rest
       new_more done index [] apart new = tt
-      new_more done index (other ∷ rest) apart new = (
-        list_any-append (nat_eq other) done (index ∷ [])
-            ∙ ap (λ b. b || (nat_eq other index || false)) new.0
-            ∙ ap (λ b. b || false) (other_way index other apart.0),
+      new_more done index (other ∷ rest) apart new = grind (
+        arith,
+        list_any-append,
+        nat_eq,
+        ne_eqb,
+        eqb-false,
         new_more done index rest apart.1 new.1,
       )
-        where
-          other_way : (a b : ℕ) → nat_eq a b ≡ false → nat_eq b a ≡ false
-          other_way a b differs =
-              ne_eqb b a (λ same. absurd (omega (arith, same, eqb-false a b differs)))
 
       pub line_kept : (n : ℕ) (done rest : List ℕ) (behind : List LineRow) → n ≡ 1 + length done
           → AreThere done → AreThere rest → AreNew done rest → IsDistinct nat_eq rest

@@ -1,11 +1,11 @@
 -- The problem of two texts, from what each of them gives.
-use Rattle.plan_num.proofs.Common.{◌≡◌, ℕ, ◌<◌, ◌≤◌, ◌≤ℤ◌, pos, List, [], length, map, get_or, sym}
-use Rattle.plan_num.proofs.Common.{subst, arith, length-map, All-map}
-use Rattle.tables.proofs.Common.{StageFault, activities_p_columns, Input, Refuses, records_of}
-use Rattle.tables.proofs.Common.{input_faults, InColumns, refused_append}
-use Rattle.event_tables.proofs.Common.{PeriodicActivity, PeriodicEvent, periodic_activity_cells}
-use Rattle.event_tables.proofs.Common.{periodic_event_input, periodic_activity_input}
-use Rattle.event_tables.proofs.Common.{periodic_event_ids, ArePeriodicActivities}
+use Rattle.plan_num.proofs.Common.{◌≡◌, ℕ, ◌<◌, ◌≤◌, List, [], length, map, get_or, sym, subst}
+use Rattle.plan_num.proofs.Common.{arith, length-map, All-map}
+use Rattle.tables.proofs.Common.{StageFault, Input, Refuses, records_of, input_faults}
+use Rattle.tables.proofs.Common.{refused_append}
+use Rattle.event_tables.proofs.Common.{PeriodicActivity, PeriodicEvent, periodic_event_input}
+use Rattle.event_tables.proofs.Common.{periodic_activity_input, periodic_event_ids}
+use Rattle.event_tables.proofs.Common.{ArePeriodicActivities}
 use Rattle.pesp.specs.declared.activity.PespActivity.{PespActivity}
 use Rattle.pesp_model.specs.PespTexts.{activity_of, events_of, activities_of, problem_of, problem_faults}
 use Rattle.pesp.specs.Timetables.{IsActivity, IsProblem}
@@ -42,10 +42,6 @@ module _ (events_text activities_text : List ℕ) where
     problem_is period count rows activities counted read made = grind arith
 
 -- ---- what holds of such a problem
-
-high_of : (row : PeriodicActivity) → InColumns activities_p_columns (periodic_activity_cells row)
-    → pos row.upper ≤ℤ pos 100000
-high_of row fits = fits.1.1.1.1.1.0.1
 
 module _ (events : ℕ) (rows : List PeriodicActivity) (are : ArePeriodicActivities events rows) where
   sound_at : (i : ℕ) (d : PeriodicActivity) → i < length rows

@@ -1,6 +1,6 @@
 -- The definitions on small problems.
-use Rattle.std.proofs.Common.{◌≡◌, ◌≤◌, ◌+◌, ◌%◌, ◌≤ℤ◌, ℕ, ℤ, List, [], ◌∷◌, ◌++◌, map, refl, pos, codes, Some, None, arith}
-use Rattle.std.proofs.lemmas.Int.{ints}
+use Rattle.plan_num.proofs.Common.{◌≡◌, ◌≤◌, ◌+◌, ◌%◌, ◌≤ℤ◌, ℕ, ℤ, List, [], ◌∷◌, ◌++◌, map, refl}
+use Rattle.plan_num.proofs.Common.{pos, codes, Some, None, arith, ints}
 use Rattle.tables.specs.declared.file_id.FileId.TheVariants as file
 use Rattle.tables.specs.declared.row_why.RowWhy.TheVariants as why
 use Rattle.tables.specs.declared.refusal.Refusal.TheVariants as refusal

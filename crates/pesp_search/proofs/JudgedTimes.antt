@@ -25,21 +25,29 @@ rows_are : (period n : ℕ) (rows : List PeriodicTime)
     → rows ≡ map (λ at. record { event = at.0; time = at.1 }) (enumerate_from n (times_of rows))
 rows_are period n [] order = refl
 rows_are period n (row ∷ rows) order =
-    let parts = and_parts (is_time_of period (n, row)) _ order in
-    let own = and_parts (nat_eq row.event n) (nat_lt row.time period) parts.0 in
-    let rest = rows_are period (n + 1) rows parts.1 in
-    let event = eqb-true row.event n own.0 in
-    λ i. record { event = event i; time = row.time } ∷ rest i
+    let parts = and_parts (is_time_of period (n, row)) _ order in grind (
+      arith,
+      and_parts,
+      nat_eq,
+      nat_lt,
+      eqb-true,
+      rows_are period (n + 1) rows parts.1,
+    )
 
 pub rows_below : (period n : ℕ) (rows : List PeriodicTime)
     → list_all (is_time_of period) (enumerate_from n rows) ≡ true
     → All (λ time. time < period) (times_of rows)
 rows_below period n [] order = All-nil (λ time. time < period)
 rows_below period n (row ∷ rows) order =
-    let parts = and_parts (is_time_of period (n, row)) _ order in
-    let own = and_parts (nat_eq row.event n) (nat_lt row.time period) parts.0 in
-    All-cons (λ time. time < period) row.time (times_of rows) (ltb-true row.time period own.1)
-    (rows_below period (n + 1) rows parts.1)
+    let parts = and_parts (is_time_of period (n, row)) _ order in grind (
+      arith,
+      and_parts,
+      nat_eq,
+      nat_lt,
+      All-cons,
+      ltb-true,
+      rows_below period (n + 1) rows parts.1,
+    )
 
 -- what rows in order tell of their times
 pub record TimesInOrder (problem : Problem) (rows : List PeriodicTime) : Type 0 where
@@ -49,11 +57,12 @@ pub record TimesInOrder (problem : Problem) (rows : List PeriodicTime) : Type 0 
 pub in_order : (problem : Problem) (rows : List PeriodicTime) → are_in_order problem rows ≡ true
     → TimesInOrder problem rows
 in_order problem rows order =
-    let parts = and_parts (length rows == problem.events) _ order in
-    record {
-      each = length-map rows (λ (row : PeriodicTime). row.time) ∙ eqb-true (length rows) problem.events parts.0;
-      within = rows_below problem.period 1 rows parts.1;
-    }
+    let parts = and_parts (length rows == problem.events) _ order in grind (
+      arith,
+      length-map,
+      eqb-true,
+      rows_below,
+    )
 
 -- where none of three rules is broken
 none_broken : (a b c : Bool)
@@ -144,11 +153,7 @@ module _ (problem : Problem) (text : List ℕ) where
 
   pub not_table : None ≡ read_as text → Some fault.Row ≡ first_broken_rule problem text
   unfolding first_broken_rule
-  not_table is = ap by_table (none_read (is_table text) is)
-    where
-      none_read : (b : Bool) → None ≡ cond b (Some (table_of times_p_columns text)) None → false ≡ b
-      none_read true is = absurd (cc)
-      none_read false is = refl
+  not_table is = grind arith
 
   module _ (table : List TableRow) (is : Some table ≡ read_as text) where
     some_read : (b : Bool) → Some table ≡ cond b (Some (table_of times_p_columns text)) None

@@ -1,7 +1,7 @@
 -- What a timetable that a person gives owes to the chain: which files are made of it, that they are
 -- right, which file a refusal names, and what they are over the inputs of a search.
-use Rattle.std.proofs.Common.{arith, ◌≡◌, ℕ, ◌≤◌, Bool, true, cond, List, [], ◌∷◌, is_some, Option}
-use Rattle.std.proofs.Common.{None, Some, Ok, Err, refl, subst}
+use Rattle.plan_num.proofs.Common.{arith, ◌≡◌, ℕ, ◌≤◌, Bool, true, cond, List, [], ◌∷◌, is_some}
+use Rattle.plan_num.proofs.Common.{Option, None, Some, Ok, Err, refl, subst}
 use Rattle.tables.proofs.Common.{FileId, Refusal, input_faults, or_else, NamesInput, AllName}
 use Rattle.tables.proofs.Common.{input_names, names_both, names_or_else}
 use Rattle.tables.specs.declared.file_id.FileId.TheVariants as file

@@ -1,7 +1,7 @@
 -- What is made of a planner's timetable is right.
-use Rattle.std.proofs.Common.{All, arith, ◌≡◌, ℕ, ◌≤◌, ◌<◌, cond, List, [], ◌∷◌, length, is_some, Option, Some, None, Ok, refl, sym, ◌∙◌, subst}
-use Rattle.std.proofs.lemmas.List.{length-map}
-use Rattle.std.proofs.lemmas.List.Elements.{All-map}
+use Rattle.plan_num.proofs.Common.{All, arith, ◌≡◌, ℕ, ◌≤◌, ◌<◌, cond, List, [], ◌∷◌, length}
+use Rattle.plan_num.proofs.Common.{is_some, Option, Some, None, Ok, refl, sym, ◌∙◌, subst}
+use Rattle.plan_num.proofs.Common.{length-map, All-map}
 use Rattle.tables.specs.declared.file_id.FileId.TheVariants as file
 use Rattle.giv_files.proofs.Common.{Made, BundleParts, input_text, made_unless, none_unless}
 use Rattle.tables.specs.declared.refusal.Refusal.TheVariants as refusal
@@ -14,7 +14,7 @@ use Rattle.pesp_model.specs.PespTexts.{events_of, problem_of}
 use Rattle.pesp.specs.Timetables.{first_broken, IsTimetable}
 use Rattle.pesp.proofs.FirstBroken.{first_is}
 use Rattle.pesp_search.specs.Judged.{rows_in, times_in}
-use Rattle.pesp_search.specs.PinnedTimetables.{pinned_input, pinned_timetable_faults, pinned_timetable_stage, times_kept}
+use Rattle.pesp_search.specs.PinnedTimetables.{pinned_input, pinned_timetable_faults, pinned_timetable_stage}
 use Rattle.pesp_search.specs.RightTimetables.{TimetableFilesAreRight}
 use Rattle.pesp_search.specs.TimetableStage.{period_in, problem_in, time_rows, timetable_faults}
 use Rattle.pesp_search.proofs.TimesAccepted.{times_fit}
@@ -60,17 +60,18 @@ module _ (bundle : BundleParts) (short : (1 ≤ period_in bundle) × (period_in 
 no_faults : (bundle : BundleParts) → pinned_timetable_faults bundle ≡ []
     → (timetable_faults bundle ≡ []) × (input_faults (pinned_input bundle) (input_text bundle 2) ≡ [])
     × (first_broken (problem_in bundle) (times_in (input_text bundle 2)) ≡ None)
-no_faults bundle none =
-    let later = back_none (timetable_faults bundle) _ none in
-    (front_none (timetable_faults bundle) _ none, none_first _ _ later, no_tension _ (none_after _ _ later))
+no_faults bundle none = grind (arith, back_none, front_none, none_first, no_tension, none_after)
 
 -- the law of the stage
 pub pinned_right : (bundle : BundleParts) (made : Made) → (1 ≤ period_in bundle) × (period_in bundle ≤ 720)
     → pinned_timetable_stage bundle ≡ Ok made → TimetableFilesAreRight bundle made.files
 unfolding pinned_timetable_stage
 pinned_right bundle made short is =
-    let faults = pinned_timetable_faults bundle in
-    let kept = times_kept (times_in (input_text bundle 2)) in
-    let none = no_faults bundle (none_unless faults kept made is) in
-    subst (λ (made : Made). TimetableFilesAreRight bundle made.files) (made_unless faults kept made is)
-    (files_right bundle short none.0 _ (timetable bundle short none.0 none.1 none.2))
+    let faults = pinned_timetable_faults bundle in grind (
+      arith,
+      no_faults,
+      none_unless,
+      made_unless,
+      files_right,
+      timetable,
+    )

@@ -1,6 +1,6 @@
 -- What the stage of a timetable that a person gives comes to, by what was read and tested.
-use Rattle.std.proofs.Common.{arith, ◌≡◌, ◌++◌, List, [], ℕ, Option, Some, None, Ok}
-use Rattle.std.proofs.Common.{Err, refl, ap, sym, subst, ◌∙◌}
+use Rattle.plan_num.proofs.Common.{arith, ◌≡◌, ◌++◌, List, [], ℕ, Option, Some, None, Ok, Err, refl}
+use Rattle.plan_num.proofs.Common.{ap, sym, subst, ◌∙◌}
 use Rattle.tables.specs.declared.file_id.FileId.TheVariants as file
 use Rattle.giv_files.proofs.Common.{Made, BundleParts, StageGives, input_text, stage_refused}
 use Rattle.tables.proofs.Common.{Refusal, StageFault, Refuses, input_faults, or_else, records_of}
@@ -67,9 +67,7 @@ module _ (bundle : BundleParts) where
     unfolding problem_faults
     events_fine first is others (fault.Refused reason) by =
         let none = front_none (input_faults periodic_event_input (input_text bundle 0)) _ inputs in
-        let refused = subst (λ all. Refuses all (fault.Refused reason))
-        (ap (input_faults periodic_event_input) is ∙ none) by in
-        absurd (cc)
+        grind (arith, refused)
     events_fine first is others fault.NoMemory by = tt
 
     module _ (none : reads ≡ []) where

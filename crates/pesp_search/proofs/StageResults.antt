@@ -1,17 +1,15 @@
 -- What the stage of timetables gives, by what the search found.
-use Rattle.std.proofs.Common.{◌≡◌, ◌∙◌, ℕ, ◌+◌, ◌≤◌, Bool, true, false, cond, nat_lt, List, []}
-use Rattle.std.proofs.Common.{length, All, Option, Some, None, Result, Ok, Err, ap, sym, subst}
-use Rattle.std.proofs.Common.{arith}
+use Rattle.plan_num.proofs.Common.{◌≡◌, ◌∙◌, ℕ, ◌+◌, ◌≤◌, nat_lt, List, [], length, All, Ok, Err}
+use Rattle.plan_num.proofs.Common.{ap, sym, subst, arith}
 use Rattle.giv_files.proofs.Common.{Made, BundleParts, StageGives, TakesSteps, refused_after}
 use Rattle.giv_files.proofs.Common.{refused_steps}
-use Rattle.tables.proofs.Common.{Refusal, StageFault, times_p_columns, Refuses, InColumns}
-use Rattle.tables.specs.declared.refusal.Refusal.TheVariants as refusal
+use Rattle.tables.proofs.Common.{StageFault, times_p_columns, Refuses, InColumns}
 use Rattle.tables.specs.declared.refusal.StageFault.TheVariants as fault
 use Rattle.event_tables.proofs.Common.{periodic_time_cells}
 use Rattle.pesp.specs.Timetables.{IsProblem, IsTimetable, Problem}
 use Rattle.pesp.specs.declared.search.FoundTimes.{FoundTimes}
-use Rattle.pesp.specs.Listings.{Tells, entries_listed, listing}
-use Rattle.pesp_search.specs.SearchResults.{SearchGives, TimesFound, result_within, whole_result}
+use Rattle.pesp.specs.Listings.{entries_listed, listing}
+use Rattle.pesp_search.specs.SearchResults.{SearchGives, result_within}
 use Rattle.pesp_search.specs.TimetableStage.{budget_in, problem_in, search_made, time_rows}
 use Rattle.pesp_search.specs.TimetableStage.{timetable_faults, timetable_stage, timetable_work, times_made}
 use Rattle.pesp.proofs.ListingRight.{listing_right}
@@ -29,19 +27,7 @@ found_by : (budget : ℕ) (problem : Problem) (times : List ℕ) (entries : ℕ)
     → result_within budget (listing problem) ≡ Ok (record { times = times; entries = entries })
     → IsTimetable problem times
 unfolding result_within
-found_by budget problem times entries sound is =
-    by (nat_lt budget (listing problem).entries) (listing problem).found (listing_right problem sound).tells is
-  where
-    times_of : Result TimesFound Refusal → List ℕ
-    times_of (Ok found) = found.times
-    times_of (Err why) = []
-
-    by : (b : Bool) (found : Option (List ℕ)) → Tells problem found
-        → cond b (Err (refusal.Spent budget)) (whole_result (listing problem).entries found) ≡ Ok (record { times = times; entries = entries })
-        → IsTimetable problem times
-    by true found tells is = absurd (cc)
-    by false None tells is = absurd (cc)
-    by false (Some some) tells is = subst (IsTimetable problem) (ap times_of is) tells
+found_by budget problem times entries sound is = grind (arith, nat_lt, listing_right)
 
 module _ (bundle : BundleParts) where
   pub stage_refused : (why : StageFault) → Refuses (timetable_faults bundle) why

@@ -25,11 +25,13 @@ rows_fit : (n : ℕ) (times : List ℕ) → 1 ≤ n → n + length times ≤ 400
     → All (λ time. time < 720) times → All Fits (rows_from n times)
 rows_fit n [] some few below = All-nil Fits
 rows_fit n (time ∷ times) some few below =
-    let here : time < 720 = below 0 time (omega arith) in
-    let row : PeriodicTime = record { event = n; time = time } in
-    All-cons Fits row (rows_from (n + 1) times)
-    ((omega (arith, ints, some), omega (arith, ints, few)), ((omega (arith, ints), omega (arith, ints, here)), tt))
-    (rows_fit (n + 1) times (omega arith) (omega (arith, few)) (λ k d h. below (suc k) d (omega (arith, h))))
+    let here : time < 720 = below 0 time (omega arith) in grind (
+      arith,
+      All-cons,
+      ints,
+      rows_fit (n
+          + 1) times (omega arith) (omega (arith, few)) (λ k d h. below (suc k) d (omega (arith, h))),
+    )
 
 pub times_fit : (times : List ℕ) → length times ≤ 4000 → All (λ time. time < 720) times
     → All Fits (time_rows times)
@@ -69,9 +71,12 @@ module _ (file : FileId) (period count : ℕ) where
       → broken_whys (periodic_time_rules period (range_with_len 1 count)) before
       (record { event = event; time = time }) ≡ []
   row_keeps before event time place there below =
-      let known : is_none_of (range_with_len 1 count) event ≡ false =
-      none_of_places count event
-      ∙ rw (ne_eqb event 0 (λ e. absurd (omega (arith, e, place))), le-ltb count event there) refl in
+      let known : is_none_of (range_with_len 1 count) event ≡ false = grind (
+        arith,
+        none_of_places,
+        ne_eqb,
+        le-ltb,
+      ) in
       rw (eq-eqb event (length before + 1) place, known, lt-leb period time below) refl
 
   rows_keep : (before : List PeriodicTime) (n : ℕ) (times : List ℕ) → n ≡ length before + 1

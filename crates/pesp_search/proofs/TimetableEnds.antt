@@ -1,7 +1,6 @@
 -- When a search says that there is no timetable, and when its budget is never spent.
-use Rattle.plan_num.proofs.Common.{◌≡◌, ◌≢◌, ◌∙◌, ℕ, ◌≤◌, Bool, true, false, cond, nat_lt, List, []}
-use Rattle.plan_num.proofs.Common.{Option, Some, None, Result, Err, refl, ap, sym, arith, le-ltb}
-use Rattle.plan_num.proofs.Common.{ltb-false}
+use Rattle.plan_num.proofs.Common.{◌≡◌, ◌≢◌, ◌∙◌, ℕ, ◌≤◌, cond, nat_lt, List, [], Option, Some}
+use Rattle.plan_num.proofs.Common.{None, Result, Err, ap, sym, arith, le-ltb, ltb-false}
 use Rattle.giv_files.proofs.Common.{Made, BundleParts, Fits, StageGives, gives_only, gives_always}
 use Rattle.tables.proofs.Common.{Refusal, StageFault}
 use Rattle.tables.specs.declared.refusal.Refusal.TheVariants as refusal
@@ -30,13 +29,7 @@ module _ (budget : ℕ) (problem : Problem) (all : Listing) (tells : Tells probl
   none_within : outcome budget all ≡ Err refusal.NoSolution
       → ((times : List ℕ) → ¬ IsTimetable problem times) × (all.entries ≤ budget)
   unfolding result_within
-  none_within is = by (nat_lt budget all.entries) refl is
-    where
-      by : (b : Bool) → nat_lt budget all.entries ≡ b
-          → search_made (cond b (Err (refusal.Spent budget)) (whole_result all.entries all.found)) ≡ Err refusal.NoSolution
-          → ((times : List ℕ) → ¬ IsTimetable problem times) × (all.entries ≤ budget)
-      by true over is = absurd (cc)
-      by false within is = (none_by all.found tells is, ltb-false budget all.entries within)
+  none_within is = grind (arith, nat_lt, none_by, ltb-false)
 
   whole_within : all.entries ≤ budget → outcome budget all ≡ search_made (whole_result all.entries all.found)
   unfolding result_within
@@ -44,11 +37,7 @@ module _ (budget : ℕ) (problem : Problem) (all : Listing) (tells : Tells probl
       (le-ltb budget all.entries few)
 
   nothing_found : ((times : List ℕ) → ¬ IsTimetable problem times) → all.found ≡ None
-  nothing_found none = by all.found tells
-    where
-      by : (found : Option (List ℕ)) → Tells problem found → found ≡ None
-      by None tells = refl
-      by (Some times) tells = absurd (none times tells)
+  nothing_found none = grind arith
 
   says_none : ((times : List ℕ) → ¬ IsTimetable problem times) → all.entries ≤ budget
       → outcome budget all ≡ Err refusal.NoSolution

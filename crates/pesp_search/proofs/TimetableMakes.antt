@@ -1,6 +1,6 @@
 -- Which files the stage of timetables makes, and which it names where it refuses a row.
-use Rattle.std.proofs.Common.{arith, ◌≡◌, ℕ, Bool, true, List, [], Result, Ok, Err, ap, lit<}
-use Rattle.std.proofs.Common.{refl}
+use Rattle.plan_num.proofs.Common.{arith, ◌≡◌, ℕ, Bool, true, List, [], Result, Ok, Err, ap, lit<}
+use Rattle.plan_num.proofs.Common.{refl}
 use Rattle.tables.proofs.Common.{FileId, Refusal, input_faults, NamesInput, NamesOnly, AllName}
 use Rattle.tables.proofs.Common.{input_names, names_both}
 use Rattle.tables.specs.declared.file_id.FileId.TheVariants as file
@@ -29,9 +29,7 @@ search_makes (Err why) made is = absurd (cc)
 pub timetable_stage_makes : (bundle : BundleParts) (made : Made) → timetable_stage bundle ≡ Ok made
     → MakesAs stage.Timetable (ids_of made.files)
 unfolding timetable_stage
-timetable_stage_makes bundle made is =
-    search_makes (result_within (budget_in bundle) (listing (problem_in bundle))) made
-    (made_after (timetable_faults bundle) _ made is).1
+timetable_stage_makes bundle made is = grind (arith, search_makes, made_after)
 
 search_names : (test : FileId → Bool) (budget : ℕ) (all : Listing) (reason : Refusal)
     → search_made (result_within budget all) ≡ Err reason → NamesOnly test reason

@@ -1,12 +1,10 @@
 -- The timetable that is made is right over what the stage was given.
-use Rattle.std.proofs.Common.{◌≡◌, ℕ, ◌<◌, ◌≤◌, true, false, cond, nat_lt, List, [], ◌∷◌, length}
-use Rattle.std.proofs.Common.{map, All, Option, Some, None, Ok, Err, refl, sym, subst, arith}
-use Rattle.std.specs.List.{range_with_len}
+use Rattle.plan_num.proofs.Common.{◌≡◌, ℕ, ◌<◌, ◌≤◌, nat_lt, List, [], ◌∷◌, length, map, All}
+use Rattle.plan_num.proofs.Common.{Option, Some, None, Ok, refl, sym, subst, arith, range_with_len}
 use Rattle.tables.specs.declared.file_id.FileId.TheVariants as file
 use Rattle.giv_files.specs.declared.key.Key.TheVariants as key
 use Rattle.giv_files.proofs.Common.{Made, BundleParts, Fits, SettingsFit, input_text, amount_within}
 use Rattle.giv_files.proofs.Common.{made_after}
-use Rattle.tables.specs.declared.refusal.Refusal.TheVariants as refusal
 use Rattle.giv_files.specs.declared.stage.Stage.TheVariants as stage
 use Rattle.tables.proofs.Common.{input_faults, front_none, back_none}
 use Rattle.event_tables.proofs.Common.{PeriodicEvent, periodic_activity_input, periodic_event_ids}
@@ -102,18 +100,16 @@ module _ (bundle : BundleParts) (own : bundle.stage ≡ stage.Timetable) (fits :
         → TimetableIsRight bundle made
     unfolding result_within
     result_right made is =
-        let all = listing (problem_in bundle) in
-        elim (nat_lt (budget_in bundle) all.entries) as
-        (λ b. search_made (cond b (Err (refusal.Spent (budget_in bundle))) (whole_result all.entries all.found)) ≡ Ok made
-        → TimetableIsRight bundle made) [
-          | true ↦ λ is. absurd (cc)
-          | false ↦ by_found all.entries all.found (listing_right (problem_in bundle) is_problem).tells made
-        ] is
+        let all = listing (problem_in bundle) in grind (
+          arith,
+          nat_lt,
+          by_found,
+          listing_right,
+          is_problem,
+        )
 
 -- what the stage makes is right
 pub timetable_is_right : (bundle : BundleParts) (made : Made) → bundle.stage ≡ stage.Timetable
     → Fits bundle → timetable_stage bundle ≡ Ok made → TimetableIsRight bundle made
 unfolding timetable_stage
-timetable_is_right bundle made own fits is =
-    let parts = made_after (timetable_faults bundle) _ made is in
-    result_right bundle own fits parts.0 made parts.1
+timetable_is_right bundle made own fits is = grind (arith, made_after, result_right)

@@ -1,5 +1,6 @@
 -- The definitions on small problems.
-use Rattle.std.proofs.Common.{◌≡◌, ℕ, List, [], ◌∷◌, map, refl, pos, codes, Option, Some, None, Result, Ok, Err}
+use Rattle.plan_num.proofs.Common.{◌≡◌, ℕ, List, [], ◌∷◌, map, refl, pos, codes, Option, Some, None}
+use Rattle.plan_num.proofs.Common.{Result, Ok, Err}
 use Rattle.std.specs.Fmt.{digits}
 use Rattle.tables.specs.declared.file_id.FileId.TheVariants as file
 use Rattle.giv_files.specs.declared.key.Key.TheVariants as key

@@ -20,16 +20,7 @@ record HasPart (parts : List (List ℕ)) : Type 0 where
 
 has_part : (text : List ℕ) → HasPart (parts_of text)
 has_part [] = record { first = []; rest = []; is = refl }
-has_part (byte ∷ text) = by (byte == 10) (has_part text)
-  where
-    by : (ends : Bool) → HasPart (parts_of text)
-        → HasPart (cond ends ([] ∷ parts_of text) (onto_first byte (parts_of text)))
-    by true part = record { first = []; rest = parts_of text; is = refl }
-    by false part = record {
-      first = byte ∷ part.first;
-      rest = part.rest;
-      is = ap (onto_first byte) part.is;
-    }
+has_part (byte ∷ text) = grind (arith, has_part text)
 
 pub parts_both : (text more : List ℕ) → parts_of (text ++ 10 ∷ more) ≡ parts_of text ++ parts_of
     more
@@ -131,13 +122,12 @@ ends_line : (front : List ℕ) (kinds : List ColumnKind) (table : List TableRow)
     → EndsLine (front ++ 10 ∷ flat_map (line_text kinds) table)
 ends_line front kinds [] = record { front = front; is = refl }
 ends_line front kinds (row ∷ table) =
-    let line = joined (cell_texts kinds row.cells) in
-    let rest = flat_map (line_text kinds) table in
-    let more = ends_line (front ++ 10 ∷ line) kinds table in
-    let turned : front ++ (10 ∷ ((line ++ 10 ∷ []) ++ rest)) ≡ (front ++ 10 ∷ line) ++ 10 ∷ rest =
-    ap (λ some. front ++ (10 ∷ some)) (append_assoc line (10 ∷ []) rest)
-    ∙ sym (append_assoc front (10 ∷ line) (10 ∷ rest)) in
-    record { front = more.front; is = turned ∙ more.is }
+    let line = joined (cell_texts kinds row.cells) in grind (
+      arith,
+      append_assoc,
+      ends_line (front
+          ++ 10 ∷ line) kinds table,
+    )
 
 rows_kept : (text comments : List ℕ) → EndsLine text → AreComments comments
     → rows (text ++ comments) ≡ rows text

@@ -1,5 +1,5 @@
 -- What the parts of a pool give together.
-use Rattle.std.proofs.Common.{◌≡◌, ℕ, ℤ, List, [], map, ap, subst, sym, ◌∙◌, arith}
+use Rattle.plan_num.proofs.Common.{◌≡◌, ℕ, ℤ, List, [], map, ap, subst, sym, ◌∙◌, arith}
 use Rattle.tables.proofs.Common.{StageFault, Refuses, first_stays}
 use Rattle.tables.specs.declared.refusal.StageFault.TheVariants as stage
 use Rattle.walks.proofs.Common.{NetworkParts, rising}
@@ -37,8 +37,7 @@ module _ (stops edges : List ℕ) (terminals : List ℤ) where
     module _ (all : List Terminal) (known : unknown_terminals network.stops terminals ≡ [])
         (are : all ≡ map (terminal_of network.stops) (rising terminals)) where
       pub stops_of_terminals : AreStops network all
-      stops_of_terminals = subst (AreStops network) (sym are)
-          (stops_there network terminals (all_stops network.stops terminals known))
+      stops_of_terminals = grind (arith, stops_there, all_stops)
 
       pub no_faults : terminal_faults stops edges terminals ≡ []
       no_faults = sym faults_are ∙ known

@@ -34,15 +34,16 @@ use Rattle.terminal_lines.proofs.ServedPaths.{each_path_is_served}
 -- ---- the comments are comments
 
 number_no_feed : (byte : ℕ) → is_number_byte byte ≡ true → byte ≢ 10
-number_no_feed byte is same = let feed : is_number_byte 10 ≡ true = ap is_number_byte (sym same)
-    ∙ is in cc
+number_no_feed byte is same = let feed : is_number_byte 10 ≡ true = grind arith in cc
 
 id_plain : (id : ℤ) → IsRowId id → All (λ byte. byte ≢ 10) (signed_decimal id)
 id_plain id own =
     let numbers = AllPass-from_list_all is_number_byte (signed_decimal id)
-    (whole_bytes id (omega (arith, ints, own.low)) (omega (arith, ints, own.high))) in
-    All-weaker (λ byte. is_number_byte byte ≡ true) (λ byte. byte ≢ 10) number_no_feed
-    (signed_decimal id) numbers
+    (whole_bytes id (omega (arith, ints, own.low)) (omega (arith, ints, own.high))) in grind (
+      arith,
+      All-weaker,
+      number_no_feed,
+    )
 
 module _ (network : NetworkParts) (ids : All (λ edge. IsRowId edge.id) network.edges) where
   comments_are : (edges : List ℕ) → All (λ edge. edge < length network.edges) edges

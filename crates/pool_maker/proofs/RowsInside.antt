@@ -25,10 +25,7 @@ module _ (network : NetworkParts) (ids : All (λ edge. IsRowId edge.id) network.
   row_inside : (number place edge : ℕ) → 1 ≤ number → number ≤ 190 → 1 ≤ place → place ≤ 1000
       → edge < length network.edges → InPool (row_at network number (place, edge))
   row_inside number place edge some few low high there =
-      let own = own_id edge there in (
-        (omega (arith, ints, some), omega (arith, ints, few)),
-        ((omega (arith, ints, low), omega (arith, ints, high)), ((own.low, own.high), tt)),
-      )
+      let own = own_id edge there in grind (arith, ints)
 
   line_inside : (number n : ℕ) (edges : List ℕ) → 1 ≤ number → number ≤ 190 → 1 ≤ n
       → n + length edges ≤ 1001 → All (λ edge. edge < length network.edges) edges

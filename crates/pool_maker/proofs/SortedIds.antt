@@ -38,9 +38,6 @@ module _ (ids : List ℤ) where
     pub rest : IsDistinct int_eq (drop place ids) → IsDistinct int_eq ids
     pub whole : IsDistinct int_eq ids → IsDistinct int_eq (drop place ids)
 
-  pub at_first : AreDecided 0
-  at_first = record { rest = λ h. h; whole = λ h. h }
-
   none_alike : (id : ℤ) (rest : List ℤ) → list_any (λ other. int_eq other id) rest ≡ false
       → AllByRecursion (λ other. int_eq id other ≡ false) rest
   none_alike id [] none = tt
@@ -157,24 +154,11 @@ module _ (stops : List ℤ) where
       → Some terminal ≡ terminal_there id (position (int_eq id) stops)
       → (position (int_eq id) stops ≡ Some terminal.stop)
       × (terminal ≡ record { id = id; stop = terminal.stop })
-  found_at id terminal is = by (position (int_eq id) stops) is
-    where
-      by : (found : Option ℕ) → Some terminal ≡ terminal_there id found
-          → (found ≡ Some terminal.stop) × (terminal ≡ record { id = id; stop = terminal.stop })
-      by None is = cc
-      by (Some stop) is =
-          let same : terminal ≡ record { id = id; stop = stop } = same_Some _ _ is in (
-            ap (λ (at : Terminal). Some at.stop) (sym same),
-            same ∙ ap (λ (at : Terminal). record { id = id; stop = at.stop }) (sym same),
-          )
+  found_at id terminal is = grind (arith, same_Some)
 
   pub found_nowhere : (id : ℤ) → None ≡ terminal_there id (position (int_eq id) stops)
       → position (int_eq id) stops ≡ None
-  found_nowhere id is = by (position (int_eq id) stops) is
-    where
-      by : (found : Option ℕ) → None ≡ terminal_there id found → found ≡ None
-      by None is = refl
-      by (Some stop) is = cc
+  found_nowhere id is = grind arith
 
   -- all are stops
   pub all_known : (ids others : List ℤ) (i : ℕ) → length ids ≤ i

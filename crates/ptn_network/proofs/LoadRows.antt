@@ -52,18 +52,7 @@ module _ (edges : List Edge) (before : List LoadRow) (row : LoadRow) where
   pub own_row : broken_whys (load_rules edges) before row ≡ []
       → (list_any (λ other. int_eq row.edge other.edge) before ≡ false)
       × (int_lt row.load.most row.load.least ≡ false)
-  own_row none = kept (is_some (edge_with edges row.edge))
-      (list_any (λ other. int_eq row.edge other.edge) before)
-      (int_lt row.load.most row.load.least) none
-    where
-      kept : (known repeated cross : Bool)
-          → cond (not known) (why.UnknownEdge ∷ []) [] ++ (cond repeated (why.RepeatedId ∷ []) []
-          ++ (cond cross (why.BoundsCrossed ∷ []) [] ++ [])) ≡ []
-          → (repeated ≡ false) × (cross ≡ false)
-      kept false repeated cross e = cc
-      kept true true cross e = cc
-      kept true false true e = cc
-      kept true false false e = (refl, refl)
+  own_row none = grind (arith, is_some, int_lt, repeated)
 
   module _ (given : List (Option EdgeLoad)) (index : ℕ) (are : given ≡ map (given_for before) edges)
       (at : StandsAt edges row.edge index) where

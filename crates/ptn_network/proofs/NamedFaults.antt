@@ -1,5 +1,5 @@
 -- Which files the faults of a network name.
-use Rattle.std.proofs.Common.{◌≡◌, ℕ, Bool, true, List}
+use Rattle.plan_num.proofs.Common.{◌≡◌, ℕ, Bool, true, List}
 use Rattle.tables.proofs.Common.{FileId, input_faults, AllName, names_both, input_names}
 use Rattle.tables.specs.declared.file_id.FileId.TheVariants as file
 use Rattle.ptn_network.specs.Inputs.{stop_input, edge_input}

@@ -1,11 +1,11 @@
 -- What holds of each network that texts give.
 use Rattle.plan_num.proofs.Common.{◌≡◌, ◌≢◌, ℕ, ℤ, pos, ◌+◌, ◌<◌, ◌≤◌, ◌≤ℤ◌, int_lt, Bool, true}
 use Rattle.plan_num.proofs.Common.{false, not, ◌||◌, cond, T, List, [], ◌∷◌, ◌++◌, length, map}
-use Rattle.plan_num.proofs.Common.{get_or, refl, ap, subst, sym, ◌∙◌, arith, Some, None, lit<, All}
-use Rattle.plan_num.proofs.Common.{list_any, position, position_or_len, IsStrictlySortedBy, keys_of}
-use Rattle.plan_num.proofs.Common.{values_of, unwrap_or, int_eq, int_cmp, lt-ltb, or_parts}
-use Rattle.plan_num.proofs.Common.{not-false, Decides-int_eq, ints, length-map, All-cons, All-head}
-use Rattle.plan_num.proofs.Common.{All-tail, position-Some, length-keys_of}
+use Rattle.plan_num.proofs.Common.{get_or, refl, ap, subst, sym, ◌∙◌, arith, lit<, All, list_any}
+use Rattle.plan_num.proofs.Common.{position_or_len, IsStrictlySortedBy, keys_of, values_of, int_eq}
+use Rattle.plan_num.proofs.Common.{int_cmp, lt-ltb, or_parts, not-false, Decides-int_eq, ints}
+use Rattle.plan_num.proofs.Common.{length-map, All-cons, All-head, All-tail, position-Some}
+use Rattle.plan_num.proofs.Common.{length-keys_of}
 use Rattle.std.specs.Int.Signed.{lt_z_no}
 use Rattle.std.proofs.lemmas.Map.Entries.{length-values_of}
 use Rattle.tables.specs.declared.column.ColumnKind.TheVariants as kind
@@ -38,17 +38,15 @@ record IsAt (stops : List ℤ) (id : ℤ) : Type 0 where
   is : id ≡ get_or stops (index_in stops id) (pos 0)
 
 is_at : (stops : List ℤ) (id : ℤ) → not (list_any (int_eq id) stops) ≡ false → IsAt stops id
-is_at stops id known =
-    let there : list_any (int_eq id) stops ≡ true = not-false _ known in
-    let place = position_or_len (int_eq id) stops in
-    let at : position (int_eq id) stops ≡ Some place = ap (λ b. cond b
-    (Some place) None) (lt-ltb place (length stops) (passes (int_eq id) stops there)) in
-    let found = position-Some (int_eq id) stops place (pos 0) at in
-    let index : index_in stops id ≡ place = ap (λ o. unwrap_or o 0) at in
-    record {
-      within = rw index found.0;
-      is = (Decides-int_eq _ _).0 found.1 ∙ ap (λ i. get_or stops i (pos 0)) (sym index);
-    }
+is_at stops id known = grind (
+  arith,
+  not-false,
+  lt-ltb,
+  passes,
+  position-Some,
+  Decides-int_eq,
+  get_or,
+)
 
 later_reasons : (b : Bool) (reason : RowWhy) (more : List RowWhy)
     → cond b (reason ∷ []) [] ++ more ≡ [] → more ≡ []

@@ -1,18 +1,17 @@
 -- Blocks at the front of bytes.
 use Rattle.plan_num.proofs.Common.{◌≡◌, ◌≢◌, ℕ, ◌<◌, ◌≤◌, ◌+◌, ◌^◌, List, [], ◌∷◌, ◌++◌, length}
-use Rattle.plan_num.proofs.Common.{drop, get_or, refl, ap, sym, subst, ◌∙◌, arith, All, Bool, true}
-use Rattle.plan_num.proofs.Common.{false, not, cond, eqb, nat_eq, nat_le, zero, suc, Option, Some}
-use Rattle.plan_num.proofs.Common.{None, decimal, codes, slice_get, append_assoc, inl, inr, ◌⊎◌}
-use Rattle.plan_num.proofs.Common.{unwrap_or, filter_map, position, prefix_len, range_with_len}
-use Rattle.plan_num.proofs.Common.{option_and_then, IsUtf8, AllDigits, decimal_is_IsNumeral}
-use Rattle.plan_num.proofs.Common.{get_or_append_left, length-append, All-nil, All-cons}
-use Rattle.plan_num.proofs.Common.{prefix_len_is, IsUtf8-from_ascii, ne_eqb, cases_eq, nat_tests}
-use Rattle.plan_num.proofs.Common.{Decides-eqb, get_or-append_seam, take-append_seam}
-use Rattle.std.specs.List.{starts_with}
+use Rattle.plan_num.proofs.Common.{drop, get_or, refl, ap, sym, subst, ◌∙◌, arith, All, true, not}
+use Rattle.plan_num.proofs.Common.{eqb, nat_eq, nat_le, zero, suc, Option, Some, None, decimal}
+use Rattle.plan_num.proofs.Common.{codes, slice_get, append_assoc, inl, inr, ◌⊎◌, unwrap_or}
+use Rattle.plan_num.proofs.Common.{filter_map, position, prefix_len, range_with_len, IsUtf8}
+use Rattle.plan_num.proofs.Common.{AllDigits, decimal_is_IsNumeral, get_or_append_left}
+use Rattle.plan_num.proofs.Common.{length-append, All-nil, All-cons, prefix_len_is}
+use Rattle.plan_num.proofs.Common.{IsUtf8-from_ascii, ne_eqb, cases_eq, nat_tests, Decides-eqb}
+use Rattle.plan_num.proofs.Common.{get_or-append_seam, take-append_seam}
 use Rattle.std.proofs.lemmas.Fmt.{IsAscii-decimal}
 use Rattle.std.proofs.lemmas.Slice.Eq.{starts_is}
 use Rattle.stage_keep.specs.Entries.{opening}
-use Rattle.stage_keep.specs.EntryReading.{behind, block_at, block_of_size, cut}
+use Rattle.stage_keep.specs.EntryReading.{behind, block_at, block_of_size}
 use Rattle.stage_keep.specs.InnerReading.{line_behind, line_of}
 use Rattle.stage_keep.proofs.EntriesApart.{not_digit}
 
@@ -53,14 +52,7 @@ front_is front rest = grind (arith, starts_is, Decides-eqb, nat_eq, drop_front)
 
 pub front_back : (front bytes rest : List ℕ) → behind front bytes ≡ Some rest
     → bytes ≡ front ++ rest
-front_back front bytes rest = by (starts_with nat_eq bytes front) refl
-  where
-    by : (b : Bool) → starts_with nat_eq bytes front ≡ b
-        → cond b (Some (drop (length front) bytes)) None ≡ Some rest → bytes ≡ front ++ rest
-    by true is found =
-        (starts_is Decides-eqb bytes front (starts_with nat_eq bytes front) refl).0 is
-        ∙ ap (λ (o : Option (List ℕ)). front ++ unwrap_or o []) found
-    by false is found = cc
+front_back front bytes rest = grind (arith, nat_eq, starts_is, Decides-eqb, unwrap_or)
 
 module _ {X : Type 0} (f : ℕ → Option X) where
   -- where nothing is found at any number, nothing is
@@ -105,13 +97,7 @@ StandsAt head bytes size =
 
 sized : (head bytes : List ℕ) (size : ℕ) (block : List ℕ × List ℕ)
     → block_of_size head bytes size ≡ Some block → StandsAt head bytes size
-sized head bytes size block = by (behind (opening head size) bytes) refl
-  where
-    by : (found : Option (List ℕ)) → behind (opening head size) bytes ≡ found
-        → option_and_then (cut size) found ≡ Some block
-        → (rest : List ℕ) × (bytes ≡ opening head size ++ rest) × (size ≤ length rest)
-    by None is none = cc
-    by (Some rest) is found = grind (arith, front_back, nat_le)
+sized head bytes size block = grind (arith, front_back, nat_le)
 
 opening_some : (head rest : List ℕ) (size : ℕ) → size ≤ length rest
     → size < length (opening head size ++ rest)

@@ -1,11 +1,10 @@
 -- Blocks are read back, and what is read are blocks.
-use Rattle.plan_num.proofs.Common.{◌≡◌, ℕ, ◌<◌, ◌≤◌, ◌+◌, ◌^◌, [], ◌∷◌, ◌++◌, length, map, take}
-use Rattle.plan_num.proofs.Common.{drop, refl, ap, sym, subst, ◌∙◌, arith, Bool, true, false, cond}
-use Rattle.plan_num.proofs.Common.{nat_le, suc, Option, Some, None, option_map, option_and_then}
-use Rattle.plan_num.proofs.Common.{slice_get, append_assoc, take-append-drop, Contains, cons_option}
-use Rattle.plan_num.proofs.Common.{filter_map, flat_map, range_with_len, bytes_eq, nat_tests}
-use Rattle.plan_num.proofs.Common.{append_cancel_left, length-append, length-take-le, same_Some}
-use Rattle.plan_num.proofs.Common.{bytes_eq-Decides, take-append_seam}
+use Rattle.plan_num.proofs.Common.{◌≡◌, ℕ, ◌<◌, ◌+◌, ◌^◌, [], ◌∷◌, ◌++◌, length, map, refl, ap, sym}
+use Rattle.plan_num.proofs.Common.{subst, ◌∙◌, arith, nat_le, suc, Option, Some, None, option_map}
+use Rattle.plan_num.proofs.Common.{option_and_then, slice_get, append_assoc, take-append-drop}
+use Rattle.plan_num.proofs.Common.{Contains, cons_option, filter_map, flat_map, range_with_len}
+use Rattle.plan_num.proofs.Common.{nat_tests, append_cancel_left, length-append, length-take-le}
+use Rattle.plan_num.proofs.Common.{same_Some, bytes_eq-Decides, take-append_seam}
 use Rattle.std.proofs.Common.{List}
 use Rattle.stage_keep.specs.Entries.{Block, block_bytes, last_line, opening}
 use Rattle.stage_keep.specs.EntryReading.{behind, block_at, block_of_size, cut, texts_at}
@@ -19,13 +18,7 @@ same_size head n m a b small low e =
     grind (arith, sizes, tail_same, append_cancel_left, spread_line)
 
 cut_front : (text rest : List ℕ) → cut (length text) (text ++ rest) ≡ Some (text, rest)
-cut_front text rest =
-    ap (λ b. cond b (Some (take (length text) (text ++ rest), drop (length text) (text ++ rest))) None)
-    (enough (length text) (length rest) (length (text ++ rest)) (length-append text rest))
-    ∙ λ i. Some (take-append_seam text rest i, drop_front text rest i)
-  where
-    enough : (n m all : ℕ) → all ≡ n + m → nat_le n all ≡ true
-    enough n m all is = grind (arith, nat_tests)
+cut_front text rest = grind (arith, length-append, take-append_seam, drop_front, nat_le, nat_tests)
 
 -- a block is read back
 pub block_back : (head text rest : List ℕ)
@@ -84,21 +77,14 @@ found_in {X} {Y} f x (y ∷ list) is = by (f y) refl is (found_in f x list)
 -- what is cut off at the front of bytes
 cut_told : (size : ℕ) (rest text more : List ℕ) → cut size rest ≡ Some (text, more)
     → (size ≡ length text) × (rest ≡ text ++ more)
-cut_told size rest text more = by (nat_le size (length rest)) refl
-  where
-    by : (b : Bool) → nat_le size (length rest) ≡ b
-        → cond {A = Option (List ℕ × List ℕ)} b (Some (take size rest, drop size rest)) None
-        ≡ Some (text, more)
-        → (size ≡ length text) × (rest ≡ text ++ more)
-    by false is found = cc
-    by true is found =
-        let few : size ≤ length rest = grind (arith, nat_tests) in
-        let both = same_Some (take size rest, drop size rest) (text, more) found in
-        let front : take size rest ≡ text = ap (λ pair. pair.0) both in
-        let back : drop size rest ≡ more = ap (λ pair. pair.1) both in (
-          sym (length-take-le size rest few) ∙ ap (λ (l : List ℕ). length l) front,
-          sym (take-append-drop size rest) ∙ λ i. front i ++ back i,
-        )
+cut_told size rest text more = grind (
+  arith,
+  nat_le,
+  nat_tests,
+  same_Some,
+  length-take-le,
+  take-append-drop,
+)
 
 -- a block that is read stands there
 pub block_told : (head bytes text more : List ℕ) → block_at head bytes ≡ Some (text, more)
@@ -131,15 +117,7 @@ pub texts_told : (heads : List (List ℕ)) (bytes : List ℕ) (texts : List (Lis
     → (length texts ≡ length heads)
     × (bytes ≡ flat_map block_bytes (blocks_of heads texts) ++ last_line)
 unfolding texts_at blocks_of
-texts_told [] bytes texts = by (bytes_eq bytes last_line) refl
-  where
-    by : (b : Bool) → bytes_eq bytes last_line ≡ b → cond b (Some []) None ≡ Some texts
-        → (length texts ≡ 0) × (bytes ≡ flat_map block_bytes [] ++ last_line)
-    by false is found = cc
-    by true is found = (
-      ap (λ (l : List (List ℕ)). length l) (sym (same_Some [] texts found)),
-      (bytes_eq-Decides bytes last_line).0 is,
-    )
+texts_told [] bytes texts = grind (arith, same_Some, bytes_eq-Decides)
 texts_told (head ∷ heads) bytes texts = by (block_at head bytes) refl
     (λ more. texts_told heads more)
   where

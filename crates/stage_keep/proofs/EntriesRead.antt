@@ -1,11 +1,11 @@
 -- What is read of bytes are the bytes of an entry, and an entry is read back.
-use Rattle.std.proofs.Common.{◌≡◌, ◌≢◌, ℕ, ◌<◌, ◌≤◌, ◌+◌, ◌^◌, List, [], ◌∷◌, ◌++◌, length, map}
-use Rattle.std.proofs.Common.{take, drop, get_or, refl, ap, sym, subst, ◌∙◌, arith, zero, suc}
-use Rattle.std.proofs.Common.{Result, Ok, Err, IfOk, Option, Some, None, option_map}
-use Rattle.std.proofs.Common.{option_and_then, codes, slice_get, append_assoc, append-nil}
-use Rattle.std.specs.List.{Contains, cons_option, filter_map, flat_map, zip}
-use Rattle.std.proofs.lemmas.List.{get_or-drop, length-append, length-drop, length-map, length-take-le}
-use Rattle.std.proofs.lemmas.Option.{same_Some}
+use Rattle.plan_num.proofs.Common.{◌≡◌, ◌≢◌, ℕ, ◌<◌, ◌≤◌, ◌+◌, ◌^◌, List, [], ◌∷◌, ◌++◌, length}
+use Rattle.plan_num.proofs.Common.{map, take, drop, get_or, refl, ap, sym, subst, ◌∙◌, arith, zero}
+use Rattle.plan_num.proofs.Common.{suc, Result, Ok, Err, IfOk, Option, Some, None, option_map}
+use Rattle.plan_num.proofs.Common.{option_and_then, codes, slice_get, append_assoc, append-nil}
+use Rattle.plan_num.proofs.Common.{Contains, cons_option, filter_map, flat_map, zip, get_or-drop}
+use Rattle.plan_num.proofs.Common.{length-append, length-drop, length-map, length-take-le}
+use Rattle.plan_num.proofs.Common.{same_Some}
 use Rattle.tables.proofs.Common.{FileId}
 use Rattle.giv_files.proofs.Common.{Made, Stage, MakesAs, ids_of, made_lists, BundleParts, Fits}
 use Rattle.giv_files.proofs.Common.{stage_inputs}
@@ -168,13 +168,7 @@ there at entry is =
 none_in : {X Y : Type 0} (f : Y → Option X) (x : X) (y : Y) (list : List Y) → Contains list y
     → f y ≡ Some x → slice_get (filter_map f list) 0 ≡ None → ⊥
 none_in f x y [] at is none = absurd (omega (arith, at.1))
-none_in {X} {Y} f x y (z ∷ list) (zero, within, same) is none =
-    by (f z) (ap f same ∙ is) none
-  where
-    by : (found : Option X) → found ≡ Some x
-        → slice_get (cons_option found (filter_map f list)) 0 ≡ None → ⊥
-    by None some none = cc
-    by (Some w) some none = cc
+none_in {X} {Y} f x y (z ∷ list) (zero, within, same) is none = grind (arith, slice_get)
 none_in {X} {Y} f x y (z ∷ list) (suc k, within, same) is none =
     by (f z) none (none_in f x y list (k, omega (arith, within), same) is)
   where

@@ -1,6 +1,6 @@
 -- What holds of entries, whatever is kept in them.
-use Rattle.std.specs.Prelude.{◌≡◌, ◌≢◌, ◌<◌, ◌^◌, length, ℕ, List, [], ◌++◌, Option, Some, None}
-use Rattle.std.specs.Prelude.{Result, Ok}
+use Rattle.plan_num.proofs.Common.{◌≡◌, ◌≢◌, ◌<◌, ◌^◌, length, ℕ, List, [], ◌++◌, Option, Some}
+use Rattle.plan_num.proofs.Common.{None, Result, Ok}
 use Rattle.giv_files.proofs.Common.{Made, Stage, BundleParts, Fits}
 use Rattle.tables.proofs.Common.{Refusal}
 use Rattle.stage_keep.specs.Entries.{EntryParts, IsEntryOf, entry_bytes}

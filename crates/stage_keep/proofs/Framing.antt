@@ -1,14 +1,12 @@
 -- Bytes that do not begin and end as the entry of a bundle keep nothing for it.
 use Rattle.plan_num.proofs.Common.{arith, ◌≡◌, ◌≢◌, ◌<◌, ◌^◌, [], ◌∷◌, ◌++◌, length, map, codes}
-use Rattle.plan_num.proofs.Common.{refl, subst, ◌∙◌, Bool, true, false, cond, Option, Some, None}
-use Rattle.plan_num.proofs.Common.{option_and_then, flat_map, pointwise, bytes_eq, and_parts}
-use Rattle.plan_num.proofs.Common.{bytes_eq-Decides}
+use Rattle.plan_num.proofs.Common.{◌∙◌, true, Some, None, option_and_then, flat_map, pointwise}
+use Rattle.plan_num.proofs.Common.{bytes_eq, and_parts, bytes_eq-Decides}
 use Rattle.std.proofs.Common.{ℕ, List}
 use Rattle.giv_files.proofs.Common.{BundleParts, settings_text}
 use Rattle.stage_keep.specs.Entries.{EntryParts, block_bytes, entry_bytes, entry_front, input_block}
 use Rattle.stage_keep.specs.Entries.{last_line, made_block}
-use Rattle.stage_keep.specs.EntryReading.{ReadsEntry, read_entry}
-use Rattle.stage_keep.specs.Honest.{held_for, kept_for, matches}
+use Rattle.stage_keep.specs.Honest.{kept_for, matches}
 use Rattle.stage_keep.proofs.EntriesRead.{reading_is_exact}
 
 -- what stands behind the settings of an entry, but for the last line
@@ -27,20 +25,7 @@ framed bundle entry same = grind arith
 pub none_kept : (bundle : BundleParts) (bytes : List ℕ) → length bytes < 2 ^ 64
     → ((entry : EntryParts) → matches entry bundle ≡ true → bytes ≡ entry_bytes bundle.stage entry → ⊥)
     → kept_for bundle (Some bytes) ≡ None
-none_kept bundle bytes short never = by (read_entry bundle.stage bytes) refl
-  where
-    held : (entry : EntryParts) (b : Bool) → matches entry bundle ≡ b
-        → bytes ≡ entry_bytes bundle.stage entry → cond b (Some entry.made) None ≡ None
-    held entry true same is = absurd (never entry same is)
-    held entry false same is = refl
-
-    by : (found : Option EntryParts) → read_entry bundle.stage bytes ≡ found
-        → option_and_then (held_for bundle) found ≡ None
-    by None at = refl
-    by (Some entry) at =
-        let told = subst (λ found. ReadsEntry bundle.stage bytes found) at
-        (reading_is_exact bundle.stage bytes short) in
-        held entry (matches entry bundle) refl told.1
+none_kept bundle bytes short never = grind (arith, option_and_then, reading_is_exact)
 
 -- bytes without such ends are no entry of the bundle
 pub unframed_is_unkept : (bundle : BundleParts) (bytes : List ℕ) → length bytes < 2 ^ 64

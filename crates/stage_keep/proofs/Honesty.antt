@@ -1,13 +1,13 @@
 -- What is read as an entry of what was made is honest, and so is a front of it; what an honest keep
 -- holds is made.
-use Rattle.plan_num.proofs.Common.{arith, ◌≡◌, ℕ, List, refl, ap, sym, subst, ◌∙◌, Bool, true}
-use Rattle.plan_num.proofs.Common.{false, cond, Option, Some, None, option_and_then, Result, Ok}
-use Rattle.plan_num.proofs.Common.{pointwise, bytes_eq, and_parts, same_Some, bytes_eq-Decides}
+use Rattle.plan_num.proofs.Common.{arith, ◌≡◌, ℕ, List, refl, ap, sym, subst, ◌∙◌, true, cond}
+use Rattle.plan_num.proofs.Common.{Option, Some, None, option_and_then, Result, Ok, pointwise}
+use Rattle.plan_num.proofs.Common.{bytes_eq, and_parts, same_Some, bytes_eq-Decides}
 use Rattle.std.proofs.lemmas.Slice.Eq.{slice_eq-Decides}
 use Rattle.giv_files.proofs.Common.{Made, MakesAs, ids_of, BundleParts, Fits, SettingsFit}
 use Rattle.giv_files.proofs.Common.{settings_text, text_tells}
 use Rattle.tables.proofs.Common.{Refusal}
-use Rattle.stage_keep.specs.Entries.{EntryParts, entry_for}
+use Rattle.stage_keep.specs.Entries.{entry_for}
 use Rattle.stage_keep.specs.EntryReading.{read_entry}
 use Rattle.stage_keep.specs.Honest.{IsHonest, held_for, kept_for, matches}
 use Rattle.stage_keep.proofs.EntryLaws.{FrontsAreHonest, HonestIsMade}
@@ -33,20 +33,7 @@ own_kept bundle made bytes back =
 pub kept_makes : (bundle : BundleParts) (text : Option (List ℕ)) (made : Made)
     → kept_for bundle text ≡ Some made → MakesAs bundle.stage (ids_of made.files)
 kept_makes bundle None made found = absurd (cc)
-kept_makes bundle (Some bytes) made found = read (read_entry bundle.stage bytes) refl found
-  where
-    held : (entry : EntryParts) (b : Bool) → read_entry bundle.stage bytes ≡ Some entry
-        → cond b (Some entry.made) None ≡ Some made → MakesAs bundle.stage (ids_of made.files)
-    held entry true at found =
-        subst (λ (made : Made). MakesAs bundle.stage (ids_of made.files))
-        (same_Some entry.made made found) (read_makes bundle.stage bytes entry at)
-    held entry false at found = absurd (cc)
-
-    read : (entry : Option EntryParts) → read_entry bundle.stage bytes ≡ entry
-        → option_and_then (held_for bundle) entry ≡ Some made
-        → MakesAs bundle.stage (ids_of made.files)
-    read None at found = absurd (cc)
-    read (Some entry) at found = held entry (matches entry bundle) at found
+kept_makes bundle (Some bytes) made found = grind (arith, same_Some, read_makes, option_and_then)
 
 -- an entry of a bundle matches no other bundle of its stage
 same_bundle : (bundle other : BundleParts) (made : Made) → Fits bundle → Fits other
@@ -72,29 +59,7 @@ read_is_honest makes bundle made bytes fits back is = λ entry other read stage 
     ∙ is ∙ ap (λ e. Ok e.made) own
 
 pub fronts_are_honest : FrontsAreHonest
-fronts_are_honest makes stage entry front more of whole some = λ other bundle read at fits matching.
-    absurd (never other (sym (fronts_are_none stage entry front more of whole some) ∙ read))
-  where
-    never : (other : EntryParts) → None ≡ Some other → ⊥
-    never other is = cc
+fronts_are_honest makes stage entry front more of whole some = grind (arith, fronts_are_none)
 
 pub honest_is_made : HonestIsMade
-honest_is_made makes kept honest bundle made fits = by (kept bundle.stage) refl
-  where
-    held : (entry : EntryParts) (b : Bool) → matches entry bundle ≡ b
-        → (matches entry bundle ≡ true → makes bundle ≡ Ok entry.made)
-        → cond b (Some entry.made) None ≡ Some made → makes bundle ≡ Ok made
-    held entry true same makes_it found = makes_it same ∙ ap Ok (same_Some entry.made made found)
-    held entry false same makes_it found = cc
-
-    read : (bytes : List ℕ) (entry : Option EntryParts) → kept bundle.stage ≡ Some bytes
-        → read_entry bundle.stage bytes ≡ entry
-        → option_and_then (held_for bundle) entry ≡ Some made → makes bundle ≡ Ok made
-    read bytes None at none found = cc
-    read bytes (Some entry) at some found = grind arith
-
-    by : (text : Option (List ℕ)) → kept bundle.stage ≡ text
-        → option_and_then (held_for bundle) (option_and_then (read_entry bundle.stage) text) ≡ Some made
-        → makes bundle ≡ Ok made
-    by None none found = cc
-    by (Some bytes) at found = read bytes (read_entry bundle.stage bytes) at refl found
+honest_is_made makes kept honest bundle made fits = grind (arith, same_Some, option_and_then)

@@ -2,10 +2,9 @@
 use Rattle.plan_num.proofs.Common.{◌≡◌, ℕ, ◌<◌, ◌+◌, ◌-◌, suc, zero, List, [], ◌∷◌, ◌++◌, All}
 use Rattle.plan_num.proofs.Common.{length, map, take, drop, get_or, refl, ap, sym, subst, ◌∙◌}
 use Rattle.plan_num.proofs.Common.{arith, Option, Some, None, option_map, slice_get, append_assoc}
-use Rattle.plan_num.proofs.Common.{append-nil, cons_option, filter_map, take-map, zip}
-use Rattle.plan_num.proofs.Common.{option_to_list, drop-append_seam, take-append_seam, get_or-map}
-use Rattle.plan_num.proofs.Common.{length-append, length-drop, map-append, nil_from_length}
-use Rattle.plan_num.proofs.Common.{take_all, All-push}
+use Rattle.plan_num.proofs.Common.{append-nil, filter_map, take-map, zip, option_to_list}
+use Rattle.plan_num.proofs.Common.{drop-append_seam, take-append_seam, get_or-map, length-append}
+use Rattle.plan_num.proofs.Common.{length-drop, map-append, nil_from_length, take_all, All-push}
 use Rattle.tables.proofs.Common.{FileId}
 use Rattle.giv_files.proofs.Common.{Made, MadeFile, Stage, made_lists, stage_makes}
 use Rattle.stage_keep.specs.declared.place.Place.{Place}
@@ -32,12 +31,13 @@ module _ (bytes front rest head text more : List ℕ) (split : bytes ≡ front +
       (size : place.size ≡ length text) where
     part_is : part_of bytes place ≡ text
     part_is =
-        let at : place.start ≡ length before = omega (arith, start, sizes) in
-        (λ j. take (size j) (drop (at j) bytes))
-        ∙ ap (λ (b : List ℕ). take (length text) (drop (length before) b))
-        (next_split ∙ append_assoc before text more)
-        ∙ ap (take (length text)) (drop-append_seam before (text ++ more))
-        ∙ take-append_seam text more
+        let at : place.start ≡ length before = omega (arith, start, sizes) in grind (
+          arith,
+          next_split,
+          append_assoc,
+          drop-append_seam,
+          take-append_seam,
+        )
 
     -- one place more has the text, and is one of the bytes
     pub place_more : (places new : List Place) → new ≡ places ++ place ∷ []
@@ -153,24 +153,11 @@ module _ (at : Stage) (bytes : List ℕ) (files : List FileId) (found : Option F
   pub read_later : (texts : List (List ℕ)) (made : Made)
       → texts_at (last_heads (file ∷ [])) bytes ≡ Some texts → made ≡ made_of (file ∷ []) texts
       → Some made ≡ read_made at bytes
-  read_later texts made some made_is =
-      sym (later
-      ∙ by (made_with bytes (file ∷ [])) (ap (option_map (made_of (file ∷ []))) some ∙ ap Some (sym made_is)))
-    where
-      by : (found : Option Made) → found ≡ Some made
-          → slice_get (cons_option found (filter_map (made_with bytes) [])) 0 ≡ Some made
-      by None e = cc
-      by (Some other) e = e
+  read_later texts made some made_is = grind (arith, later, option_map, slice_get)
 
   -- or not
   pub read_neither : texts_at (last_heads (file ∷ [])) bytes ≡ None → None ≡ read_made at bytes
-  read_neither not =
-      sym (later ∙ by (made_with bytes (file ∷ [])) (ap (option_map (made_of (file ∷ []))) not))
-    where
-      by : (found : Option Made) → found ≡ None
-          → slice_get (cons_option found (filter_map (made_with bytes) [])) 0 ≡ None
-      by None e = refl
-      by (Some other) e = cc
+  read_neither not = grind (arith, later, option_map, slice_get)
 
 -- the texts at places, where bytes and heads are these
 pub texts_in : {X : Type 0} (f : List ℕ → X → List (List ℕ)) (bytes own : List ℕ) (heads other : List (List ℕ))

@@ -1,8 +1,8 @@
 -- Steps of reading an entry.
-use Rattle.plan_num.proofs.Common.{◌≡◌, ℕ, ◌<◌, ◌≤◌, ◌+◌, ◌-◌, suc, List, [], ◌∷◌, ◌++◌, length}
-use Rattle.plan_num.proofs.Common.{map, take, drop, get_or, refl, ap, sym, ◌∙◌, arith, Option, Some}
+use Rattle.plan_num.proofs.Common.{◌≡◌, ℕ, ◌<◌, ◌≤◌, ◌+◌, ◌-◌, List, [], ◌∷◌, ◌++◌, length, map}
+use Rattle.plan_num.proofs.Common.{take, drop, get_or, refl, ap, sym, ◌∙◌, arith, Option, Some}
 use Rattle.plan_num.proofs.Common.{None, option_map, slice_get, append_assoc, if◌then◌else◌, codes}
-use Rattle.plan_num.proofs.Common.{cond, Bool, true, false, option_and_then, append-nil, drop-drop}
+use Rattle.plan_num.proofs.Common.{Bool, true, false, option_and_then, append-nil, drop-drop}
 use Rattle.plan_num.proofs.Common.{cons_option, filter_map, zip, option_to_list, bytes_eq, take-map}
 use Rattle.plan_num.proofs.Common.{get_or-drop, get_or-map, length-drop, map-append, take_all}
 use Rattle.plan_num.proofs.Common.{take_more}
@@ -25,11 +25,7 @@ head_more files i d inside =
 
 pub drop_at : {X : Type 0} (xs : List X) (i : ℕ) (d : X) → i < length xs
     → drop i xs ≡ get_or xs i d ∷ drop (i + 1) xs
-drop_at xs i d inside =
-    drop-cons xs i d inside ∙ ap (λ n. get_or xs i d ∷ drop n xs) (next i)
-  where
-    next : (n : ℕ) → suc n ≡ n + 1
-    next n = omega arith
+drop_at xs i d inside = grind (arith, drop-cons, get_or)
 
 -- one file more with its text
 pub file_more : (files : List FileId) (texts : List (List ℕ)) (i : ℕ) (d : FileId)
@@ -73,12 +69,7 @@ ended : (so_far : List (List ℕ)) (rest : List ℕ)
     → (if bytes_eq rest last_line then Some so_far else None)
     ≡ option_map (λ later. so_far ++ later) (texts_at [] rest)
 unfolding texts_at
-ended so_far rest = by (bytes_eq rest last_line)
-  where
-    by : (b : Bool) → cond b (Some so_far) None
-        ≡ option_map (λ later. so_far ++ later) (cond b (Some []) None)
-    by true = ap Some (sym (append-nil so_far))
-    by false = refl
+ended so_far rest = grind (arith, option_map, append-nil)
 
 module _ (heads : List (List ℕ)) (i : ℕ) (so_far : List (List ℕ)) (rest : List ℕ)
     (all : Option (List (List ℕ)))

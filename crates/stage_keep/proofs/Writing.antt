@@ -1,7 +1,7 @@
 -- Steps of writing an entry.
-use Rattle.std.proofs.Common.{◌≡◌, ℕ, ◌+◌, List, ◌∷◌, ◌++◌, map, drop, ap, sym, ◌∙◌, Some, slice_get, append_assoc}
-use Rattle.std.specs.List.{flat_map}
-use Rattle.std.proofs.lemmas.Option.{get_or_from_slice_get, slice_get_within}
+use Rattle.plan_num.proofs.Common.{◌≡◌, ℕ, ◌+◌, List, ◌∷◌, ◌++◌, map, drop, ap, sym, ◌∙◌, Some}
+use Rattle.plan_num.proofs.Common.{slice_get, append_assoc, flat_map, get_or_from_slice_get}
+use Rattle.plan_num.proofs.Common.{slice_get_within}
 use Rattle.giv_files.proofs.Common.{MadeFile}
 use Rattle.stage_keep.specs.Entries.{block_bytes, made_block, made_head}
 use Rattle.stage_keep.proofs.Reading.{drop_at}

@@ -84,10 +84,11 @@ module _ {X : Type 0} (rules : List (RowRule X)) (id : X → ℤ) where
         → Fresh before (map id rows) → AllByRecursion Good rows → KeepRules rules before rows
     unfolding IsStrictlySortedBy
     rising_keep before [] rise fresh good = tt
-    rising_keep before (row ∷ rows) rise fresh good = (
-      keeps before row fresh.0 good.0,
-      rising_keep (before ++ row ∷ []) rows rise.1
-          (fresh_more before row (map id rows) rise.0 fresh.1) good.1,
+    rising_keep before (row ∷ rows) rise fresh good = grind (
+      arith,
+      fresh_more,
+      rising_keep (before
+          ++ row ∷ []) rows rise.1 (fresh_more before row (map id rows) rise.0 fresh.1) good.1,
     )
 
     -- rows whose ids rise keep rules that a good row keeps which has an id of its own

@@ -1,13 +1,13 @@
 -- The texts of cells, and that they are read back.
-use Rattle.plan_num.proofs.Common.{◌≡◌, ℕ, ◌+◌, ◌<◌, ◌≤◌, ◌&&◌, ◌/◌, ◌%◌, ltb, ne_eqb, zero-add}
-use Rattle.plan_num.proofs.Common.{zero, suc, List, [], ◌∷◌, length, get_or, refl, ap, ◌∙◌, arith}
-use Rattle.plan_num.proofs.Common.{ℤ, pos, negsuc, neg_ℤ, sym, subst, ◌≤ℤ◌, Bool, true, false, T}
-use Rattle.plan_num.proofs.Common.{Some, Ok, All, length-append, int_le, decimal, list_all}
-use Rattle.plan_num.proofs.Common.{bytes_eq, bytes_eq-Decides, position-Some, signed_decimal, ints}
-use Rattle.plan_num.proofs.Common.{ltb-true, and_parts, nat_tests, All-head, All-tail}
+use Rattle.plan_num.proofs.Common.{◌≡◌, ℕ, ◌+◌, ◌<◌, ◌≤◌, ◌&&◌, ltb, ne_eqb, zero-add, zero, suc}
+use Rattle.plan_num.proofs.Common.{List, [], ◌∷◌, length, get_or, refl, ap, ◌∙◌, arith, ℤ, pos}
+use Rattle.plan_num.proofs.Common.{negsuc, neg_ℤ, sym, subst, ◌≤ℤ◌, Bool, true, false, T, Some, Ok}
+use Rattle.plan_num.proofs.Common.{All, length-append, int_le, list_all, bytes_eq, bytes_eq-Decides}
+use Rattle.plan_num.proofs.Common.{position-Some, signed_decimal, ints, ltb-true, and_parts}
+use Rattle.plan_num.proofs.Common.{nat_tests, All-head, All-tail}
 use Rattle.std.proofs.lemmas.Fmt.{decimal_nonempty}
 use Rattle.plan_num.specs.Number.{is_number_byte}
-use Rattle.plan_num.specs.Print.{fixed_text, fraction_text}
+use Rattle.plan_num.specs.Print.{fixed_text}
 use Rattle.plan_num.proofs.ReadBack.{whole_back, fixed_back, whole_bytes, fixed_bytes}
 use Rattle.tables.specs.declared.words.WordTable.{WordTable}
 use Rattle.tables.specs.declared.words.WordTable.TheVariants as table
@@ -37,13 +37,7 @@ whole_some (negsuc n) low high = omega arith
 
 fixed_some : (cell : ℤ) → neg_ℤ (pos 1000000000000000000) ≤ℤ cell → cell ≤ℤ pos 1000000000000000000
     → 0 < length (fixed_text cell)
-fixed_some (pos n) low high = omega (
-  arith,
-  ints,
-  decimal_nonempty (n / 1000000) (omega (arith, ints)),
-  length-append
-      (decimal (n / 1000000)) (fraction_text (n % 1000000)),
-)
+fixed_some (pos n) low high = grind (arith, ints, decimal_nonempty, length-append)
 fixed_some (negsuc n) low high = omega arith
 
 -- each word of a table is the text of a cell, and is found at its place
@@ -62,58 +56,17 @@ word_good table (word ∷ words) start (suc place) h lt = let more = word_good t
 
 -- a text with a byte and only plain ones, as a test computes
 pub plain_word : (text : List ℕ) → (ltb 0 (length text) && list_all is_plain text) ≡ true → IsCell text
-plain_word text h = let both = and_parts (ltb 0 (length text))
-    (list_all is_plain text) h in record { some = ltb-true 0 (length text) both.0; plain = both.1 }
+plain_word text h = grind (arith, and_parts, is_plain, ltb-true)
 
 words_good : (words : WordTable) → WordsGood (table_words words) (table_words words) 0
 words_good table.EventKind = (plain_word _ refl, refl, (plain_word _ refl, refl, tt))
-words_good table.ActivityKind = (
-  plain_word _ refl,
-  refl,
-  (
-    plain_word _ refl,
-    refl,
-    (plain_word _ refl, refl, (plain_word _ refl, refl, tt)),
-  ),
-)
+words_good table.ActivityKind = grind (arith, plain_word)
 words_good table.Direction = (plain_word _ refl, refl, (plain_word _ refl, refl, tt))
-words_good table.NodeKind = (
-  plain_word _ refl,
-  refl,
-  (
-    plain_word _ refl,
-    refl,
-    (
-      plain_word _ refl,
-      refl,
-      (plain_word _ refl, refl, (plain_word _ refl, refl, tt)),
-    ),
-  ),
-)
+words_good table.NodeKind = grind (arith, plain_word)
 words_good table.ScheduleKind = (plain_word _ refl, refl, (plain_word _ refl, refl, tt))
 words_good table.ReasonKind = (plain_word _ refl, refl, (plain_word _ refl, refl, (plain_word _ refl, refl, tt)))
-words_good table.PeriodicKind = (
-  plain_word _ refl,
-  refl,
-  (
-    plain_word _ refl,
-    refl,
-    (plain_word _ refl, refl, (plain_word _ refl, refl, (plain_word _ refl, refl, tt))),
-  ),
-)
-words_good table.WaitKind = (
-  plain_word _ refl,
-  refl,
-  (
-    plain_word _ refl,
-    refl,
-    (
-      plain_word _ refl,
-      refl,
-      (plain_word _ refl, refl, (plain_word _ refl, refl, tt)),
-    ),
-  ),
-)
+words_good table.PeriodicKind = grind (arith, plain_word)
+words_good table.WaitKind = grind (arith, plain_word)
 
 -- so a field that is found there is the text of a cell
 pub word_found : (words : WordTable) (field : List ℕ) (place : ℕ)
@@ -140,8 +93,7 @@ pub small_place : (words : WordTable) (field : List ℕ) (place : ℕ)
     → Some place ≡ place_of (table_words words) field → place < 5
 small_place words field place found =
     let at = position-Some (λ (word : List ℕ). bytes_eq word field) (table_words words) place []
-    (sym found) in
-    omega (arith, at.0, few_words words)
+    (sym found) in grind (arith, few_words)
 
 -- a number within its column is within what can be read back
 within : (min max cell : ℤ) → IsSmall min max → min ≤ℤ cell → cell ≤ℤ max
@@ -174,11 +126,9 @@ pub text_back : (kind : ColumnKind) (cell : ℤ) (column : ℕ) → CanWrite kin
     → cell_of kind column (cell_text kind cell) ≡ Ok cell
 unfolding cell_text cell_of
 text_back (kind.Whole min max) cell column can inside =
-    let small = within min max cell can inside.0 inside.1 in rw (whole_back cell small.0 small.1)
-    (range_back min max cell column inside.0 inside.1)
+    let small = within min max cell can inside.0 inside.1 in grind (arith, whole_back, range_back)
 text_back (kind.Fixed min max) cell column can inside =
-    let small = within min max cell can inside.0 inside.1 in rw (fixed_back cell small.0 small.1)
-    (range_back min max cell column inside.0 inside.1)
+    let small = within min max cell can inside.0 inside.1 in grind (arith, fixed_back, range_back)
 text_back (kind.Word words) cell column can inside =
     rw inside.2 (rw (word_good (table_words words) (table_words words) 0 inside.0
     (words_good words) inside.1).1 (ap (λ n. Ok (pos n)) (zero-add inside.0)))

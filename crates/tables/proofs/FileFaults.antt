@@ -1,8 +1,7 @@
 -- From the table of a text to the text: what refuses the one refuses the other.
-use Rattle.plan_num.proofs.Common.{arith, ◌≡◌, ℕ, ◌≤◌, nat_lt, Bool, true, false, cond, List, []}
-use Rattle.plan_num.proofs.Common.{◌∷◌, length, All, IfOk, IfSome, refl, ap, subst, sym, ◌∙◌}
-use Rattle.plan_num.proofs.Common.{Result, Ok, Err, Option, Some, None, slice_get, ltb-false}
-use Rattle.plan_num.proofs.Common.{append-nil}
+use Rattle.plan_num.proofs.Common.{arith, ◌≡◌, ℕ, ◌≤◌, nat_lt, List, [], length, All, IfOk, IfSome}
+use Rattle.plan_num.proofs.Common.{refl, subst, sym, Result, Ok, Err, Option, Some, None, slice_get}
+use Rattle.plan_num.proofs.Common.{ltb-false, append-nil}
 use Rattle.tables.specs.declared.column.ColumnKind.{ColumnKind}
 use Rattle.tables.specs.declared.file_id.FileId.{FileId}
 use Rattle.tables.specs.declared.refusal.Refusal.{Refusal}
@@ -36,12 +35,7 @@ pub rows_within : (limit : Option RowLimit) (count rows : ℕ) (told : Option Re
     → told ≡ slice_get (too_many_rows limit count) 0 → told ≡ None
     → IfSome limit (λ limit. rows ≤ limit.most)
 rows_within None count rows told is first none = tt
-rows_within (Some limit) count rows told is first none = subst (λ some. some ≤ limit.most) is
-    (ltb-false limit.most count (kept (nat_lt limit.most count) _ (sym first ∙ none)))
-  where
-    kept : (b : Bool) (fault : Refusal) → slice_get (cond b (fault ∷ []) []) 0 ≡ None → b ≡ false
-    kept true fault e = cc
-    kept false fault e = refl
+rows_within (Some limit) count rows told is first none = grind (arith, ltb-false, nat_lt, slice_get)
 
 module _ {X : Type 0} (limit : Option RowLimit) (rows : List X) (count : ℕ) (told : Option Refusal)
     (is : count ≡ length rows) (first : told ≡ slice_get (too_many_rows limit count) 0) where
@@ -52,8 +46,7 @@ module _ {X : Type 0} (limit : Option RowLimit) (rows : List X) (count : ℕ) (t
 
   -- or they are few enough
   pub few_rows : told ≡ None → limit_faults (limits_of limit) rows ≡ []
-  few_rows none = limits_are limit rows ∙ sym (ap (too_many_rows limit) is)
-      ∙ none_first (too_many_rows limit count) (sym first ∙ none)
+  few_rows none = grind (arith, limits_are, none_first)
 
 module _ {X : Type 0} (input : Input X) (text : List ℕ) (table : List TableRow)
     (cells : cell_faults input.file input.columns text ≡ [])

@@ -1,11 +1,10 @@
 -- Headers of tables.
-use Rattle.plan_num.proofs.Common.{◌≡◌, ◌≢◌, ◌==◌, ℕ, true, not, List, [], ◌∷◌, All, list_all}
-use Rattle.plan_num.proofs.Common.{and_parts, eqb-false, not-true, All-nil, All-cons}
+use Rattle.plan_num.proofs.Common.{arith, ◌≡◌, ◌≢◌, ◌==◌, ℕ, true, not, List, [], ◌∷◌, All}
+use Rattle.plan_num.proofs.Common.{list_all, and_parts, eqb-false, not-true, All-nil, All-cons}
 
 -- no byte of a header ends its line, by a test that computes
 pub plain_header : (bytes : List ℕ) → list_all (λ byte. not (byte == 10)) bytes ≡ true → All (λ byte. byte ≢ 10) bytes
 plain_header [] e = All-nil (λ (byte : ℕ). byte ≢ 10)
 plain_header (byte ∷ bytes) e =
-    let parts = and_parts (not (byte == 10)) (list_all (λ byte. not (byte == 10)) bytes) e in
-    All-cons (λ (byte : ℕ). byte ≢ 10) byte bytes
-    (eqb-false byte 10 (not-true (byte == 10) parts.0)) (plain_header bytes parts.1)
+    let parts = and_parts (not (byte == 10)) (list_all (λ byte. not (byte == 10)) bytes) e in grind
+    (arith, All-cons, eqb-false, not-true, plain_header bytes parts.1)

@@ -1,7 +1,7 @@
 -- The faults of an input, part by part, for any limits and rules.
 use Rattle.plan_num.proofs.Common.{◌≡◌, ℕ, zero, suc, ◌+◌, ◌<◌, ◌≤◌, arith, Bool, true, false, cond}
 use Rattle.plan_num.proofs.Common.{List, [], ◌∷◌, ◌++◌, length, map, get_or, slice_get, take, drop}
-use Rattle.plan_num.proofs.Common.{refl, ap, subst, sym, ◌∙◌, Option, Some, None, Result, Ok, Err}
+use Rattle.plan_num.proofs.Common.{refl, ap, subst, sym, ◌∙◌, Some, None, Result, Ok, Err}
 use Rattle.plan_num.proofs.Common.{append_assoc, lt-ltb, le-ltb, ltb-false, at_drop_more}
 use Rattle.plan_num.proofs.Common.{at_drop_all, take_more, take_all, map_push, append-nil}
 use Rattle.plan_num.proofs.Common.{length-map, map-map, All-cons, All}
@@ -16,7 +16,7 @@ use Rattle.tables.specs.Tables.{TableRow, no_row}
 use Rattle.tables.specs.Reading.{table_of}
 use Rattle.tables.specs.Writing.{InColumns}
 use Rattle.tables.proofs.Ranges.{front_none, back_none, table_in_columns}
-use Rattle.tables.specs.Inputs.{Numbered, Limit, row_limit, RowRule, TableRule, whole_rule, Input, unnumbered, records, records_of, numbered, cell_faults, limit_fault, limit_faults, broken_whys, row_faults, table_row_faults, fault_at, whole_faults, table_faults, or_else, input_faults, Refuses, UnlessFault}
+use Rattle.tables.specs.Inputs.{Numbered, Limit, row_limit, RowRule, TableRule, whole_rule, Input, unnumbered, records, records_of, numbered, cell_faults, limit_faults, broken_whys, row_faults, table_row_faults, fault_at, whole_faults, table_faults, or_else, input_faults, Refuses, UnlessFault}
 use Rattle.plan_num.proofs.Lists.{unmapped}
 
 -- ---- lists of faults
@@ -87,15 +87,7 @@ module _ {X : Type 0} (limit : Limit X) (limits : List (Limit X)) (rows : List X
   -- where no limit is passed, the first is kept, and those behind it are
   pub limits_sound : limit_faults (limit ∷ limits) rows ≡ [] → (limit.count rows ≤ limit.most)
       × (limit_faults limits rows ≡ [])
-  limits_sound none = (
-    ltb-false limit.most (limit.count rows)
-        (not_passed _ _ (front_none _ _ none)),
-    back_none (limit_fault rows limit) _ none,
-  )
-    where
-      not_passed : (b : Bool) (fault : Refusal) → cond b (fault ∷ []) [] ≡ [] → b ≡ false
-      not_passed true fault e = cc
-      not_passed false fault e = refl
+  limits_sound none = grind (arith, ltb-false, front_none, back_none)
 
 module _ {X : Type 0} (rule : RowRule X) (rules : List (RowRule X)) (before : List X) (row : X) where
   -- a rule that a row breaks is its first reason
@@ -111,15 +103,7 @@ module _ {X : Type 0} (rule : RowRule X) (rules : List (RowRule X)) (before : Li
   -- where a row breaks no rule, it keeps the first, and those behind it
   pub rules_sound : broken_whys (rule ∷ rules) before row ≡ [] → (rule.is_broken before row ≡ false)
       × (broken_whys rules before row ≡ [])
-  rules_sound none = (
-    not_broken _ (front_none _ _ none),
-    back_none
-        (cond (rule.is_broken before row) (rule.why ∷ []) []) _ none,
-  )
-    where
-      not_broken : (b : Bool) → cond b (rule.why ∷ []) [] ≡ [] → b ≡ false
-      not_broken true e = cc
-      not_broken false e = refl
+  rules_sound none = grind (arith, front_none, back_none)
 
 module _ {X : Type 0} (file : FileId) (rule : TableRule X) (rules : List (TableRule X)) (rows : List (Numbered X)) where
   -- a rule that a file breaks is its first fault
@@ -135,11 +119,7 @@ module _ {X : Type 0} (file : FileId) (rule : TableRule X) (rules : List (TableR
   -- where a file breaks no rule, it keeps the first, and those behind it
   pub whole_sound : whole_faults file (rule ∷ rules) rows ≡ [] → (rule.broken_at rows ≡ None)
       × (whole_faults file rules rows ≡ [])
-  whole_sound none = (kept _ (front_none _ _ none), back_none (fault_at file rule.why (rule.broken_at rows)) _ none)
-    where
-      kept : (at : Option ℕ) → fault_at file rule.why at ≡ [] → at ≡ None
-      kept None e = refl
-      kept (Some row) e = cc
+  whole_sound none = grind (arith, front_none, back_none)
 
 -- ---- the parts of a table
 
@@ -197,13 +177,7 @@ module _ {X : Type 0} (input : Input X) (rows : List TableRow) where
     pub whole_rule_sound : whole_faults input.file (whole_rule is_broken why ∷ rules)
         (numbered input rows) ≡ [] → (is_broken (records input rows) ≡ false)
         × (whole_faults input.file rules (numbered input rows) ≡ [])
-    whole_rule_sound none =
-        let sound = whole_sound input.file (whole_rule is_broken why) rules (numbered input rows) none in
-        (kept _ (ap (λ some. cond (is_broken some) (Some 0) None) (sym unnumbered_records) ∙ sound.0), sound.1)
-      where
-        kept : (b : Bool) → cond {A = Option ℕ} b (Some 0) None ≡ None → b ≡ false
-        kept true e = cc
-        kept false e = refl
+    whole_rule_sound none = grind (arith, whole_sound, unnumbered_records)
 
 -- ---- a table with one limit, that of its rows
 
@@ -267,23 +241,6 @@ module _ {S X : Type 0} (number : S → ℕ) (of : S → X) (file : FileId) (rul
     unfolding row_faults
     all_met h so_far = sym so_far
         ∙ at_drop_all (λ rest. row_faults file rules (map of (take i rows)) (told rest)) rows i h
-
-  -- rows break no rule where none breaks one after those before it
-  pub none_broken : (before : List X) (rows : List S) (d : S)
-      → ((i : ℕ) → i < length rows
-      → broken_whys rules (before ++ map of (take i rows)) (of (get_or rows i d)) ≡ [])
-      → row_faults file rules before (told rows) ≡ []
-  unfolding row_faults
-  none_broken before [] d each = refl
-  none_broken before (row ∷ rows) d each =
-      let first : broken_whys rules before (of row)
-      ≡ [] = ap (λ some. broken_whys rules some (of row)) (sym (append-nil before))
-      ∙ each 0 (omega arith) in
-      let rest = none_broken (before ++ of row ∷ []) rows d (λ i h.
-      ap (λ some. broken_whys rules some (of (get_or rows i d)))
-      (append_assoc before (of row ∷ []) (map of (take i rows))) ∙ each (suc i) (omega arith)) in
-      ap (λ whys. map (λ why. refusal.BadRow file (number row) why) whys
-      ++ row_faults file rules (before ++ of row ∷ []) (told rows)) first ∙ rest
 
   -- and where they break none, each breaks none after those before it
   pub none_breaks : (before : List X) (rows : List S) (d : S)
@@ -357,8 +314,7 @@ module _ {X : Type 0} (input : Input X) where
       → limit.count (records_of input text) ≤ limit.most
   few_rows text limit limits is none =
       let few = (table_sound input (table_of input.columns text) (parts_sound text none).1).0 in
-      (limits_sound limit limits (records_of input text)
-      (ap (λ some. limit_faults some (records_of input text)) (sym is) ∙ few)).0
+      grind (arith, limits_sound)
 
   kept : (before : List X) (rows : List TableRow)
       → row_faults input.file input.row_rules before (numbered input rows) ≡ []

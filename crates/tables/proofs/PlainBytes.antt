@@ -1,6 +1,6 @@
 -- Texts of bytes that mean nothing between cells.
 use Rattle.plan_num.proofs.Common.{◌≡◌, ◌≢◌, ℕ, ◌-◌, ◌<◌, ◌==◌, ◌&&◌, zero, suc, List, [], ◌∷◌}
-use Rattle.plan_num.proofs.Common.{◌++◌, length, map, get_or, refl, ap, sym, ◌∙◌, arith, All, Bool}
+use Rattle.plan_num.proofs.Common.{◌++◌, length, map, get_or, refl, sym, ◌∙◌, arith, All, Bool}
 use Rattle.plan_num.proofs.Common.{true, false, not, eqb, codes, append-nil, length-append}
 use Rattle.plan_num.proofs.Common.{list_all, suffix_len, position_or_len, flat_map}
 use Rattle.plan_num.proofs.Common.{strip_carriage_return, eqb-false, ne_eqb, not-true, and_parts}
@@ -50,8 +50,7 @@ pub plain_is : (byte : ℕ) → is_plain byte ≡ true → (is_blank byte ≡ fa
 plain_is byte h = grind arith
 
 quiet_is : (byte : ℕ) → is_quiet byte ≡ true → (eqb byte 10 ≡ false) × (eqb byte 13 ≡ false) × (eqb byte 35 ≡ false)
-quiet_is byte h = let a = and_parts _ _ h in let b = and_parts _ _ a.1 in
-    (not-true _ a.0, not-true _ b.0, not-true _ b.1)
+quiet_is byte h = grind (arith, and_parts, not-true)
 
 plain_quiet : (byte : ℕ) → is_plain byte ≡ true → is_quiet byte ≡ true
 plain_quiet byte h = let p = plain_is byte h in rw (p.1, p.2, p.4) refl
@@ -89,13 +88,15 @@ others texts = flat_map (λ more. codes "; " ++ more) texts
 -- a line is cut into its texts, with the spaces before them
 cut_cells : (first : List ℕ) (texts : List (List ℕ)) → NoEnd first → AreCells texts
     → pieces (first ++ others texts) ≡ first ∷ map (λ text. 32 ∷ text) texts
-cut_cells first [] h cells = rw (append-nil first)
-    (slice_split_none (λ byte. eqb byte 59) first
-    (λ k d lt. not-true _ (all_at (λ byte. not (eqb byte 59)) first k d h lt)))
-cut_cells first (text ∷ texts) h cells =
-    slice_split_at (λ byte. eqb byte 59) first 59 (32 ∷ text ++ others texts)
-    (λ k d lt. not-true _ (all_at (λ byte. not (eqb byte 59)) first k d h lt)) refl
-    ∙ ap (λ (more : List (List ℕ)). first ∷ more) (cut_cells (32 ∷ text) texts (cell_no_end text cells.0) cells.1)
+cut_cells first [] h cells = grind (arith, append-nil, slice_split_none, not-true, all_at)
+cut_cells first (text ∷ texts) h cells = grind (
+  arith,
+  slice_split_at,
+  not-true,
+  all_at,
+  cell_no_end,
+  cut_cells (32 ∷ text) texts (cell_no_end text cells.0) cells.1,
+)
 
 unblank_cells : (texts : List (List ℕ)) → AreCells texts → map without_blanks (map (λ text. 32 ∷ text) texts) ≡ texts
 unblank_cells [] h = refl
@@ -128,31 +129,30 @@ cells_cleaned first texts h cells =
 -- a line of cells has quiet bytes
 others_quiet : (texts : List (List ℕ)) → AreCells texts → list_all is_quiet (others texts) ≡ true
 others_quiet [] h = refl
-others_quiet (text ∷ texts) h =
-    rw (
-      list_all-append is_quiet text
-          (others texts),
-      all_weaker is_plain is_quiet text plain_quiet h.0.plain,
-      others_quiet texts h.1,
-    )
-    refl
+others_quiet (text ∷ texts) h = grind (
+  arith,
+  list_all-append,
+  all_weaker,
+  plain_quiet,
+  others_quiet
+      texts h.1,
+)
 
 pub cells_quiet : (first : List ℕ) (texts : List (List ℕ)) → IsCell first → AreCells texts
     → list_all is_quiet (joined (first ∷ texts)) ≡ true
 unfolding joined
-cells_quiet first texts h cells = rw (
-  list_all-append is_quiet first
-      (others texts),
-  all_weaker is_plain is_quiet first plain_quiet h.plain,
-  others_quiet texts
-      cells,
-) refl
+cells_quiet first texts h cells = grind (
+  arith,
+  list_all-append,
+  all_weaker,
+  plain_quiet,
+  others_quiet,
+)
 
 -- and is not blank
 begins_plain : (first rest : List ℕ) → IsCell first → list_all is_blank (first ++ rest) ≡ false
 begins_plain [] rest h = let none = h.some in absurd (omega arith)
-begins_plain (byte ∷ first) rest h = rw
-    (plain_is byte (and_parts (is_plain byte) (list_all is_plain first) h.plain).0).0 refl
+begins_plain (byte ∷ first) rest h = grind (arith, plain_is, and_parts)
 
 -- nothing of a quiet line is a comment
 no_comment : (line : List ℕ) → list_all is_quiet line ≡ true → before_comment line ≡ line
@@ -160,8 +160,7 @@ no_comment line h =
     let none : position_or_len (λ byte. eqb byte 35) line ≡ length line =
     position_or_len_is (λ byte. eqb byte 35) line (length line) 0 (omega arith)
     (λ k lt. (quiet_is (get_or line k 0) (all_at is_quiet line k 0 h lt)).2)
-    (λ lt. absurd (omega arith)) in
-    rw none (take_all (length line) line (omega arith))
+    (λ lt. absurd (omega arith)) in grind (arith, take_all)
 
 -- and no carriage return
 last_quiet : (line : List ℕ) → list_all is_quiet line ≡ true → 0 < length line

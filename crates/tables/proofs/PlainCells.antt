@@ -1,6 +1,6 @@
 -- Cells of fields that are plain.
-use Rattle.std.proofs.Common.{◌≡◌, ◌≤ℤ◌, ℕ, ℤ, List, Ok, Option, None, Some, pos, refl, sym}
-use Rattle.std.specs.Option.{IfSome}
+use Rattle.plan_num.proofs.Common.{◌≡◌, ◌≤ℤ◌, ℕ, ℤ, List, Ok, Option, None, Some, pos, refl, sym}
+use Rattle.plan_num.proofs.Common.{IfSome}
 use Rattle.plan_num.specs.Number.{fixed_of, whole_of}
 use Rattle.tables.specs.declared.words.WordTable.{WordTable}
 use Rattle.tables.specs.declared.column.ColumnKind.TheVariants as kind

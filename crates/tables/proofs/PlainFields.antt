@@ -1,8 +1,8 @@
 -- Fields of digits alone.
-use Rattle.plan_num.proofs.Common.{◌≡◌, ℕ, pos, ◌^◌, ◌<◌, ◌≤◌, ◌-◌, ◌+◌, ◌*◌, true, List, [], ◌∷◌}
-use Rattle.plan_num.proofs.Common.{length, length-take, take, get_or, Some, ap, ◌∙◌, arith, refl}
-use Rattle.plan_num.proofs.Common.{sym, add-zero, append-nil, is_ascii_digit, le-ltb, ne_eqb}
-use Rattle.plan_num.proofs.Common.{take_all, take_more, list_all-append, digits_value_short}
+use Rattle.plan_num.proofs.Common.{◌≡◌, ℕ, pos, ◌^◌, ◌<◌, ◌≤◌, ◌-◌, ◌+◌, ◌*◌, true, List, length}
+use Rattle.plan_num.proofs.Common.{length-take, take, get_or, Some, ap, ◌∙◌, arith, sym, add-zero}
+use Rattle.plan_num.proofs.Common.{append-nil, is_ascii_digit, le-ltb, ne_eqb, take_all, take_more}
+use Rattle.plan_num.proofs.Common.{list_all-append, digits_value_short}
 use Rattle.plan_num.specs.Number.{all_digits, spelling_of, value_of, value_at, fixed_of, whole_of}
 use Rattle.plan_num.proofs.Digits.{value_of-push}
 use Rattle.plan_num.proofs.Printed.{no_minus, numerals, parts_of-digits}
@@ -21,11 +21,7 @@ pub more_digits : (field : List ℕ) (i : ℕ) → i < length field
     → (all_digits (take (i + 1) field) ≡ true) × (value_of (take (i + 1) field)
     ≡ value_of (take i field) * 10 + (get_or field i 0 - 48))
 more_digits field i inside digit h =
-    let more = take_more field i 0 inside in (
-      ap all_digits more ∙ list_all-append is_ascii_digit (take i field) (get_or field i 0 ∷ [])
-          ∙ rw (h, digit) refl,
-      ap value_of more ∙ value_of-push (take i field) (get_or field i 0),
-    )
+    let more = take_more field i 0 inside in grind (arith, list_all-append, get_or, value_of-push)
 
 -- digits alone spell what they are worth
 digits_whole : (field : List ℕ) → all_digits field ≡ true → 0 < length field

@@ -55,10 +55,11 @@ in_columns column (column_kind ∷ kinds) (field ∷ fields) same none =
     elim (cell_of column_kind column field) as
     (λ r. cell_of column_kind column field ≡ r → errors (r ∷ cells_from (column + 1) kinds fields)
     ≡ [] → InColumns (column_kind ∷ kinds) (values (r ∷ cells_from (column + 1) kinds fields))) [
-      | Ok cell ↦ λ is rest. (
-        in_column column_kind column field cell is,
-        in_columns
-            (column + 1) kinds fields (omega arith) rest,
+      | Ok cell ↦ λ is rest. grind (
+        arith,
+        in_column,
+        in_columns (column + 1) kinds fields (omega
+            arith) rest,
       )
       | Err error ↦ λ is rest. cc
     ] refl none

@@ -1,7 +1,7 @@
 -- What a row's fields make of it.
-use Rattle.std.proofs.Common.{◌≡◌, ℕ, ◌+◌, ◌*◌, suc, List, [], ◌∷◌, ◌++◌, length, map, refl, ap}
-use Rattle.std.proofs.Common.{◌∙◌, eq-eqb, ne_eqb, Some, Ok, Err, Result, ℤ, length-append, arith}
-use Rattle.std.specs.List.{slice_get}
+use Rattle.plan_num.proofs.Common.{◌≡◌, ℕ, ◌+◌, ◌*◌, suc, List, [], ◌∷◌, ◌++◌, length, map, refl}
+use Rattle.plan_num.proofs.Common.{ap, ◌∙◌, eq-eqb, ne_eqb, Some, Ok, Err, Result, ℤ, length-append}
+use Rattle.plan_num.proofs.Common.{arith, slice_get}
 use Rattle.tables.specs.declared.column.ColumnKind.{ColumnKind}
 use Rattle.tables.specs.declared.row_why.RowWhy.{RowWhy}
 use Rattle.tables.specs.declared.row_why.RowWhy.TheVariants as why

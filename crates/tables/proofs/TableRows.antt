@@ -33,13 +33,12 @@ pub rows_push : (width : ℕ) (numbers : List ℕ) (cells : List ℤ) (number : 
 unfolding rows_of
 rows_push width [] cells number row h wide = grind (arith, nil_from_length, take_all)
 rows_push width (first ∷ numbers) cells number row h wide =
-    let less = less_cells width (length numbers) cells h in
-    rw (
-      take-append-le width cells row less.0,
-      drop-append-le width cells row less.0,
-      rows_push
-          width numbers (drop width cells) number row less.1 wide,
-    ) refl
+    let less = less_cells width (length numbers) cells h in grind (
+      arith,
+      take-append-le,
+      drop-append-le,
+      rows_push width numbers (drop width cells) number row less.1 wide,
+    )
 
 -- the row at a place has the number there and the cells from there on
 pub row_at : (width : ℕ) (numbers : List ℕ) (cells : List ℤ) (i : ℕ) → i < length numbers
@@ -47,14 +46,14 @@ pub row_at : (width : ℕ) (numbers : List ℕ) (cells : List ℤ) (i : ℕ) →
     ≡ record { number = get_or numbers i 0; cells = take width (drop (i * width) cells) }
 unfolding rows_of
 row_at width [] cells i h = absurd (omega arith)
-row_at width (number ∷ numbers) cells zero h = rw (zero_times width) refl
-  where
-    zero_times : (width : ℕ) → 0 * width ≡ 0
-    zero_times width = omega arith
+row_at width (number ∷ numbers) cells zero h = grind arith
 row_at width (number ∷ numbers) cells (suc i) h =
-    let inner : i < length numbers = omega arith in
-    let more : suc i * width ≡ width + i * width = grind arith in
-    row_at width numbers (drop width cells) i inner ∙ rw (more, drop-drop (i * width) width cells) refl
+    let inner : i < length numbers = omega arith in grind (
+      arith,
+      drop-drop,
+      row_at width numbers
+          (drop width cells) i inner,
+    )
 
 -- a place among the rows is a place among the numbers
 pub row_within : (width : ℕ) (numbers : List ℕ) (cells : List ℤ) (rows : List TableRow) (i : ℕ)
@@ -75,9 +74,7 @@ pub row_ends : (width : ℕ) (numbers : List ℕ) (cells : List ℤ) (rows : Lis
     → rows_of width numbers cells ≡ rows → i < length rows → i * width + width ≤ size
 row_ends width numbers cells rows i count size whole all e h =
     let room : i + 1 ≤ count = omega (arith, all, row_within width numbers cells rows i e h) in
-    let told : (i + 1) * width ≤ count * width = mul-le-mul_right width room in
-    let next : (i + 1) * width ≡ i * width + width = grind arith in
-    omega (arith, whole, told, next)
+    grind (arith, mul-le-mul_right)
 
 -- and they are its own
 pub row_cells : (width : ℕ) (numbers : List ℕ) (cells : List ℤ) (rows : List TableRow) (i : ℕ)
@@ -110,8 +107,9 @@ pub rows_wide : (width : ℕ) (numbers : List ℕ) (cells : List ℤ) → length
 unfolding rows_of
 rows_wide width [] cells h = All-nil (λ (row : TableRow). length row.cells ≡ width)
 rows_wide width (number ∷ numbers) cells h =
-    let less = less_cells width (length numbers) cells h in
-    All-cons (λ (row : TableRow). length row.cells ≡ width)
-    (record { number = number; cells = take width cells })
-    (rows_of width numbers (drop width cells)) (length-take-le width cells less.0)
-    (rows_wide width numbers (drop width cells) less.1)
+    let less = less_cells width (length numbers) cells h in grind (
+      arith,
+      All-cons,
+      length-take-le,
+      rows_wide width numbers (drop width cells) less.1,
+    )

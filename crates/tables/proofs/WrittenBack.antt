@@ -1,7 +1,7 @@
 -- A written table is read back.
-use Rattle.plan_num.proofs.Common.{◌≡◌, ◌≢◌, ℕ, ◌+◌, ◌-◌, ◌<◌, suc, List, [], ◌∷◌, ◌++◌, length}
-use Rattle.plan_num.proofs.Common.{map, take, get_or, refl, ap, sym, ◌∙◌, arith, Bool, true, false}
-use Rattle.plan_num.proofs.Common.{cond, eqb, All, append_assoc, ne_eqb, flat_map, list_all}
+use Rattle.plan_num.proofs.Common.{◌≡◌, ◌≢◌, ℕ, ◌+◌, ◌-◌, ◌<◌, List, [], ◌∷◌, ◌++◌, length, map}
+use Rattle.plan_num.proofs.Common.{take, get_or, refl, ap, sym, ◌∙◌, arith, Bool, true, false, cond}
+use Rattle.plan_num.proofs.Common.{eqb, All, append_assoc, ne_eqb, flat_map, list_all}
 use Rattle.plan_num.proofs.Common.{strip_carriage_return, false≢true, All-head, All-tail}
 use Rattle.tables.specs.declared.column.ColumnKind.{ColumnKind}
 use Rattle.text_fields.specs.Rows.{Row, row_of, parts_of, rows, has_mark}
@@ -25,12 +25,7 @@ record IsLine (texts : List (List ℕ)) : Type 0 where
 
 is_line : (texts : List (List ℕ)) → AreCells texts → 0 < length texts → IsLine texts
 is_line [] h some = absurd (omega arith)
-is_line (first ∷ texts) h some = record {
-  quiet = cells_quiet first texts h.0 h.1;
-  some = line_some
-      first texts h.0;
-  row = λ number. cells_row number first texts h.0 h.1;
-}
+is_line (first ∷ texts) h some = grind (arith, cells_quiet, line_some, cells_row)
 
 -- the rows of a written table, after so many lines
 numbered : ℕ → List ColumnKind → List TableRow → List Row
@@ -70,13 +65,16 @@ module _ (kinds : List ColumnKind) (some : 0 < length kinds) (can : All CanWrite
       → flat_map (row_faults kinds) (numbered number kinds rows) ≡ []
   unfolding numbered
   no_fault number [] h = refl
-  no_fault number (row ∷ rows) h =
-      let inside = All-head (λ (row : TableRow). InColumns kinds row.cells) row rows h in
-      let whys = whys_are kinds (record {
-        number = number + 1;
-        fields = cell_texts kinds row.cells;
-      }) (texts_length kinds row.cells inside) ∙ (texts_back 1 kinds row.cells can inside).0 in
-      rw (whys, no_fault (number + 1) rows (All-tail (λ (row : TableRow). InColumns kinds row.cells) row rows h)) refl
+  no_fault number (row ∷ rows) h = grind (
+    arith,
+    All-head,
+    whys_are,
+    texts_length,
+    texts_back,
+    All-tail,
+    no_fault (number + 1) rows (All-tail (λ (row : TableRow). InColumns kinds
+        row.cells) row rows h),
+  )
 
   -- and the same cells
   same_cells : (number : ℕ) (rows : List TableRow) → All (λ row. InColumns kinds row.cells) rows
@@ -95,8 +93,7 @@ module _ (kinds : List ColumnKind) (some : 0 < length kinds) (can : All CanWrite
 -- a header has no row
 header_row : (rest : List ℕ) → (row_of 1 (strip_carriage_return (35 ∷ rest)) ≡ [])
     × (eqb (length (strip_carriage_return (35 ∷ rest))) 0 ≡ false)
-header_row rest = let kept = sign_kept rest in
-    (rw kept.1 refl, rw kept.1 (ne_eqb (suc (length kept.0)) 0 (λ e. omega arith)))
+header_row rest = grind (arith, sign_kept, ne_eqb)
 
 behind_header : (header rest : List ℕ) → IsHeader header
     → (rows_left 0 (parts_of (header ++ 10 ∷ rest)) ≡ rows_left 1 (parts_of rest))

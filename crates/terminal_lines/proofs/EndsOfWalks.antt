@@ -52,14 +52,7 @@ odd_at stop (edge ∷ edges) = differ (touches stop edge) (odd_at stop edges)
 either_end : (left right stop : ℕ) → left ≢ right
     → (nat_eq left stop || nat_eq right stop) ≡ differ (nat_eq left stop) (nat_eq right stop)
 unfolding differ
-either_end left right stop apart = by (nat_eq left stop) (nat_eq right stop) refl refl
-  where
-    by : (a b : Bool) → nat_eq left stop ≡ a → nat_eq right stop ≡ b → (a || b) ≡ differ a b
-    by true true one two =
-        absurd (apart (eqb-true left stop one ∙ sym (eqb-true right stop two)))
-    by true false one two = refl
-    by false true one two = refl
-    by false false one two = refl
+either_end left right stop apart = grind (arith, nat_eq, differ, eqb-true)
 
 differ_flip : (a b : Bool) → differ a b ≡ differ b a
 unfolding differ
@@ -142,8 +135,7 @@ not_in x [] apart = refl
 not_in x (y ∷ ys) apart = elim (cases_Bool (nat_eq x y)) [
   | inl same ↦ rw same (subst (λ at. list_any (nat_eq at) ys ≡ false) (sym (eqb-true x y same))
       (none_of y ys apart.0))
-  | inr other ↦ rw other (ap (λ b. b || list_any (nat_eq x) (without x ys)) other
-      ∙ not_in x ys apart.1)
+  | inr other ↦ grind (arith, nat_eq, without, not_in x ys apart.1)
 ]
 
 all_without : (P : ℕ → Type 0) (x : ℕ) (ys : List ℕ) → AllByRecursion P ys
@@ -212,27 +204,7 @@ module _ (a b c d : ℕ) (apart : a ≢ b)
 
   same_ends : AreEnds a b c d
   unfolding differ
-  same_ends = by (nat_eq c a) (nat_eq d a) refl refl at_first
-    where
-      by : (s t : Bool) → nat_eq c a ≡ s → nat_eq d a ≡ t → differ s t ≡ true → AreEnds a b c d
-      by true true one two is = absurd (let both : false ≡ true = is in cc)
-      by true false one two is =
-          let first : c ≡ a = eqb-true c a one in
-          let last : nat_eq d b ≡ true =
-          sym (ap (λ t. differ t (nat_eq d b)) (ap (λ at. nat_eq at b) first ∙ ne_eqb a b apart))
-          ∙ at_second in
-          inl (sym first, sym (eqb-true d b last))
-      by false true one two is =
-          let last : d ≡ a = eqb-true d a two in
-          let none : nat_eq d b ≡ false = ap (λ at. nat_eq at b) last ∙ ne_eqb a b apart in
-          let first : nat_eq c b ≡ true =
-          not_both (nat_eq c b) (ap (differ (nat_eq c b)) (sym none) ∙ at_second) in
-          inr (sym last, sym (eqb-true c b first))
-        where
-          not_both : (t : Bool) → differ t false ≡ true → t ≡ true
-          not_both true is = refl
-          not_both false is = is
-      by false false one two is = absurd (let both : false ≡ true = is in cc)
+  same_ends = grind (arith, nat_eq, at_first, differ, eqb-true, ne_eqb, at_second)
 
 -- two paths with the same edges have the same ends
 pub paths_ends : (edges : List Edge) (n a b c d : ℕ) (path other : List ℕ) → All (IsEdge n) edges

@@ -1,11 +1,10 @@
 -- The least sum of the definition is the least over all walks: a walk that comes to a stop twice
 -- can be cut short.
-use Rattle.plan_num.proofs.Common.{◌≡◌, ℕ, ℤ, pos, suc, ◌<◌, ◌≤◌, true, false, nat_eq, inl, inr}
-use Rattle.plan_num.proofs.Common.{List, [], ◌∷◌, length, map, refl, ap, subst, sym, ◌∙◌, arith}
-use Rattle.plan_num.proofs.Common.{Option, Some, None, option_map, unsigned_abs, unwrap_or, All}
-use Rattle.plan_num.proofs.Common.{Contains, AllByRecursion, list_any, eqb-true, cases_Bool}
-use Rattle.plan_num.proofs.Common.{All-contains, get_or-map-range_with_len}
-use Rattle.plan_num.proofs.Common.{length-le_from_distinct_below}
+use Rattle.plan_num.proofs.Common.{◌≡◌, ℕ, suc, ◌<◌, ◌≤◌, true, false, nat_eq, inl, inr, List, []}
+use Rattle.plan_num.proofs.Common.{◌∷◌, length, map, refl, ap, subst, sym, arith, Option, Some}
+use Rattle.plan_num.proofs.Common.{None, option_map, unsigned_abs, unwrap_or, All, Contains}
+use Rattle.plan_num.proofs.Common.{AllByRecursion, list_any, eqb-true, cases_Bool, All-contains}
+use Rattle.plan_num.proofs.Common.{get_or-map-range_with_len, length-le_from_distinct_below}
 use Rattle.std.specs.List.{IsDistinct}
 use Rattle.walks.proofs.Common.{Edge, IsEdge, IsNetwork, NetworkParts, AreLeastSums, IsLeastSum}
 use Rattle.walks.proofs.Common.{IsWalk, across, least_of, least_sums, walk_sum, walks_within}
@@ -113,8 +112,7 @@ module _ (edges : List Edge) (weight : Edge → ℕ) (to : ℕ) where
     short : (from most : ℕ) (some : IsPlain from most) → length some.walk ≤ n
     short from most some =
         let few = length-le_from_distinct_below (starts from some.walk) n some.apart
-        (λ stop there. within from some.walk some.is stop there) in
-        omega (arith, few, starts_count from some.walk)
+        (λ stop there. within from some.walk some.is stop there) in grind (arith, starts_count)
 
 -- what is mapped is there
 record ComesFrom {X Y : Type 0} (f : X → Y) (xs : List X) (y : Y) : Type 0 where
@@ -128,8 +126,7 @@ mapped_from f [] y there = absurd (omega (arith, there.1))
 mapped_from f (x ∷ xs) y there =
     Contains-rec (ComesFrom f (x ∷ xs)) (f x) y (map f xs) there
     (record { own = x; there = Contains-head x xs; is = refl })
-    (λ z h. let rest = mapped_from f xs z h in
-    record { own = rest.own; there = Contains-cons x rest.own xs rest.there; is = rest.is })
+    (λ z h. let rest = mapped_from f xs z h in grind (arith, Contains-cons))
 
 -- the least sum over walks of few edges is the least over all walks
 pub least_of_all_walks : (network : NetworkParts) (weight : Edge → ℕ) (from to : ℕ)
@@ -183,10 +180,12 @@ least_of_all_walks network weight from to sound = by (least_of sums) refl
 -- the least sums from a stop are the least over all walks
 pub least_of_stop : (network : NetworkParts) (weight : Edge → ℕ) (from : ℕ) → IsNetwork network
     → AreLeastSums network weight from (least_sums network weight from)
-least_of_stop network weight from sound = λ to within.
-    let sum : ℕ → Option ℤ = λ to. option_map pos (least_sum network weight from to) in
-    subst (IsLeastSum network.edges weight from to)
-    (sym (ap (option_map unsigned_abs)
-    (get_or-map-range_with_len sum 0 (length network.stops) to to None within (omega arith))
-    ∙ back_again (least_sum network weight from to)))
-    (least_of_all_walks network weight from to sound)
+least_of_stop network weight from sound = grind (
+  arith,
+  within,
+  option_map,
+  unsigned_abs,
+  get_or-map-range_with_len,
+  back_again,
+  least_of_all_walks,
+)

@@ -1,34 +1,25 @@
 -- The pairs of terminals: each of them once, and not more than 190.
-use Rattle.plan_num.proofs.Common.{◌≡◌, ℕ, zero, suc, ◌+◌, ◌≤◌, ◌<ℤ◌, Bool, true, false, cond}
-use Rattle.plan_num.proofs.Common.{int_lt, [], ◌∷◌, ◌++◌, length, map, filter, All, refl, ap, ◌∙◌}
-use Rattle.plan_num.proofs.Common.{arith, append_assoc, AllByRecursion, flat_map, int_cmp}
-use Rattle.plan_num.proofs.Common.{ordering_reverse, int_cmp_total, length-append, length-map}
-use Rattle.plan_num.proofs.Common.{All-append, All-cons, All-head, All-nil, All-tail, filter-append}
+use Rattle.plan_num.proofs.Common.{◌≡◌, ℕ, zero, suc, ◌+◌, ◌≤◌, ◌<ℤ◌, true, false, int_lt, [], ◌∷◌}
+use Rattle.plan_num.proofs.Common.{◌++◌, length, map, filter, All, refl, arith, append_assoc}
+use Rattle.plan_num.proofs.Common.{AllByRecursion, flat_map, int_cmp, ordering_reverse}
+use Rattle.plan_num.proofs.Common.{int_cmp_total, length-append, length-map, All-append, All-cons}
+use Rattle.plan_num.proofs.Common.{All-head, All-nil, All-tail, filter-append}
 use Rattle.std.proofs.Common.{ℤ}
 use Rattle.std.proofs.Common.{List}
 use Rattle.std.specs.List.Sorted.{IsStrictlySortedBy}
 use Rattle.std.specs.declared.cmp.Ordering.{Ordering}
-use Rattle.std.specs.declared.cmp.Ordering.TheVariants.{Equal, Greater, Less}
+use Rattle.std.specs.declared.cmp.Ordering.TheVariants.{Less}
 use Rattle.walks.proofs.Common.{rising, rising_rises}
 use Rattle.terminal_lines.specs.TerminalPaths.{pairs_of}
 
 -- ---- ids in order
 
 less_tests : (x y : ℤ) → int_cmp x y ≡ Less → int_lt x y ≡ true
-less_tests x y less = by (int_lt x y) (int_lt y x) less
-  where
-    by : (a b : Bool) → cond a Less (cond b Greater Equal) ≡ Less → a ≡ true
-    by true b is = refl
-    by false true is = cc
-    by false false is = cc
+less_tests x y less = grind (arith, int_lt)
 
 not_less_tests : (x y : ℤ) (o : Ordering) → int_cmp x y ≡ ordering_reverse o → o ≡ Less
     → int_lt x y ≡ false
-not_less_tests x y o is less = by (int_lt x y) (int_lt y x) (is ∙ ap ordering_reverse less)
-  where
-    by : (a b : Bool) → cond a Less (cond b Greater Equal) ≡ Greater → a ≡ false
-    by true b is = cc
-    by false b is = refl
+not_less_tests x y o is less = grind (arith, int_lt)
 
 above_tests : (x y : ℤ) → int_cmp x y ≡ Less → int_lt y x ≡ false
 above_tests x y less = not_less_tests y x (int_cmp x y) (int_cmp_total.antisymm y x) less

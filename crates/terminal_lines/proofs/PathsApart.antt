@@ -1,10 +1,10 @@
 -- No two paths between terminals lie in one another, so each path lies in a line.
-use Rattle.plan_num.proofs.Common.{◌≡◌, ◌≢◌, ℕ, ℤ, zero, suc, ◌<◌, Bool, true, false, ◌||◌, nat_eq}
-use Rattle.plan_num.proofs.Common.{List, [], ◌∷◌, ◌++◌, length, map, filter_map, get_or, All}
-use Rattle.plan_num.proofs.Common.{Option, Some, None, inl, inr, refl, ap, subst, sym, arith}
-use Rattle.plan_num.proofs.Common.{AllByRecursion, cons_option, list_all, list_any, int_cmp}
-use Rattle.plan_num.proofs.Common.{cases_lt, eq-eqb, eqb-true, or_right, cases_Bool, nat_eq_equiv}
-use Rattle.plan_num.proofs.Common.{ints, All-head, All-tail, length-le_from_is_member}
+use Rattle.plan_num.proofs.Common.{◌≡◌, ◌≢◌, ℕ, ℤ, zero, suc, ◌<◌, Bool, true, false, nat_eq, List}
+use Rattle.plan_num.proofs.Common.{[], ◌∷◌, ◌++◌, length, map, filter_map, get_or, All, Option}
+use Rattle.plan_num.proofs.Common.{Some, None, inl, inr, refl, subst, sym, arith, AllByRecursion}
+use Rattle.plan_num.proofs.Common.{cons_option, list_all, list_any, int_cmp, cases_lt, eq-eqb}
+use Rattle.plan_num.proofs.Common.{eqb-true, or_right, cases_Bool, nat_eq_equiv, ints, All-head}
+use Rattle.plan_num.proofs.Common.{All-tail, length-le_from_is_member}
 use Rattle.std.specs.List.{IsDistinct}
 use Rattle.std.specs.List.Sorted.{IsStrictlySortedBy}
 use Rattle.std.specs.declared.cmp.Ordering.TheVariants.{Less}
@@ -123,18 +123,15 @@ module _ (network : NetworkParts) (sound : IsNetwork network) (terminals : List 
       → way_at pair ≡ Some path → All Known pairs → AllByRecursion (λ other. pair ≢ other) pairs
       → AllByRecursion (AreApart path) (filter_map way_at pairs)
   one_apart pair path [] known is all apart = tt
-  one_apart pair path (other ∷ pairs) known is all apart =
-      by (way_at other) refl (one_apart pair path pairs known is (All-tail Known other pairs all)
-      apart.1)
-    where
-      by : (found : Option (List ℕ)) → way_at other ≡ found
-          → AllByRecursion (AreApart path) (filter_map way_at pairs)
-          → AllByRecursion (AreApart path) (cons_option found (filter_map way_at pairs))
-      by None own rest = rest
-      by (Some more) own rest = (
-        ways_apart pair other path more known (All-head Known other pairs all) apart.0 is own,
-        rest,
-      )
+  one_apart pair path (other ∷ pairs) known is all apart = grind (
+    arith,
+    All-tail,
+    filter_map,
+    ways_apart,
+    All-head,
+    one_apart pair path pairs known is (All-tail Known other pairs all)
+        apart.1,
+  )
 
   all_apart : (pairs : List (ℤ × ℤ)) → All Known pairs → ArePairsApart pairs
       → AllApart (filter_map way_at pairs)
@@ -195,18 +192,8 @@ record Fails (p : ℕ → Bool) (xs : List ℕ) : Type 0 where
 fails_at : (p : ℕ → Bool) (xs : List ℕ) → list_all p xs ≡ false → Fails p xs
 fails_at p [] none = cc
 fails_at p (x ∷ xs) none = elim (cases_Bool (p x)) [
-  | inl is ↦
-      let later = fails_at p xs (rw is at none) in
-      record {
-        one = later.one;
-        there = or_right (nat_eq later.one x) (list_any (nat_eq later.one) xs) later.there;
-        fails = later.fails;
-      }
-  | inr is ↦ record {
-    one = x;
-    there = ap (λ b. b || list_any (nat_eq x) xs) (eq-eqb x x refl);
-    fails = is;
-  }
+  | inl is ↦ grind (arith, or_right, nat_eq, fails_at p xs (rw is at none))
+  | inr is ↦ grind (arith, nat_eq, eq-eqb)
 ]
 
 pub longer : (path other : List ℕ) → IsDistinct nat_eq path → lies_in path other ≡ true

@@ -1,20 +1,20 @@
 -- The paths between terminals are shortest lines, and there are not more than 190 of them.
-use Rattle.plan_num.proofs.Common.{◌≡◌, ℕ, ℤ, pos, ◌+◌, ◌<◌, ◌≤◌, Bool, true, false, cond, inl, inr}
-use Rattle.plan_num.proofs.Common.{nat_eq, List, [], ◌∷◌, length, filter_map, get_or, position, All}
-use Rattle.plan_num.proofs.Common.{Contains, Option, Some, None, option_map, is_some, unwrap_or}
-use Rattle.plan_num.proofs.Common.{unsigned_abs, refl, ap, subst, sym, ◌∙◌, arith, cons_option}
-use Rattle.plan_num.proofs.Common.{enumerate_from, list_all, list_any, int_eq, eqb-true, cases_Bool}
-use Rattle.plan_num.proofs.Common.{Decides-int_eq, All-cons, All-contains_itself, All-head, All-nil}
-use Rattle.plan_num.proofs.Common.{All-tail, get_or-map-range_with_len, length-enumerate_from}
-use Rattle.plan_num.proofs.Common.{position-Some, AllPass-from_list_all, length-filter}
-use Rattle.plan_num.proofs.Common.{count_by-le-length, length-le_from_distinct_below, same_Some}
-use Rattle.plan_num.proofs.Common.{Any-from_list_any, length-map}
+use Rattle.plan_num.proofs.Common.{◌≡◌, ℕ, ℤ, pos, ◌+◌, ◌<◌, ◌≤◌, true, nat_eq, List, [], ◌∷◌}
+use Rattle.plan_num.proofs.Common.{length, filter_map, get_or, All, Contains, Option, Some, None}
+use Rattle.plan_num.proofs.Common.{option_map, is_some, unwrap_or, unsigned_abs, refl, ap, subst}
+use Rattle.plan_num.proofs.Common.{sym, ◌∙◌, arith, cons_option, enumerate_from, list_all, list_any}
+use Rattle.plan_num.proofs.Common.{int_eq, eqb-true, cases_Bool, Decides-int_eq, All-cons}
+use Rattle.plan_num.proofs.Common.{All-contains_itself, All-head, All-nil, All-tail}
+use Rattle.plan_num.proofs.Common.{get_or-map-range_with_len, length-enumerate_from, position-Some}
+use Rattle.plan_num.proofs.Common.{AllPass-from_list_all, length-filter, count_by-le-length}
+use Rattle.plan_num.proofs.Common.{length-le_from_distinct_below, same_Some, Any-from_list_any}
+use Rattle.plan_num.proofs.Common.{length-map}
 use Rattle.plan_num.proofs.Found.{any_is}
 use Rattle.walks.proofs.Common.{IsNetwork, NetworkParts, index_in, rising, IsShortest, IsSimple}
 use Rattle.walks.proofs.Common.{length_to, path, way, edge_length, least_sum, least_sums}
 use Rattle.walks.proofs.Common.{path_simple, path_shortest, all_rising, rising_length, rising_rises}
 use Rattle.walks.proofs.Common.{staying_end}
-use Rattle.terminal_lines.specs.TerminalPaths.{IsShort, IsShortestLine, is_contained, lines_among}
+use Rattle.terminal_lines.specs.TerminalPaths.{IsShort, IsShortestLine, lines_among}
 use Rattle.terminal_lines.specs.TerminalPaths.{are_stops, pairs_of, paths_of, uncontained}
 use Rattle.terminal_lines.proofs.LeastWalks.{least_of_stop}
 use Rattle.terminal_lines.proofs.PairsOfIds.{AreInOrder, all_in_order, few_pairs, less_is, not_own}
@@ -29,16 +29,15 @@ pub record IsIndex (stops : List ℤ) (id : ℤ) (index : ℕ) : Type 0 where
 
 pub is_index : (stops : List ℤ) (id : ℤ) → list_any (int_eq id) stops ≡ true
     → IsIndex stops id (index_in stops id)
-is_index stops id known = by (position (int_eq id) stops) refl
-  where
-    by : (found : Option ℕ) → position (int_eq id) stops ≡ found → IsIndex stops id
-        (unwrap_or found 0)
-    by None at =
-        let no : true ≡ false = sym known ∙ any_is (int_eq id) stops ∙ ap is_some at in
-        cc
-    by (Some index) at =
-        let found = position-Some (int_eq id) stops index (pos 0) at in
-        record { within = found.0; is = (Decides-int_eq id (get_or stops index (pos 0))).0 found.1 }
+is_index stops id known = grind (
+  arith,
+  unwrap_or,
+  any_is,
+  is_some,
+  position-Some,
+  Decides-int_eq,
+  get_or,
+)
 
 -- ---- one path
 
@@ -57,26 +56,18 @@ module _ (network : NetworkParts) (sound : IsNetwork network) where
 
   joined : (from to : ℕ) (found : List ℕ) → way network from to ≡ Some found
       → (is_some (least_sum network edge_length from to) ≡ true) × (found ≡ path network from to)
-  joined from to found is = by (is_some (least_sum network edge_length from to)) is
-    where
-      by : (b : Bool) → cond b (Some (path network from to)) None ≡ Some found
-          → (b ≡ true) × (found ≡ path network from to)
-      by true is = (refl, sym (same_Some _ _ is))
-      by false is = cc
+  joined from to found is = grind (arith, is_some, same_Some)
 
   some_length : (from to : ℕ) → to < length network.stops
       → is_some (least_sum network edge_length from to) ≡ true
       → is_some (length_to (least_sums network edge_length from) to) ≡ true
-  some_length from to within there =
-      ap (λ sum. is_some (option_map unsigned_abs sum))
-      (get_or-map-range_with_len (λ to. option_map pos (least_sum network edge_length from to)) 0
-      (length network.stops) to to None within (omega arith))
-      ∙ mapped (least_sum network edge_length from to) ∙ there
-    where
-      mapped : (sum : Option ℕ) → is_some (option_map unsigned_abs (option_map pos sum))
-          ≡ is_some sum
-      mapped None = refl
-      mapped (Some sum) = refl
+  some_length from to within there = grind (
+    arith,
+    is_some,
+    option_map,
+    unsigned_abs,
+    get_or-map-range_with_len,
+  )
 
   -- a way between two stops is shortest
   pub way_shortest : (from to : ℕ) (found : List ℕ) → to < length network.stops
@@ -164,12 +155,7 @@ module _ (network : NetworkParts) (sound : IsNetwork network) where
 length_found : {X Y : Type 0} (f : X → Option Y) (xs : List X) → length (filter_map f xs) ≤ length
     xs
 length_found f [] = omega arith
-length_found f (x ∷ xs) = by (f x) (length_found f xs)
-  where
-    by : (found : Option _) → length (filter_map f xs) ≤ length xs
-        → length (cons_option found (filter_map f xs)) ≤ length (x ∷ xs)
-    by None rest = omega (arith, rest)
-    by (Some y) rest = omega (arith, rest)
+length_found f (x ∷ xs) = grind (arith, filter_map, length_found f xs)
 
 pub few_paths : (network : NetworkParts) (terminals : List ℤ) → length terminals ≤ 20
     → length (paths_of network terminals) ≤ 190
@@ -189,12 +175,8 @@ module _ (P : List ℕ → Type 0) where
       → All (λ (at : ℕ × List ℕ). P at.1) some → All P (lines_among paths some)
   some_among paths [] all = All-nil P
   some_among paths (at ∷ some) all =
-      let rest = some_among paths some (All-tail (λ (at : ℕ × List ℕ). P at.1) at some all) in
-      elim (cases_Bool (is_contained paths at)) [
-        | inl is ↦ rw is rest
-        | inr is ↦ rw is
-            (All-cons P at.1 _ (All-head (λ (at : ℕ × List ℕ). P at.1) at some all) rest)
-      ]
+      let rest = some_among paths some (All-tail (λ (at : ℕ × List ℕ). P at.1) at some all) in grind
+      (arith, cases_Bool, All-cons, All-head)
 
   -- what holds of all paths holds of the lines
   pub lines_too : (paths : List (List ℕ)) → All P paths → All P (uncontained paths)
@@ -218,5 +200,4 @@ module _ (network : NetworkParts) (sound : IsNetwork network) (terminals : List 
   pub path_short : (path : List ℕ) → IsTerminalPath network terminals path → IsShort network path
   path_short path is =
       let few = length-le_from_distinct_below path (length network.edges) is.simple.apart
-      (below_member path (length network.edges) is.simple.there) in
-      record { few = omega (arith, few, sound.few_edges); there = is.simple.there }
+      (below_member path (length network.edges) is.simple.there) in grind arith

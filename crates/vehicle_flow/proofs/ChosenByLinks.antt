@@ -1,6 +1,6 @@
 -- The chosen plan, from the first of the plans that gain the most over the links that are worth
 -- something.
-use Rattle.std.proofs.Common.{◌≡◌, ℕ, List, Option, subst}
+use Rattle.plan_num.proofs.Common.{arith, ◌≡◌, ℕ, List, Option, subst}
 use Rattle.link_plans.proofs.Common.{Link, Solved, links_in, worthy, IsPlan, IsFirstBest, AreValid}
 use Rattle.assignment.proofs.Worthwhile.{first_up, plan_down, valid_down}
 use Rattle.vehicle_model.specs.Plans.{IsCheapest, IsChosen}
@@ -21,5 +21,4 @@ module _ (trips : TripsParts) (rows : List (List Link)) (solved : Solved) (plan 
   -- potentials that are valid for one cheapest plan are valid for it
   pub still_valid : IsCheapest trips solved.plan → IsFirstBest (links_in rows) plan
       → AreValid (links_of trips) plan solved.potentials
-  still_valid cheapest first =
-      valid_for trips solved.plan plan solved.potentials cheapest (chosen first).cheapest valid
+  still_valid cheapest first = grind (arith, valid_for, chosen)

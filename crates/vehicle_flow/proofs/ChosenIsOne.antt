@@ -49,12 +49,7 @@ module _ (p : ℕ → Bool) where
   there : (a k : ℕ) (x : Option ℕ) → IsAbove a k x → IsIn (choices a k) x
   there a zero None is = inl refl
   there a zero (Some j) is = absurd (omega (arith, is.0, is.1))
-  there a (suc k) None is = split (p a) (there (a + 1) k None tt)
-    where
-      split : (b : Bool) → IsIn (choices (a + 1) k) None
-          → IsIn (map Some (cond b (a ∷ numbers (a + 1) k) (numbers (a + 1) k)) ++ None ∷ []) None
-      split true rest = inr rest
-      split false rest = rest
+  there a (suc k) None is = grind (arith, IsIn, there (a + 1) k None tt)
   there a (suc k) (Some j) is = split (p a) refl (λ more. there (a + 1) k (Some j) more)
     where
       split : (b : Bool) → p a ≡ b → (IsAbove (a + 1) k (Some j) → IsIn (choices (a + 1) k) (Some j))
@@ -111,12 +106,12 @@ once_where (Some k ∷ plan) apart zero (suc other) j e f =
     twice : (k j : ℕ) → Some k ≡ Some j → not (is_next plan k) ≡ true → is_next plan j ≡ true → ⊥
     twice k j same new is = let at : k ≡ j = cc in
         false≢true (sym (ap not (ap (is_next plan) at ∙ is)) ∙ new)
-once_where (Some k ∷ plan) apart (suc i) zero j e f =
-    absurd (twice k j f (first_true (not (is_next plan k)) _ apart) (next_found plan i j e))
-  where
-    twice : (k j : ℕ) → Some k ≡ Some j → not (is_next plan k) ≡ true → is_next plan j ≡ true → ⊥
-    twice k j same new is = let at : k ≡ j = cc in
-        false≢true (sym (ap not (ap (is_next plan) at ∙ is)) ∙ new)
+once_where (Some k ∷ plan) apart (suc i) zero j e f = grind (
+  arith,
+  first_true,
+  next_found,
+  false≢true,
+)
 once_where (Some k ∷ plan) apart (suc i) (suc other) j e f =
     ap suc (once_where plan (second_true (not (is_next plan k)) _ apart) i other j e f)
 

@@ -1,5 +1,5 @@
 -- Of all lists of choices the first that is found passes, and comes no later than any other that does.
-use Rattle.plan_num.proofs.Common.{◌≡◌, ℕ, zero, suc, ◌≤◌, ◌⊎◌, inl, inr, nat_le, Bool, true, false}
+use Rattle.plan_num.proofs.Common.{◌≡◌, ℕ, zero, suc, ◌⊎◌, inl, inr, nat_le, Bool, true, false}
 use Rattle.plan_num.proofs.Common.{cond, List, [], ◌∷◌, map, find, Option, Some, None, option_map}
 use Rattle.plan_num.proofs.Common.{refl, ap, sym, ◌∙◌, subst, arith, AllByRecursion, option_or}
 use Rattle.plan_num.proofs.Common.{leb-true, leb-false, find-append, none-some, same_Some}
@@ -83,11 +83,7 @@ either_way : (b c : Option ℕ) → (ComesNoLater c b → ⊥) → ComesNoLater 
 either_way None None not_later = tt
 either_way (Some i) None not_later = tt
 either_way None (Some j) not_later = absurd (not_later tt)
-either_way (Some i) (Some j) not_later = by (nat_le i j) refl
-  where
-    by : (b : Bool) → nat_le i j ≡ b → i ≤ j
-    by true e = leb-true i j e
-    by false e = absurd (not_later (omega (arith, leb-false i j e)))
+either_way (Some i) (Some j) not_later = grind (arith, nat_le, leb-true, leb-false)
 
 abbrev head_of : List (Option ℕ) → Option ℕ
 head_of [] = None

@@ -172,13 +172,7 @@ module _ {X : Type 0} (cost : X → ℕ) (least : ℕ) (one : X) where
   pub reduced : (xs : List X) → AllByRecursion (λ x. least ≤ cost x) xs
       → find (λ x. nat_eq (cost x) least) xs ≡ Some one → reduce min (map cost xs) ≡ Some least
   reduced [] all found = absurd (none-some one found)
-  reduced (x ∷ xs) all found = ap Some (split (nat_eq (cost x) least) refl found)
-    where
-      split : (b : Bool) → nat_eq (cost x) least ≡ b
-          → cond b (Some x) (find (λ x. nat_eq (cost x) least) xs) ≡ Some one
-          → fold min (cost x) (map cost xs) ≡ least
-      split true is h = folded (cost x) xs all.0 all.1 (inl (eqb-true (cost x) least is))
-      split false is h = folded (cost x) xs all.0 all.1 (inr h)
+  reduced (x ∷ xs) all found = grind (arith, nat_eq, folded, eqb-true)
 
 pub filtered_all : {X : Type 0} (P : X → Type 0) (q : X → Bool) (xs : List X)
     → AllByRecursion (λ x. q x ≡ true → P x) xs → AllByRecursion P (filter q xs)

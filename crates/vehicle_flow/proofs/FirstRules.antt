@@ -1,7 +1,7 @@
 -- The first rule that a schedule breaks, from what its parts are found to be.
 use Rattle.plan_num.proofs.Common.{arith, ◌≡◌, ℕ, List, [], ◌∷◌, length, map, filter_map, slice_get}
 use Rattle.plan_num.proofs.Common.{Option, Some, None, option_map, Result, Ok, Err, IfOk, IfNone}
-use Rattle.plan_num.proofs.Common.{refl, ap, sym, ◌∙◌, subst, none-some, same_Some, slice_get-map}
+use Rattle.plan_num.proofs.Common.{refl, ap, ◌∙◌, subst, none-some, same_Some, slice_get-map}
 use Rattle.tables.proofs.Common.{RowFault}
 use Rattle.vehicle_model.specs.declared.plan_fault.PlanFault.{PlanFault}
 use Rattle.vehicle_model.specs.declared.plan_fault.PlanFault.TheVariants as plan_faults
@@ -25,13 +25,7 @@ first_rule : (all : List PlanFault) (others : List ScheduleFault) (fault : PlanF
     (rule : ScheduleFault) → slice_get all 0 ≡ Some fault → plan_rule fault ≡ Some rule
     → Some rule ≡ slice_get (or_others (filter_map plan_rule all) others) 0
 first_rule [] others fault rule first is = absurd (none-some fault first)
-first_rule (one ∷ all) others fault rule first is =
-    sym (ap (λ at. slice_get (or_others (cons at (filter_map plan_rule all)) others) 0)
-    (ap plan_rule (same_Some one fault first) ∙ is))
-  where
-    cons : Option ScheduleFault → List ScheduleFault → List ScheduleFault
-    cons None rules = rules
-    cons (Some rule) rules = rule ∷ rules
+first_rule (one ∷ all) others fault rule first is = grind (arith, slice_get, filter_map, same_Some)
 
 module _ (trips : TripsParts) (schedule : List ℕ) (potentials : Option (List ℕ)) where
   pub broken_plan : (fault : PlanFault) (rule : ScheduleFault)

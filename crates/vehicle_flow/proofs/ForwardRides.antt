@@ -1,9 +1,6 @@
 -- An empty ride between two trips goes forward over the events of the day.
-use Rattle.plan_num.proofs.Common.{◌≡◌, ℕ, ◌+◌, ◌<◌, ◌≤◌, ◌⊎◌, inl, inr, ◌==◌, ◌||◌, Bool, true}
-use Rattle.plan_num.proofs.Common.{false, cond, not, List, [], ◌∷◌, Some, refl, ap, sym, ◌∙◌, arith}
-use Rattle.plan_num.proofs.Common.{nat_cmp_is, slice_cmp, list_any, nat_cmp, is_lt, cases_lt}
-use Rattle.plan_num.proofs.Common.{le-ltb, none-some}
-use Rattle.std.specs.declared.cmp.Ordering.TheVariants.{Less, Equal}
+use Rattle.plan_num.proofs.Common.{◌≡◌, ℕ, ◌+◌, ◌≤◌, ◌==◌, ◌||◌, Bool, true, false, cond, not, List}
+use Rattle.plan_num.proofs.Common.{[], ◌∷◌, Some, refl, ap, ◌∙◌, arith, list_any, le-ltb, none-some}
 use Rattle.event_tables.proofs.Common.{EventKind, ExpandedEvent, ScheduleRow, TripEnd}
 use Rattle.event_tables.proofs.Common.{expanded_event_ids, both_pass, event_with, stands_before}
 use Rattle.event_tables.proofs.Common.{is_arrival, is_none_of, ends_early, goes_back, lacks_room}
@@ -28,22 +25,6 @@ pub planned_known : (events : List ExpandedEvent) (end : TripEnd) (kind : EventK
 planned_known events end kind is = known events end.event is.event is.there
 
 -- ---- an arrival stands before a departure that is not earlier
-
-less : (x y : ℕ) → x < y → nat_cmp x y ≡ Less
-less x y h = sym (nat_cmp_is x y Less h)
-
-same : (x y : ℕ) → x ≡ y → nat_cmp x y ≡ Equal
-same x y h = sym (nat_cmp_is x y Equal h)
-
-keys : (t i u j : ℕ) → t ≤ u
-    → is_lt (slice_cmp nat_cmp (t ∷ 0 ∷ i ∷ []) (u ∷ 1 ∷ j ∷ [])) ≡ true
-keys t i u j soon = by (cases_lt t u)
-  where
-    by : (t < u) ⊎ (u ≤ t)
-        → is_lt (slice_cmp nat_cmp (t ∷ 0 ∷ i ∷ []) (u ∷ 1 ∷ j ∷ [])) ≡ true
-    by (inl early) = rw (less t u early) refl
-    by (inr late) = let e : t ≡ u = omega (arith, soon, late) in
-        rw (same t u e) refl
 
 ride_stands : (event other : ExpandedEvent) → is_arrival event.kind ≡ true
     → is_arrival other.kind ≡ false → event.time ≤ other.time → stands_before event other ≡ true

@@ -1,7 +1,7 @@
 -- The trips of a bundle, from what its texts and settings are read as.
-use Rattle.std.proofs.Common.{◌≡◌, ℕ, pos, ◌≤◌, true, List, length, Result, refl, ap, arith}
-use Rattle.std.proofs.Common.{unsigned_abs, to_z}
-use Rattle.std.proofs.lemmas.Int.{ints, to_z-of_z}
+use Rattle.plan_num.proofs.Common.{◌≡◌, ℕ, pos, ◌≤◌, true, List, length, Result, refl, ap, arith}
+use Rattle.plan_num.proofs.Common.{unsigned_abs, to_z, ints}
+use Rattle.std.proofs.lemmas.Int.{to_z-of_z}
 use mir.Syntax.{w64}
 use Rattle.giv_files.specs.declared.key.Key.TheVariants as key
 use Rattle.tables.proofs.Common.{StageFault, UnlessFault, UnlessFault-weaker}
@@ -25,9 +25,6 @@ takes _ own = absurd (cc)
 
 -- the settings of the stage are small
 module _ (bundle : BundleParts) (own : takes_trips bundle.stage ≡ true) (fits : Fits bundle) where
-  pub three_texts : 3 ≤ length bundle.inputs
-  three_texts = omega (arith, (takes bundle.stage own).3, fits.inputs)
-
   pub turnover_few : amount bundle.settings key.VsTurnOverTime ≤ 10000
   turnover_few = (amount_within bundle.stage bundle.settings key.VsTurnOverTime _ _ fits.settings
       (takes bundle.stage own).0 refl refl).1

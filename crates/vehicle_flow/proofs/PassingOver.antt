@@ -1,7 +1,6 @@
 -- What is known of a schedule of which no rule is broken but that of a certificate.
-use Rattle.plan_num.proofs.Common.{◌≡◌, List, [], ◌∷◌, ℕ, map, slice_get, Option, Some, None}
-use Rattle.plan_num.proofs.Common.{Result, Ok, Err, IfOk, IfNone, IfSome, refl, sym, subst, ⊤}
-use Rattle.plan_num.proofs.Common.{none-some}
+use Rattle.plan_num.proofs.Common.{arith, ◌≡◌, List, [], ◌∷◌, ℕ, map, slice_get, Option, Some, None}
+use Rattle.plan_num.proofs.Common.{Result, Ok, Err, IfOk, IfNone, IfSome, sym, subst, ⊤, none-some}
 use Rattle.tables.proofs.Common.{RowFault}
 use Rattle.giv_files.proofs.Common.{BundleParts}
 use Rattle.vehicle_model.specs.declared.plan_fault.PlanFault.{PlanFault}
@@ -71,19 +70,4 @@ pub right_over_bundle : (bundle : BundleParts) → vehicles_faults bundle ≡ []
     → trips ≡ trips_in bundle → (schedule : List ℕ) (potentials : Option (List ℕ)) (found : Option ScheduleFault)
     → IfNone found (PassesOver trips schedule potentials)
     → IfNone found (ScheduleIsRight bundle (files_of schedule potentials))
-right_over_bundle bundle none trips is schedule potentials found told =
-    if_none found right told
-  where
-    right : PassesOver trips schedule potentials → ScheduleIsRight bundle (files_of schedule potentials)
-    right passes =
-        let own : PassesOver (trips_in bundle) schedule potentials =
-        subst (λ some. PassesOver some schedule potentials) is passes in
-        record {
-          inputs = none;
-          schedule = schedule;
-          potentials = potentials;
-          each = refl;
-          reads = own.0;
-          possible = own.1;
-          marked = own.2;
-        }
+right_over_bundle bundle none trips is schedule potentials found told = grind (arith, if_none)

@@ -1,7 +1,7 @@
 -- What the call of the stage of a planner's schedule gives, from what its parts are found to be.
-use Rattle.std.proofs.Common.{arith, ◌≡◌, ℕ, List, [], ◌∷◌, ◌++◌, length, map, slice_get, Option}
-use Rattle.std.proofs.Common.{Some, None, option_map, Ok, Err, refl, ap, sym, ◌∙◌, subst}
-use Rattle.std.proofs.lemmas.Option.{none-some, slice_get-map}
+use Rattle.plan_num.proofs.Common.{arith, ◌≡◌, ℕ, List, [], ◌∷◌, ◌++◌, length, map, slice_get}
+use Rattle.plan_num.proofs.Common.{Option, Some, None, option_map, Ok, Err, refl, ap, sym, ◌∙◌}
+use Rattle.plan_num.proofs.Common.{subst, none-some, slice_get-map}
 use Rattle.giv_files.proofs.Common.{Made, BundleParts, StageGives, input_text, stage_refused}
 use Rattle.tables.proofs.Common.{StageFault, RowFault, Refuses, refused_append}
 use Rattle.vehicle_model.specs.declared.plan_fault.PlanFault.{PlanFault}

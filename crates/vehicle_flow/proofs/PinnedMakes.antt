@@ -1,6 +1,6 @@
 -- Which files the stage of a planner's schedule makes, which it names where it refuses a row, and what it gives.
-use Rattle.std.proofs.Common.{arith, ◌≡◌, ℕ, List, [], ◌∷◌, map, true, Bool, Option, Some, None}
-use Rattle.std.proofs.Common.{Result, Ok, Err, IfOk, ap, lit<, refl}
+use Rattle.plan_num.proofs.Common.{arith, ◌≡◌, List, [], ◌∷◌, map, true, Bool, Some, Result, Ok}
+use Rattle.plan_num.proofs.Common.{Err, IfOk, ap}
 use Rattle.tables.proofs.Common.{FileId, Refusal, StageFault, input_faults, NamesInput, AllName}
 use Rattle.tables.proofs.Common.{names_both, front_none}
 use Rattle.tables.specs.declared.file_id.FileId.TheVariants as file
@@ -13,20 +13,13 @@ use Rattle.event_tables.proofs.Common.{trip_input}
 use Rattle.vehicle_model.specs.declared.plan_fault.PlanFault.{PlanFault}
 use Rattle.vehicle_model.specs.declared.plan_fault.PlanFault.TheVariants as plan_fault
 use Rattle.vehicle_model.specs.ReadSchedules.{plan_faults, plan_of}
-use Rattle.vehicle_model.specs.Trips.{TripsParts, trips_faults}
-use Rattle.link_plans.proofs.Common.{PotentialParts}
+use Rattle.vehicle_model.specs.Trips.{trips_faults}
 use Rattle.vehicle_flow.specs.PinnedSchedules.{marking_potentials, pinned_vehicles_faults}
 use Rattle.vehicle_flow.specs.PinnedSchedules.{pinned_vehicles_stage, plan_kept, plan_refusal}
 use Rattle.vehicle_flow.specs.RightSchedules.{PinnedScheduleIsRight}
 use Rattle.vehicle_flow.specs.VehicleStage.{takes_trips, trips_in, vehicles_faults}
 use Rattle.vehicle_flow.proofs.PinnedReads.{pinned_right}
 use Rattle.vehicle_flow.proofs.VehicleLaws.{are_trips}
-
--- potentials stand beside a schedule, or none do
-kept_makes : (trips : TripsParts) (plan : List (Option ℕ)) (potentials : Option PotentialParts)
-    → MakesAs stage.PinnedVehicles (ids_of (plan_kept trips plan potentials).files)
-kept_makes trips plan None = (1, lit< tt, refl)
-kept_makes trips plan (Some potentials) = (0, lit< tt, refl)
 
 -- they are those that the stage may make: without a mark there are no potentials
 pub pinned_vehicles_makes : (bundle : BundleParts) (made : Made) → pinned_vehicles_stage bundle ≡ Ok made

@@ -1,13 +1,12 @@
 -- What is right about a planner's schedule over the bundle of its stage is right over that of the plain stage in its
 -- place; and so is what the plain stage makes.
-use Rattle.std.proofs.Common.{◌≡◌, List, Some, None, ap, subst, arith}
+use Rattle.plan_num.proofs.Common.{◌≡◌, List, Some, ap, subst, arith}
 use Rattle.giv_files.specs.declared.key.Key.TheVariants as key
 use Rattle.giv_files.proofs.Common.{MadeFile, BundleParts, amount, input_text}
 use Rattle.vehicle_model.specs.Trips.{TripsParts, trips_of, trips_faults}
 use Rattle.vehicle_flow.specs.AcceptedSchedules.{IsAccepted}
 use Rattle.vehicle_flow.specs.RightSchedules.{passed_over, PinnedScheduleIsRight, ScheduleIsRight}
 use Rattle.vehicle_flow.specs.RightVehicles.{VehicleFilesAreRight, VehiclesAreRight}
-use Rattle.vehicle_flow.specs.ScheduleChecks.{schedule_fault}
 use Rattle.vehicle_flow.specs.VehicleStage.{trips_in, vehicles_faults}
 
 -- two bundles have the same trips: their first three texts are the same, and so are the settings of trips
@@ -36,8 +35,7 @@ module _ (bundle other : BundleParts) (same : HaveSameTrips bundle other) where
   unfolding right_over
   pinned_over files pinned = record {
     right = right_over files pinned.right;
-    passes = subst (λ trips. passed_over (schedule_fault trips pinned.right.schedule pinned.right.potentials)
-        ≡ None) same_trips pinned.passes;
+    passes = grind (arith, same_trips);
     accepted = subst (λ (trips : TripsParts). IsAccepted trips.trips pinned.right.schedule) same_trips pinned.accepted;
   }
 

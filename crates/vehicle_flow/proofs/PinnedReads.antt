@@ -1,9 +1,8 @@
 -- What is made of a planner's schedule is right.
-use Rattle.std.proofs.Common.{◌≡◌, ℕ, List, [], ◌∷◌, length, map, slice_get, Option, Some, None, Ok}
-use Rattle.std.proofs.Common.{refl, ap, sym, subst, arith}
+use Rattle.plan_num.proofs.Common.{◌≡◌, ℕ, List, [], ◌∷◌, length, map, slice_get, Option, Some}
+use Rattle.plan_num.proofs.Common.{None, Ok, refl, ap, sym, subst, arith}
 use Rattle.giv_files.proofs.Common.{Made, BundleParts, input_text, made_unless, none_unless}
 use Rattle.tables.proofs.Common.{back_none, front_none}
-use Rattle.vehicle_model.specs.Plans.{IsCheapest}
 use Rattle.link_plans.proofs.Common.{IsPlan, ArePotentials, AreOver, PotentialParts, AreValid}
 use Rattle.vehicle_model.specs.ReadSchedules.{or_others, plan_faults, plan_of, IsReadBack}
 use Rattle.vehicle_model.specs.Schedules.{plan_text}
@@ -76,8 +75,7 @@ module _ (bundle : BundleParts) (none : pinned_vehicles_faults bundle ≡ []) (a
           (sym back.same)
           (subst (AreValid (links_of trips) plan) (sym again.same)
           ((told_valid trips plan given_ones sound.0 None free).0 refl));
-      cheapest = subst (IsCheapest trips) (sym back.same)
-          (told_cheapest trips plan given_ones sound.0 None free possible refl);
+      cheapest = grind (arith, back, told_cheapest, sound, free, possible);
     }
 
   abbrev Right : Option PotentialParts → Type 0
@@ -85,15 +83,7 @@ module _ (bundle : BundleParts) (none : pinned_vehicles_faults bundle ≡ []) (a
 
   alone : Right None
   alone = record {
-    right = record {
-      inputs = front_none (vehicles_faults bundle) _ none;
-      schedule = schedule;
-      potentials = None;
-      each = refl;
-      reads = back.faultless;
-      possible = subst (IsPlan (links_of trips)) (sym back.same) possible;
-      marked = tt;
-    };
+    right = grind (arith, front_none, back, possible);
     passes = ap passed_over (certificate_left trips schedule None back.faultless);
     accepted = plan_accepted trips plan are possible;
   }

@@ -14,34 +14,13 @@ valid_for trips plan other potentials cheapest also valid = grind (arith, ints, 
 -- a plan that gains the most is cheapest, and the other way round
 pub cheapest_by_gain : (trips : TripsParts) (plan : List (Option ℕ)) → IsBest (links_of trips) plan
     → IsCheapest trips plan
-cheapest_by_gain trips plan best = record {
-  possible = best.possible;
-  least = λ other fits. omega (
-    arith,
-    ints,
-    best.most other fits,
-    cost_by_gain trips plan best.possible,
-    cost_by_gain trips other fits,
-  );
-}
+cheapest_by_gain trips plan best = grind (arith, ints, cost_by_gain)
 
 best_by_cost : (trips : TripsParts) (plan : List (Option ℕ)) → IsCheapest trips plan
     → IsBest (links_of trips) plan
-best_by_cost trips plan cheapest = record {
-  possible = cheapest.possible;
-  most = λ other fits. omega (
-    arith,
-    ints,
-    cheapest.least other fits,
-    cost_by_gain trips plan cheapest.possible,
-    cost_by_gain trips other fits,
-  );
-}
+best_by_cost trips plan cheapest = grind (arith, ints, cost_by_gain)
 
 -- so the first of those that gain the most is the chosen one
 pub chosen_by_gain : (trips : TripsParts) (plan : List (Option ℕ)) → IsFirstBest (links_of trips) plan
     → IsChosen trips plan
-chosen_by_gain trips plan first = record {
-  cheapest = cheapest_by_gain trips plan first.best;
-  first = λ other cheapest. first.first other (best_by_cost trips other cheapest);
-}
+chosen_by_gain trips plan first = grind (arith, cheapest_by_gain, best_by_cost)

@@ -1,8 +1,7 @@
 -- What the test of a schedule answers, over a bundle.
-use Rattle.std.proofs.Common.{◌≡◌, ℕ, List, [], map, Option, Some, None, IfNone, refl, ap, sym, subst}
+use Rattle.plan_num.proofs.Common.{arith, ◌≡◌, ℕ, List, [], map, Option, Some, None, refl, ap}
 use Rattle.giv_files.proofs.Common.{MadeFile, BundleParts}
 use Rattle.vehicle_model.specs.Trips.{TripsParts}
-use Rattle.vehicle_flow.specs.declared.schedule_fault.ScheduleFault.{ScheduleFault}
 use Rattle.vehicle_flow.specs.RightVehicles.{VehiclesAreRight, files_of}
 use Rattle.vehicle_flow.specs.ScheduleChecks.{schedule_fault, Passes}
 use Rattle.vehicle_flow.specs.VehicleStage.{trips_in, vehicles_faults}
@@ -20,12 +19,6 @@ module _ (bundle : BundleParts) (none : vehicles_faults bundle ≡ []) (schedule
     passes = passes;
   }
 
-  pub right_where : (potentials : Option (List ℕ)) (found : Option ScheduleFault)
-      → IfNone found (Passes (trips_in bundle) schedule potentials)
-      → IfNone found (VehiclesAreRight bundle (files_of schedule potentials))
-  right_where potentials (Some fault) told = tt
-  right_where potentials None told = passed_right potentials told
-
 -- the texts of the first two files
 abbrev texts : List MadeFile → List (List ℕ)
 texts files = map (λ file. file.text) files
@@ -35,10 +28,7 @@ passed_where : (trips : TripsParts) (schedule other text : List ℕ) (potentials
     → Passes trips other (Some text) → Passes trips schedule potentials
 passed_where trips schedule other text None same passes = absurd (cc)
 passed_where trips schedule other text (Some own) same passes =
-    let first : schedule ≡ other = cc in
-    let second : own ≡ text = cc in
-    subst (λ some. Passes trips some (Some own)) (sym first)
-    (subst (λ some. Passes trips other (Some some)) (sym second) passes)
+    let first : schedule ≡ other = cc in grind arith
 
 -- what is right breaks no rule
 pub none_where : (bundle : BundleParts) (schedule : List ℕ) (potentials : Option (List ℕ))

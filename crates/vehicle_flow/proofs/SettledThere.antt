@@ -1,6 +1,6 @@
 -- Over any trips the chosen plan is there, and its canonical potentials are valid.
-use Rattle.std.proofs.Common.{◌≡◌, ℕ, ◌&&◌, nat_eq, Bool, true, List, length, find, Option, Some}
-use Rattle.std.proofs.Common.{None, refl, subst, arith, eqb-true, eq-eqb}
+use Rattle.plan_num.proofs.Common.{◌≡◌, ℕ, ◌&&◌, nat_eq, Bool, true, List, length, find, Option}
+use Rattle.plan_num.proofs.Common.{Some, None, refl, subst, arith, eqb-true, eq-eqb}
 use Rattle.vehicle_model.specs.Plans.{all_lists, chosen_plan, is_apart, plan_cost, IsCheapest, IsChosen}
 use Rattle.vehicle_model.specs.Trips.{TripsParts, AreTrips, links_of}
 use Rattle.vehicle_model.proofs.TripLinks.{trips_links}

@@ -3,26 +3,25 @@ use Rattle.std.proofs.Common.{◌≡◌, ℕ, refl, pos, List, [], ◌∷◌, �
 use Rattle.std.specs.Fmt.{digits}
 use Rattle.tables.specs.declared.file_id.FileId.TheVariants as file
 use Rattle.giv_files.specs.declared.key.Key.TheVariants as key
-use Rattle.giv_files.proofs.Common.{Made, BundleParts}
+use Rattle.giv_files.specs.declared.made.Made.{Made}
 use Rattle.tables.specs.declared.row_why.RowWhy.TheVariants as why
 use Rattle.tables.specs.declared.refusal.Refusal.TheVariants as refusal
 use Rattle.giv_files.specs.declared.stage.Stage.TheVariants as stage
 use Rattle.tables.specs.Inputs.{input_faults, row_faults}
-use Rattle.tables.proofs.Common.{table_of, cells_from, cell_of, values, cell_text, cell_texts}
-use Rattle.tables.proofs.Common.{joined, table_text}
-use Rattle.tables.specs.Reading.{faults, errors, row_whys}
+use Rattle.tables.specs.Reading.{faults, table_of, cells_from, cell_of, errors, values, row_whys}
 use Rattle.text_fields.specs.Rows.{rows, cleaned}
+use Rattle.giv_files.specs.Settings.{BundleParts}
+use Rattle.tables.specs.Writing.{cell_text, cell_texts, joined, table_text}
 use Rattle.plan_num.specs.Number.{spelling_of, value_of, value_at, fixed_of, whole_of}
 use Rattle.plan_num.specs.Print.{digits_at}
 use Rattle.ptn_network.specs.Networks.{stops_of, network_of, network_faults}
 use Rattle.walks.specs.RisingIds.{by_id}
-use Rattle.walks.proofs.Common.{walks_within, least_of}
-use Rattle.walks.specs.Walks.{least_sum}
+use Rattle.walks.specs.Walks.{walks_within, least_of, least_sum}
 use Rattle.vehicle_model.specs.Trips.{trips_of, trips_faults}
 use Rattle.vehicle_model.specs.Plans.{all_lists, is_apart, chosen_plan}
 use Rattle.vehicle_model.specs.Schedules.{tour, rows_behind, rows_from, plan_text}
 use Rattle.vehicle_model.specs.ReadSchedules.{form_faults, links_in, plan_faults, plan_of}
-use Rattle.event_tables.proofs.Common.{schedule_header}
+use Rattle.event_tables.specs.Headers.{schedule_header}
 use Rattle.flow_potentials.specs.PotentialFaults.{potential_faults}
 use Rattle.flow_potentials.specs.PotentialTables.{gaps_from, potentials_text, potentials_of}
 use Rattle.flow_potentials.specs.PotentialTables.{potential_header, table_faults}

@@ -1,6 +1,6 @@
 -- Vehicles of a plan, counted by the trips without a next one.
-use Rattle.std.proofs.Common.{◌≡◌, ℕ, ◌≤◌, ◌+◌, ◌-◌, List, length, drop, Option, arith}
-use Rattle.std.proofs.lemmas.List.{drop_all}
+use Rattle.plan_num.proofs.Common.{◌≡◌, ℕ, ◌≤◌, ◌+◌, ◌-◌, List, length, drop, Option, arith}
+use Rattle.plan_num.proofs.Common.{drop_all}
 use Rattle.vehicle_model.specs.Plans.{starts}
 use Rattle.link_plans.proofs.Common.{plan_links, IsPlan, links_from}
 use Rattle.vehicle_model.specs.Trips.{TripsParts, links_of}

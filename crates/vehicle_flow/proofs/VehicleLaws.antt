@@ -1,5 +1,5 @@
 -- What the stage of vehicles makes of a bundle that fits it is right.
-use Rattle.std.proofs.Common.{◌≡◌, true, [], Some, Result, Ok, Err, IfOk, ap}
+use Rattle.plan_num.proofs.Common.{◌≡◌, true, [], Some, Result, Ok, Err, IfOk, ap}
 use Rattle.giv_files.proofs.Common.{Made, BundleParts, Fits, StageGives, input_text, none_unless}
 use Rattle.tables.proofs.Common.{StageFault, input_faults, back_none, front_none}
 use Rattle.giv_files.specs.declared.stage.Stage.TheVariants as stage

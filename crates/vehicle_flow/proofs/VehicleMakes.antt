@@ -1,5 +1,5 @@
 -- Which files the stage of vehicles makes, which it names where it refuses a row, and what it gives.
-use Rattle.std.proofs.Common.{◌≡◌, [], true, Bool, Some, Ok, Err, ap, lit<, arith}
+use Rattle.plan_num.proofs.Common.{◌≡◌, [], true, Bool, Some, Ok, Err, ap, lit<, arith}
 use Rattle.tables.proofs.Common.{FileId, Refusal, StageFault, Refuses, input_faults, NamesInput}
 use Rattle.tables.proofs.Common.{AllName, names_both}
 use Rattle.tables.specs.declared.file_id.FileId.TheVariants as file

@@ -1,5 +1,5 @@
 -- The files of the stage are right, from what is known of the chosen plan.
-use Rattle.std.proofs.Common.{◌≡◌, ℕ, List, [], Option, Some, Ok, refl, sym, subst, arith}
+use Rattle.plan_num.proofs.Common.{◌≡◌, ℕ, List, [], Option, Some, Ok, sym, subst, arith}
 use Rattle.giv_files.proofs.Common.{Made, BundleParts, made_unless, none_unless}
 use Rattle.vehicle_model.specs.Plans.{chosen_plan, IsChosen}
 use Rattle.link_plans.proofs.Common.{IsPlan, PotentialParts}
@@ -7,8 +7,7 @@ use Rattle.vehicle_model.specs.ReadSchedules.{IsReadBack}
 use Rattle.vehicle_model.specs.Schedules.{plan_text}
 use Rattle.vehicle_model.specs.Trips.{TripsParts, links_of}
 use Rattle.vehicle_model.proofs.PlanBack.{plan_text_back}
-use Rattle.canonical_potentials.specs.Canonical.{AreCanonical}
-use Rattle.flow_potentials.specs.PotentialTables.{potentials_of, potentials_text, IsReadBack as IsPotentialBack}
+use Rattle.flow_potentials.specs.PotentialTables.{potentials_text, IsReadBack as IsPotentialBack}
 use Rattle.canonical_potentials.specs.Rounds.{canonical}
 use Rattle.flow_potentials.proofs.TablesBack.{text_back}
 use Rattle.vehicle_flow.specs.RightVehicles.{VehicleFilesAreRight}
@@ -50,16 +49,9 @@ module _ (bundle : BundleParts) (none : vehicles_faults bundle ≡ [])
 
   pub made_right : VehicleFilesAreRight bundle (vehicles_made trips plan).files
   made_right = record {
-    right = record {
-      inputs = none;
-      schedule = schedule;
-      potentials = text;
-      both = refl;
-      passes = passes;
-    };
+    right = grind (arith, passes);
     chosen = subst (IsChosen trips) (sym back.same) settled.chosen;
-    canonical = subst (λ some. AreCanonical (links_of trips) some (potentials_of text)) (sym back.same)
-        (subst (AreCanonical (links_of trips) plan) (sym again.same) settled.least);
+    canonical = grind (arith, back, again);
     passes = passes_none trips schedule (Some text) passes;
     accepted = plan_accepted trips plan settled.are possible;
   }

@@ -1,7 +1,7 @@
 -- The bound of a region holds: no set of changes in it, with any feasible times, comes to less.
 use Rattle.plan_num.proofs.Common.{◌≡◌, ℕ, ℤ, zero, suc, ◌<◌, ◌≤◌, ◌+◌, ◌*◌, ◌&&◌, ◌+ℤ◌, ◌≤ℤ◌, cond}
 use Rattle.plan_num.proofs.Common.{nat_lt, not, Bool, true, false, List, [], ◌∷◌, ◌++◌, length, map}
-use Rattle.plan_num.proofs.Common.{pos, Some, None, sym, ◌∙◌, refl, arith, ◌⊎◌, inl, inr}
+use Rattle.plan_num.proofs.Common.{pos, Some, None, ◌∙◌, refl, arith, ◌⊎◌, inl, inr}
 use Rattle.plan_num.proofs.Common.{mul-le-mul_left, All, Contains, filter, zip, position, replicate}
 use Rattle.plan_num.proofs.Common.{fold, items_where_true, list_all, prefix_len, both_ways}
 use Rattle.plan_num.proofs.Common.{ltb-false, cases_Bool, Decides-eqb, both_true, ints, length-map}
@@ -272,22 +272,7 @@ pub parts_cover : (region : List Decision) (change : ℕ) (kept : List Bool)
     → is_free_at region change ≡ true → lies_in region kept ≡ true
     → (lies_in (decided region change decision.Kept) kept ≡ true)
     ⊎ (lies_in (decided region change decision.Dropped) kept ≡ true)
-parts_cover region change kept free lies =
-    let parts = parts_of region kept lies in
-    by parts.0 (cover region kept change free parts.1)
-  where
-    sized : (as_what : Decision) → length kept ≡ length region
-        → length kept ≡ length (decided region change as_what)
-    sized as_what size = size ∙ sym (length-set region change as_what)
-
-    by : length kept ≡ length region
-        → (each_allowed (decided region change decision.Kept) kept ≡ true)
-        ⊎ (each_allowed (decided region change decision.Dropped) kept ≡ true)
-        → (lies_in (decided region change decision.Kept) kept ≡ true)
-        ⊎ (lies_in (decided region change decision.Dropped) kept ≡ true)
-    by size (inl allowed) = inl (lies_of (decided region change decision.Kept) kept (sized decision.Kept size) allowed)
-    by size (inr allowed) = inr (lies_of (decided region change decision.Dropped) kept
-        (sized decision.Dropped size) allowed)
+parts_cover region change kept free lies = grind (arith, parts_of, cover, length-set, lies_of)
 
 -- every set lies in the region in which nothing is decided
 open_allowed : (kept : List Bool) → each_allowed (replicate (length kept) decision.Free) kept ≡ true

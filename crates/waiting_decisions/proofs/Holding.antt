@@ -1,14 +1,12 @@
 -- What each entry of a listing says holds, and no entries are left out however deep a region is split.
-use Rattle.plan_num.proofs.Common.{◌≡◌, ◌∙◌, ℕ, ℤ, suc, cond, Bool, true, false, List, ◌∷◌, ◌++◌}
-use Rattle.plan_num.proofs.Common.{length, Option, Some, None, IfSome, refl, ap, subst, sym, arith}
-use Rattle.plan_num.proofs.Common.{count_by, both_ways, ints}
+use Rattle.plan_num.proofs.Common.{◌≡◌, ℕ, ℤ, cond, Bool, true, false, List, length, Option, Some}
+use Rattle.plan_num.proofs.Common.{None, IfSome, refl, sym, arith, both_ways, ints}
 use Rattle.propagation.proofs.Common.{DelayProblem, IsForward}
 use Rattle.waiting_decisions.specs.declared.decision.Decision.{Decision}
-use Rattle.waiting_decisions.specs.declared.decision.Decision.TheVariants as decision
 use Rattle.waiting_decisions.specs.declared.waits.Waits.{Waits}
 use Rattle.waiting_decisions.specs.Budgets.{waits_within}
-use Rattle.waiting_decisions.specs.Listings.{Choice, Entry, best_after, choice_in, cut_off, entries_by, entries_within}
-use Rattle.waiting_decisions.specs.Listings.{entry_at, entry_by, found, holds_off, levels_of, listing, split, visit}
+use Rattle.waiting_decisions.specs.Listings.{Choice, Entry, choice_in, cut_off, entries_by, entries_within}
+use Rattle.waiting_decisions.specs.Listings.{entry_at, entry_by, found, holds_off, listing, split, visit}
 use Rattle.waiting_decisions.specs.Regions.{CostsAtLeastIn, bound_of, decided, first_broken, greatest_set, is_free}
 use Rattle.waiting_decisions.specs.Regions.{open_region}
 use Rattle.waiting_decisions.specs.Paths.{region_in}
@@ -23,14 +21,11 @@ module _ (problem : DelayProblem) (penalty : ℕ) where
 
   bounds : (forward : IsForward problem) (region : List Decision)
       → CostsAtLeastIn problem penalty region (bound_of problem penalty region)
-  bounds forward region kept times lies feasible =
-      bound_holds problem forward penalty region kept times lies feasible
+  bounds forward region kept times lies feasible = grind (arith, bound_holds)
 
   pub split_holds : (region : List Decision) (best : Option Choice) (change : ℕ)
       → first_broken problem region ≡ Some change → EntryHolds problem penalty region best (split change)
-  split_holds region best change is =
-      let free = split_free problem region change is in
-      (free, λ kept lies. parts_cover region change kept free lies)
+  split_holds region best change is = grind (arith, split_free, parts_cover)
 
   module _ (forward : IsForward problem) (region : List Decision) (best : Option Choice)
       (size : length region ≡ length problem.changes) where
@@ -62,29 +57,12 @@ module _ (problem : DelayProblem) (penalty : ℕ) where
       → below (decided region change as_what) best ≡ above (decided region change as_what) best)
       → entries_by below region best (entry_at problem penalty region best)
       ≡ entries_by above region best (entry_at problem penalty region best)
-  parts_same below above region best same =
-      by (holds_off best (bound_of problem penalty region)) (first_broken problem region) refl
-    where
-      by : (off : Bool) (broken : Option ℕ) → first_broken problem region ≡ broken
-          → entries_by below region best (cond off cut_off (entry_by (choice_in problem penalty region) broken))
-          ≡ entries_by above region best (cond off cut_off (entry_by (choice_in problem penalty region) broken))
-      by true broken is = refl
-      by false None is = refl
-      by false (Some change) is = λ i.
-          split change ∷ same change decision.Kept best is refl i
-          ++ same change decision.Dropped (best_after best (same change decision.Kept best is refl i)) is refl i
+  parts_same below above region best same = grind arith
 
   unrolled : (region : List Decision) (best : Option Choice) → visit problem penalty region best
       ≡ entries_by (visit problem penalty) region best (entry_at problem penalty region best)
   unfolding entries_within
-  unrolled region best =
-      let free = count_by is_free region in
-      ap (λ levels. entries_within problem penalty levels region best)
-      (let one : levels_of region ≡ suc free = omega arith in one)
-      ∙ parts_same (entries_within problem penalty free) (visit problem penalty) region best
-      (λ change as_what best is none.
-      let less = free_less region change as_what none (split_free problem region change is) in
-      ap (λ levels. entries_within problem penalty levels (decided region change as_what) best) (sym less))
+  unrolled region best = grind (arith, parts_same, free_less, split_free)
 
   from_open : visit problem penalty (open_region problem) None ≡ listing problem penalty
   unfolding listing
@@ -107,11 +85,9 @@ pub found_holds : (penalty : ℕ) (at : Between) → IsForward at.path.problem
     → entry ≡ found (record { kept = greatest_set (region_in at.path); cost = cost })
     → cost ≡ bound_of at.path.problem penalty (region_in at.path)
     → EntryHolds at.path.problem penalty (region_in at.path) at.best entry
-found_holds penalty at forward none cost entry is value =
-    let region = region_in at.path in
-    let size = region_size (length at.path.problem.changes) at.path.decided in
-    subst (EntryHolds at.path.problem penalty region at.best)
-    (sym (is ∙ ap (λ cost. found (record { kept = greatest_set region; cost = cost })) value)) (
-      found_costs at.path.problem forward penalty region size none,
-      bounds at.path.problem penalty forward region,
-    )
+found_holds penalty at forward none cost entry is value = grind (
+  arith,
+  region_size,
+  found_costs,
+  bounds,
+)

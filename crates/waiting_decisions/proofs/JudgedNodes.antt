@@ -1,14 +1,14 @@
 -- The walk over nodes from any hand comes to their first fault.
-use Rattle.plan_num.proofs.Common.{◌≡◌, ◌∙◌, ℕ, ℤ, ◌+◌, ◌<◌, ◌≤◌, ◌||◌, cond, Bool, true, false}
-use Rattle.plan_num.proofs.Common.{List, [], ◌∷◌, length, drop, get_or, Option, Some, None, IfNone}
-use Rattle.plan_num.proofs.Common.{refl, ap, sym, subst, arith, drop_all, drop_more}
+use Rattle.plan_num.proofs.Common.{◌≡◌, ◌∙◌, ℕ, ℤ, ◌+◌, ◌<◌, ◌≤◌, Bool, true, false, List, [], ◌∷◌}
+use Rattle.plan_num.proofs.Common.{length, drop, get_or, Option, Some, None, IfNone, refl, ap, sym}
+use Rattle.plan_num.proofs.Common.{subst, arith, drop_all, drop_more}
 use Rattle.propagation.proofs.Common.{DelayProblem, IsForward}
 use Rattle.waiting_decisions.specs.declared.fault.TreeFault.{TreeFault}
 use Rattle.waiting_decisions.specs.declared.fault.TreeFault.TheVariants as fault
 use Rattle.waiting_decisions.specs.declared.node.WaitNode.{WaitNode}
-use Rattle.waiting_decisions.specs.Certified.{Certifies, any_low, are_tree, are_trees, has_low_leaf, leaves_of}
+use Rattle.waiting_decisions.specs.Certified.{Certifies, are_tree, are_trees, has_low_leaf, leaves_of}
 use Rattle.waiting_decisions.specs.Choices.{CostsAtLeast}
-use Rattle.waiting_decisions.specs.Paths.{region_of, regions_in, waiting}
+use Rattle.waiting_decisions.specs.Paths.{region_of, waiting}
 use Rattle.waiting_decisions.specs.TreeFaults.{fault_by, first_fault}
 use Rattle.waiting_decisions.specs.Walks.{TakesNode, Walking, fault_behind, is_low, is_whole}
 use Rattle.waiting_decisions.proofs.Bounds.{certified_holds}
@@ -52,28 +52,7 @@ module _ (problem : DelayProblem) (penalty : ℕ) (cost : ℤ) (nodes : List Wai
   pub at_end : (walk : Walking) (i : ℕ) → IsAt walk i → length nodes ≤ i
       → fault_behind walk ≡ first_fault problem penalty cost nodes
   unfolding are_trees leaves_of
-  at_end walk i here past =
-      by walk.is_waiting walk.is_low refl refl
-    where
-      none : drop i nodes ≡ []
-      none = drop_all i nodes past
-
-      whole : (waits : Bool) → walk.is_waiting ≡ waits
-          → are_tree problem nodes ≡ are_trees (cond waits (regions_in walk.path) []) []
-      whole waits is =
-          sym here.whole ∙ ap (is_whole walk) none
-          ∙ ap (λ b. are_trees (cond b (regions_in walk.path) []) []) is
-
-      by : (waits low : Bool) → walk.is_waiting ≡ waits → walk.is_low ≡ low
-          → cond waits (Some fault.NotWhole) (cond low (Some fault.LowLeaf) None)
-          ≡ first_fault problem penalty cost nodes
-      by true low waits is = no_tree (whole true waits)
-      by false low waits is =
-          let low_so = sym here.low ∙ ap (is_low penalty cost walk) none
-          ∙ ap (λ b. walk.is_low || any_low walk.path.problem penalty cost
-          (leaves_of (cond b (regions_in walk.path) []) [])) waits
-          ∙ or_false walk.is_low ∙ is in
-          sym (λ k. fault_by (whole false waits k) (low_so k))
+  at_end walk i here past = grind (arith, drop_all, no_tree, or_false)
 
   -- ---- what a fault, or none, says of the nodes
 
@@ -84,9 +63,7 @@ module _ (problem : DelayProblem) (penalty : ℕ) (cost : ℤ) (nodes : List Wai
   both_of false is_low none = absurd (cc)
 
   certified : None ≡ first_fault problem penalty cost nodes → Certifies problem penalty cost nodes
-  certified none =
-      let both = both_of (are_tree problem nodes) (has_low_leaf problem penalty cost nodes) none in
-      certifies_by problem penalty cost nodes both.0 both.1
+  certified none = grind (arith, both_of, certifies_by)
 
   pub fault_proves : (answer : Option TreeFault) → answer ≡ first_fault problem penalty cost nodes
       → IfNone answer (Certifies problem penalty cost nodes)
@@ -95,9 +72,7 @@ module _ (problem : DelayProblem) (penalty : ℕ) (cost : ℤ) (nodes : List Wai
 
   pub fault_only : (answer : Option TreeFault) → answer ≡ first_fault problem penalty cost nodes
       → Certifies problem penalty cost nodes → answer ≡ None
-  fault_only answer is certifies =
-      let both = tree_of_nodes problem penalty cost nodes certifies in
-      is ∙ (λ k. fault_by (both.0 k) (both.1 k))
+  fault_only answer is certifies = grind (arith, tree_of_nodes)
 
   pub fault_least : IsForward problem → (answer : Option TreeFault)
       → answer ≡ first_fault problem penalty cost nodes → IfNone answer (CostsAtLeast problem penalty cost)

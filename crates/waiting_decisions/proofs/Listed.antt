@@ -1,18 +1,18 @@
 -- What a whole listing comes to, how long it is, and within how many entries it finds something.
-use Rattle.plan_num.proofs.Common.{◌≡◌, ℕ, zero, suc, ◌≤◌, ◌+◌, ◌*◌, ◌^◌, cond, Bool, true, false}
-use Rattle.plan_num.proofs.Common.{List, [], ◌∷◌, ◌++◌, length, Option, Some, None, ap, sym, ◌∙◌}
-use Rattle.plan_num.proofs.Common.{refl, arith, subst, append_assoc, IsSome, count_by, filter_map}
-use Rattle.plan_num.proofs.Common.{replicate, take, ◌-◌, sum_by-cons, last_or, pow-succ'}
-use Rattle.plan_num.proofs.Common.{take-append-add, ints, length-append, length-replicate}
+use Rattle.plan_num.proofs.Common.{◌≡◌, ℕ, zero, suc, ◌≤◌, ◌+◌, ◌*◌, ◌^◌, cond, List, [], ◌∷◌, ◌++◌}
+use Rattle.plan_num.proofs.Common.{length, Option, Some, None, ap, sym, ◌∙◌, refl, arith, subst}
+use Rattle.plan_num.proofs.Common.{append_assoc, IsSome, count_by, filter_map, replicate, take, ◌-◌}
+use Rattle.plan_num.proofs.Common.{sum_by-cons, last_or, pow-succ', take-append-add, ints}
+use Rattle.plan_num.proofs.Common.{length-append, length-replicate}
 use Rattle.propagation.proofs.Common.{DelayProblem, IsForward}
 use Rattle.waiting_decisions.specs.declared.decision.Decision.{Decision}
 use Rattle.waiting_decisions.specs.declared.decision.Decision.TheVariants as decision
 use Rattle.waiting_decisions.specs.Certified.{Certifies}
 use Rattle.waiting_decisions.specs.Choices.{IsBest}
-use Rattle.waiting_decisions.specs.Listings.{Choice, Entry, best_after, choice_in, cut_off, entries_by, entries_within}
-use Rattle.waiting_decisions.specs.Listings.{entry_at, entry_by, found, found_by, holds_off, levels_of, listing}
+use Rattle.waiting_decisions.specs.Listings.{Choice, Entry, best_after, choice_in, entries_by, entries_within}
+use Rattle.waiting_decisions.specs.Listings.{entry_at, entry_by, found, found_by, levels_of, listing}
 use Rattle.waiting_decisions.specs.Listings.{nodes_of, split}
-use Rattle.waiting_decisions.specs.Regions.{bound_of, decided, first_broken, is_free, open_region}
+use Rattle.waiting_decisions.specs.Regions.{decided, first_broken, is_free, open_region}
 use Rattle.waiting_decisions.proofs.Bounds.{certified_holds}
 use Rattle.waiting_decisions.proofs.Visits.{AtMost, IsGood, best_behind, free_less, split_free, visited}
 
@@ -63,18 +63,14 @@ module _ (problem : DelayProblem) (penalty : ℕ) where
       → IsShort region (below region best))
       → (region : List Decision) (best : Option Choice) → levels_of region ≤ suc levels
       → IsShort region (entries_by below region best (entry_at problem penalty region best))
-  short_step levels below rec region best enough =
-      by (holds_off best (bound_of problem penalty region)) (first_broken problem region) refl
-    where
-      one_entry : 1 + 1 ≤ 2 ^ (free_in region + 1)
-      one_entry = let h = some_power (free_in region) in let e = twice (free_in region) in omega (arith, h, e)
-
-      by : (off : Bool) (broken : Option ℕ) → first_broken problem region ≡ broken
-          → IsShort region (entries_by below region best
-          (cond off cut_off (entry_by (choice_in problem penalty region) broken)))
-      by true broken is = one_entry
-      by false None is = one_entry
-      by false (Some change) is = grind (arith, split_free, free_less, length-append, twice)
+  short_step levels below rec region best enough = grind (
+    arith,
+    some_power,
+    twice,
+    split_free,
+    free_less,
+    length-append,
+  )
 
   short : (levels : ℕ) (region : List Decision) (best : Option Choice) → levels_of region ≤ levels
       → IsShort region (entries_within problem penalty levels region best)
@@ -140,8 +136,7 @@ count_free : (n : ℕ) → count_by is_free (replicate n decision.Free) ≡ n
 count_free zero = refl
 count_free (suc n) =
     let h = sum_by-cons (λ x. cond {A = ℕ} (is_free x) 1 0) decision.Free (replicate n decision.Free) in
-    let rest = count_free n in
-    omega (arith, h, rest)
+    grind (arith, count_free n)
 
 -- it is no longer than a whole tree over all changes
 pub listing_is_short : (problem : DelayProblem) (penalty : ℕ)

@@ -83,13 +83,7 @@ region_mapped f g count path same =
 free_same : (path : List Decided) (change : ℕ) → is_free (decision_in path change) ≡ not (is_decided path change)
 unfolding decision_in
 free_same [] change = refl
-free_same (last ∷ before) change = by (eqb last.change change) last.kept (free_same before change)
-  where
-    by : (b kept : Bool) → is_free (decision_in before change) ≡ not (is_decided before change)
-        → is_free (cond b (as_decided kept) (decision_in before change)) ≡ not (b || is_decided before change)
-    by true true rest = refl
-    by true false rest = refl
-    by false kept rest = rest
+free_same (last ∷ before) change = grind (arith, decision_in, free_same before change)
 
 kept_same : (count : ℕ) (path : List Decided) → AreOnce count path → (change : ℕ)
     → is_kept (decision_in path change) ≡ kept_in path change
@@ -122,15 +116,16 @@ not_dropped [] change none = refl
 not_dropped (last ∷ before) change none =
     elim (cases_Bool (eqb last.change change)) [
       | inl is ↦ absurd (both_ways true (rw is at none) refl)
-      | inr is ↦
-          let rest = not_dropped before change (rw is at none) in
-          elim (cases_Bool last.kept) [
-            | inl keeps ↦ rw keeps rest
-            | inr drops ↦ rw drops (
-                list_any-append (nat_eq change) (dropped_in before) (last.change ∷ [])
-                ∙ ap (λ b. b || (nat_eq change last.change || false)) rest
-                ∙ ap (λ b. b || false) (ne_eqb change last.change (λ e. eqb-false last.change change is (sym e))))
-          ]
+      | inr is ↦ grind (
+        arith,
+        cases_Bool,
+        list_any-append,
+        nat_eq,
+        ne_eqb,
+        eqb-false,
+        not_dropped
+            before change (rw is at none),
+      )
     ]
 
 dropped_same : (count : ℕ) (path : List Decided) → AreOnce count path → (change : ℕ)
@@ -263,13 +258,13 @@ module _ (path : TrialParts) (once : AreOnce (length path.problem.changes) path.
   tests_alike times [] (change ∷ changes) first size same = absurd (omega (arith, size))
   tests_alike times (at ∷ region) [] first size same = absurd (omega (arith, size))
   tests_alike times (at ∷ region) (change ∷ changes) first size same =
-      let here : first + 0 ≡ first = omega arith in
-      let head : is_free at ≡ not (is_decided path.decided first) = same 0 (omega arith)
-      ∙ ap (λ k. not (is_decided path.decided k)) here in
-      let rest = tests_alike times region changes (first + 1) (omega (arith, size))
-      (λ k inside. let next : first + suc k ≡ (first + 1) + k = omega arith in
-      same (suc k) (omega (arith, inside)) ∙ ap (λ k. not (is_decided path.decided k)) next) in
-      λ i. (head i && is_broken times change) ∷ rest i
+      let here : first + 0 ≡ first = omega arith in grind (
+        arith,
+        tests_alike times region changes
+            (first + 1) (omega (arith, size)) (λ k inside. let next : first + suc k ≡ (first + 1) + k
+            = omega arith in same (suc k) (omega (arith, inside)) ∙ ap (λ k. not (is_decided
+            path.decided k)) next),
+      )
 
   pub broken_is : trial_broken path ≡ first_broken path.problem (region_in path)
   broken_is =

@@ -11,7 +11,7 @@ use Rattle.waiting_decisions.specs.declared.decision.Decision.TheVariants as dec
 use Rattle.waiting_decisions.specs.declared.node.WaitNode.{WaitNode}
 use Rattle.waiting_decisions.specs.declared.node.WaitNode.TheVariants as node
 use Rattle.waiting_decisions.specs.declared.waits.Waits.{Waits}
-use Rattle.waiting_decisions.specs.Budgets.{FindsSome, IsEnough, IsMarked, last_found, waits_within, with_tree}
+use Rattle.waiting_decisions.specs.Budgets.{FindsSome, IsEnough, IsMarked, waits_within, with_tree}
 use Rattle.waiting_decisions.specs.Certified.{Certifies, ChangeTree, TreeCertifies, fork, leaf, preorder}
 use Rattle.waiting_decisions.specs.Choices.{Costs}
 use Rattle.waiting_decisions.specs.Listings.{Choice, Entry, best_after, choice_in, cut_off, entries_by, entries_within}
@@ -140,37 +140,12 @@ module _ (problem : DelayProblem) (forward : IsForward problem) (penalty : ℕ) 
   right_front : (n : ℕ) (choice : Choice) → best_after None (take n (listing problem penalty)) ≡ Some choice
       → IsWritable choice.cost → IsRight problem penalty (with_tree None choice)
   right_front n choice is cheap =
-      let costs = front_good n choice is in
-      record {
-        over = record { each = costs.each; names = tt };
-        costs = costs;
-        writable = cheap;
-        certified = tt;
-        best = tt;
-      }
+      let costs = front_good n choice is in grind arith
 
   pub found_right : (budget : ℕ) (result : Option Waits) → result ≡ waits_within budget (listing problem penalty)
       → IfSome result (λ waits. IsWritable waits.cost) → IfSome result (IsRight problem penalty)
   unfolding waits_within
-  found_right budget result is cheap =
-      by (nat_le (length (listing problem penalty)) budget)
-      (best_after None (listing problem penalty)) refl
-      (best_after None (take budget (listing problem penalty))) refl result is cheap
-    where
-      by : (within : Bool) (all : Option Choice) → best_after None (listing problem penalty) ≡ all
-          → (some : Option Choice) → best_after None (take budget (listing problem penalty)) ≡ some
-          → (result : Option Waits)
-          → result ≡ cond within (option_map (with_tree (Some (nodes_of (listing problem penalty)))) all)
-          (option_map (with_tree None) some)
-          → IfSome result (λ waits. IsWritable waits.cost) → IfSome result (IsRight problem penalty)
-      by true None all some front result is cheap = subst (λ w. IfSome w (IsRight problem penalty)) (sym is) tt
-      by true (Some choice) all some front result is cheap =
-          subst (λ w. IfSome w (IsRight problem penalty)) (sym is)
-          (right_marked choice all (subst (λ w. IfSome w (λ waits. IsWritable waits.cost)) is cheap))
-      by false all whole None front result is cheap = subst (λ w. IfSome w (IsRight problem penalty)) (sym is) tt
-      by false all whole (Some choice) front result is cheap =
-          subst (λ w. IfSome w (IsRight problem penalty)) (sym is)
-          (right_front budget choice front (subst (λ w. IfSome w (λ waits. IsWritable waits.cost)) is cheap))
+  found_right budget result is cheap = grind (arith, nat_le, right_marked, right_front)
 
 -- ---- what a budget is enough for
 
@@ -181,20 +156,14 @@ map_some f None some = absurd (cc)
 pub finds_within : (problem : DelayProblem) (penalty budget : ℕ) → FindsSome problem budget
     → IsSome (waits_within budget (listing problem penalty))
 unfolding waits_within
-finds_within problem penalty budget enough =
-    by (nat_le (length (listing problem penalty)) budget) refl
-  where
-    some : IsSome (best_after None (take budget (listing problem penalty)))
-    some = listing_finds problem penalty budget enough
-
-    by : (within : Bool) → nat_le (length (listing problem penalty)) budget ≡ within
-        → IsSome (cond within (last_found (Some (nodes_of (listing problem penalty))) (listing problem penalty))
-        (last_found None (take budget (listing problem penalty))))
-    by true is =
-        map_some (with_tree (Some (nodes_of (listing problem penalty)))) (best_after None (listing problem penalty))
-        (subst (λ entries. IsSome (best_after None entries))
-        (take_all budget (listing problem penalty) (leb-true (length (listing problem penalty)) budget is)) some)
-    by false is = map_some (with_tree None) (best_after None (take budget (listing problem penalty))) some
+finds_within problem penalty budget enough = grind (
+  arith,
+  nat_le,
+  listing_finds,
+  map_some,
+  take_all,
+  leb-true,
+)
 
 marked_by : (tree : List WaitNode) (best : Option Choice) (waits : Waits)
     → option_map (with_tree (Some tree)) best ≡ Some waits → IsSome waits.tree

@@ -1,12 +1,12 @@
 -- What is told of what a search found, where that is what its budget comes to.
-use Rattle.std.proofs.Common.{◌≡◌, ◌∙◌, ℕ, List, Option, IfOk, IfSome, IsSome, subst, sym}
-use Rattle.std.specs.Prelude.{Result, option_map}
+use Rattle.plan_num.proofs.Common.{arith, ◌≡◌, ℕ, List, Option, IfOk, IfSome, IsSome, Result}
+use Rattle.plan_num.proofs.Common.{option_map}
 use Rattle.propagation.proofs.Common.{DelayProblem, IsForward}
 use Rattle.waiting_decisions.specs.declared.node.WaitNode.{WaitNode}
 use Rattle.waiting_decisions.specs.declared.waits.Waits.{Waits}
 use Rattle.waiting_decisions.specs.Budgets.{FindsSome, IsEnough, IsMarked, waits_within, with_tree}
 use Rattle.waiting_decisions.specs.Listings.{Choice, listing}
-use Rattle.waiting_decisions.specs.RightChoices.{IsRight, IsWritable}
+use Rattle.waiting_decisions.specs.RightChoices.{IsRight}
 use Rattle.waiting_decisions.specs.RightListings.{IsListed}
 use Rattle.waiting_decisions.specs.Searches.{IsCheap}
 use Rattle.waiting_decisions.proofs.Holding.{listed_found}
@@ -26,16 +26,12 @@ pub tells : (problem : DelayProblem) (penalty budget : ℕ) → IsForward proble
     → option_map (with_tree tree) best ≡ waits_within budget (listing problem penalty)
     → {E : Type 0} (result : Result (Option Waits) E) → IfOk result (λ found. found ≡ option_map (with_tree tree) best)
     → Tells problem penalty budget result
-tells problem penalty budget forward tree best cheap within result told = record {
-  found = outcome_by _ (λ found. found ≡ waits_within budget (listing problem penalty)) result told
-      (λ found is. is ∙ within);
-  right = outcome_by _ (λ found. IfSome found (IsRight problem penalty)) result told
-      (λ found is. found_right problem forward penalty budget found (is ∙ within)
-      (subst (λ w. IfSome w (λ waits. IsWritable waits.cost)) (sym is) (still_cheap tree best cheap)));
-  listed = outcome_by _ (λ found. IfSome found (IsListed problem penalty budget)) result told
-      (λ found is. listed_found problem penalty forward budget found (is ∙ within));
-  finds = λ enough. outcome_by _ IsSome result told
-      (λ found is. found_some problem penalty budget found (is ∙ within) enough);
-  whole = λ enough. outcome_by _ IsMarked result told
-      (λ found is. found_marked problem penalty budget found (is ∙ within) enough);
-}
+tells problem penalty budget forward tree best cheap within result told = grind (
+  arith,
+  outcome_by,
+  found_right,
+  still_cheap,
+  listed_found,
+  found_some,
+  found_marked,
+)

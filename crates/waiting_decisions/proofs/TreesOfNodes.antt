@@ -1,6 +1,6 @@
 -- Nodes that are a whole tree without a low leaf certify a cost, and conversely.
-use Rattle.plan_num.proofs.Common.{◌≡◌, ◌∙◌, ℕ, ℤ, ◌≤ℤ◌, true, false, List, [], ◌∷◌, ◌++◌, refl, ap}
-use Rattle.plan_num.proofs.Common.{sym, subst, append_assoc, append-nil, arith, int_lt, and_parts}
+use Rattle.plan_num.proofs.Common.{◌≡◌, ℕ, ℤ, ◌≤ℤ◌, true, false, List, [], ◌∷◌, ◌++◌, refl, ap}
+use Rattle.plan_num.proofs.Common.{subst, append_assoc, append-nil, arith, int_lt, and_parts}
 use Rattle.plan_num.proofs.Common.{both_ways, or_parts, ints}
 use Rattle.propagation.proofs.Common.{DelayProblem}
 use Rattle.waiting_decisions.specs.declared.decision.Decision.{Decision}
@@ -48,11 +48,7 @@ module _ (problem : DelayProblem) (penalty : ℕ) (cost : ℤ) where
       joined region regions change nodes parts.0 (trees_from (parts_by region change ++ regions) nodes parts.1 low)
 
   first_tree : (nodes : List WaitNode) → Trees (open_region problem ∷ []) nodes → Certifies problem penalty cost nodes
-  first_tree _ (one_more _ _ tree _ shows no_more) = record {
-    tree = tree;
-    whole = sym (append-nil (preorder tree));
-    shows = shows;
-  }
+  first_tree _ (one_more _ _ tree _ shows no_more) = grind (arith, append-nil)
 
   pub certifies_by : (nodes : List WaitNode) → are_tree problem nodes ≡ true
       → has_low_leaf problem penalty cost nodes ≡ false
@@ -80,8 +76,5 @@ module _ (problem : DelayProblem) (penalty : ℕ) (cost : ℤ) where
       → (are_tree problem nodes ≡ true) × (has_low_leaf problem penalty cost nodes ≡ false)
   unfolding are_trees leaves_of
   tree_of_nodes nodes certifies =
-      let passes = tree_passes certifies.tree (open_region problem) [] [] certifies.shows in
-      let same = append-nil (preorder certifies.tree) ∙ certifies.whole in (
-        ap (are_trees (open_region problem ∷ [])) (sym same) ∙ passes.0,
-        ap (λ nodes. any_low problem penalty cost (leaves_of (open_region problem ∷ []) nodes)) (sym same) ∙ passes.1,
-      )
+      let passes = tree_passes certifies.tree (open_region problem) [] [] certifies.shows in grind
+      (arith, append-nil)

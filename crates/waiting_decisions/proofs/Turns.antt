@@ -1,10 +1,10 @@
 -- An entry more of a search.
-use Rattle.std.proofs.Common.{append-nil, Result, Ok, Err, IfOk, ◌≡◌, ◌∙◌, ℕ, zero, suc, ◌+◌, ◌≤◌}
-use Rattle.std.proofs.Common.{◌<◌, cond, Bool, true, false, List, [], ◌∷◌, ◌++◌, length, take, drop}
-use Rattle.std.proofs.Common.{Option, Some, None, ap, sym, subst, refl, arith, append_assoc}
-use Rattle.std.specs.Prelude.{count_by, min, option_map, MatchBool, OnErr, OnOk}
+use Rattle.plan_num.proofs.Common.{append-nil, Result, Ok, Err, IfOk, ◌≡◌, ◌∙◌, ℕ, zero, suc, ◌+◌}
+use Rattle.plan_num.proofs.Common.{◌≤◌, ◌<◌, Bool, true, false, List, [], ◌∷◌, ◌++◌, length, take}
+use Rattle.plan_num.proofs.Common.{drop, Option, Some, None, ap, sym, arith, append_assoc, count_by}
+use Rattle.plan_num.proofs.Common.{min, option_map, OnErr, OnOk, length-append, length-drop}
+use Rattle.plan_num.proofs.Common.{map-append, take_all}
 use Rattle.waiting_decisions.specs.Budgets.{waits_within, with_tree}
-use Rattle.std.proofs.lemmas.List.{length-append, length-drop, map-append, take_all}
 use Rattle.propagation.proofs.Common.{DelayProblem}
 use Rattle.delay_trials.specs.Trials.{TrialParts}
 use Rattle.waiting_decisions.specs.declared.best.Best.{Best}
@@ -12,11 +12,11 @@ use Rattle.waiting_decisions.specs.declared.decision.Decision.{Decision}
 use Rattle.waiting_decisions.specs.declared.decision.Decision.TheVariants as decision
 use Rattle.waiting_decisions.specs.declared.node.WaitNode.{WaitNode}
 use Rattle.waiting_decisions.specs.declared.node.WaitNode.TheVariants as node
-use Rattle.waiting_decisions.specs.Listings.{Choice, Entry, best_after, choice_in, cut_off, entries_by, entries_within}
-use Rattle.waiting_decisions.specs.Listings.{entry_at, entry_by, found, holds_off, levels_of, listing, node_of}
+use Rattle.waiting_decisions.specs.Listings.{Choice, Entry, best_after, cut_off, entries_by, entries_within}
+use Rattle.waiting_decisions.specs.Listings.{entry_at, found, levels_of, listing, node_of}
 use Rattle.waiting_decisions.specs.Listings.{nodes_of, split, visit}
-use Rattle.waiting_decisions.specs.Paths.{GoesOn, region_in, region_of, regions_in, waiting, waiting_in}
-use Rattle.waiting_decisions.specs.Regions.{bound_of, decided, first_broken, is_free, is_free_at}
+use Rattle.waiting_decisions.specs.Paths.{region_in, region_of, waiting, waiting_in}
+use Rattle.waiting_decisions.specs.Regions.{decided, is_free, is_free_at}
 use Rattle.waiting_decisions.specs.Searches.{Between, IsBehind, Leaves, Splits, TakesEntry, best_in, next_entry}
 use Rattle.waiting_decisions.specs.Searches.{to_come, visits}
 use Rattle.waiting_decisions.proofs.Visits.{best_behind, free_less, split_free}
@@ -35,15 +35,7 @@ module _ (problem : DelayProblem) (penalty : ℕ) (region : List Decision) (best
 
   pub visit_leaf : (entry : Entry) → entry_at problem penalty region best ≡ entry → node_of entry ≡ node.Leaf
       → visit problem penalty region best ≡ entry ∷ []
-  visit_leaf entry is leaf =
-      visit_by ∙ ap (entries_by (entries_within problem penalty (count_by is_free region)) region best) is
-      ∙ by entry leaf
-    where
-      by : (entry : Entry) → node_of entry ≡ node.Leaf
-          → entries_by (entries_within problem penalty (count_by is_free region)) region best entry ≡ entry ∷ []
-      by cut_off leaf = refl
-      by (found choice) leaf = refl
-      by (split change) leaf = absurd (cc)
+  visit_leaf entry is leaf = grind (arith, visit_by)
 
   pub visit_split : (change : ℕ) → entry_at problem penalty region best ≡ split change
       → is_free_at region change ≡ true
@@ -51,32 +43,12 @@ module _ (problem : DelayProblem) (penalty : ℕ) (region : List Decision) (best
       ≡ split change ∷ visit problem penalty (decided region change decision.Kept) best
       ++ visit problem penalty (decided region change decision.Dropped)
       (best_after best (visit problem penalty (decided region change decision.Kept) best))
-  visit_split change is free =
-      visit_by ∙ ap (entries_by (entries_within problem penalty (count_by is_free region)) region best) is
-      ∙ (λ i. split change ∷ entries_within problem penalty (kept i) (decided region change decision.Kept) best
-      ++ entries_within problem penalty (dropped i) (decided region change decision.Dropped)
-      (best_after best (entries_within problem penalty (kept i) (decided region change decision.Kept) best)))
-    where
-      kept : count_by is_free region ≡ levels_of (decided region change decision.Kept)
-      kept = sym (free_less region change decision.Kept refl free)
-
-      dropped : count_by is_free region ≡ levels_of (decided region change decision.Dropped)
-      dropped = sym (free_less region change decision.Dropped refl free)
+  visit_split change is free = grind (arith, visit_by, free_less)
 
 -- where a region is split its change is free
 entry_free : (problem : DelayProblem) (penalty : ℕ) (region : List Decision) (best : Option Choice) (change : ℕ)
     → entry_at problem penalty region best ≡ split change → is_free_at region change ≡ true
-entry_free problem penalty region best change is =
-    by (holds_off best (bound_of problem penalty region)) (first_broken problem region) refl is
-  where
-    by : (off : Bool) (broken : Option ℕ) → first_broken problem region ≡ broken
-        → cond off cut_off (entry_by (choice_in problem penalty region) broken) ≡ split change
-        → is_free_at region change ≡ true
-    by true broken at is = absurd (cc)
-    by false None at is = absurd (cc)
-    by false (Some other) at is =
-        let same : other ≡ change = cc in
-        split_free problem region change (at ∙ ap (λ k. Some k) same)
+entry_free problem penalty region best change is = grind (arith, split_free)
 
 module _ (penalty : ℕ) (before : Between) where
   abbrev problem : DelayProblem
@@ -103,28 +75,7 @@ module _ (penalty : ℕ) (before : Between) where
       → mid.best ≡ best_after before.best (leaf ∷ []) → Leaves mid after more
       → TakesEntry penalty before after more
   unfolding visits
-  takes_leaf leaf is one mid after more path nodes best leaves =
-      let last : after.best ≡ best_after before.best (entry ∷ []) =
-      leaves.best ∙ best ∙ ap (λ e. best_after before.best (e ∷ [])) is in
-      let goes : GoesOn before.path after.path more = subst (λ p. GoesOn p after.path more) path leaves.path in
-      record {
-        same = goes.0;
-        nodes = leaves.nodes ∙ (λ i. nodes i ++ (sym one ∙ ap node_of is) i ∷ []);
-        best = last;
-        rest = by more goes.0 goes.1 last;
-      }
-    where
-      by : (more : Bool) → after.path.problem ≡ problem
-          → MatchBool more (regions_in after.path ≡ waiting_in before.path) (waiting_in before.path ≡ [])
-          → after.best ≡ best_after before.best (entry ∷ [])
-          → MatchBool more (to_come penalty before ≡ entry ∷ to_come penalty after)
-          (to_come penalty before ≡ entry ∷ [])
-      by true same goes last =
-          come_leaf leaf is one
-          ∙ (λ i. entry ∷ visits (sym same i) penalty (sym goes i) (sym last i))
-      by false same goes last =
-          come_leaf leaf is one
-          ∙ ap (λ regions. entry ∷ visits problem penalty regions (best_after before.best (entry ∷ []))) goes
+  takes_leaf leaf is one mid after more path nodes best leaves = grind (arith, come_leaf)
 
   -- an entry that is a split
   come_split : (change : ℕ) → split change ≡ entry
@@ -147,18 +98,7 @@ module _ (penalty : ℕ) (before : Between) where
   pub takes_split : (change : ℕ) → split change ≡ entry → (after : Between) (more : Bool)
       → more ≡ true → Splits before after change → TakesEntry penalty before after more
   unfolding region_of waiting
-  takes_split change is after more goes splits =
-      subst (λ b. TakesEntry penalty before after b) (sym goes)
-      (subst (λ a. TakesEntry penalty before a true) (sym splits) at_once)
-    where
-      new : Between
-      new = record before {
-        path = record before.path { decided = record { change = change; kept = true } ∷ before.path.decided };
-        nodes = before.nodes ++ node.Split change ∷ [];
-      }
-
-      at_once : TakesEntry penalty before new true
-      at_once = grind (arith, come_split)
+  takes_split change is after more goes splits = grind (arith, come_split)
 
 -- what holds of an outcome, by what holds of another
 pub outcome_by : {A E : Type 0} (P Q : A → Type 0) (result : Result A E) → IfOk result P
@@ -209,13 +149,7 @@ module _ (problem : DelayProblem) (penalty : ℕ) where
       → at ≡ record { path = record { problem = problem; decided = [] }; nodes = []; best = None }
       → IsBehind problem penalty 0 at
   unfolding listing visits region_of waiting
-  starts at is = subst (IsBehind problem penalty 0) (sym is) at_first
-    where
-      first : Between
-      first = record { path = record { problem = problem; decided = [] }; nodes = []; best = None }
-
-      at_first : IsBehind problem penalty 0 first
-      at_first = grind (arith, append-nil)
+  starts at is = grind (arith, append-nil)
 
   module _ (i : ℕ) (at : Between) (behind : IsBehind problem penalty i at) where
     abbrev next : Entry
@@ -223,8 +157,7 @@ module _ (problem : DelayProblem) (penalty : ℕ) where
 
     pub inside : i < length entries
     inside =
-        let some = some_come penalty at in
-        omega (arith, some, ap length behind.rest, length-drop i entries)
+        let some = some_come penalty at in grind (arith, length-drop)
 
     module _ (after : Between) where
       pub one_more : TakesEntry penalty at after true
@@ -265,10 +198,7 @@ spent_within budget entries best short last = grind arith
 pub spent_found : (problem : DelayProblem) (penalty budget i : ℕ) (at : Between)
     → IsBehind problem penalty i at → i ≡ budget
     → option_map (with_tree None) at.best ≡ waits_within budget (listing problem penalty)
-spent_found problem penalty budget i at behind same =
-    spent_within budget (listing problem penalty) at.best
-    (omega (arith, inside problem penalty i at behind, same))
-    (behind.best ∙ ap (λ n. best_after None (take n (listing problem penalty))) same)
+spent_found problem penalty budget i at behind same = grind (arith, spent_within, inside)
 
 pub on_err : {A E : Type 0} (P : Type 0) (result : Result A E) → P → OnErr result P
 on_err P (Ok value) is = tt

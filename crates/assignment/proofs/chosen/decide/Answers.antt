@@ -1,4 +1,4 @@
-use Rattle.std.proofs.Common.{MatchBool, None, ap, sym, slice_set, subst}
+use Rattle.plan_num.proofs.Common.{MatchBool, None, ap, sym, slice_set, subst}
 use Rattle.assignment.specs.Choices.{IsSought, IsFirst}
 use Rattle.assignment.proofs.Settling.{settled_one}
 use Rattle.assignment.proofs.chosen.decide.Goals as goal

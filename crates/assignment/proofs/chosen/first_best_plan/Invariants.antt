@@ -1,5 +1,5 @@
 -- The trips so far have their places for good.
-use Rattle.std.proofs.Common.{◌≡◌, ◌+◌, [], None, length, replicate}
+use Rattle.plan_num.proofs.Common.{◌≡◌, ◌+◌, [], None, length, replicate}
 use Rattle.link_plans.proofs.Common.{links_in}
 use Rattle.assignment.specs.ClaimablePlaces.{AreClaimable}
 use Rattle.assignment.proofs.Settling.{IsDeciding}

@@ -1,4 +1,4 @@
-use Rattle.std.proofs.Common.{None, ap, sym, ◌∙◌, slice_set, length, arith}
+use Rattle.plan_num.proofs.Common.{None, ap, sym, ◌∙◌, slice_set, length, arith}
 use Rattle.link_plans.proofs.Common.{past_free, successor_past}
 use Rattle.assignment.proofs.Settling.{found_of}
 use Rattle.assignment.proofs.chosen.move_to.Goals as goal

@@ -1,4 +1,4 @@
-use Rattle.std.proofs.Common.{ap, subst, sym, ◌∙◌}
+use Rattle.plan_num.proofs.Common.{ap, subst, sym, ◌∙◌}
 use Rattle.link_plans.proofs.Common.{next}
 use Rattle.assignment.specs.ClaimablePlaces.{IsTakenOut}
 use Rattle.plan_search.specs.Claims.{claim_at}

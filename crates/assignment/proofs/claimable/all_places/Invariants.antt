@@ -1,5 +1,5 @@
 -- The places so far are set.
-use Rattle.std.proofs.Common.{ℕ, ◌≡◌, ◌<◌, true}
+use Rattle.plan_num.proofs.Common.{ℕ, ◌≡◌, ◌<◌, true}
 use Rattle.bit_rows.specs.Bits.{has}
 use Rattle.assignment.proofs.claimable.all_places.Given as goal
 

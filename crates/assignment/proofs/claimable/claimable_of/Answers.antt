@@ -1,4 +1,4 @@
-use Rattle.std.proofs.Common.{ap, ◌∙◌, ◌++◌}
+use Rattle.plan_num.proofs.Common.{ap, ◌∙◌, ◌++◌}
 use Rattle.bit_rows.specs.Bits.{common}
 use Rattle.assignment.proofs.Claimables.{common_places}
 use Rattle.assignment.proofs.claimable.claimable_of.Goals as goal

@@ -1,4 +1,4 @@
-use Rattle.std.proofs.Common.{subst, arith}
+use Rattle.plan_num.proofs.Common.{subst, arith}
 use Rattle.link_plans.proofs.Common.{links_in}
 use Rattle.plan_search.specs.Parting.{AreMet}
 use Rattle.plan_search.proofs.Judged.{met_best, met_valid}

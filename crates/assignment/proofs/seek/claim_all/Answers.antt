@@ -1,4 +1,4 @@
-use Rattle.std.proofs.Common.{◌≡◌, true, ap, subst, sym, unwrap_or, ◌∙◌}
+use Rattle.plan_num.proofs.Common.{◌≡◌, true, ap, subst, sym, unwrap_or, ◌∙◌}
 use Rattle.bit_rows.specs.Bits.{has}
 use Rattle.assignment.specs.Choices.{ArePlaces}
 use Rattle.assignment.proofs.ClaimingAll.{claiming_all, claiming_more}

@@ -1,28 +1,12 @@
+use Rattle.plan_num.proofs.Common.{arith}
 use Rattle.assignment.proofs.Expanding.{has_left, has_movable, expanded_by, expanded_alone, on_ok, on_both}
 use Rattle.assignment.proofs.seek.expand.Goals as goal
 
 pub claim_all-requires : goal.claim_all-requires
-claim_all-requires g c = (
-  c.requires.0,
-  (
-    c.requires.1.0,
-    (
-      has_movable g.search c.args.seeker.now.plan.now c.args.claimed.now.claims c.args.place c.in-Some.by
-          c.requires.0.is c.requires.1.0.right c.requires.1.1.0 c.in-Some.ensures.value,
-      (
-        has_left g.search c.args.seeker.now.plan.now c.args.place c.in-Some.by c.requires.0.is
-            c.requires.1.1.1 c.in-Some.ensures.value,
-        c.requires.1.1.0,
-      ),
-    ),
-  ),
-)
+claim_all-requires g c = grind (arith, has_movable, has_left)
 
 pub returns-in-Some-clause-expanded : goal.returns-in-Some-clause-expanded
-returns-in-Some-clause-expanded g c = on_ok c.claim_all.result
-    (expanded_by g.search c.args.seeker.now.plan.now c.claim_all.new.claimed.claims c.args.place c.in-Some.by
-    c.requires.0.is c.in-Some.ensures.value)
-    c.claim_all.ensures.all
+returns-in-Some-clause-expanded g c = grind (arith, on_ok, expanded_by)
 
 pub returns-in_ok-claim_all-in-None-clause-expanded :
     goal.returns-in_ok-claim_all-in-None-clause-expanded

@@ -1,5 +1,5 @@
 -- The places that were claimed before the step are expanded.
-use Rattle.std.proofs.Common.{◌+◌, ◌-◌, length}
+use Rattle.plan_num.proofs.Common.{◌+◌, ◌-◌, length}
 use Rattle.assignment.specs.ClaimablePlaces.{AreClaimable}
 use Rattle.assignment.proofs.Expanding.{IsGrowing}
 use Rattle.assignment.proofs.seek.grow.Given as goal

@@ -1,4 +1,4 @@
-use Rattle.std.proofs.Common.{ap, is_some, sym, ◌∙◌}
+use Rattle.plan_num.proofs.Common.{ap, is_some, sym, ◌∙◌}
 use Rattle.assignment.proofs.Expanding.{no_next}
 use Rattle.assignment.proofs.Sought.{seeking_none, seeking_kept, seeking_past, sought_none, ties_of}
 use Rattle.assignment.proofs.Sought.{got_ready, got_sought, got_seeking}

@@ -1,5 +1,5 @@
 -- The places so far that need no trip are marked.
-use Rattle.std.proofs.Common.{None, length}
+use Rattle.plan_num.proofs.Common.{None, length}
 use Rattle.link_plans.proofs.Common.{links_in}
 use Rattle.assignment.specs.ClaimablePlaces.{IsInRow, IsRowOf}
 use Rattle.plan_search.specs.Searches.{IsTightBy}

@@ -1,4 +1,4 @@
-use Rattle.std.proofs.Common.{◌≡◌, get_or, arith, subst, MatchBool, nat_eq, true}
+use Rattle.plan_num.proofs.Common.{◌≡◌, get_or, arith, subst, MatchBool, nat_eq, true}
 use Rattle.link_plans.proofs.Common.{links_in, link_to, item, link_covered}
 use Rattle.assignment.specs.ClaimablePlaces.{IsPut}
 use Rattle.assignment.proofs.BitsOfPlaces.{row_more, row_same}

@@ -1,5 +1,5 @@
 -- The places so far at which the trip is tight are marked.
-use Rattle.std.proofs.Common.{Some, length}
+use Rattle.plan_num.proofs.Common.{Some, length}
 use Rattle.link_plans.proofs.Common.{links_in, reached}
 use Rattle.assignment.specs.ClaimablePlaces.{IsInRow, IsRowOf}
 use Rattle.plan_search.specs.Searches.{IsTightBy}

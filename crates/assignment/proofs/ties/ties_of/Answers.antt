@@ -1,4 +1,4 @@
-use Rattle.std.proofs.Common.{arith}
+use Rattle.plan_num.proofs.Common.{arith}
 use Rattle.link_plans.proofs.Common.{links_in}
 use Rattle.assignment.proofs.LinkTies.{ties_all, ties_so}
 use Rattle.assignment.proofs.ties.ties_of.Goals as goal

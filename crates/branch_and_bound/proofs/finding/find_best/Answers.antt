@@ -1,4 +1,4 @@
-use Rattle.std.proofs.Common.{◌≡◌, subst, arith}
+use Rattle.plan_num.proofs.Common.{◌≡◌, subst, arith}
 use Rattle.branch_and_bound.specs.Searches.{IsSearched}
 use Rattle.branch_and_bound.proofs.Turns.{at_end, begins, ended, found_right, next_taken}
 use Rattle.branch_and_bound.proofs.Turns.{region_fits}

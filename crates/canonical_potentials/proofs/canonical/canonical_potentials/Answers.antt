@@ -1,4 +1,4 @@
-use Rattle.std.proofs.Common.{IfOk, subst, sym}
+use Rattle.plan_num.proofs.Common.{IfOk, subst, sym}
 use Rattle.link_plans.proofs.Common.{links_in}
 use Rattle.canonical_potentials.specs.Canonical.{AreCanonical}
 use Rattle.canonical_potentials.specs.Drops.{IsSearched}

@@ -1,5 +1,5 @@
 -- The differences of the numbers so far.
-use Rattle.std.proofs.Common.{◌≡◌, ◌-◌, map, take}
+use Rattle.plan_num.proofs.Common.{◌≡◌, ◌-◌, map, take}
 use Rattle.canonical_potentials.proofs.drops.below.Given as goal
 
 abbrev pub invariant-loop-number : goal.invariant-loop-number

@@ -1,5 +1,5 @@
 -- So many times none so far.
-use Rattle.std.proofs.Common.{◌≡◌, replicate, None}
+use Rattle.plan_num.proofs.Common.{◌≡◌, replicate, None}
 use Rattle.canonical_potentials.proofs.linked_plan.nobody.Given as goal
 
 abbrev pub invariant-loop-trip : goal.invariant-loop-trip

@@ -1,4 +1,4 @@
-use Rattle.std.proofs.Common.{arith}
+use Rattle.plan_num.proofs.Common.{arith}
 use Rattle.canonical_potentials.proofs.Walking.{taken_out}
 use Rattle.canonical_potentials.proofs.walk.take_furthest.Goals as goal
 

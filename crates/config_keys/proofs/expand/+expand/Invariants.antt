@@ -1,6 +1,6 @@
 -- Each level of includes is less than the one above it. The sections that are left lead to what the
 -- file gives, and no file has changed.
-use Rattle.std.proofs.Common.{false, ◌+◌, ◌*◌, drop}
+use Rattle.plan_num.proofs.Common.{false, ◌+◌, ◌*◌, drop}
 use Rattle.plan_files.proofs.Common.{OnlyReads}
 use Rattle.config_keys.proofs.Expanding.{Leads}
 use Rattle.config_keys.proofs.expand.+expand.Given as goal

@@ -1,4 +1,4 @@
-use Rattle.std.proofs.Common.{◌<◌, ◌∙◌, arith}
+use Rattle.plan_num.proofs.Common.{◌<◌, ◌∙◌, arith}
 use Rattle.config_keys.proofs.Expanding.{too_deep, too_many, counted}
 use Rattle.config_keys.proofs.expand.take_include.Goals as goal
 

@@ -1,4 +1,4 @@
-use Rattle.std.proofs.Common.{sym, ◌∙◌}
+use Rattle.plan_num.proofs.Common.{sym, ◌∙◌}
 use Rattle.config_keys.proofs.NameFacts.{inside_read}
 use Rattle.config_keys.proofs.include.inside.Goals as goal
 

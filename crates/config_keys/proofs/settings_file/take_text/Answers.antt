@@ -1,4 +1,4 @@
-use Rattle.std.proofs.lemmas.Result.{IfOk-weaker}
+use Rattle.plan_num.proofs.Common.{IfOk-weaker}
 use Rattle.config_keys.specs.SettingsFiles.{RowsTold, TextTold}
 use Rattle.config_keys.proofs.Telling.{text_rows, text_marked}
 use Rattle.config_keys.proofs.settings_file.take_text.Goals as goal

@@ -1,5 +1,5 @@
 -- The rest of the links leaves of the events so far what all links leave of all.
-use Rattle.std.proofs.Common.{◌≡◌, drop}
+use Rattle.plan_num.proofs.Common.{◌≡◌, drop}
 use Rattle.connections.specs.Links.{followed}
 use Rattle.connections.proofs.check.events_left.Given as goal
 

@@ -1,5 +1,4 @@
-use Rattle.plan_num.proofs.Common.{◌∙◌, ap, sym, then_some}
-use Rattle.connections.specs.declared.rule.JourneyRule.TheVariants as rule
+use Rattle.plan_num.proofs.Common.{arith, sym}
 use Rattle.connections.proofs.FirstRules.{is_journey_first, is_last, is_start_first, is_step_first}
 use Rattle.connections.proofs.Passing.{proves_by}
 use Rattle.connections.proofs.check.first_broken.Goals as goal
@@ -22,14 +21,4 @@ returns-then-misses_step-clause-first c =
 
 pub returns : goal.returns
 returns c =
-    let net = c.args.net.now in
-    let query = c.args.query.now in
-    let found = c.args.found.now in
-    let told = c.then_some.ensures ∙ ap (λ b. then_some b rule.Early) c.has_arrival.ensures
-    ∙ is_last net query.from query.to query.start found (sym c.if-breaks_journey.ensures.broken)
-    (sym c.if-misses_start.ensures) (sym c.if-misses_step.ensures.missed) in
-    record {
-      first = told;
-      none_earlier = proves_by net query.from query.to query.start found
-          c.if-misses_step.ensures.sound c.then_some.result told;
-    }
+    let net = c.args.net.now in grind (arith, is_last, proves_by)

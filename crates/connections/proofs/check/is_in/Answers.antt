@@ -1,4 +1,4 @@
-use Rattle.std.proofs.Common.{◌∙◌}
+use Rattle.plan_num.proofs.Common.{◌∙◌}
 use Rattle.connections.proofs.Rising.{halved}
 use Rattle.connections.proofs.check.is_in.Goals as goal
 

@@ -1,4 +1,4 @@
-use Rattle.std.proofs.Common.{◌∙◌, ap, nat_le}
+use Rattle.plan_num.proofs.Common.{◌∙◌, ap, nat_le}
 use Rattle.connections.proofs.FollowedRides.{ride_by_links}
 use Rattle.connections.proofs.check.is_ride.Goals as goal
 

@@ -1,4 +1,4 @@
-use Rattle.std.proofs.Common.{◌∙◌, sym}
+use Rattle.plan_num.proofs.Common.{◌∙◌, sym}
 use Rattle.connections.proofs.Rising.{last_at}
 use Rattle.connections.proofs.check.last_of.Goals as goal
 

@@ -1,4 +1,4 @@
-use Rattle.std.proofs.Common.{◌&&◌, ◌∙◌, ℕ, Bool, sym}
+use Rattle.plan_num.proofs.Common.{◌&&◌, ◌∙◌, ℕ, Bool, sym}
 use Rattle.connections.specs.Ends.{is_before_end}
 use Rattle.connections.specs.Ways.{is_reached, way_at}
 use Rattle.connections.proofs.FilteredRanges.{fails_more, passes_more}

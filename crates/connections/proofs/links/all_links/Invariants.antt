@@ -1,5 +1,5 @@
 -- The links so far and those of the connections that are left are all of them.
-use Rattle.std.proofs.Common.{◌≡◌, ◌++◌, drop}
+use Rattle.plan_num.proofs.Common.{◌≡◌, ◌++◌, drop}
 use Rattle.connections.specs.Links.{links_of}
 use Rattle.connections.proofs.links.all_links.Given as goal
 

@@ -1,5 +1,5 @@
 -- The rest of the links makes of the ways so far what all links make of the first ones.
-use Rattle.std.proofs.Common.{◌≡◌, drop}
+use Rattle.plan_num.proofs.Common.{◌≡◌, drop}
 use Rattle.connections.specs.Ways.{ways_along}
 use Rattle.connections.proofs.ways.go_along.Given as goal
 

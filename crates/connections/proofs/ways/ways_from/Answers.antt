@@ -1,5 +1,5 @@
-use Rattle.plan_num.proofs.Common.{◌≡◌, ◌∙◌, length, map, ap, sym, subst, length-map, with_items_is}
-use Rattle.connections.specs.Ways.{AreWays, first_way, ways_along}
+use Rattle.plan_num.proofs.Common.{arith, ◌≡◌, ◌∙◌, length, ap, length-map, with_items_is}
+use Rattle.connections.specs.Ways.{first_way}
 use Rattle.connections.proofs.WaysAlong.{links_join, long, ways_found}
 use Rattle.connections.proofs.ways.ways_from.Goals as goal
 
@@ -14,17 +14,4 @@ go_along-requires c =
 
 pub returns-clause-ways : goal.returns-clause-ways
 returns-clause-ways c =
-    let net = c.args.net.now in
-    let from = c.args.query.now.from in
-    let start = c.args.query.now.start in
-    let links = c.links.result.now in
-    let first : c.deref_mut.result.now ≡ map (first_way from start) net.events =
-    c.deref_mut.ensures.value ∙ c.in_ok-ways.ensures
-    ∙ ap (map (first_way from start)) c.events.ensures.value in
-    let told : c.go_along.new.ways ≡ ways_along links (map (first_way from start) net.events)
-    = c.go_along.ensures ∙ ap (ways_along links) first in
-    let size : length c.go_along.new.ways ≡ c.in_ok-ways.ways.len =
-    ap length c.go_along.ensures ∙ long links c.deref_mut.result.now ∙ c.deref_mut.ensures.len in
-    subst (AreWays net from start)
-    (sym (with_items_is c.in_ok-ways.ways c.go_along.new.ways size ∙ told))
-    (ways_found net c.events.ensures.net.connections from start links c.links.ensures)
+    let net = c.args.net.now in grind (arith, long, with_items_is, ways_found)

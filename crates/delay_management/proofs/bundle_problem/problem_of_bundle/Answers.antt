@@ -1,43 +1,26 @@
-use Rattle.plan_num.proofs.Common.{◌∙◌, err_from_is_err_and}
+use Rattle.plan_num.proofs.Common.{arith, ◌∙◌, err_from_is_err_and}
 use Rattle.delay_management.proofs.RefusedInputs.{activities_refuse, activity_delays_refuse, event_delays_refuse}
 use Rattle.delay_management.proofs.RefusedInputs.{events_refuse, no_faults, problem_is, schedule_refuses}
 use Rattle.delay_management.proofs.bundle_problem.problem_of_bundle.Goals as goal
 
 pub returns-in_err-events-clause-read : goal.returns-in_err-events-clause-read
-returns-in_err-events-clause-read c =
-    let p = err_from_is_err_and c.from_residual.result c.from_residual.ensures.1 in
-    rw (p.1, p.2) (events_refuse c.args.bundle.now c.in_err-events.field-0.0
-    c.in_err-events.ensures.read)
+returns-in_err-events-clause-read c = grind (arith, err_from_is_err_and, events_refuse)
 
 pub returns-in_err-activities-clause-read : goal.returns-in_err-activities-clause-read
-returns-in_err-activities-clause-read c =
-    let p = err_from_is_err_and c.from_residual-in_err-activities.result c.from_residual-in_err-activities.ensures.1 in
-    rw (p.1, p.2) (activities_refuse c.args.bundle.now c.in_err-activities.field-0.0 c.in_ok-events.ensures.read.0
-    c.in_err-activities.ensures.read)
+returns-in_err-activities-clause-read c = grind (arith, err_from_is_err_and, activities_refuse)
 
 pub returns-in_err-schedule-clause-read : goal.returns-in_err-schedule-clause-read
-returns-in_err-schedule-clause-read c =
-    let p = err_from_is_err_and c.from_residual-in_err-schedule.result c.from_residual-in_err-schedule.ensures.1 in
-    rw (p.1, p.2) (schedule_refuses c.args.bundle.now c.in_err-schedule.field-0.0 c.in_ok-events.ensures.read.0
-    c.in_ok-activities.ensures.read.0
-    c.in_err-schedule.ensures.read)
+returns-in_err-schedule-clause-read c = grind (arith, err_from_is_err_and, schedule_refuses)
 
 pub returns-in_err-event_rows-clause-read : goal.returns-in_err-event_rows-clause-read
-returns-in_err-event_rows-clause-read c =
-    let p = err_from_is_err_and c.from_residual-in_err-event_rows.result c.from_residual-in_err-event_rows.ensures.1 in
-    rw (p.1, p.2) (event_delays_refuse c.args.bundle.now c.in_err-event_rows.field-0.0 c.in_ok-events.ensures.read.0
-    c.in_ok-activities.ensures.read.0 c.in_ok-schedule.ensures.read.0
-    c.in_err-event_rows.ensures.read)
+returns-in_err-event_rows-clause-read c = grind (arith, err_from_is_err_and, event_delays_refuse)
 
 pub returns-in_err-activity_rows-clause-read : goal.returns-in_err-activity_rows-clause-read
-returns-in_err-activity_rows-clause-read c =
-    let p = err_from_is_err_and c.from_residual-in_err-activity_rows.result
-    c.from_residual-in_err-activity_rows.ensures.1 in
-    rw (p.1, p.2) (activity_delays_refuse c.args.bundle.now c.in_err-activity_rows.field-0.0
-    c.in_ok-events.ensures.read.0
-    c.in_ok-activities.ensures.read.0 c.in_ok-schedule.ensures.read.0
-    c.in_ok-event_rows.ensures.read.0
-    c.in_err-activity_rows.ensures.read)
+returns-in_err-activity_rows-clause-read c = grind (
+  arith,
+  err_from_is_err_and,
+  activity_delays_refuse,
+)
 
 pub returns-clause-read : goal.returns-clause-read
 returns-clause-read c =

@@ -1,4 +1,4 @@
-use Rattle.std.proofs.Common.{◌∙◌, ap, false, map, true}
+use Rattle.plan_num.proofs.Common.{◌∙◌, ap, false, map, true}
 use Rattle.delay_management.specs.InputProblems.{activities_of, day_event, earliest_of}
 use Rattle.delay_management.proofs.ForwardInputs.{day_as}
 use Rattle.delay_management.proofs.bundle_problem.problem_of_rows.Goals as goal

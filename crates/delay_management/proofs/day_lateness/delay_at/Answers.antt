@@ -1,5 +1,6 @@
-use Rattle.std.proofs.Common.{◌≡◌, ◌∙◌, ◌<◌, ◌+◌, ◌+ℤ◌, length, drop, zip, get_or, ap, arith, to_z, of_z}
-use Rattle.std.proofs.lemmas.Int.{ints, to_z-of_z}
+use Rattle.plan_num.proofs.Common.{◌≡◌, ◌∙◌, ◌<◌, ◌+◌, ◌+ℤ◌, length, drop, zip, get_or, ap, arith}
+use Rattle.plan_num.proofs.Common.{to_z, of_z, ints}
+use Rattle.std.proofs.lemmas.Int.{to_z-of_z}
 use mir.Syntax.{w128}
 use Rattle.event_tables.proofs.Common.{is_arrival, ExpandedEvent}
 use Rattle.propagation.proofs.Common.{more_delay, late_in, late_more}

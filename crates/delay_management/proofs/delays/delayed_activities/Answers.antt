@@ -1,4 +1,4 @@
-use Rattle.std.proofs.Common.{◌∙◌, ◌++◌, not, true, false, ap, sym}
+use Rattle.plan_num.proofs.Common.{◌∙◌, ◌++◌, not, true, false, ap, sym}
 use Rattle.delay_management.proofs.DelaysByPlace.{activity_left_out, activity_more}
 use Rattle.propagation.proofs.Common.{moved}
 use Rattle.delay_management.proofs.delays.delayed_activities.Goals.{then-is_change+in_ok-push}

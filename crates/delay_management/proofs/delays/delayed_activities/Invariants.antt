@@ -1,5 +1,5 @@
 -- The activities so far and those that are left are all of them, changes and others.
-use Rattle.std.proofs.Common.{◌≡◌, ◌++◌, true, false, drop}
+use Rattle.plan_num.proofs.Common.{◌≡◌, ◌++◌, true, false, drop}
 use Rattle.delay_management.specs.InputProblems.{activities_of}
 use Rattle.delay_management.proofs.delays.delayed_activities.Given as goal
 

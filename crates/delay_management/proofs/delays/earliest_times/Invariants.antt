@@ -1,5 +1,5 @@
 -- The times so far and those of the events that are left are all of them.
-use Rattle.std.proofs.Common.{◌≡◌, ◌++◌, ◌≤◌, drop, map, All}
+use Rattle.plan_num.proofs.Common.{◌≡◌, ◌++◌, ◌≤◌, drop, map, All}
 use Rattle.delay_management.specs.InputProblems.{earliest_of}
 use Rattle.delay_management.proofs.delays.earliest_times.Given as goal
 

@@ -1,5 +1,5 @@
 -- The table has the rows of the first reasons.
-use Rattle.std.proofs.Common.{◌≡◌, take}
+use Rattle.plan_num.proofs.Common.{◌≡◌, take}
 use Rattle.tables.proofs.Common.{rows_by}
 use Rattle.delay_management.specs.DispositionStage.{reason_cells, reason_rows}
 use Rattle.delay_management.proofs.files.reasons_text.Given as goal

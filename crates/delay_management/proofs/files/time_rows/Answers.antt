@@ -1,4 +1,4 @@
-use Rattle.std.proofs.Common.{◌+◌, ◌++◌, ◌∷◌, [], ap, get_or, sym, ◌∙◌, arith, List, ℕ}
+use Rattle.plan_num.proofs.Common.{◌+◌, ◌++◌, ◌∷◌, [], ap, get_or, sym, ◌∙◌, arith, List, ℕ}
 use Rattle.event_tables.proofs.Common.{DisposedTime}
 use Rattle.delay_management.proofs.WrittenRows.{row_more, rows_whole}
 use Rattle.delay_management.proofs.files.time_rows.Goals as goal

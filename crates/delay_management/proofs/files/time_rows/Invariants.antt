@@ -1,5 +1,5 @@
 -- The rows so far are those of the first times.
-use Rattle.std.proofs.Common.{◌≡◌, take}
+use Rattle.plan_num.proofs.Common.{◌≡◌, take}
 use Rattle.delay_management.specs.DispositionStage.{time_rows}
 use Rattle.delay_management.proofs.files.time_rows.Given as goal
 

@@ -1,4 +1,4 @@
-use Rattle.std.proofs.Common.{◌∙◌, All, sym, subst}
+use Rattle.plan_num.proofs.Common.{◌∙◌, All, sym, subst}
 use Rattle.delay_management.proofs.WrittenRows.{TimeFits, times_fit}
 use Rattle.delay_management.proofs.files.times_text.Goals as goal
 

@@ -1,4 +1,4 @@
-use Rattle.std.proofs.Common.{ap}
+use Rattle.plan_num.proofs.Common.{ap}
 use Rattle.event_tables.proofs.Common.{expanded_activity_input}
 use Rattle.delay_management.specs.DispositionStage.{activities_in}
 use Rattle.delay_management.proofs.RefusedInputs.{reads_as}

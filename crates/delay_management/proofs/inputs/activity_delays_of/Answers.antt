@@ -1,4 +1,4 @@
-use Rattle.std.proofs.Common.{ap}
+use Rattle.plan_num.proofs.Common.{ap}
 use Rattle.event_tables.proofs.Common.{activity_delay_input, expanded_activity_ids}
 use Rattle.delay_management.specs.DispositionStage.{activity_delays_in}
 use Rattle.delay_management.proofs.RefusedInputs.{reads_as}

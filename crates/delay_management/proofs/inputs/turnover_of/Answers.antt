@@ -1,4 +1,4 @@
-use Rattle.std.proofs.Common.{◌≤◌, ◌∙◌, ap, sym, subst}
+use Rattle.plan_num.proofs.Common.{◌≤◌, ◌∙◌, ap, sym, subst}
 use Rattle.giv_files.specs.declared.key.Key.TheVariants as key
 use Rattle.giv_files.proofs.Common.{amount}
 use Rattle.delay_management.proofs.InputsSound.{turnover_few}

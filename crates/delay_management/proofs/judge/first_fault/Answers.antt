@@ -1,4 +1,4 @@
-use Rattle.std.proofs.Common.{sym, ◌∙◌}
+use Rattle.plan_num.proofs.Common.{sym, ◌∙◌}
 use Rattle.propagation.proofs.Common.{chosen_changes}
 use Rattle.delay_management.proofs.JudgedFaults.{as_rows_told, not_table}
 use Rattle.delay_management.proofs.judge.first_fault.Goals as goal

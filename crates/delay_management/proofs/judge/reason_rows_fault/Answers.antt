@@ -1,4 +1,4 @@
-use Rattle.std.proofs.Common.{◌∙◌, ap, sym, option_map}
+use Rattle.plan_num.proofs.Common.{◌∙◌, ap, sym, option_map}
 use Rattle.tables.proofs.Common.{records_by}
 use Rattle.delay_management.specs.declared.fault.ReasonFault.TheVariants as fault
 use Rattle.delay_management.specs.Judged.{reason_row}

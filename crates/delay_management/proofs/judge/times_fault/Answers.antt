@@ -1,4 +1,4 @@
-use Rattle.std.proofs.Common.{◌≡◌, ◌∙◌, ◌++◌, List, IfOk, slice_get, sym, subst}
+use Rattle.plan_num.proofs.Common.{◌≡◌, ◌∙◌, ◌++◌, List, IfOk, slice_get, sym, subst}
 use Rattle.propagation.proofs.Common.{Activity, chosen_changes}
 use Rattle.delay_management.specs.Judged.{reason_faults}
 use Rattle.delay_management.proofs.JudgedFaults.{found_early, none_early}

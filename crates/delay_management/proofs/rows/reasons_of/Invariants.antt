@@ -1,5 +1,5 @@
 -- The reasons so far are those of the first rows.
-use Rattle.std.proofs.Common.{◌≡◌, map, take}
+use Rattle.plan_num.proofs.Common.{◌≡◌, map, take}
 use Rattle.tables.proofs.Common.{records_by}
 use Rattle.delay_management.specs.Judged.{reason_row}
 use Rattle.delay_management.proofs.rows.reasons_of.Given as goal

@@ -1,5 +1,5 @@
 -- The times so far are those of the first rows.
-use Rattle.std.proofs.Common.{◌≡◌, ◌≤◌, All, map, take}
+use Rattle.plan_num.proofs.Common.{◌≡◌, ◌≤◌, All, map, take}
 use Rattle.event_tables.proofs.Common.{disposed_time}
 use Rattle.tables.proofs.Common.{records_by}
 use Rattle.delay_management.proofs.rows.times_of.Given as goal

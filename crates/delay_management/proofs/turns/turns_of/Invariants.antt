@@ -1,5 +1,5 @@
 -- The turns so far and those of the rows that are left are all of them.
-use Rattle.std.proofs.Common.{◌≡◌, ◌++◌, drop, filter, map}
+use Rattle.plan_num.proofs.Common.{◌≡◌, ◌++◌, drop, filter, map}
 use Rattle.event_tables.proofs.Common.{is_empty_row}
 use Rattle.delay_management.specs.InputProblems.{turn_of}
 use Rattle.delay_management.proofs.turns.turns_of.Given as goal

@@ -1,9 +1,9 @@
+use Rattle.plan_num.proofs.Common.{arith}
 use Rattle.delay_trials.proofs.FirstPlaces.{no_first, one_first}
 use Rattle.delay_trials.proofs.ends.first_ends.Goals as goal
 
 pub loop-event-init : goal.loop-event-init
-loop-event-init c = no_first (λ end. end.event) c.args.ends.now
-    (λ event. event) c.in_ok-firsts.firsts.items c.in_ok-firsts.ensures.items
+loop-event-init c = grind (arith, no_first)
 
 pub loop-event-preserved : goal.loop-event-preserved
 loop-event-preserved c =

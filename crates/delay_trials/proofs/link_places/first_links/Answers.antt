@@ -1,12 +1,11 @@
-use Rattle.std.proofs.Common.{subst}
+use Rattle.plan_num.proofs.Common.{arith, subst}
 use Rattle.propagation.proofs.Common.{forward_rank}
 use Rattle.delay_trials.specs.ChangeEnds.{IsFirst}
 use Rattle.delay_trials.proofs.FirstPlaces.{no_first, one_first}
 use Rattle.delay_trials.proofs.link_places.first_links.Goals as goal
 
 pub loop-event-init : goal.loop-event-init
-loop-event-init c = no_first (λ link. link.rank) c.args.links.now
-    (forward_rank c.args.events.now) c.in_ok-firsts.firsts.items c.in_ok-firsts.ensures.items
+loop-event-init c = grind (arith, no_first)
 
 pub loop-event-preserved : goal.loop-event-preserved
 loop-event-preserved c =

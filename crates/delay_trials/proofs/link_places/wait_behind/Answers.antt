@@ -1,4 +1,4 @@
-use Rattle.std.proofs.Common.{arith}
+use Rattle.plan_num.proofs.Common.{arith}
 use Rattle.delay_trials.proofs.Waits.{all_wait, one_waits, other_at}
 use Rattle.delay_trials.proofs.link_places.wait_behind.Goals as goal
 

@@ -1,5 +1,5 @@
 -- The links of the rank so far wait, and those behind are as they were.
-use Rattle.std.proofs.Common.{◌-◌, length}
+use Rattle.plan_num.proofs.Common.{◌-◌, length}
 use Rattle.delay_trials.proofs.Waits.{WaitTo}
 use Rattle.delay_trials.proofs.link_places.wait_behind.Given as goal
 

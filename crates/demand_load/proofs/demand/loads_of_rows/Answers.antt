@@ -1,6 +1,6 @@
-use Rattle.plan_num.proofs.Common.{◌≡◌, ◌+◌, ◌≤◌, ◌≤ℤ◌, pos, [], ◌∷◌, ◌++◌, Some, length, get_or}
-use Rattle.plan_num.proofs.Common.{slice_get, take, unsigned_abs, ap, subst, sym, ◌∙◌, arith}
-use Rattle.plan_num.proofs.Common.{All-get_or, fill_by_all, sum_by_push}
+use Rattle.plan_num.proofs.Common.{◌≡◌, ◌+◌, ◌≤◌, [], ◌∷◌, ◌++◌, Some, length, get_or, slice_get}
+use Rattle.plan_num.proofs.Common.{take, unsigned_abs, ap, subst, sym, ◌∙◌, arith, All-get_or}
+use Rattle.plan_num.proofs.Common.{fill_by_all, sum_by_push}
 use Rattle.tables.specs.declared.file_id.FileId.TheVariants as file
 use Rattle.tables.specs.declared.refusal.Refusal.TheVariants as refusal
 use Rattle.tables.proofs.Common.{od_columns, records, broken_whys, no_row, InColumns, row_met}
@@ -12,21 +12,11 @@ use Rattle.plan_num.proofs.Lists.{none_first}
 
 pub note_row-requires-clause-low : goal.note_row-requires-clause-low
 note_row-requires-clause-low c =
-    let table = c.args.table.now in
-    let cells = All-get_or (λ row. InColumns od_columns row.cells) table c.loop-i.i no_row
-    (omega arith) c.requires.cells in
-    subst (λ row. pos 0 ≤ℤ row.customers) (sym c.read-row.ensures)
-    (customers_in (get_or table c.loop-i.i no_row).cells cells).0
+    let table = c.args.table.now in grind (arith, All-get_or, customers_in, get_or)
 
 pub note_row-requires-clause-room : goal.note_row-requires-clause-room
 note_row-requires-clause-room c =
-    let table = c.args.table.now in
-    let cells = All-get_or (λ row. InColumns od_columns row.cells) table c.loop-i.i no_row
-    (omega arith) c.requires.cells in
-    let few : unsigned_abs c.read-row.result.customers ≤ 1000000000000 =
-    subst (λ row. unsigned_abs row.customers ≤ 1000000000000) (sym c.read-row.ensures)
-    (customers_in (get_or table c.loop-i.i no_row).cells cells).1 in
-    omega (arith, c.loop-i.invariant.few, c.requires.few)
+    let table = c.args.table.now in grind (arith, All-get_or, unsigned_abs, customers_in, get_or)
 
 pub returns-in-Some : goal.returns-in-Some
 returns-in-Some c =

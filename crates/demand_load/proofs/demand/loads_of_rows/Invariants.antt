@@ -1,5 +1,5 @@
 -- The customers of the rows so far want to go, and none of these rows breaks a rule.
-use Rattle.std.proofs.Common.{◌≡◌, ◌≤◌, ◌*◌, ℕ, take}
+use Rattle.plan_num.proofs.Common.{◌≡◌, ◌≤◌, ◌*◌, ℕ, take}
 use Rattle.tables.proofs.Common.{records, SoundBefore}
 use Rattle.demand_load.specs.Demand.{demand_input, load_of}
 use Rattle.demand_paths.specs.Known.{AreKnown}

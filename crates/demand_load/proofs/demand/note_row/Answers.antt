@@ -1,21 +1,15 @@
-use Rattle.std.proofs.Common.{◌+◌, cond, slice_get, ap, sym, ◌∙◌}
+use Rattle.plan_num.proofs.Common.{arith, ◌+◌, slice_get, ap, sym, ◌∙◌}
 use Rattle.demand_paths.specs.Wanted.{everyone, goes_over, sum_between}
 use Rattle.demand_load.proofs.DemandRows.{unknown, known, no_left, no_right, no_path, nobody_fits, row_fits, same_load}
 use Rattle.demand_load.proofs.demand.note_row.Goals as goal
 
 pub returns-in_default-clause-why : goal.returns-in_default-clause-why
 returns-in_default-clause-why c =
-    let row = c.args.row.now in
-    sym (no_left c.args.network.now row (unknown c.args.network.now.stops row.left
-    (sym c.stop_at.ensures ∙ c.in_default.is)))
+    let row = c.args.row.now in grind (arith, no_left, unknown)
 
 pub returns-in_default-stop_at-clause-why : goal.returns-in_default-stop_at-clause-why
 returns-in_default-stop_at-clause-why c =
-    let stops = c.args.network.now.stops in
-    let row = c.args.row.now in
-    sym (no_right c.args.network.now row
-    (known stops row.left c.in-Some.left (sym c.stop_at.ensures ∙ c.in-Some.is))
-    (unknown stops row.right (sym c.stop_at-2.ensures ∙ c.in_default-stop_at.is)))
+    let stops = c.args.network.now.stops in grind (arith, no_right, known, unknown)
 
 pub returns-then-not-has_customers-clause-why : goal.returns-then-not-has_customers-clause-why
 returns-then-not-has_customers-clause-why c =
@@ -46,10 +40,4 @@ returns-clause-all c =
 pub returns-clause-added : goal.returns-clause-added
 returns-clause-added c =
     λ index.
-    let passes = goes_over c.args.network.now index in
-    let from = c.in-Some.left in
-    let to = c.in-Some-stop_at.right in
-    let before = sum_between passes 0 c.args.wanted.now in
-    c.in_ok-add.ensures.added passes ∙ ap (λ n. before + cond (passes from to) n 0) c.amount.ensures
-    ∙ ap (λ n. before + n) (same_load c.args.network.now c.args.row.now from to
-    (sym c.stop_at.ensures ∙ c.in-Some.is) (sym c.stop_at-2.ensures ∙ c.in-Some-stop_at.is) index)
+    let passes = goes_over c.args.network.now index in grind (arith, same_load)

@@ -1,21 +1,20 @@
-use Rattle.plan_num.proofs.Common.{◌≡◌, ap, subst, sym, ◌∙◌, All, err_from_is_err_and}
-use Rattle.tables.proofs.Common.{od_columns, records, records_of, InColumns, refused_cells}
-use Rattle.tables.proofs.Common.{faults_of_table, UnlessFault-weaker, table_in_columns}
+use Rattle.plan_num.proofs.Common.{arith, ◌≡◌, ap, ◌∙◌, err_from_is_err_and}
+use Rattle.tables.proofs.Common.{records, records_of, refused_cells, faults_of_table}
+use Rattle.tables.proofs.Common.{UnlessFault-weaker, table_in_columns}
 use Rattle.demand_load.specs.Demand.{demand_input, demand_loads}
 use Rattle.demand_load.proofs.demand.read_demand.Goals as goal
 use Rattle.plan_num.proofs.Lists.{unmapped}
 
 pub returns-in_err-table : goal.returns-in_err-table
 returns-in_err-table c =
-    let p = err_from_is_err_and c.from_residual.result c.from_residual.ensures.1 in
-    rw (p.1, p.2) (refused_cells (demand_input c.args.network.now) c.args.text.now
-    c.in_err-table.field-0.0 c.in_err-table.ensures)
+    let p = err_from_is_err_and c.from_residual.result c.from_residual.ensures.1 in grind (
+      arith,
+      refused_cells,
+    )
 
 pub loads_of_table-requires : goal.loads_of_table-requires
 loads_of_table-requires c =
-    let cells = c.in_ok-table.ensures in
-    subst (λ table. All (λ row. InColumns od_columns row.cells) table) (sym cells.1)
-    (table_in_columns od_columns c.args.text.now (unmapped _ _ cells.0))
+    let cells = c.in_ok-table.ensures in grind (arith, table_in_columns, unmapped)
 
 pub returns : goal.returns
 returns c =

@@ -1,5 +1,5 @@
 -- The loads so far, with their bounds.
-use Rattle.std.proofs.Common.{◌≡◌, map, take}
+use Rattle.plan_num.proofs.Common.{◌≡◌, map, take}
 use Rattle.demand_load.specs.LoadStage.{bounded}
 use Rattle.demand_load.proofs.frequency.bounds_of.Given as goal
 

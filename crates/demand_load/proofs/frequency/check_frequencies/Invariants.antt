@@ -1,5 +1,5 @@
 -- No frequency so far is too great.
-use Rattle.std.proofs.Common.{◌≡◌, drop}
+use Rattle.plan_num.proofs.Common.{◌≡◌, drop}
 use Rattle.demand_load.specs.LoadStage.{frequency_faults}
 use Rattle.demand_load.proofs.frequency.check_frequencies.Given as goal
 

@@ -1,5 +1,5 @@
 -- The table has the rows of the edges so far.
-use Rattle.std.proofs.Common.{◌≡◌, take}
+use Rattle.plan_num.proofs.Common.{◌≡◌, take}
 use Rattle.demand_load.specs.LoadTables.{load_rows}
 use Rattle.demand_load.proofs.load_table.load_table.Given as goal
 

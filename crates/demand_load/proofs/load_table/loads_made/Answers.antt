@@ -1,4 +1,4 @@
-use Rattle.std.proofs.Common.{refl, arith, subst, sym, All}
+use Rattle.plan_num.proofs.Common.{refl, arith, subst, sym, All}
 use Rattle.tables.proofs.Common.{load_columns, InColumns, plain_header, columns_written}
 use Rattle.demand_load.specs.LoadTables.{load_header}
 use Rattle.demand_load.proofs.LoadRows.{rows_in_columns}

@@ -1,4 +1,5 @@
-use Rattle.plan_num.proofs.Common.{◌≤ℤ◌, pos, length, ap, subst, sym, ◌∙◌, All, err_from_is_err_and}
+use Rattle.plan_num.proofs.Common.{arith, ◌≤ℤ◌, pos, length, ap, subst, sym, ◌∙◌, All}
+use Rattle.plan_num.proofs.Common.{err_from_is_err_and}
 use Rattle.ptn_network.specs.Loads.{IsBounded}
 use Rattle.demand_load.specs.LoadTables.{HasSpread, HasId}
 use Rattle.demand_load.proofs.LoadCalls.{settings_fit, loads_count, network_refused, text_refused, frequency_refused, stage_given}
@@ -8,9 +9,10 @@ use Rattle.demand_load.proofs.stage.loads_of_bundle.Goals as goal
 
 pub returns-in_err-network : goal.returns-in_err-network
 returns-in_err-network c =
-    let p = err_from_is_err_and c.from_residual.result c.from_residual.ensures.1 in
-    rw (p.1, p.2) (network_refused c.args.bundle.now c.in_err-network.field-0.0
-    (rw (c.input.ensures, c.input-2.ensures) at c.in_err-network.ensures))
+    let p = err_from_is_err_and c.from_residual.result c.from_residual.ensures.1 in grind (
+      arith,
+      network_refused,
+    )
 
 pub loads_of_text-requires : goal.loads_of_text-requires
 loads_of_text-requires c = subst HasSpread (sym c.settings.ensures)
@@ -19,21 +21,12 @@ loads_of_text-requires c = subst HasSpread (sym c.settings.ensures)
 pub returns-in_err-loads : goal.returns-in_err-loads
 returns-in_err-loads c =
     let p = err_from_is_err_and c.from_residual-in_err-loads.result
-    c.from_residual-in_err-loads.ensures.1 in
-    let network = rw (c.input.ensures, c.input-2.ensures) at c.in_ok-network.ensures in
-    rw (p.1, p.2) (text_refused c.args.bundle.now c.in_ok-network.network network.0 network.1
-    c.in_err-loads.field-0.0 (rw (c.settings.ensures, c.input-3.ensures) at
-    c.in_err-loads.ensures))
+    c.from_residual-in_err-loads.ensures.1 in grind (arith, text_refused)
 
 pub returns-in_err-check_frequencies : goal.returns-in_err-check_frequencies
 returns-in_err-check_frequencies c =
     let p = err_from_is_err_and c.from_residual-in_err-check_frequencies.result
-    c.from_residual-in_err-check_frequencies.ensures.1 in
-    let network = rw (c.input.ensures, c.input-2.ensures) at c.in_ok-network.ensures in
-    let loads = rw (c.settings.ensures, c.input-3.ensures) at c.in_ok-loads.ensures in
-    rw (p.1, p.2) (frequency_refused c.args.bundle.now c.in_ok-network.network network.0 network.1
-    c.in_ok-loads.loads.items loads.0 loads.1 c.in_err-check_frequencies.field-0.0
-    (rw c.deref.ensures.value at c.in_err-check_frequencies.ensures))
+    c.from_residual-in_err-check_frequencies.ensures.1 in grind (arith, frequency_refused)
 
 pub loads_made-requires-clause-size : goal.loads_made-requires-clause-size
 loads_made-requires-clause-size c =
@@ -60,9 +53,5 @@ loads_made-requires-clause-rare c =
 
 pub returns : goal.returns
 returns c =
-    let network = rw (c.input.ensures, c.input-2.ensures) at c.in_ok-network.ensures in
-    let loads = rw (c.settings.ensures, c.input-3.ensures) at c.in_ok-loads.ensures in
-    stage_given c.args.bundle.now c.in_ok-network.network network.0 network.1
-    c.in_ok-loads.loads.items loads.0 loads.1 c.in_ok-loads_made.field-0
-    (rw c.deref.ensures.value at c.in_ok-check_frequencies.ensures.0)
-    (rw c.deref-2.ensures.value at c.in_ok-loads_made.ensures)
+    let network = rw (c.input.ensures, c.input-2.ensures) at c.in_ok-network.ensures in grind
+    (arith, stage_given)

@@ -1,6 +1,6 @@
 -- Those who are left and those who are on an edge are as many as before, and nobody is left at the
 -- stops so far.
-use Rattle.std.proofs.Common.{◌≡◌, ◌+◌, ◌<◌, ◌≤◌, ℕ, length, get_or}
+use Rattle.plan_num.proofs.Common.{◌≡◌, ◌+◌, ◌<◌, ◌≤◌, ℕ, length, get_or}
 use Rattle.demand_paths.specs.Wanted.{everyone, goes_over, sum_where, NobodyLeft}
 use Rattle.demand_paths.proofs.FarStops.{no_stop}
 use Rattle.demand_paths.proofs.on_edges.bear_from.Given as goal

@@ -1,4 +1,4 @@
-use Rattle.std.proofs.Common.{◌≡◌, ◌+◌, ap, get_or, length, rules, set, subst, sym, ◌∙◌, arith}
+use Rattle.plan_num.proofs.Common.{◌≡◌, ◌+◌, ap, get_or, length, rules, set, subst, sym, ◌∙◌, arith}
 use Rattle.demand_paths.specs.Wanted.{everyone, goes_over, sum_where, NobodyLeft}
 use Rattle.demand_paths.proofs.Handing.{there, stop_there, still_all, same_load, nobody_left, others_stay, load_fits, waiting_fits, none_at_start, none_unreached}
 use Rattle.demand_paths.proofs.on_edges.hand_back.Goals as goal
@@ -22,33 +22,7 @@ stop_before-before-requires c =
 
 pub hand_over-requires : goal.hand_over-requires
 hand_over-requires c =
-    let network = c.args.network.now in
-    let from = c.args.from in
-    let paths = c.args.paths.now in
-    let to = c.args.to in
-    let edge = c.in-Some.edge in
-    let told = sym c.last_edge_to.ensures ∙ c.in-Some.is in
-    let left = c.args.left.now.items in
-    let loads = c.args.loads.now.items in
-    let stop = c.stop_before-before.result in
-    let size : length left ≡ length network.stops =
-    omega (arith, c.requires.left, c.args.left.now.ok.0) in
-    let count : length loads ≡ length network.edges =
-    omega (arith, c.requires.loads, c.args.loads.now.ok.0) in
-    let inside = there network from c.requires.network paths c.requires.paths to edge c.requires.to
-    c.if-to-from.false told in
-    let before = stop_there network from c.requires.network paths c.requires.paths to edge c.requires.to
-    c.if-to-from.false told left loads stop c.stop_before-before.ensures size count in
-    record {
-      edge = omega (arith, inside.0, c.requires.loads);
-      to = omega (arith, c.requires.to, c.requires.left);
-      before = omega (arith, before, c.requires.left);
-      load = load_fits network from c.requires.network paths c.requires.paths to edge c.requires.to
-          c.if-to-from.false told left loads stop c.stop_before-before.ensures size count
-          (c.requires.room edge inside.0);
-      waiting = waiting_fits network from c.requires.network paths c.requires.paths to edge c.requires.to
-          c.if-to-from.false told left loads stop c.stop_before-before.ensures size count c.requires.few;
-    }
+    let network = c.args.network.now in grind (arith, there, stop_there, load_fits, waiting_fits)
 
 pub returns-in-Some : goal.returns-in-Some
 returns-in-Some c =

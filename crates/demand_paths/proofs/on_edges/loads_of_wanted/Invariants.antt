@@ -1,5 +1,5 @@
 -- The customers of the stops so far are on the edges, and those of the others are still to come.
-use Rattle.std.proofs.Common.{◌≡◌, ◌+◌, ◌<◌, ℕ, drop, length, get_or}
+use Rattle.plan_num.proofs.Common.{◌≡◌, ◌+◌, ◌<◌, ℕ, drop, length, get_or}
 use Rattle.demand_paths.specs.Known.{AreKnown}
 use Rattle.demand_paths.specs.Wanted.{goes_over, sum_between}
 use Rattle.demand_paths.proofs.on_edges.loads_of_wanted.Given as goal

@@ -1,4 +1,4 @@
-use Rattle.std.proofs.Common.{arith}
+use Rattle.plan_num.proofs.Common.{arith}
 use Rattle.demo_dataset.specs.Grid.{edge_down}
 use Rattle.demo_dataset.proofs.Counting.{pushed}
 use Rattle.demo_dataset.proofs.edge.push_column.Goals as goal

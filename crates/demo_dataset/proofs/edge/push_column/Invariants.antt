@@ -1,4 +1,4 @@
-use Rattle.std.proofs.Common.{◌≡◌, ◌-◌, ◌++◌, map}
+use Rattle.plan_num.proofs.Common.{◌≡◌, ◌-◌, ◌++◌, map}
 use Rattle.demo_dataset.specs.Grid.{one_to, edge_down}
 use Rattle.demo_dataset.proofs.edge.push_column.Given as goal
 

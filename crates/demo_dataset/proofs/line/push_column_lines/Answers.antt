@@ -1,4 +1,4 @@
-use Rattle.std.proofs.Common.{◌++◌, map, arith}
+use Rattle.plan_num.proofs.Common.{◌++◌, map, arith}
 use Rattle.demo_dataset.specs.Grid.{column_line}
 use Rattle.demo_dataset.proofs.Counting.{pushed, ended}
 use Rattle.demo_dataset.proofs.line.push_column_lines.Goals as goal

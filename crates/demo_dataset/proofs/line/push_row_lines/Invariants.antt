@@ -1,4 +1,4 @@
-use Rattle.std.proofs.Common.{◌≡◌, ◌-◌, ◌++◌, map}
+use Rattle.plan_num.proofs.Common.{◌≡◌, ◌-◌, ◌++◌, map}
 use Rattle.demo_dataset.specs.Grid.{one_to, row_line}
 use Rattle.demo_dataset.proofs.line.push_row_lines.Given as goal
 

@@ -1,4 +1,4 @@
-use Rattle.std.proofs.Common.{arith}
+use Rattle.plan_num.proofs.Common.{arith}
 use Rattle.demo_dataset.specs.Rows.{placed_row}
 use Rattle.demo_dataset.proofs.Counting.{numbered}
 use Rattle.demo_dataset.proofs.rows.push_walk.Goals as goal

@@ -1,4 +1,4 @@
-use Rattle.std.proofs.Common.{arith}
+use Rattle.plan_num.proofs.Common.{arith}
 use Rattle.event_activity.proofs.Joined.{activities_counted}
 use Rattle.event_activity.proofs.activities.activity_count.Goals as goal
 

@@ -1,5 +1,5 @@
 -- The activities to the events so far are added.
-use Rattle.std.proofs.Common.{◌≡◌, ◌++◌, take}
+use Rattle.plan_num.proofs.Common.{◌≡◌, ◌++◌, take}
 use Rattle.event_activity.specs.Activities.{from_event}
 use Rattle.event_activity.proofs.activities.add_from.Given as goal
 

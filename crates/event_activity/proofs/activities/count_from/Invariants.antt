@@ -1,5 +1,5 @@
 -- The count of the events so far that the event is joined to.
-use Rattle.std.proofs.Common.{◌≡◌, ◌≤◌, filter, length, take}
+use Rattle.plan_num.proofs.Common.{◌≡◌, ◌≤◌, filter, length, take}
 use Rattle.event_activity.specs.Activities.{joined}
 use Rattle.event_activity.proofs.activities.count_from.Given as goal
 

@@ -1,5 +1,5 @@
 -- The activities so far, with their places.
-use Rattle.std.proofs.Common.{◌≡◌, take}
+use Rattle.plan_num.proofs.Common.{◌≡◌, take}
 use Rattle.event_activity.specs.Activities.{with_numbers}
 use Rattle.event_activity.proofs.activities.with_numbers.Given as goal
 

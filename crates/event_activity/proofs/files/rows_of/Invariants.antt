@@ -1,5 +1,5 @@
 -- The rows of the events so far.
-use Rattle.std.proofs.Common.{◌≡◌, take}
+use Rattle.plan_num.proofs.Common.{◌≡◌, take}
 use Rattle.event_activity.specs.EanStage.{rows_of}
 use Rattle.event_activity.proofs.files.rows_of.Given as goal
 

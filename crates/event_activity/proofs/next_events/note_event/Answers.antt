@@ -1,5 +1,5 @@
-use Rattle.std.proofs.Common.{List, [], ◌∷◌, ◌++◌, map, set, ap, sym, ◌∙◌, arith, Vec, Global}
-use Rattle.std.proofs.lemmas.List.{map-set, get_or-map}
+use Rattle.plan_num.proofs.Common.{List, [], ◌∷◌, ◌++◌, map, set, ap, sym, ◌∙◌, arith, Vec, Global}
+use Rattle.plan_num.proofs.Common.{map-set, get_or-map}
 use Rattle.event_activity.specs.declared.run_event.RunEvent.{RunEvent}
 use Rattle.event_activity.proofs.next_events.note_event.Goals as goal
 

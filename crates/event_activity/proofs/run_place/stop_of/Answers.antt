@@ -1,4 +1,4 @@
-use Rattle.std.proofs.Common.{ap, arith, ◌∙◌, w64, unsigned_abs}
+use Rattle.plan_num.proofs.Common.{ap, arith, ◌∙◌, w64, unsigned_abs}
 use Rattle.std.proofs.lemmas.Int.{to_z-of_z}
 use Rattle.event_activity.proofs.LineEvents.{told_of}
 use Rattle.event_activity.proofs.StopsOfRuns.{found_inside, found_id, found_fits}

@@ -1,4 +1,4 @@
-use Rattle.std.proofs.Common.{ap, arith, length}
+use Rattle.plan_num.proofs.Common.{ap, arith, length}
 use Rattle.event_activity.proofs.LineEvents.{told_of, line_few, line_counted}
 use Rattle.event_activity.proofs.runs.line_event_count.Goals as goal
 

@@ -1,5 +1,5 @@
 -- The events so far, with their places.
-use Rattle.std.proofs.Common.{◌≡◌, take}
+use Rattle.plan_num.proofs.Common.{◌≡◌, take}
 use Rattle.event_activity.specs.Runs.{with_ids}
 use Rattle.event_activity.proofs.runs.with_ids.Given as goal
 

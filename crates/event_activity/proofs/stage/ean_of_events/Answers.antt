@@ -1,4 +1,4 @@
-use Rattle.std.proofs.Common.{◌≤◌, All, arith, length, refl, ap, subst, sym, slice_get, ◌∙◌}
+use Rattle.plan_num.proofs.Common.{◌≤◌, All, arith, length, refl, ap, subst, sym, slice_get, ◌∙◌}
 use Rattle.tables.specs.declared.counted.Counted.TheVariants as counted
 use Rattle.tables.proofs.Common.{events_p_columns, activities_p_columns, InColumns, over_limit}
 use Rattle.tables.proofs.Common.{under_limit}

@@ -1,4 +1,4 @@
-use Rattle.std.proofs.Common.{ℕ, List, subst, sym}
+use Rattle.plan_num.proofs.Common.{ℕ, List, subst, sym}
 use Rattle.event_tables.specs.Delays.{event_delay_input}
 use Rattle.tables.proofs.Common.{ReadsFile}
 use Rattle.event_tables.proofs.delay_file.event_delays.Goals as goal

@@ -1,4 +1,4 @@
-use Rattle.std.specs.List.{range_with_len}
+use Rattle.plan_num.proofs.Common.{range_with_len}
 use Rattle.tables.proofs.Common.{input_faults, records_of}
 use Rattle.event_tables.specs.Delays.{delay_input, AreDelays}
 use Rattle.event_tables.proofs.SoundFiles.{sound_read}

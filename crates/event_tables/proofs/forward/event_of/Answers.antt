@@ -1,4 +1,4 @@
-use Rattle.std.proofs.Common.{length, arith}
+use Rattle.plan_num.proofs.Common.{length, arith}
 use Rattle.event_tables.proofs.Numbering.{is_place, find_numbered}
 use Rattle.event_tables.proofs.forward.event_of.Goals as goal
 

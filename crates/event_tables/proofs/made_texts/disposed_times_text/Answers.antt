@@ -1,4 +1,4 @@
-use Rattle.std.proofs.Common.{refl, arith}
+use Rattle.plan_num.proofs.Common.{refl, arith}
 use Rattle.tables.proofs.Common.{disposed_columns, plain_header, columns_written}
 use Rattle.event_tables.specs.Headers.{disposed_time_header}
 use Rattle.event_tables.proofs.CellsBack.{disposed_time_same}

@@ -1,4 +1,4 @@
-use Rattle.std.proofs.Common.{refl, arith}
+use Rattle.plan_num.proofs.Common.{refl, arith}
 use Rattle.tables.proofs.Common.{events_p_columns, plain_header, columns_written}
 use Rattle.event_tables.specs.Headers.{periodic_event_header}
 use Rattle.event_tables.proofs.CellFacts.{small_cells}

@@ -1,5 +1,5 @@
 -- The empty rides among the rows so far.
-use Rattle.std.proofs.Common.{◌≡◌, ◌≤◌, filter, length, take}
+use Rattle.plan_num.proofs.Common.{◌≡◌, ◌≤◌, filter, length, take}
 use Rattle.event_tables.specs.Cells.{schedule_row}
 use Rattle.tables.proofs.Common.{records_by}
 use Rattle.event_tables.specs.Schedules.{is_empty_row}

@@ -1,5 +1,5 @@
-use Rattle.std.proofs.Common.{◌≡◌, ◌-◌, arith, ap, ◌∙◌, length, filter, Option, Some, slice_get}
-use Rattle.std.specs.Option.{option_or}
+use Rattle.plan_num.proofs.Common.{◌≡◌, ◌-◌, arith, ap, ◌∙◌, length, filter, Option, Some}
+use Rattle.plan_num.proofs.Common.{slice_get, option_or}
 use Rattle.tables.specs.declared.counted.Counted.TheVariants as counted
 use Rattle.tables.proofs.Common.{RowLimit, records_by, too_many_rows}
 use Rattle.event_tables.specs.Cells.{schedule_row}

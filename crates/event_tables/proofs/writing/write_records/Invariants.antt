@@ -1,5 +1,5 @@
 -- The table has the rows of the records so far.
-use Rattle.std.proofs.Common.{◌≡◌, take}
+use Rattle.plan_num.proofs.Common.{◌≡◌, take}
 use Rattle.tables.proofs.Common.{rows_by}
 use Rattle.event_tables.proofs.writing.write_records.Given as goal
 

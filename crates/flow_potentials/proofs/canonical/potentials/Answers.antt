@@ -1,4 +1,4 @@
-use Rattle.std.proofs.Common.{ap, sym, ◌∙◌, subst}
+use Rattle.plan_num.proofs.Common.{ap, sym, ◌∙◌, subst}
 use Rattle.canonical_potentials.specs.Canonical.{AreCanonical}
 use Rattle.link_plans.proofs.Common.{IsPlan, AreValid}
 use Rattle.canonical_potentials.specs.Rounds.{canonical}

@@ -1,4 +1,4 @@
-use Rattle.std.proofs.Common.{◌<◌, ◌≤◌, cond, length, Some, None, ap, sym, ◌∙◌, arith}
+use Rattle.plan_num.proofs.Common.{◌<◌, ◌≤◌, cond, length, Some, None, ap, sym, ◌∙◌, arith}
 use Rattle.vehicle_model.specs.Trips.{links_of}
 use Rattle.flow_potentials.specs.declared.potential_fault.PotentialFault.TheVariants as fault
 use Rattle.flow_potentials.proofs.Checked.{pair_found, no_pair, all_pairs, told_valid}

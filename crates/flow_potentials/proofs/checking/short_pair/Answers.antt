@@ -1,4 +1,4 @@
-use Rattle.std.proofs.Common.{◌<◌, ◌≤◌, length, sym, ◌∙◌, arith}
+use Rattle.plan_num.proofs.Common.{◌<◌, ◌≤◌, length, sym, ◌∙◌, arith}
 use Rattle.vehicle_model.specs.Trips.{links_of}
 use Rattle.flow_potentials.specs.PotentialFaults.{is_short_pair}
 use Rattle.flow_potentials.proofs.Checked.{found_short, not_short, none_short}

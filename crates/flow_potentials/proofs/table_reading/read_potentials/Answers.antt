@@ -1,4 +1,4 @@
-use Rattle.std.proofs.lemmas.Result.{err_from_is_err_and}
+use Rattle.plan_num.proofs.Common.{err_from_is_err_and}
 use Rattle.tables.proofs.Common.{potential_columns, table_of}
 use Rattle.flow_potentials.proofs.TablesBack.{no_table, rows_read, table_fits}
 use Rattle.flow_potentials.proofs.table_reading.read_potentials.Goals as goal

@@ -1,6 +1,6 @@
-use Rattle.std.proofs.Common.{◌<◌, ◌≤◌, ◌==◌, ◌+◌, nat_lt, true, false, length, pos, get_or}
-use Rattle.std.proofs.Common.{slice_get, unsigned_abs, ap, sym, ◌∙◌, subst, Some, Err, arith}
-use Rattle.std.proofs.lemmas.Bool.{and_parts, ltb-true, lt-ltb, le-ltb}
+use Rattle.plan_num.proofs.Common.{◌<◌, ◌≤◌, ◌==◌, ◌+◌, nat_lt, true, false, length, pos, get_or}
+use Rattle.plan_num.proofs.Common.{slice_get, unsigned_abs, ap, sym, ◌∙◌, subst, Some, Err, arith}
+use Rattle.plan_num.proofs.Common.{and_parts, ltb-true, lt-ltb, le-ltb}
 use Rattle.tables.specs.declared.row_why.RowWhy.TheVariants as why
 use Rattle.tables.proofs.Common.{no_row}
 use Rattle.link_plans.proofs.Common.{PotentialParts, AreOver}

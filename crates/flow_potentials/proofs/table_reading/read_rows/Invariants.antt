@@ -1,5 +1,5 @@
 -- The rows so far are those of the trips so far.
-use Rattle.std.proofs.Common.{◌≡◌, ◌≤◌, take, drop}
+use Rattle.plan_num.proofs.Common.{◌≡◌, ◌≤◌, take, drop}
 use Rattle.flow_potentials.specs.PotentialTables.{gaps_from, column_of}
 use Rattle.flow_potentials.proofs.table_reading.read_rows.Given as goal
 

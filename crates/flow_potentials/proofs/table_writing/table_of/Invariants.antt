@@ -1,5 +1,5 @@
 -- The rows so far, with those of the trips from here on, are all.
-use Rattle.std.proofs.Common.{◌≡◌, ◌+◌, ◌++◌, drop}
+use Rattle.plan_num.proofs.Common.{◌≡◌, ◌+◌, ◌++◌, drop}
 use Rattle.flow_potentials.specs.PotentialTables.{rows_from, potential_rows}
 use Rattle.flow_potentials.proofs.table_writing.table_of.Given as goal
 

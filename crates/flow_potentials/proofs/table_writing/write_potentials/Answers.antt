@@ -1,4 +1,4 @@
-use Rattle.std.proofs.Common.{◌≡◌, All, IfOk, sym, subst, refl, arith}
+use Rattle.plan_num.proofs.Common.{◌≡◌, All, IfOk, sym, subst, refl, arith}
 use Rattle.tables.proofs.Common.{potential_columns, table_text, plain_header}
 use Rattle.flow_potentials.specs.PotentialTables.{potential_header, potentials_text, FitsColumns}
 use Rattle.flow_potentials.proofs.TablesBack.{columns_written, rows_fit, written}

@@ -1,4 +1,4 @@
-use Rattle.std.proofs.Common.{ℕ, ◌≡◌, List, length, map, ap, ◌∙◌, arith}
+use Rattle.plan_num.proofs.Common.{ℕ, ◌≡◌, List, length, map, ap, ◌∙◌, arith}
 use Rattle.link_plans.proofs.Common.{links_in, Link, AreRows, IsRow, lists_are, lists_sound}
 use Rattle.link_plans.proofs.Common.{lists_more}
 use Rattle.vehicle_model.specs.Trips.{links_of}

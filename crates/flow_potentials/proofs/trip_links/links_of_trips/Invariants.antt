@@ -1,5 +1,5 @@
 -- The rows of the trips so far.
-use Rattle.std.proofs.Common.{ℕ, ◌≡◌, ◌<◌, [], length, map, get_or}
+use Rattle.plan_num.proofs.Common.{ℕ, ◌≡◌, ◌<◌, [], length, map, get_or}
 use Rattle.vehicle_model.specs.Trips.{links_of}
 use Rattle.link_plans.proofs.Common.{IsRow}
 use Rattle.flow_potentials.proofs.trip_links.links_of_trips.Given as goal

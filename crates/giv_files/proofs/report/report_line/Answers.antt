@@ -1,4 +1,4 @@
-use Rattle.std.proofs.Common.{◌∙◌}
+use Rattle.plan_num.proofs.Common.{◌∙◌}
 use Rattle.giv_files.proofs.ReportLines.{part_more, no_part}
 use Rattle.giv_files.proofs.report.report_line.Goals as goal
 

@@ -1,5 +1,5 @@
 -- The parts so far, and those that are left, are all.
-use Rattle.std.proofs.Common.{◌≡◌, ◌++◌, drop}
+use Rattle.plan_num.proofs.Common.{◌≡◌, ◌++◌, drop}
 use Rattle.giv_files.specs.ReportLines.{marked, report_line}
 use Rattle.giv_files.proofs.report.report_line.Given as goal
 

@@ -1,4 +1,4 @@
-use Rattle.std.proofs.Common.{◌≡◌, ◌∙◌, sym, subst}
+use Rattle.plan_num.proofs.Common.{◌≡◌, ◌∙◌, sym, subst}
 use Rattle.connections.specs.RankedNets.{IsRanked, parts_of}
 use Rattle.journeys.specs.JourneyNets.{net_over}
 use Rattle.journeys.proofs.NetOfRows.{rows_ranked}

@@ -1,5 +1,5 @@
 -- The events so far and those of the rows that are left are all of them.
-use Rattle.std.proofs.Common.{◌≡◌, ◌++◌, drop, map, zip}
+use Rattle.plan_num.proofs.Common.{◌≡◌, ◌++◌, drop, map, zip}
 use Rattle.journeys.specs.JourneyNets.{timed}
 use Rattle.journeys.proofs.read.timed_events.Given as goal
 

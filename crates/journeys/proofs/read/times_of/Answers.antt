@@ -1,4 +1,4 @@
-use Rattle.std.proofs.Common.{◌≤◌, All, sym, subst}
+use Rattle.plan_num.proofs.Common.{◌≤◌, All, sym, subst}
 use Rattle.journeys.proofs.PlannedTimes.{planned_soon}
 use Rattle.journeys.proofs.read.times_of.Goals as goal
 use Rattle.connections.specs.declared.checked_net.TheConstants.{LATEST}

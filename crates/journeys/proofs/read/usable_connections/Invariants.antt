@@ -1,5 +1,5 @@
 -- The connections so far and those of the activities that are left are all of them.
-use Rattle.std.proofs.Common.{◌≡◌, ◌++◌, drop, filter, map}
+use Rattle.plan_num.proofs.Common.{◌≡◌, ◌++◌, drop, filter, map}
 use Rattle.journeys.specs.JourneyNets.{connection_of, is_usable}
 use Rattle.journeys.proofs.read.usable_connections.Given as goal
 

@@ -1,4 +1,4 @@
-use Rattle.std.proofs.Common.{◌∷◌, ◌++◌, [], ap, refl, ◌∙◌, to_z, w64, arith}
+use Rattle.plan_num.proofs.Common.{◌∷◌, ◌++◌, [], ap, refl, ◌∙◌, to_z, w64, arith}
 use Rattle.std.proofs.lemmas.Int.{to_z-of_z}
 use Rattle.line_pool.proofs.CostRows.{row_more}
 use Rattle.line_pool.proofs.cost_table.cost_table.Goals as goal

@@ -1,5 +1,5 @@
 -- The table has the rows of the lines so far.
-use Rattle.std.proofs.Common.{◌≡◌, map, take}
+use Rattle.plan_num.proofs.Common.{◌≡◌, map, take}
 use Rattle.line_pool.specs.CostStage.{cost_row}
 use Rattle.line_pool.proofs.cost_table.cost_table.Given as goal
 

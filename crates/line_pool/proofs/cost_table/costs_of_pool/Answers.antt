@@ -1,4 +1,4 @@
-use Rattle.std.proofs.Common.{refl, arith, subst, sym, All}
+use Rattle.plan_num.proofs.Common.{refl, arith, subst, sym, All}
 use Rattle.tables.proofs.Common.{pool_cost_columns, InColumns, plain_header, columns_written}
 use Rattle.line_pool.specs.CostStage.{cost_header}
 use Rattle.line_pool.proofs.CostRows.{rows_in_columns}

@@ -1,5 +1,5 @@
 -- The sum so far, which is no greater than the number of edges allows.
-use Rattle.std.proofs.Common.{◌≡◌, ◌*◌, ◌≤◌, map, sum, take}
+use Rattle.plan_num.proofs.Common.{◌≡◌, ◌*◌, ◌≤◌, map, sum, take}
 use Rattle.line_walks.specs.LineLengths.{length_at}
 use Rattle.line_pool.proofs.cost_table.length_of.Given as goal
 

@@ -1,4 +1,4 @@
-use Rattle.std.proofs.Common.{◌∷◌, ◌++◌, [], refl, ap, sym, ◌∙◌, arith, w64}
+use Rattle.plan_num.proofs.Common.{◌∷◌, ◌++◌, [], ap, sym, ◌∙◌, arith, w64}
 use Rattle.std.proofs.lemmas.Int.{to_z-of_z}
 use Rattle.line_walks.proofs.CostRules.{line_missing, none_missing, cost_more}
 use Rattle.line_walks.proofs.given_costs.all_costs.Goals as goal
@@ -6,8 +6,7 @@ use Rattle.line_walks.proofs.given_costs.all_costs.Goals as goal
 pub returns-in-None : goal.returns-in-None
 returns-in-None c =
     let missing = line_missing c.args.rows.now c.args.pool.now c.loop-line.line
-    (omega arith) c.cost_of_line.result c.cost_of_line.ensures c.in-None.is in
-    rw missing refl
+    (omega arith) c.cost_of_line.result c.cost_of_line.ensures c.in-None.is in grind arith
 
 pub loop-line-preserved : goal.loop-line-preserved
 loop-line-preserved c =

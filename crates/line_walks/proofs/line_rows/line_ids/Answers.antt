@@ -1,7 +1,6 @@
-use Rattle.plan_num.proofs.Common.{ap, ◌∙◌, arith, w64, take_all, list_any, int_eq}
+use Rattle.plan_num.proofs.Common.{◌∙◌, arith, w64, take_all}
 use Rattle.std.proofs.lemmas.Int.{to_z-of_z}
 use Rattle.walks.proofs.Common.{sorted_ids}
-use Rattle.line_walks.specs.LinesSoFar.{lines_in}
 use Rattle.line_walks.proofs.RowsOfLines.{ids_more}
 use Rattle.line_walks.proofs.line_rows.line_ids.Goals as goal
 
@@ -13,8 +12,4 @@ loop-i-preserved g c = λ id.
 
 pub returns-clause-rising : goal.returns-clause-rising
 returns-clause-rising g c =
-    let sorted = c.in_ok-sort.ensures in
-    let table = c.args.table.now in
-    sorted_ids c.sort.new.self.keys (lines_in table) sorted.sorted sorted.unique
-    (λ id. sorted.reordered.2 id ∙ c.loop-i.invariant id
-    ∙ ap (λ rows. list_any (int_eq id) (lines_in rows)) (take_all c.loop-i.i table (omega arith)))
+    let sorted = c.in_ok-sort.ensures in grind (arith, sorted_ids, take_all)

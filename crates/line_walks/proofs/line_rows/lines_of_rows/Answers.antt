@@ -14,10 +14,7 @@ use Rattle.line_walks.proofs.line_rows.lines_of_rows.Goals as goal
 
 pub place_of-place-requires : goal.place_of-place-requires
 place_of-place-requires g c =
-    let row = c.read-row.result in
-    ap (λ id. list_any (int_eq id) c.args.ids.now.keys)
-    (to_z-of_z w64 row.line (record { sfits = omega (arith, c.read-row.type_inv) }))
-    ∙ c.requires.there row.line ∙ line_listed c.args.table.now c.loop-i.i row (omega arith) c.read-row.ensures
+    let row = c.read-row.result in grind (arith, to_z-of_z, line_listed)
 
 pub index-requires : goal.index-requires
 index-requires g c =

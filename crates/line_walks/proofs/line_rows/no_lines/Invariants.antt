@@ -1,5 +1,5 @@
 -- There is a line for each id so far.
-use Rattle.std.proofs.Common.{◌≡◌, map, take}
+use Rattle.plan_num.proofs.Common.{◌≡◌, map, take}
 use Rattle.line_walks.specs.LinesSoFar.{no_line}
 use Rattle.line_walks.proofs.line_rows.no_lines.Given as goal
 

@@ -1,5 +1,5 @@
 -- The whole lines so far and those that are left make all of them.
-use Rattle.std.proofs.Common.{◌≡◌, ◌++◌, map}
+use Rattle.plan_num.proofs.Common.{◌≡◌, ◌++◌, map}
 use Rattle.line_walks.specs.LinesSoFar.{whole_line}
 use Rattle.line_walks.proofs.line_rows.whole_lines.Given as goal
 

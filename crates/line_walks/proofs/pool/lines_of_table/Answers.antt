@@ -1,4 +1,4 @@
-use Rattle.std.proofs.Common.{arith}
+use Rattle.plan_num.proofs.Common.{arith}
 use Rattle.line_walks.proofs.PoolTables.{table_kept, lines_are}
 use Rattle.line_walks.proofs.pool.lines_of_table.Goals as goal
 

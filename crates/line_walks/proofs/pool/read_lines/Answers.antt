@@ -1,4 +1,4 @@
-use Rattle.plan_num.proofs.Common.{subst, sym, err_from_is_err_and}
+use Rattle.plan_num.proofs.Common.{arith, subst, sym, err_from_is_err_and}
 use Rattle.line_walks.specs.Pools.{AreLines}
 use Rattle.line_walks.proofs.PoolTables.{refused_text, refused_table, lines_read, served_lines}
 use Rattle.line_walks.proofs.WholeLines.{whole_lines}
@@ -6,9 +6,10 @@ use Rattle.line_walks.proofs.pool.read_lines.Goals as goal
 
 pub returns-in_err-table-clause-made : goal.returns-in_err-table-clause-made
 returns-in_err-table-clause-made g c =
-    let p = err_from_is_err_and c.from_residual.result c.from_residual.ensures.1 in
-    rw (p.1, p.2) (refused_text c.args.kind c.args.network.now c.args.text.now
-    c.in_err-table.field-0.0 (rw (c.id.ensures, c.requires.columns) at c.in_err-table.ensures))
+    let p = err_from_is_err_and c.from_residual.result c.from_residual.ensures.1 in grind (
+      arith,
+      refused_text,
+    )
 
 pub returns-in_err-lines-clause-made : goal.returns-in_err-lines-clause-made
 returns-in_err-lines-clause-made g c =

@@ -1,4 +1,4 @@
-use Rattle.std.proofs.Common.{sym, ◌∙◌, arith}
+use Rattle.plan_num.proofs.Common.{sym, ◌∙◌, arith}
 use Rattle.line_walks.proofs.Walks.{walk_goes_on, walk_stops, walk_done}
 use Rattle.line_walks.proofs.walk.stops_from.Goals as goal
 

@@ -1,5 +1,5 @@
 -- The activities so far are those of the rows so far.
-use Rattle.std.proofs.Common.{◌≡◌, map, take}
+use Rattle.plan_num.proofs.Common.{◌≡◌, map, take}
 use Rattle.pesp_model.specs.PespTexts.{activity_of}
 use Rattle.pesp_model.proofs.read_texts.activities_of_rows.Given as goal
 

@@ -1,4 +1,4 @@
-use Rattle.std.proofs.Common.{◌∙◌, ap}
+use Rattle.plan_num.proofs.Common.{◌∙◌, ap}
 use Rattle.pesp_search.specs.Judged.{first_broken_rule}
 use Rattle.pesp_search.specs.TimetableStage.{problem_in}
 use Rattle.pesp_search.proofs.JudgedTimes.{passes_by}

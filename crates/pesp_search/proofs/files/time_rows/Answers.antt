@@ -1,4 +1,4 @@
-use Rattle.std.proofs.Common.{◌+◌, ◌++◌, ◌∷◌, [], ap, get_or, sym, ◌∙◌, arith, List}
+use Rattle.plan_num.proofs.Common.{◌+◌, ◌++◌, ◌∷◌, [], ap, get_or, sym, ◌∙◌, arith, List}
 use Rattle.event_tables.proofs.Common.{PeriodicTime}
 use Rattle.pesp_search.proofs.RowsOfTimes.{row_more, rows_whole}
 use Rattle.pesp_search.proofs.files.time_rows.Goals as goal

@@ -1,5 +1,5 @@
 -- The rows so far are those of the first times.
-use Rattle.std.proofs.Common.{◌≡◌, take}
+use Rattle.plan_num.proofs.Common.{◌≡◌, take}
 use Rattle.pesp_search.specs.TimetableStage.{time_rows}
 use Rattle.pesp_search.proofs.files.time_rows.Given as goal
 

@@ -1,4 +1,4 @@
-use Rattle.std.proofs.Common.{sym, ◌∙◌}
+use Rattle.plan_num.proofs.Common.{sym, ◌∙◌}
 use Rattle.pesp_search.proofs.JudgedTimes.{as_rows_told, not_table}
 use Rattle.pesp_search.proofs.judge.first_fault.Goals as goal
 

@@ -1,4 +1,4 @@
-use Rattle.std.proofs.Common.{◌<◌, All, sym, subst, ◌∙◌}
+use Rattle.plan_num.proofs.Common.{◌<◌, All, sym, subst, ◌∙◌}
 use Rattle.event_tables.proofs.Common.{periodic_time}
 use Rattle.tables.proofs.Common.{records_by}
 use Rattle.pesp_search.proofs.JudgedTimes.{in_order}

@@ -1,4 +1,4 @@
-use Rattle.std.proofs.Common.{◌++◌, ◌∷◌, [], ap, map, take, sym, ◌∙◌, arith}
+use Rattle.plan_num.proofs.Common.{◌++◌, ◌∷◌, [], ap, map, take, sym, ◌∙◌, arith}
 use Rattle.event_tables.proofs.Common.{periodic_time}
 use Rattle.tables.proofs.Common.{records_by}
 use Rattle.pesp_search.proofs.RowsOfTimes.{time_more}

@@ -1,5 +1,5 @@
 -- The times so far are those of the first rows.
-use Rattle.std.proofs.Common.{◌≡◌, map, take}
+use Rattle.plan_num.proofs.Common.{◌≡◌, map, take}
 use Rattle.event_tables.proofs.Common.{periodic_time}
 use Rattle.tables.proofs.Common.{records_by}
 use Rattle.pesp_search.proofs.judge.times_of.Given as goal

@@ -1,5 +1,5 @@
 -- The times so far are those of the rows so far.
-use Rattle.std.proofs.Common.{◌≡◌, map, take}
+use Rattle.plan_num.proofs.Common.{◌≡◌, map, take}
 use Rattle.pesp_search.proofs.pinned.times_of.Given as goal
 
 abbrev pub invariant-loop-row : goal.invariant-loop-row

@@ -1,4 +1,4 @@
-use Rattle.std.proofs.Common.{subst}
+use Rattle.plan_num.proofs.Common.{subst}
 use Rattle.pesp.specs.Listings.{listing}
 use Rattle.pesp.specs.SearchEnds.{EndsAs}
 use Rattle.pesp_search.proofs.SearchedTimes.{none_given, spent_given, times_given}

@@ -1,4 +1,4 @@
-use Rattle.std.proofs.Common.{sym, ◌∙◌}
+use Rattle.plan_num.proofs.Common.{sym, ◌∙◌}
 use Rattle.pool_maker.proofs.SortedIds.{all_done, found_again, one_more}
 use Rattle.pool_maker.proofs.terminals.are_different.Goals as goal
 

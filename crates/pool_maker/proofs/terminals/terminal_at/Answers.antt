@@ -1,4 +1,4 @@
-use Rattle.std.proofs.Common.{ap, sym, ◌∙◌}
+use Rattle.plan_num.proofs.Common.{ap, sym, ◌∙◌}
 use Rattle.pool_maker.proofs.SortedIds.{terminal_there}
 use Rattle.pool_maker.proofs.terminals.terminal_at.Goals as goal
 

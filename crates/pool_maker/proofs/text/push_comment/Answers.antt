@@ -1,4 +1,4 @@
-use Rattle.std.proofs.Common.{◌++◌, ap, sym, ◌∙◌, of_z, to_z, w64}
+use Rattle.plan_num.proofs.Common.{◌++◌, ap, sym, ◌∙◌, of_z, to_z, w64}
 use Rattle.std.proofs.lemmas.Int.{to_z-of_z}
 use Rattle.pool_maker.proofs.UncoveredEdges.{comment_put}
 use Rattle.pool_maker.proofs.text.push_comment.Goals as goal

@@ -1,4 +1,4 @@
-use Rattle.std.proofs.Common.{All, arith, refl, subst, sym}
+use Rattle.plan_num.proofs.Common.{All, arith, refl, subst, sym}
 use Rattle.tables.proofs.Common.{pool_columns, InColumns, columns_written}
 use Rattle.pool_maker.proofs.RowsInside.{header_plain, rows_inside}
 use Rattle.pool_maker.proofs.text.text_of_lines.Goals as goal

@@ -1,4 +1,4 @@
-use Rattle.std.proofs.Common.{ap, ◌∙◌}
+use Rattle.plan_num.proofs.Common.{ap, ◌∙◌}
 use Rattle.walks.proofs.Common.{by_id, sorted_entries}
 use Rattle.ptn_network.proofs.edges.read_edges.Goals as goal
 

@@ -1,5 +1,5 @@
-use Rattle.std.proofs.Common.{◌∷◌, ◌++◌, [], None, map, ap, sym, ◌∙◌, arith}
-use Rattle.std.proofs.lemmas.List.{map_more, take_all}
+use Rattle.plan_num.proofs.Common.{◌∷◌, ◌++◌, [], None, map, ap, sym, ◌∙◌, arith, map_more}
+use Rattle.plan_num.proofs.Common.{take_all}
 use Rattle.ptn_network.specs.Loads.{given_for}
 use Rattle.walks.proofs.Common.{no_edge}
 use Rattle.ptn_network.proofs.loads.none_given.Goals as goal

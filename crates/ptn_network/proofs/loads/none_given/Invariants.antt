@@ -1,5 +1,5 @@
 -- No load is given of the edges so far.
-use Rattle.std.proofs.Common.{◌≡◌, [], map, take}
+use Rattle.plan_num.proofs.Common.{◌≡◌, [], map, take}
 use Rattle.ptn_network.specs.Loads.{given_for}
 use Rattle.ptn_network.proofs.loads.none_given.Given as goal
 

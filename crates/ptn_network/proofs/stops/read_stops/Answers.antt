@@ -1,4 +1,4 @@
-use Rattle.std.proofs.Common.{ap, ◌∙◌}
+use Rattle.plan_num.proofs.Common.{ap, ◌∙◌}
 use Rattle.ptn_network.specs.Networks.{stops_of}
 use Rattle.walks.proofs.Common.{rising, sorted_ids}
 use Rattle.ptn_network.proofs.stops.read_stops.Goals as goal

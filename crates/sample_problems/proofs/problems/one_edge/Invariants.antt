@@ -1,4 +1,4 @@
-use Rattle.std.proofs.Common.{◌≡◌, ◌<ℤ◌, ◌+◌, pos, length, All}
+use Rattle.plan_num.proofs.Common.{◌≡◌, ◌<ℤ◌, ◌+◌, pos, length, All}
 use Rattle.sample_problems.proofs.problems.one_edge.Given as goal
 
 -- the one edge, and lines whose ids are less than the next one

@@ -1,5 +1,5 @@
 -- The lines so far, followed by those of the inputs that are left, are all of them.
-use Rattle.std.proofs.Common.{◌≡◌, ◌++◌, drop, map}
+use Rattle.plan_num.proofs.Common.{◌≡◌, ◌++◌, drop, map}
 use Rattle.stage_keep.specs.Entries.{front_lines, input_line}
 use Rattle.stage_keep.proofs.front.front_lines.Given as goal
 

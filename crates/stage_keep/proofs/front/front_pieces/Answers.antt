@@ -1,4 +1,4 @@
-use Rattle.std.proofs.Common.{◌∙◌, ◌<◌, arith, length}
+use Rattle.plan_num.proofs.Common.{◌∙◌, ◌<◌, arith, length}
 use Rattle.stage_keep.proofs.Pieces.{line_at, pieces_more}
 use Rattle.stage_keep.proofs.front.front_pieces.Goals as goal
 

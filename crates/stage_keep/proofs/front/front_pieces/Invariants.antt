@@ -1,5 +1,5 @@
 -- The pieces so far, followed by the blocks of the inputs that are left, are the front.
-use Rattle.std.proofs.Common.{◌≡◌, ◌++◌, drop, flat_map, map}
+use Rattle.plan_num.proofs.Common.{◌≡◌, ◌++◌, drop, flat_map, map}
 use Rattle.stage_keep.specs.Entries.{block_bytes, front_lines, given_front, input_block}
 use Rattle.stage_keep.proofs.front.front_pieces.Given as goal
 

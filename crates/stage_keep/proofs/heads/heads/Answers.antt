@@ -1,4 +1,4 @@
-use Rattle.std.proofs.Common.{ap, ◌∙◌, sym, ◌∷◌, ◌++◌, [], List, ℕ, codes}
+use Rattle.plan_num.proofs.Common.{ap, ◌∙◌, sym, ◌∷◌, ◌++◌, [], List, ℕ, codes}
 use Rattle.tables.proofs.Common.{Stop}
 use Rattle.stage_keep.proofs.Reading.{head_more}
 use Rattle.stage_keep.proofs.heads.heads.Goals as goal

@@ -1,5 +1,5 @@
 -- The heads so far.
-use Rattle.std.proofs.Common.{◌≡◌, ◌∷◌, ◌++◌, codes, map, take}
+use Rattle.plan_num.proofs.Common.{◌≡◌, ◌∷◌, ◌++◌, codes, map, take}
 use Rattle.giv_files.proofs.Common.{stage_inputs}
 use Rattle.stage_keep.specs.Entries.{made_head}
 use Rattle.stage_keep.proofs.heads.heads.Given as goal

@@ -1,5 +1,5 @@
 -- The heads so far.
-use Rattle.std.proofs.Common.{◌≡◌, map, take}
+use Rattle.plan_num.proofs.Common.{◌≡◌, map, take}
 use Rattle.stage_keep.specs.Entries.{made_head}
 use Rattle.stage_keep.proofs.heads.last_heads.Given as goal
 

@@ -1,6 +1,6 @@
 use Rattle.std.proofs.Common.{◌≡◌, ◌<◌, ◌∙◌, ◌∷◌, ◌++◌, [], List, ap, arith, get_or, length, refl}
-use Rattle.tables.proofs.Common.{Stop}
-use Rattle.giv_files.proofs.Common.{MadeFile}
+use Rattle.tables.specs.declared.file_id.FileId.TheVariants.{Stop}
+use Rattle.giv_files.specs.declared.made.MadeFile.{MadeFile}
 use Rattle.stage_keep.specs.Places.{part_of}
 use Rattle.stage_keep.proofs.PlacesInLastPart.{all_there, copies_are, files_joined}
 use Rattle.stage_keep.proofs.last_part.made_files.Goals as goal

@@ -1,4 +1,4 @@
-use Rattle.std.proofs.Common.{◌∙◌}
+use Rattle.plan_num.proofs.Common.{◌∙◌}
 use Rattle.stage_keep.proofs.PlacesInLastPart.{made_parts}
 use Rattle.stage_keep.proofs.last_part.made_of.Goals as goal
 

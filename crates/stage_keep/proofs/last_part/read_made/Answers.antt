@@ -1,4 +1,4 @@
-use Rattle.plan_num.proofs.Common.{Ok, Some, ap, map, ◌∙◌, ◌∷◌, [], ⊤}
+use Rattle.plan_num.proofs.Common.{arith, Ok, Some, ap, map, ◌∙◌, ◌∷◌, [], ⊤}
 use Rattle.stage_keep.specs.EntryReading.{made_of}
 use Rattle.stage_keep.specs.Places.{part_of}
 use Rattle.stage_keep.proofs.LastParts.{makes_told}
@@ -22,12 +22,7 @@ returns-in-Some-clause-makes c =
 
 pub returns-in_default-shorter_list-clause-made : goal.returns-in_default-shorter_list-clause-made
 returns-in_default-shorter_list-clause-made c =
-    let bytes = c.args.bytes.items in
-    read_none c.args.stage bytes c.makes-files.result.now c.shorter_list.result c.makes-files.ensures
-    (no_texts_in (λ bytes places. map (part_of bytes) places.items) bytes _ _ _ c.in_ok-places.field-0
-    c.as_slice-2.ensures.value (c.as_slice.ensures.value ∙ c.in_ok-heads.ensures)
-    c.in_default.is c.in_ok-places.ensures.texts)
-    c.shorter_list.ensures c.in_default-shorter_list.is
+    let bytes = c.args.bytes.items in grind (arith, read_none, no_texts_in)
 
 pub returns-in_ok-made_of-in-Some-2-clause-made : goal.returns-in_ok-made_of-in-Some-2-clause-made
 returns-in_ok-made_of-in-Some-2-clause-made c =

@@ -1,5 +1,5 @@
 -- The place is one of them.
-use Rattle.std.proofs.Common.{◌<◌, length}
+use Rattle.plan_num.proofs.Common.{◌<◌, length}
 use Rattle.stage_keep.proofs.place.longest_of.Given as goal
 
 abbrev pub invariant-loop-index : goal.invariant-loop-index

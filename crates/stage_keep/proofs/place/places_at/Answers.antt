@@ -1,5 +1,5 @@
-use Rattle.std.proofs.Common.{◌≡◌, ◌+◌, ap, ◌∙◌, sym, arith, refl, length, option_map, drop, ◌++◌, List, ℕ, Some}
-use Rattle.std.proofs.lemmas.List.{length_push}
+use Rattle.plan_num.proofs.Common.{◌≡◌, ◌+◌, ap, ◌∙◌, sym, arith, refl, length, option_map, drop}
+use Rattle.plan_num.proofs.Common.{◌++◌, List, ℕ, Some, length_push}
 use Rattle.stage_keep.specs.EntryReading.{block_at, texts_at}
 use Rattle.stage_keep.proofs.PlacesInLastPart.{before, next_split, place_more, place_within, sizes}
 use Rattle.stage_keep.proofs.Reading.{block_found, block_lacks, ended_as, text_more, text_none, texts_end}

@@ -1,5 +1,5 @@
 -- The places so far, followed by the texts of the rest, are those of the whole.
-use Rattle.std.proofs.Common.{◌≡◌, ◌++◌, All, List, ℕ, drop, length, map, option_map}
+use Rattle.plan_num.proofs.Common.{◌≡◌, ◌++◌, All, List, ℕ, drop, length, map, option_map}
 use Rattle.stage_keep.specs.EntryReading.{texts_at}
 use Rattle.stage_keep.specs.Places.{IsWithin, part_of}
 use Rattle.stage_keep.proofs.place.places_at.Given as goal

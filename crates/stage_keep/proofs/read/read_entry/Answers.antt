@@ -1,4 +1,4 @@
-use Rattle.std.proofs.Common.{◌≡◌, IfOk, ap, ◌∙◌, subst, sym}
+use Rattle.plan_num.proofs.Common.{◌≡◌, IfOk, ap, ◌∙◌, subst, sym}
 use Rattle.stage_keep.specs.EntryReading.{entry_with}
 use Rattle.stage_keep.proofs.Reading.{first_found, later_found}
 use Rattle.stage_keep.proofs.read.read_entry.Goals as goal

@@ -1,4 +1,4 @@
-use Rattle.std.proofs.Common.{arith}
+use Rattle.plan_num.proofs.Common.{arith}
 use Rattle.stage_keep.proofs.EntriesRead.{exact_of, front_of}
 use Rattle.stage_keep.proofs.read.read_keep.Goals as goal
 

@@ -1,5 +1,5 @@
-use Rattle.std.proofs.Common.{◌+◌, ap, ◌∙◌, sym, arith, length, map, option_map, drop, [], ◌∷◌, ◌++◌, List, ℕ}
-use Rattle.std.proofs.lemmas.List.{length-append, map-append}
+use Rattle.plan_num.proofs.Common.{◌+◌, ap, ◌∙◌, sym, arith, length, map, option_map, drop, [], ◌∷◌}
+use Rattle.plan_num.proofs.Common.{◌++◌, List, ℕ, length-append, map-append}
 use Rattle.stage_keep.specs.EntryReading.{block_at, texts_at}
 use Rattle.stage_keep.proofs.Reading.{block_found, block_lacks, ended_as, text_more, text_none, texts_end}
 use Rattle.stage_keep.proofs.read.texts_at.Goals as goal

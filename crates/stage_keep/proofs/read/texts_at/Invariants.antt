@@ -1,5 +1,5 @@
 -- The texts so far, followed by those of the rest, are those of the whole.
-use Rattle.std.proofs.Common.{◌≡◌, ◌++◌, drop, length, map, option_map}
+use Rattle.plan_num.proofs.Common.{◌≡◌, ◌++◌, drop, length, map, option_map}
 use Rattle.stage_keep.specs.EntryReading.{texts_at}
 use Rattle.stage_keep.proofs.read.texts_at.Given as goal
 

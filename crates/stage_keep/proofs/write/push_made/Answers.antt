@@ -1,4 +1,4 @@
-use Rattle.std.proofs.Common.{◌∙◌}
+use Rattle.plan_num.proofs.Common.{◌∙◌}
 use Rattle.stage_keep.proofs.Writing.{made_more}
 use Rattle.stage_keep.proofs.write.push_made.Goals as goal
 

@@ -1,4 +1,4 @@
-use Rattle.plan_num.proofs.Common.{ap, arith, length, List, ℕ, common_steps}
+use Rattle.plan_num.proofs.Common.{arith, common_steps}
 use Rattle.stage_keep.specs.Entries.{entry_bytes}
 use Rattle.stage_keep.proofs.EntriesRead.{back_of, entry_of_text}
 use Rattle.stage_keep.proofs.write.write_keep.Goals as goal
@@ -12,9 +12,7 @@ returns-clause-text c = text_is c
 
 pub returns-clause-entry : goal.returns-clause-entry
 returns-clause-entry c =
-    let small = c.extend_from_slice-2.new.self.small in
-    entry_of_text c.args.bundle.now c.args.made.now c.from_vec.result c.requires.fits c.requires.made
-    (omega (arith, small, ap (λ (l : List ℕ). length l) c.from_vec.ensures)) (text_is c)
+    let small = c.extend_from_slice-2.new.self.small in grind (arith, entry_of_text, text_is)
 
 pub returns-clause-read_back : goal.returns-clause-read_back
 returns-clause-read_back c =

@@ -1,5 +1,5 @@
 -- The digits so far are worth the value.
-use Rattle.std.proofs.Common.{◌≡◌, true, take}
+use Rattle.plan_num.proofs.Common.{◌≡◌, true, take}
 use Rattle.plan_num.specs.Number.{all_digits, value_of}
 use Rattle.tables.proofs.digits.digits_value.Given as goal
 

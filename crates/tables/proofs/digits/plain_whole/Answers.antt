@@ -1,4 +1,4 @@
-use Rattle.std.proofs.Common.{◌≡◌, ◌∙◌, Some, ap, arith, of_z, sym, to_z, w64}
+use Rattle.plan_num.proofs.Common.{◌≡◌, ◌∙◌, Some, ap, arith, of_z, sym, to_z, w64}
 use Rattle.std.proofs.lemmas.Int.{to_z-of_z}
 use Rattle.tables.proofs.PlainFields.{plain_whole_is}
 use Rattle.tables.proofs.digits.plain_whole.Goals as goal

@@ -9,9 +9,11 @@ use Rattle.tables.proofs.folds.fold_file.Goals as goal
 pub returns-in_err-table : goal.returns-in_err-table
 returns-in_err-table g c =
     let input = plain_input c.args.file c.args.kinds.now g.F.RowFold.of_cells c.args.limit
-    (g.F.RowFold.rules c.args.fold.now c.args.first) in
-    let p = err_from_is_err_and c.from_residual.result c.from_residual.ensures.1 in
-    rw (p.1, p.2) (refused_cells input c.args.text.now c.in_err-table.field-0.0 c.in_err-table.ensures.table)
+    (g.F.RowFold.rules c.args.fold.now c.args.first) in grind (
+      arith,
+      err_from_is_err_and,
+      refused_cells,
+    )
 
 pub returns-in-Some : goal.returns-in-Some
 returns-in-Some g c =

@@ -1,5 +1,5 @@
 -- None of the rows so far breaks a rule, and what is known is known of them.
-use Rattle.std.proofs.Common.{◌≡◌, [], take, drop}
+use Rattle.plan_num.proofs.Common.{◌≡◌, [], take, drop}
 use Rattle.tables.specs.Inputs.{row_faults}
 use Rattle.tables.specs.RowsOfTables.{numbered_by, records_by}
 use Rattle.tables.proofs.folds.fold_rows.Given as goal

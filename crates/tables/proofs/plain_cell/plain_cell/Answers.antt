@@ -1,5 +1,5 @@
-use Rattle.std.proofs.Common.{◌≡◌, ◌∙◌, Ok, ap, arith, of_z, sym, to_z, w64}
-use Rattle.std.proofs.lemmas.Int.{to_z-of_z, to_z_pos}
+use Rattle.plan_num.proofs.Common.{◌≡◌, ◌∙◌, Ok, ap, arith, of_z, sym, to_z, w64, to_z_pos}
+use Rattle.std.proofs.lemmas.Int.{to_z-of_z}
 use Rattle.tables.proofs.CellTexts.{small_place}
 use Rattle.tables.proofs.PlainCells.{whole_cell, fixed_cell, word_cell, skipped_cell}
 use Rattle.tables.proofs.plain_cell.plain_cell.Goals as goal

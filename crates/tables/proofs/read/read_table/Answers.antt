@@ -1,4 +1,4 @@
-use Rattle.std.proofs.lemmas.Result.{err_from_is_err_and}
+use Rattle.plan_num.proofs.Common.{arith, err_from_is_err_and}
 use Rattle.tables.specs.Reading.{table_of}
 use Rattle.tables.proofs.FirstFaults.{no_mark}
 use Rattle.tables.proofs.FirstFaults.{row_ends, mark_first, table_is}
@@ -6,16 +6,15 @@ use Rattle.tables.proofs.read.read_table.Goals as goal
 
 pub returns-in_err-rows : goal.returns-in_err-rows
 returns-in_err-rows g c =
-    let p = err_from_is_err_and c.from_residual.result c.from_residual.ensures.1 in
-    rw (p.1, p.2, c.in_err-rows.ensures.1) (mark_first c.args.kinds.now c.args.bytes.now
-    c.in_err-rows.ensures.0)
+    let p = err_from_is_err_and c.from_residual.result c.from_residual.ensures.1 in grind (
+      arith,
+      mark_first,
+    )
 
 pub rows-init : goal.rows-init
 rows-init g c = record {
-  faults_left =
-      rw c.in_ok-rows.ensures.1 (no_mark c.args.kinds.now c.args.bytes.now c.in_ok-rows.ensures.0);
-  rows_left =
-      rw (c.new-table.ensures, c.in_ok-rows.ensures.1) (table_is c.args.kinds.now c.args.bytes.now);
+  faults_left = grind (arith, no_mark);
+  rows_left = grind (arith, table_is);
 }
 
 pub returns-in_err-read_row : goal.returns-in_err-read_row

@@ -1,4 +1,4 @@
-use Rattle.std.proofs.Common.{arith}
+use Rattle.plan_num.proofs.Common.{arith}
 use Rattle.tables.proofs.CellFacts.{cells_joined, cells_whole}
 use Rattle.tables.proofs.row_cells.push_cells.Goals as goal
 

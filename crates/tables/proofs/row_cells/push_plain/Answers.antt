@@ -1,4 +1,4 @@
-use Rattle.std.proofs.Common.{◌≡◌, ◌<◌, ◌+◌, ◌++◌, ◌∷◌, [], length, arith, refl}
+use Rattle.plan_num.proofs.Common.{◌≡◌, ◌<◌, ◌+◌, ◌++◌, ◌∷◌, [], length, arith, refl}
 use Rattle.std.proofs.lemmas.Int.{to_z-of_z}
 use Rattle.csv.specs.Records.{fields_of}
 use Rattle.text_fields.specs.Rows.{cleaned}

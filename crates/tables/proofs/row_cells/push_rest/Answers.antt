@@ -1,4 +1,4 @@
-use Rattle.std.proofs.Common.{◌≡◌, ◌<◌, ◌++◌, ◌∷◌, [], length, arith, refl, sym, ◌∙◌}
+use Rattle.plan_num.proofs.Common.{◌≡◌, ◌<◌, ◌++◌, ◌∷◌, [], length, arith, refl, sym, ◌∙◌}
 use Rattle.std.proofs.lemmas.Int.{to_z-of_z}
 use Rattle.tables.specs.declared.read_fault.RowFault.{RowFault}
 use Rattle.tables.specs.declared.row_why.RowWhy.{RowWhy}

@@ -1,4 +1,4 @@
-use Rattle.std.proofs.Common.{◌≡◌, to_z, of_z, w64, arith, get_or, pos}
+use Rattle.plan_num.proofs.Common.{◌≡◌, to_z, of_z, w64, arith, get_or, pos}
 use Rattle.std.proofs.lemmas.Int.{to_z-of_z}
 use Rattle.tables.proofs.WriteFacts.{cells_length, in_column, column_more, no_column, line_done}
 use Rattle.tables.proofs.write.push_line.Goals as goal
@@ -12,10 +12,13 @@ bounds-cells-column c =
 
 pub push_cell-requires : goal.push_cell-requires
 push_cell-requires c =
-    let cell = get_or c.args.cells.now c.loop-column.column (pos 0) in
-    let same : to_z w64 (of_z w64 cell) ≡ cell = grind (arith, to_z-of_z) in
-    rw same (in_column c.args.kinds.now c.args.cells.now c.loop-column.column _ _ c.requires
-    (omega arith))
+    let cell = get_or c.args.cells.now c.loop-column.column (pos 0) in grind (
+      arith,
+      to_z,
+      of_z,
+      to_z-of_z,
+      in_column,
+    )
 
 pub loop-column-preserved : goal.loop-column-preserved
 loop-column-preserved c =

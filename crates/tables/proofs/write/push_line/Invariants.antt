@@ -1,5 +1,5 @@
 -- The texts so far.
-use Rattle.std.proofs.Common.{◌≡◌, ◌++◌, take}
+use Rattle.plan_num.proofs.Common.{◌≡◌, ◌++◌, take}
 use Rattle.tables.specs.Writing.{cell_texts, joined}
 use Rattle.tables.proofs.write.push_line.Given as goal
 

@@ -1,4 +1,4 @@
-use Rattle.std.proofs.Common.{refl}
+use Rattle.plan_num.proofs.Common.{refl}
 use Rattle.tables.proofs.WriteFacts.{word_is}
 use Rattle.tables.proofs.write.word_at.Goals as goal
 

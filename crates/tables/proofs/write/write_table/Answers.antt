@@ -1,7 +1,5 @@
-use Rattle.plan_num.proofs.Common.{◌≡◌, ◌<◌, ◌≤◌, ◌∙◌, ◌++◌, ◌∷◌, List, length, ap, arith, flat_map}
-use Rattle.plan_num.proofs.Common.{take_all}
-use Rattle.tables.specs.Tables.{TableRow}
-use Rattle.tables.specs.Writing.{line_text, table_text}
+use Rattle.plan_num.proofs.Common.{◌≡◌, ◌<◌, ◌≤◌, length, arith, take_all}
+use Rattle.tables.specs.Writing.{table_text}
 use Rattle.tables.proofs.WrittenBack.{written_back}
 use Rattle.tables.proofs.write.write_table.Given.{Over}
 use Rattle.tables.proofs.write.write_table.Goals as goal
@@ -12,11 +10,7 @@ whole : (g : Over) (c : After-from_vec g) → c.from_vec.result
     ≡ table_text c.args.header.now c.args.kinds.now c.args.table.now
 unfolding table_text
 whole g c =
-    let past : length c.args.table.now ≤ c.loop-row.row = omega arith in
-    c.from_vec.ensures ∙ c.loop-row.invariant
-    ∙ ap (λ (rows : List TableRow). c.args.header.now
-    ++ 10 ∷ flat_map (line_text c.args.kinds.now) rows)
-    (take_all c.loop-row.row c.args.table.now past)
+    let past : length c.args.table.now ≤ c.loop-row.row = omega arith in grind (arith, take_all)
 
 pub returns-clause-text : goal.returns-clause-text
 returns-clause-text g c = whole g c

@@ -1,5 +1,5 @@
 -- The paths are those to the terminals so far.
-use Rattle.std.proofs.Common.{◌≡◌, ◌++◌, filter_map, take}
+use Rattle.plan_num.proofs.Common.{◌≡◌, ◌++◌, filter_map, take}
 use Rattle.terminal_lines.specs.Terminals.{way_between}
 use Rattle.terminal_lines.proofs.paths.push_paths.Given as goal
 

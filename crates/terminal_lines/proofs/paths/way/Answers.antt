@@ -1,4 +1,4 @@
-use Rattle.std.proofs.Common.{sym, ◌∙◌}
+use Rattle.plan_num.proofs.Common.{sym, ◌∙◌}
 use Rattle.terminal_lines.proofs.Ways.{is_reached, no_way, way_is}
 use Rattle.terminal_lines.proofs.paths.way.Goals as goal
 

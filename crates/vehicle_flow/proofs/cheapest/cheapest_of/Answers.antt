@@ -1,4 +1,4 @@
-use Rattle.std.proofs.Common.{subst}
+use Rattle.plan_num.proofs.Common.{subst}
 use Rattle.link_plans.proofs.Common.{IsPlan, AreValid}
 use Rattle.assignment.proofs.Worthwhile.{plan_up, valid_up}
 use Rattle.vehicle_model.specs.Trips.{links_of}

@@ -1,4 +1,4 @@
-use Rattle.std.proofs.Common.{◌∙◌, ap, option_copied}
+use Rattle.plan_num.proofs.Common.{◌∙◌, ap, option_copied}
 use Rattle.vehicle_flow.specs.ScheduleChecks.{schedule_fault}
 use Rattle.vehicle_flow.proofs.PassingOver.{right_over_bundle}
 use Rattle.vehicle_flow.proofs.ScheduleAnswers.{none_where}

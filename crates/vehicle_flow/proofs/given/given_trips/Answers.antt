@@ -1,4 +1,4 @@
-use Rattle.std.proofs.Common.{◌∙◌, ap}
+use Rattle.plan_num.proofs.Common.{◌∙◌, ap}
 use Rattle.giv_files.specs.declared.key.Key.TheVariants as key
 use Rattle.giv_files.proofs.Common.{amount}
 use Rattle.vehicle_flow.proofs.GivenTrips.{trips_given}

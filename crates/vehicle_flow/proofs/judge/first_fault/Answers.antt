@@ -1,4 +1,4 @@
-use Rattle.std.proofs.Common.{option_copied}
+use Rattle.plan_num.proofs.Common.{option_copied}
 use Rattle.vehicle_flow.proofs.FirstRules.{broken_plan, judged_plan}
 use Rattle.vehicle_flow.proofs.PassingOver.{broken_over, plan_over}
 use Rattle.vehicle_flow.proofs.judge.first_fault.Goals as goal

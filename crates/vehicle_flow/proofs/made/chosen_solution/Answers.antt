@@ -1,4 +1,4 @@
-use Rattle.std.proofs.Common.{ap, sym, ◌∙◌, subst}
+use Rattle.plan_num.proofs.Common.{ap, sym, ◌∙◌, subst}
 use Rattle.link_plans.proofs.Common.{IsPlan, AreValid}
 use Rattle.canonical_potentials.specs.Rounds.{canonical}
 use Rattle.assignment.proofs.Worthwhile.{canonical_same, plan_down, valid_down, valid_up}

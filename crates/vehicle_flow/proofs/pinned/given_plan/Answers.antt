@@ -1,4 +1,4 @@
-use Rattle.std.proofs.Common.{sym, subst, map}
+use Rattle.plan_num.proofs.Common.{sym, subst, map}
 use Rattle.tables.proofs.Common.{Refuses}
 use Rattle.vehicle_model.specs.ReadSchedules.{plan_faults, plan_of}
 use Rattle.vehicle_flow.specs.PinnedSchedules.{plan_refusal}

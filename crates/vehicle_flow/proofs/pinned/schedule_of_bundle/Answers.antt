@@ -1,4 +1,4 @@
-use Rattle.std.proofs.lemmas.Result.{err_from_is_err_and}
+use Rattle.plan_num.proofs.Common.{err_from_is_err_and}
 use Rattle.vehicle_flow.proofs.PinnedGives.{inputs_refused, kept_given, schedule_refused}
 use Rattle.vehicle_flow.proofs.pinned.schedule_of_bundle.Goals as goal
 

@@ -1,4 +1,4 @@
-use Rattle.std.proofs.Common.{arith}
+use Rattle.plan_num.proofs.Common.{arith}
 use Rattle.vehicle_flow.proofs.VehicleCounts.{vehicles_all}
 use Rattle.vehicle_flow.proofs.report.vehicle_count.Goals as goal
 

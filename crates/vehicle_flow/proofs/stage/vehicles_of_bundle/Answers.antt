@@ -1,4 +1,4 @@
-use Rattle.std.proofs.lemmas.Result.{err_from_is_err_and}
+use Rattle.plan_num.proofs.Common.{err_from_is_err_and}
 use Rattle.vehicle_flow.proofs.VehicleMakes.{trips_refused, vehicles_given}
 use Rattle.vehicle_flow.proofs.stage.vehicles_of_bundle.Goals as goal
 

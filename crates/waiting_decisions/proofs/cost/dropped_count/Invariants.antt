@@ -1,5 +1,5 @@
 -- The count is that of the first ones.
-use Rattle.std.proofs.Common.{◌≡◌, ◌≤◌, take}
+use Rattle.plan_num.proofs.Common.{◌≡◌, ◌≤◌, take}
 use Rattle.waiting_decisions.specs.Choices.{dropped_count}
 use Rattle.waiting_decisions.proofs.cost.dropped_count.Given as goal
 

@@ -1,4 +1,4 @@
-use Rattle.std.proofs.Common.{◌∙◌, pos, refl, arith}
+use Rattle.plan_num.proofs.Common.{pos, refl, arith}
 use Rattle.waiting_decisions.specs.declared.node.WaitNode.TheVariants as node
 use Rattle.waiting_decisions.proofs.JudgedNodes.{at_end, at_start, node_fails, node_fits}
 use Rattle.waiting_decisions.proofs.judge.first_fault.Goals as goal
@@ -9,10 +9,7 @@ loop-node-init c =
     c.in_ok-walk.walk c.in_ok-walk.ensures.value
 
 pub returns-then-not-branch-clause-first : goal.returns-then-not-branch-clause-first
-returns-then-not-branch-clause-first c =
-    node_fails c.args.problem.now c.args.penalty (pos c.args.cost) c.args.nodes.now
-    c.loop-node.walk c.take.new.self c.loop-node.node-index (node.Split 0) _ c.loop-node.invariant
-    c.loop-node-test.true refl c.in_ok-take.field-0 c.if-not-branch.true c.in_ok-take.ensures
+returns-then-not-branch-clause-first c = grind (arith, node_fails)
 
 pub loop-node-preserved : goal.loop-node-preserved
 loop-node-preserved c =
@@ -21,7 +18,4 @@ loop-node-preserved c =
     c.loop-node-test.true refl c.in_ok-take.field-0 c.if-not-branch.false c.in_ok-take.ensures
 
 pub returns-clause-first : goal.returns-clause-first
-returns-clause-first c =
-    c.fault.ensures
-    ∙ at_end c.args.problem.now c.args.penalty (pos c.args.cost) c.args.nodes.now c.loop-node.walk
-    c.loop-node.node-index c.loop-node.invariant (omega (arith, c.loop-node-test.false))
+returns-clause-first c = grind (arith, at_end)

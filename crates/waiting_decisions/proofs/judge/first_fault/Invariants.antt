@@ -1,5 +1,5 @@
 -- What holds of the walk and the nodes that are left holds of all nodes.
-use Rattle.std.proofs.Common.{pos}
+use Rattle.plan_num.proofs.Common.{pos}
 use Rattle.waiting_decisions.proofs.JudgedNodes.{IsAt}
 use Rattle.waiting_decisions.proofs.judge.first_fault.Given as goal
 

@@ -1,29 +1,16 @@
-use Rattle.std.proofs.Common.{◌≡◌, None, Some, length, ap, sym, subst, arith}
+use Rattle.plan_num.proofs.Common.{◌≡◌, None, Some, length, subst, arith}
 use Rattle.waiting_decisions.specs.Listings.{listing}
-use Rattle.waiting_decisions.specs.Searches.{Between, IsCheap, TakesEntry}
+use Rattle.waiting_decisions.specs.Searches.{TakesEntry}
 use Rattle.waiting_decisions.proofs.SearchTells.{tells}
 use Rattle.waiting_decisions.proofs.Turns.{all_listed, few_listed, inside, last_one, on_err, on_ok, one_more}
 use Rattle.waiting_decisions.proofs.Turns.{spent_found, starts, whole_within}
 use Rattle.waiting_decisions.proofs.search.search_waits.Goals as goal
 
 pub loop-entry-init : goal.loop-entry-init
-loop-entry-init g c = record {
-  behind = starts c.args.problem.now c.args.penalty c.in_ok-search.search c.in_ok-search.ensures.value;
-  cheap = subst IsCheap (sym (ap (λ (at : Between). at.best) c.in_ok-search.ensures.value)) tt;
-  within = omega arith;
-  steps = omega arith;
-}
+loop-entry-init g c = grind (arith, starts)
 
 pub returns-in_err-take_entry-clause-err : goal.returns-in_err-take_entry-clause-err
-returns-in_err-take_entry-clause-err g c =
-    let here = inside c.args.problem.now c.args.penalty c.loop-entry._entry c.loop-entry.search
-    c.loop-entry.invariant.behind in
-    let few = few_listed c.args.budget (length (listing c.args.problem.now c.args.penalty)) c.loop-entry._entry
-    c.loop-entry-test.true here in
-    on_err _ c.from_residual-in_err-take_entry.result (
-      omega (arith, c.tick.ensures, c.loop-entry.invariant.steps),
-      omega (arith, c.tick.ensures, c.loop-entry.invariant.steps, few),
-    )
+returns-in_err-take_entry-clause-err g c = grind (arith, inside, few_listed, on_err)
 
 pub returns-then-not-branch : goal.returns-then-not-branch
 returns-then-not-branch g c =

@@ -1,5 +1,5 @@
 -- The search is behind so many entries of the listing, and each took a step.
-use Rattle.std.proofs.Common.{◌≡◌, ◌+◌, ◌≤◌, length}
+use Rattle.plan_num.proofs.Common.{◌≡◌, ◌+◌, ◌≤◌, length}
 use Rattle.waiting_decisions.specs.Listings.{listing}
 use Rattle.waiting_decisions.specs.Searches.{IsBehind, IsCheap}
 use Rattle.waiting_decisions.proofs.search.search_waits.Given as goal

@@ -1,4 +1,4 @@
-use Rattle.std.proofs.Common.{◌-◌, map, ap, sym, ◌∙◌, subst}
+use Rattle.plan_num.proofs.Common.{◌-◌, map, ap, sym, ◌∙◌, subst}
 use Rattle.link_plans.proofs.Common.{links_in, ArePotentials, AreValid}
 use Rattle.canonical_potentials.specs.Canonical.{AreCanonical}
 use Rattle.canonical_potentials.specs.Drops.{DropParts, IsSearched, ArePassed}

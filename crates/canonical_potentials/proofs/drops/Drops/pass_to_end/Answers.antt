@@ -1,4 +1,4 @@
-use Rattle.std.proofs.Common.{sym, subst}
+use Rattle.plan_num.proofs.Common.{sym, subst}
 use Rattle.link_plans.proofs.Common.{links_in}
 use Rattle.canonical_potentials.specs.Drops.{ArePassed, depth}
 use Rattle.canonical_potentials.proofs.Loops.{goes_down}

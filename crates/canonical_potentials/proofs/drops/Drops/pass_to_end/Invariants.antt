@@ -1,5 +1,5 @@
 -- Where nothing has changed no arc finds a better walk; else the depth has risen.
-use Rattle.std.proofs.Common.{◌≡◌, ◌+◌, ◌-◌, false}
+use Rattle.plan_num.proofs.Common.{◌≡◌, ◌+◌, ◌-◌, false}
 use Rattle.link_plans.proofs.Common.{links_in}
 use Rattle.canonical_potentials.specs.Drops.{depth, one_if, IsSearched, ArePassed}
 use Rattle.canonical_potentials.proofs.drops.Drops.pass_to_end.Given as goal

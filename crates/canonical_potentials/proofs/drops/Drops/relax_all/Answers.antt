@@ -1,4 +1,4 @@
-use Rattle.std.proofs.Common.{arith}
+use Rattle.plan_num.proofs.Common.{arith}
 use Rattle.link_plans.proofs.Common.{links_in}
 use Rattle.canonical_potentials.proofs.Loops.{one_trip}
 use Rattle.canonical_potentials.proofs.drops.Drops.relax_all.Goals as goal

@@ -1,4 +1,4 @@
-use Rattle.std.proofs.Common.{◌<◌, get_or, arith}
+use Rattle.plan_num.proofs.Common.{◌<◌, get_or, arith}
 use Rattle.link_plans.proofs.Common.{links_in}
 use Rattle.canonical_potentials.proofs.Steps.{from_root_step}
 use Rattle.canonical_potentials.proofs.drops.Drops.relax_from_root.Goals as goal

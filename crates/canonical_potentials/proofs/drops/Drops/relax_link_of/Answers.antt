@@ -1,4 +1,4 @@
-use Rattle.std.proofs.Common.{arith}
+use Rattle.plan_num.proofs.Common.{arith}
 use Rattle.link_plans.proofs.Common.{links_in}
 use Rattle.canonical_potentials.proofs.Steps.{row_asks, row_step}
 use Rattle.canonical_potentials.proofs.drops.Drops.relax_link_of.Goals as goal

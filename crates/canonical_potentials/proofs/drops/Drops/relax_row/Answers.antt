@@ -1,4 +1,4 @@
-use Rattle.std.proofs.Common.{get_or, arith}
+use Rattle.plan_num.proofs.Common.{get_or, arith}
 use Rattle.link_plans.proofs.Common.{links_in, link_to, item}
 use Rattle.canonical_potentials.proofs.Loops.{one_link, row_kept}
 use Rattle.canonical_potentials.proofs.drops.Drops.relax_row.Goals as goal

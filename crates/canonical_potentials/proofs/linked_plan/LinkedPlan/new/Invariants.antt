@@ -1,5 +1,5 @@
 -- The links of the trips so far.
-use Rattle.std.proofs.Common.{◌≡◌, ℕ, is_some, length, take, get_or, None}
+use Rattle.plan_num.proofs.Common.{◌≡◌, ℕ, is_some, length, take, get_or, None}
 use Rattle.link_plans.proofs.Common.{is_next}
 use Rattle.canonical_potentials.proofs.linked_plan.LinkedPlan.new.Given as goal
 

@@ -1,4 +1,4 @@
-use Rattle.std.proofs.Common.{sym}
+use Rattle.plan_num.proofs.Common.{sym}
 use Rattle.giv_files.proofs.Common.{LastStage}
 use Rattle.config_keys.specs.ReadSoFar.{said_of}
 use Rattle.config_keys.proofs.Settling.{settled_bad, settled_good, are_settings}

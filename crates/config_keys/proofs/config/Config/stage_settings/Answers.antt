@@ -1,4 +1,4 @@
-use Rattle.std.proofs.Common.{[], ◌∷◌, ◌++◌, map, get_or, ap, sym, ◌∙◌}
+use Rattle.plan_num.proofs.Common.{[], ◌∷◌, ◌++◌, map, get_or, ap, sym, ◌∙◌}
 use Rattle.giv_files.proofs.Common.{LastStage}
 use Rattle.config_keys.specs.Config.{setting_at}
 use Rattle.config_keys.proofs.Settling.{passed_over, part_more, part_whole, part_fits}

@@ -1,4 +1,4 @@
-use Rattle.std.proofs.Common.{cond, Some, bytes_eq, string_bytes, ap, ◌∙◌}
+use Rattle.plan_num.proofs.Common.{cond, Some, bytes_eq, string_bytes, ap, ◌∙◌}
 use Rattle.std.specs.HashMap.{get_by_text}
 use Rattle.std.specs.Rc.{rc_value}
 use Rattle.std.proofs.lemmas.Map.Text.{hash_map_updates_text}

@@ -1,4 +1,4 @@
-use Rattle.std.proofs.Common.{sym}
+use Rattle.plan_num.proofs.Common.{sym}
 use Rattle.config_keys.proofs.SaidItems.{item_none}
 use Rattle.config_keys.proofs.said.Said.add_key.Goals as goal
 

@@ -1,4 +1,4 @@
-use Rattle.std.proofs.Common.{◌<◌, length, ap, ◌∙◌, arith}
+use Rattle.plan_num.proofs.Common.{◌<◌, length, ap, ◌∙◌, arith}
 use Rattle.config_keys.specs.Includes.{path_of}
 use Rattle.config_keys.proofs.Telling.{outside_told, next_told, enough_told}
 use Rattle.config_keys.proofs.settings_file.Sections.take_include.Goals as goal

@@ -1,4 +1,4 @@
-use Rattle.std.proofs.Common.{Some, None, refl}
+use Rattle.plan_num.proofs.Common.{Some, None, refl}
 use Rattle.config_keys.specs.declared.settings_file.Turn.TheVariants as turn
 use Rattle.config_keys.proofs.Telling.{rows_begin, rows_more, rows_stop, rows_all}
 use Rattle.config_keys.proofs.settings_file.Sections.take_rows.Goals as goal

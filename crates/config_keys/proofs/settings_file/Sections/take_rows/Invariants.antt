@@ -1,5 +1,5 @@
 -- What is told with the rows that are left is read like what was told at first with all rows.
-use Rattle.std.proofs.Common.{length}
+use Rattle.plan_num.proofs.Common.{length}
 use Rattle.config_keys.specs.SettingsFiles.{TellsOn, brings}
 use Rattle.config_keys.proofs.settings_file.Sections.take_rows.Given as goal
 

@@ -1,4 +1,4 @@
-use Rattle.std.proofs.Common.{◌∙◌, sym}
+use Rattle.plan_num.proofs.Common.{◌∙◌, sym}
 use Rattle.connections.specs.RankedNets.{is_ranked, parts_of}
 use Rattle.connections.proofs.RankedParts.{passed_ranked}
 use Rattle.connections.proofs.net.JourneyNet.checked.Goals as goal

@@ -1,4 +1,4 @@
-use Rattle.std.proofs.Common.{◌∙◌, ◌-◌, ◌<◌, length, sym, subst, ap, arith}
+use Rattle.plan_num.proofs.Common.{◌∙◌, ◌-◌, ◌<◌, length, sym, subst, ap, arith}
 use Rattle.connections.specs.Ends.{AreLed, IsWayBack}
 use Rattle.connections.specs.Nets.{JourneyParts}
 use Rattle.connections.specs.Links.{links_behind}
@@ -24,16 +24,12 @@ loop-event-smaller c =
 
 pub loop-event-preserved : goal.loop-event-preserved
 loop-event-preserved c =
-    let connections = c.self.inside.connections.items in
-    let ways = c.args.ways.now in
-    let event = c.loop-event.event in
-    let at = c.index.result.now in
-    let same = ap (λ (net : JourneyParts). net.connections) c.self.view_is in
-    let led = subst (λ all. AreLed all ways) (sym same) c.requires.led in
-    let step = taken connections ways event c.in-By.connection at led c.in-By.is c.index.ensures in
-    subst (IsBackSoFar connections ways c.args.end at.from) (sym c.in_ok-push-2.ensures.items)
-    (back_more connections ways c.args.end event at.from c.in-By.connection
-    c.loop-event.journey.items c.loop-event.invariant c.in-By.is step.0 step.1)
+    let connections = c.self.inside.connections.items in grind (
+      arith,
+      taken,
+      IsBackSoFar,
+      back_more,
+    )
 
 pub returns : goal.returns
 returns c =

@@ -1,5 +1,5 @@
 -- The events so far are met on the way back, and ever more links stand behind the last one.
-use Rattle.std.proofs.Common.{◌-◌, length}
+use Rattle.plan_num.proofs.Common.{◌-◌, length}
 use Rattle.connections.specs.Links.{links_behind}
 use Rattle.connections.proofs.WayBack.{IsBackSoFar}
 use Rattle.connections.proofs.net.JourneyNet.way_back.Given as goal

@@ -1,4 +1,4 @@
-use Rattle.std.proofs.Common.{subst}
+use Rattle.plan_num.proofs.Common.{subst}
 use Rattle.delay_trials.specs.OnTrial.{IsLastMoved}
 use Rattle.delay_trials.proofs.Undoing.{dropped_one}
 use Rattle.delay_trials.proofs.on_trial.TimesOnTrial.forget_last.Goals as goal

@@ -1,5 +1,5 @@
 -- Notes were only dropped.
-use Rattle.std.proofs.Common.{length}
+use Rattle.plan_num.proofs.Common.{length}
 use Rattle.delay_trials.specs.OnTrial.{IsDropping}
 use Rattle.delay_trials.proofs.on_trial.TimesOnTrial.forget_last.Given as goal
 

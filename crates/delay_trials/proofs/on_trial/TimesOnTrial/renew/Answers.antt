@@ -1,4 +1,4 @@
-use Rattle.std.proofs.Common.{◌∙◌, arith, subst}
+use Rattle.plan_num.proofs.Common.{◌∙◌, arith, subst}
 use Rattle.std.proofs.lemmas.Int.{to_z-of_z}
 use mir.Syntax.{w128}
 use Rattle.propagation.proofs.Common.{delay_at}

@@ -1,4 +1,4 @@
-use Rattle.std.proofs.Common.{◌∙◌, ◌&&◌, ap, arith, false, get_or, length, slice_set}
+use Rattle.plan_num.proofs.Common.{◌∙◌, ◌&&◌, ap, arith, false, get_or, length, slice_set}
 use Rattle.propagation.proofs.Common.{is_broken}
 use Rattle.delay_trials.specs.OnTrial.{TrialTimes}
 use Rattle.delay_trials.proofs.OnTrialFacts.{day_is, opened}

@@ -1,5 +1,5 @@
 -- The times are on the way to the least ones, and the times before can be had again.
-use Rattle.std.proofs.Common.{◌-◌, length}
+use Rattle.plan_num.proofs.Common.{◌-◌, length}
 use Rattle.delay_trials.specs.OnTrial.{Follows, IsSettling}
 use Rattle.delay_trials.proofs.on_trial.TimesOnTrial.take_waiting_links.Given as goal
 

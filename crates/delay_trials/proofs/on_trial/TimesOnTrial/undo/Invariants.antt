@@ -1,5 +1,5 @@
 -- The times that are to come are those that were to come at first.
-use Rattle.std.proofs.Common.{length}
+use Rattle.plan_num.proofs.Common.{length}
 use Rattle.delay_trials.specs.OnTrial.{IsUndoing}
 use Rattle.delay_trials.proofs.on_trial.TimesOnTrial.undo.Given as goal
 

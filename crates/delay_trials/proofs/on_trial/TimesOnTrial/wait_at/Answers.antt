@@ -1,4 +1,4 @@
-use Rattle.std.proofs.Common.{◌≡◌, ◌∙◌, ap, subst}
+use Rattle.plan_num.proofs.Common.{◌≡◌, ◌∙◌, ap, subst}
 use Rattle.propagation.proofs.Common.{forward_rank}
 use Rattle.delay_trials.specs.OnTrial.{TrialTimes, WaitBy}
 use Rattle.delay_trials.proofs.on_trial.TimesOnTrial.wait_at.Goals as goal

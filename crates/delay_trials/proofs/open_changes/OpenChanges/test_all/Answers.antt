@@ -1,4 +1,4 @@
-use Rattle.std.proofs.Common.{◌∙◌, arith}
+use Rattle.plan_num.proofs.Common.{◌∙◌, arith}
 use Rattle.delay_trials.proofs.Testing.{more_tested, same_size}
 use Rattle.delay_trials.proofs.open_changes.OpenChanges.test_all.Goals as goal
 

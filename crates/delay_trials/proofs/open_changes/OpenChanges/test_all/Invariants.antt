@@ -1,5 +1,5 @@
 -- The changes so far are tested.
-use Rattle.std.proofs.Common.{◌≡◌, ◌<◌, ◌&&◌, ℕ, false, get_or, length}
+use Rattle.plan_num.proofs.Common.{◌≡◌, ◌<◌, ◌&&◌, ℕ, false, get_or, length}
 use Rattle.propagation.proofs.Common.{Activity, is_broken}
 use Rattle.delay_trials.proofs.open_changes.OpenChanges.test_all.Given as goal
 

@@ -1,5 +1,5 @@
 -- The changes of the ends so far are tested, and the least room is that of them.
-use Rattle.std.proofs.Common.{◌≤◌, ◌<◌, ℕ, get_or}
+use Rattle.plan_num.proofs.Common.{◌≤◌, ◌<◌, ℕ, get_or}
 use Rattle.delay_trials.specs.declared.ends.ChangeEnd.{ChangeEnd}
 use Rattle.propagation.proofs.Common.{Activity}
 use Rattle.delay_trials.specs.OpenChanges.{TestsEnds}

@@ -1,4 +1,4 @@
-use Rattle.std.proofs.Common.{ap, arith}
+use Rattle.plan_num.proofs.Common.{ap, arith}
 use Rattle.delay_trials.specs.declared.ends.ChangeEnd.{ChangeEnd}
 use Rattle.delay_trials.proofs.Testing.{one_done}
 use Rattle.delay_trials.proofs.open_changes.OpenChanges.test_end.Goals as goal

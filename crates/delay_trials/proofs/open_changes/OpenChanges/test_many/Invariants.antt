@@ -1,5 +1,5 @@
 -- The changes of the ends so far are tested, and what the limits say is.
-use Rattle.std.proofs.Common.{◌≤◌, ◌-◌, ◌≡◌, length}
+use Rattle.plan_num.proofs.Common.{◌≤◌, ◌-◌, ◌≡◌, length}
 use Rattle.delay_trials.specs.OpenChanges.{AreStillTested, HasLimits, TestsEnds}
 use Rattle.delay_trials.proofs.open_changes.OpenChanges.test_many.Given as goal
 

@@ -1,4 +1,4 @@
-use Rattle.std.proofs.Common.{◌∙◌, arith}
+use Rattle.plan_num.proofs.Common.{◌∙◌, arith}
 use Rattle.delay_trials.proofs.Turning.{all_done, all_tested, limits_same, others_tested, tests_more}
 use Rattle.delay_trials.proofs.open_changes.OpenChanges.test_moved.Goals as goal
 

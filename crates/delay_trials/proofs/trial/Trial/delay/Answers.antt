@@ -1,8 +1,8 @@
-use Rattle.plan_num.proofs.Common.{◌∙◌, ◌≤◌, ◌≤ℤ◌, length, pos, sym, subst, reverse}
+use Rattle.plan_num.proofs.Common.{arith, ◌∙◌, ◌≤◌, ◌≤ℤ◌, length, pos, sym, subst, reverse}
 use Rattle.std.proofs.lemmas.Int.{to_z-of_z}
 use mir.Syntax.{w128}
 use Rattle.delay_trials.specs.OnTrial.{decided_in}
-use Rattle.propagation.proofs.Common.{changes_few, IsForward}
+use Rattle.propagation.proofs.Common.{changes_few}
 use Rattle.delay_trials.specs.Trials.{TrialParts}
 use Rattle.delay_trials.proofs.TrialDelay.{delay_least, delay_most}
 use Rattle.delay_trials.proofs.TrialFacts.{trial_least}
@@ -32,5 +32,4 @@ returns-clause-few c =
     (changes_few _ _ c.self.invariant.linked)
 
 pub returns-clause-forward : goal.returns-clause-forward
-returns-clause-forward c = subst (λ (t : TrialParts). IsForward t.problem) c.self.view_is
-    c.self.invariant.linked.forward
+returns-clause-forward c = grind arith

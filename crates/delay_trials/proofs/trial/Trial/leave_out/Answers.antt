@@ -1,5 +1,5 @@
-use Rattle.std.proofs.Common.{◌≡◌, ◌∙◌, ◌∷◌, ◌<◌, false, true, length, ap, sym, subst, arith}
-use Rattle.std.specs.Prelude.{reverse}
+use Rattle.plan_num.proofs.Common.{◌≡◌, ◌∙◌, ◌∷◌, ◌<◌, false, true, length, ap, sym, subst, arith}
+use Rattle.plan_num.proofs.Common.{reverse}
 use Rattle.delay_trials.specs.OnTrial.{IsTaken}
 use Rattle.delay_trials.specs.Trials.{TrialParts, is_decided}
 use Rattle.delay_trials.proofs.DecisionsTakenBack.{dropped_taken}

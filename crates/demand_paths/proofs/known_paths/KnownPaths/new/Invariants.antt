@@ -1,5 +1,5 @@
 -- So far no path is known.
-use Rattle.std.proofs.Common.{◌≡◌, ℕ, length, get_or, None}
+use Rattle.plan_num.proofs.Common.{◌≡◌, ℕ, length, get_or, None}
 use Rattle.demand_paths.proofs.known_paths.KnownPaths.new.Given as goal
 
 abbrev pub invariant-loop-stop : goal.invariant-loop-stop

@@ -1,5 +1,5 @@
 -- So far nobody wants to go.
-use Rattle.std.proofs.Common.{◌≡◌, ℕ, [], length, map, get_or}
+use Rattle.plan_num.proofs.Common.{◌≡◌, ℕ, [], length, map, get_or}
 use Rattle.demand_paths.proofs.wanted.Wanted.new.Given as goal
 
 abbrev pub invariant-loop-stop : goal.invariant-loop-stop

@@ -1,4 +1,4 @@
-use Rattle.std.proofs.Common.{◌≡◌, ◌<◌, ℕ, [], replicate, length, get_or, set, ap, subst, sym, ◌∙◌, arith, inl, inr}
+use Rattle.std.proofs.Common.{◌≡◌, ◌<◌, ℕ, [], replicate, length, get_or, set, ap, subst, sym, ◌∙◌, arith}
 use Rattle.std.proofs.lemmas.Bool.{eq-eqb, eqb-true, false≢true}
 use Rattle.std.proofs.lemmas.List.{map-set, get_or-map, length-map, length-replicate, nil_from_length as none_in}
 use Rattle.demand_paths.specs.Wanted.{sum_between, AreWanted}
@@ -46,24 +46,4 @@ returns c =
 
 pub returns-then-not-is_empty-clause-there : goal.returns-then-not-is_empty-clause-there
 returns-then-not-is_empty-clause-there c =
-    let from = c.args.from in
-    let rows = c.self.inside.by_source.items in
-    let size = ap length c.self.view_is in
-    let h : from < length rows = omega (
-      arith,
-      size,
-      length-map rows (λ customers. customers.items),
-      c.requires.wanted.size,
-      c.requires.from,
-    ) in
-    let old : get_or c.args.self.now from [] ≡ c.index.result.now.items =
-    ap (λ lists. get_or lists from []) (sym c.self.view_is)
-    ∙ get_or-map (λ customers. customers.items) rows from c.index.result.now [] h
-    ∙ ap (λ customers. customers.items) (sym c.index.ensures) in
-    elim (c.requires.wanted.each from c.requires.from) [
-      | inl none ↦
-          let count = ap length (sym old ∙ none) in
-          absurd (false≢true (sym c.if-not-is_empty.true ∙ c.is_empty.ensures
-          ∙ eq-eqb _ 0 (omega (arith, count, c.index.result.now.ok.0))))
-      | inr long ↦ long
-    ]
+    let from = c.args.from in grind (arith, length-map, get_or, get_or-map, false≢true, eq-eqb)

@@ -1,5 +1,5 @@
-use Rattle.std.proofs.Common.{◌≡◌, ℕ, ◌%◌, ◌<◌, ◌≤◌, List, [], length, map, get_or, ap, sym, ◌∙◌, arith, Vec, Global}
-use Rattle.std.proofs.lemmas.List.{get_or-map, length-map}
+use Rattle.plan_num.proofs.Common.{◌≡◌, ℕ, ◌%◌, ◌<◌, ◌≤◌, List, [], length, map, get_or, ap, sym}
+use Rattle.plan_num.proofs.Common.{◌∙◌, arith, Vec, Global, get_or-map, length-map}
 use Rattle.event_activity.specs.declared.run_event.RunEvent.{RunEvent}
 use Rattle.event_activity.proofs.Candidates.{all_among, few_among}
 use Rattle.event_activity.proofs.next_events.NextEvents.after.Goals as goal

@@ -1,5 +1,5 @@
 -- No event is noted before the first one, and then those so far.
-use Rattle.std.proofs.Common.{◌≡◌, [], All, length, map, take}
+use Rattle.plan_num.proofs.Common.{◌≡◌, [], All, length, map, take}
 use Rattle.event_activity.proofs.Candidates.{NotedTo}
 use Rattle.event_activity.proofs.next_events.NextEvents.new.Given as goal
 

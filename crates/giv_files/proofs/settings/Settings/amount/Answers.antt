@@ -1,4 +1,4 @@
-use Rattle.std.proofs.Common.{◌≡◌, rules}
+use Rattle.plan_num.proofs.Common.{◌≡◌, rules}
 use Rattle.giv_files.specs.Settings.{amount}
 use Rattle.giv_files.proofs.SettingFacts.{amount_allowed}
 use Rattle.giv_files.proofs.settings.Settings.amount.Goals as goal

@@ -1,5 +1,5 @@
-use Rattle.std.proofs.Common.{◌≡◌, true, ℕ, List, ◌++◌, IfSome, ap, sym, subst, ◌∙◌, take, get_or}
-use Rattle.std.specs.List.{flat_map}
+use Rattle.plan_num.proofs.Common.{◌≡◌, true, ℕ, List, ◌++◌, IfSome, ap, sym, subst, ◌∙◌, take}
+use Rattle.plan_num.proofs.Common.{get_or, flat_map}
 use Rattle.giv_files.specs.declared.key.Key.{Key}
 use Rattle.giv_files.specs.declared.key.Key.TheVariants.{LastStage}
 use Rattle.giv_files.specs.Keys.{allows}

@@ -1,16 +1,16 @@
-use Rattle.plan_num.proofs.Common.{subst, sym, All, err_from_is_err_and}
+use Rattle.plan_num.proofs.Common.{arith, subst, sym, All, err_from_is_err_and}
 use Rattle.tables.proofs.Common.{refused_without}
 use Rattle.line_walks.specs.GivenCosts.{IsCost}
-use Rattle.line_walks.specs.PoolCosts.{pool_cost_input}
 use Rattle.line_walks.proofs.CostRules.{line_missing_of_text, costs_given}
 use Rattle.line_walks.proofs.SoundCosts.{costs_sound}
 use Rattle.line_walks.proofs.given_costs.LineCosts.from_text.Goals as goal
 
 pub returns-in_err-rows : goal.returns-in_err-rows
 returns-in_err-rows c =
-    let p = err_from_is_err_and c.from_residual.result c.from_residual.ensures.1 in
-    rw (p.1, p.2) (refused_without (pool_cost_input c.args.pool.now) c.args.text.now
-    c.in_err-rows.field-0.0 c.in_err-rows.ensures)
+    let p = err_from_is_err_and c.from_residual.result c.from_residual.ensures.1 in grind (
+      arith,
+      refused_without,
+    )
 
 pub invariant_of-result : goal.invariant_of-result
 invariant_of-result c =

@@ -1,5 +1,5 @@
-use Rattle.std.proofs.Common.{◌≡◌, [], Some, slice_get, take, subst, sym, ap, ◌∙◌, arith, w64}
-use Rattle.std.specs.Ordering.{int_eq}
+use Rattle.plan_num.proofs.Common.{◌≡◌, [], Some, slice_get, take, subst, sym, ap, ◌∙◌, arith, w64}
+use Rattle.plan_num.proofs.Common.{int_eq}
 use Rattle.std.proofs.lemmas.Int.{to_z-of_z}
 use Rattle.tables.proofs.Common.{broken_whys, records_by}
 use Rattle.indexmap.specs.IndexMap.{insert_entry}

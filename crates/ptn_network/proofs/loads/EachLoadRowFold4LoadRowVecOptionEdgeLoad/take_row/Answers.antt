@@ -1,4 +1,4 @@
-use Rattle.std.proofs.Common.{◌∷◌, ◌++◌, [], map, take, ap, ◌∙◌}
+use Rattle.plan_num.proofs.Common.{◌∷◌, ◌++◌, [], map, take, ap, ◌∙◌}
 use Rattle.tables.proofs.Common.{records_by}
 use Rattle.ptn_network.specs.Loads.{load_row_of, given_for}
 use Rattle.ptn_network.proofs.LoadRows.{given_more, own_row}

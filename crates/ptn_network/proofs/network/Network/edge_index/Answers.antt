@@ -1,4 +1,4 @@
-use Rattle.std.proofs.Common.{refl, w64}
+use Rattle.plan_num.proofs.Common.{refl, w64}
 use Rattle.std.proofs.lemmas.Int.{to_z-of_z}
 use Rattle.ptn_network.proofs.network.Network.edge_index.Goals as goal
 

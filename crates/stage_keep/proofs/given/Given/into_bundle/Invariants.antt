@@ -1,5 +1,5 @@
 -- The inputs so far and those that are left are all of them.
-use Rattle.std.proofs.Common.{◌≡◌, ◌++◌}
+use Rattle.plan_num.proofs.Common.{◌≡◌, ◌++◌}
 use Rattle.stage_keep.proofs.given.Given.into_bundle.Given as goal
 
 abbrev pub invariant-loop-text : goal.invariant-loop-text

@@ -10,9 +10,7 @@ use Rattle.tables.proofs.table.Table.cell.Given.{Over}
 -- the place of the cell is one among all cells
 place_within : (g : Over) (c : After-self g) → c.args.row * g.row.C + c.args.column < vec_len c.self.inside.cells
 place_within g c =
-    let table = c.self.inside in
-    cell_within g.row.C table.numbers.items table.cells.items _ c.args.row c.args.column _ _
-    c.self.invariant table.numbers.ok.0 c.self.view_is c.requires.row_in c.requires.column_in
+    let table = c.self.inside in grind (arith, cell_within)
 
 pub index-requires : goal.index-requires
 index-requires g c = place_within g c

@@ -3,14 +3,7 @@ use Rattle.tables.proofs.TableRows.{row_within, number_is}
 use Rattle.tables.proofs.table.Table.number.Goals as goal
 
 pub index-requires : goal.index-requires
-index-requires g c =
-    let table = c.self.inside in
-    omega (
-      arith,
-      table.numbers.ok.0,
-      row_within g.row.C table.numbers.items table.cells.items _
-          c.args.row c.self.view_is c.requires,
-    )
+index-requires g c = grind (arith, row_within)
 
 pub returns : goal.returns
 returns g c =

@@ -1,4 +1,4 @@
-use Rattle.std.proofs.Common.{◌*◌, ◌+◌, ◌≤◌, ◌∙◌, List, ℤ, ap, arith, drop, take}
+use Rattle.plan_num.proofs.Common.{◌*◌, ◌+◌, ◌≤◌, arith}
 use Rattle.std.specs.Vec.{vec_len}
 use Rattle.tables.proofs.TableRows.{row_ends, row_cells}
 use Rattle.tables.proofs.table.Table.row.Goals as goal
@@ -8,9 +8,7 @@ use Rattle.tables.proofs.table.Table.row.Given.{Over}
 -- the cells of the row are among all cells
 ends : (g : Over) (c : After-deref g) → c.args.row * g.row.C + g.row.C ≤ vec_len c.self.inside.cells
 ends g c =
-    let table = c.self.inside in
-    row_ends g.row.C table.numbers.items table.cells.items _ c.args.row _ _ c.self.invariant
-    table.numbers.ok.0 c.self.view_is c.requires
+    let table = c.self.inside in grind (arith, row_ends)
 
 pub overflow_mul-row : goal.overflow_mul-row
 overflow_mul-row g c = omega (arith, ends g c, c.deref.ensures.len, c.deref.type_inv)
@@ -20,14 +18,8 @@ split_at-requires g c = omega (arith, ends g c, c.deref.ensures.len)
 
 pub split_at-requires-2 : goal.split_at-requires-2
 split_at-requires-2 g c =
-    let table = c.self.inside in
-    let within = row_ends g.row.C table.numbers.items table.cells.items _ c.args.row _ _
-    c.self.invariant table.numbers.ok.0 c.self.view_is c.requires in
-    omega (arith, within, c.deref.ensures.len, c.split_at.ensures.back_len)
+    let table = c.self.inside in grind (arith, row_ends)
 
 pub returns : goal.returns
 returns g c =
-    let table = c.self.inside in
-    c.split_at-2.ensures.front ∙ ap (take g.row.C) (c.split_at.ensures.back
-    ∙ ap (λ (cells : List ℤ). drop (c.args.row * g.row.C) cells) c.deref.ensures.value)
-    ∙ row_cells g.row.C table.numbers.items table.cells.items _ c.args.row c.self.view_is c.requires
+    let table = c.self.inside in grind (arith, row_cells)

@@ -1,4 +1,4 @@
-use Rattle.std.proofs.Common.{◌≡◌, take}
+use Rattle.plan_num.proofs.Common.{◌≡◌, take}
 use Rattle.waiting_decisions.specs.Paths.{all_but}
 use Rattle.waiting_decisions.proofs.kept.Kept.all_but.Given as goal
 

@@ -1,8 +1,7 @@
-use Rattle.std.proofs.Common.{◌≡◌, ◌∙◌, ◌*◌, ◌+ℤ◌, ◌≤ℤ◌, pos, length, to_z, of_z, ap, sym, subst}
+use Rattle.plan_num.proofs.Common.{arith, ◌≡◌, ◌∙◌, ◌*◌, ◌+ℤ◌, pos, length, to_z, of_z, ap, sym}
+use Rattle.plan_num.proofs.Common.{subst}
 use Rattle.std.proofs.lemmas.Int.{to_z-of_z}
 use mir.Syntax.{w128}
-use Rattle.propagation.proofs.Common.{IsForward}
-use Rattle.waiting_decisions.specs.Choices.{total}
 use Rattle.waiting_decisions.specs.Paths.{dropped_in, region_in}
 use Rattle.waiting_decisions.specs.Regions.{bound_of}
 use Rattle.waiting_decisions.proofs.Bounds.{bound_holds}
@@ -31,16 +30,15 @@ pub returns-clause-least : goal.returns-clause-least
 returns-clause-least c = bound_least c.delay.result _ c.args.penalty _ (told c) c.delay.ensures.least
 
 pub returns-clause-most : goal.returns-clause-most
-returns-clause-most c small =
-    bound_most c.delay.result _ c.args.penalty _ _ (told c) c.delay.ensures.most
-    (few_dropped c.self.inside.trial c.self.invariant.once) c.delay.ensures.few small
+returns-clause-most c small = grind (arith, bound_most, told, few_dropped)
 
 pub returns-clause-forward : goal.returns-clause-forward
-returns-clause-forward c =
-    subst (λ path. IsForward path.problem) c.self.view_is c.delay.ensures.forward
+returns-clause-forward c = grind arith
 
 pub returns-clause-holds : goal.returns-clause-holds
-returns-clause-holds c kept times lies feasible =
-    subst (λ bound. bound ≤ℤ total c.args.self.now.problem c.args.penalty kept times) (sym (returns-clause-value c))
-    (bound_holds c.args.self.now.problem (returns-clause-forward c) c.args.penalty
-    (region_in c.args.self.now) kept times lies feasible)
+returns-clause-holds c kept times lies feasible = grind (
+  arith,
+  returns-clause-value,
+  bound_holds,
+  returns-clause-forward,
+)

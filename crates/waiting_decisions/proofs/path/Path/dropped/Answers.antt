@@ -1,4 +1,4 @@
-use Rattle.std.proofs.Common.{◌≡◌, ◌∙◌, length, ap, subst}
+use Rattle.plan_num.proofs.Common.{◌≡◌, ◌∙◌, length, ap, subst}
 use Rattle.waiting_decisions.specs.Paths.{all_but, region_in}
 use Rattle.waiting_decisions.specs.Regions.{greatest_set}
 use Rattle.waiting_decisions.proofs.PathFacts.{greatest_is}

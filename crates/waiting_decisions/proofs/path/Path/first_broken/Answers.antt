@@ -1,4 +1,4 @@
-use Rattle.std.proofs.Common.{◌≡◌, ◌∙◌, subst}
+use Rattle.plan_num.proofs.Common.{◌≡◌, ◌∙◌, subst}
 use Rattle.waiting_decisions.specs.Paths.{region_in}
 use Rattle.waiting_decisions.specs.Regions.{first_broken}
 use Rattle.waiting_decisions.proofs.PathFacts.{broken_is}

@@ -1,5 +1,5 @@
 -- The parts that wait behind the decisions that are left are those that waited at first.
-use Rattle.std.proofs.Common.{◌≡◌, length}
+use Rattle.plan_num.proofs.Common.{◌≡◌, length}
 use Rattle.waiting_decisions.specs.Paths.{waiting_in}
 use Rattle.waiting_decisions.proofs.path.Path.go_on.Given as goal
 

@@ -1,4 +1,4 @@
-use Rattle.std.proofs.Common.{◌≡◌, true, length, sym, subst}
+use Rattle.plan_num.proofs.Common.{◌≡◌, true, length, sym, subst}
 use Rattle.waiting_decisions.specs.Paths.{IsPath, region_in}
 use Rattle.waiting_decisions.specs.Regions.{is_free_at}
 use Rattle.waiting_decisions.proofs.PathFacts.{free_there, dropped_on}

@@ -1,4 +1,4 @@
-use Rattle.std.proofs.lemmas.Bool.{both_ways, not-false, not-true}
+use Rattle.plan_num.proofs.Common.{both_ways, not-false, not-true}
 use Rattle.waiting_decisions.proofs.PathFacts.{popped, still_path, then_free}
 use Rattle.waiting_decisions.proofs.path.Path.step_back.Goals as goal
 

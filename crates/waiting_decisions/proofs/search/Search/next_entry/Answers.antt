@@ -1,4 +1,4 @@
-use Rattle.std.proofs.Common.{◌≡◌, ◌∙◌, None, Some, length, sym, subst}
+use Rattle.plan_num.proofs.Common.{◌≡◌, ◌∙◌, None, Some, length, sym, subst}
 use Rattle.std.proofs.lemmas.Int.{to_z-of_z}
 use mir.Syntax.{w128}
 use Rattle.propagation.proofs.Common.{IsForward}

@@ -1,4 +1,4 @@
-use Rattle.std.proofs.Common.{length, refl, subst}
+use Rattle.plan_num.proofs.Common.{length, refl, subst}
 use Rattle.waiting_decisions.specs.Searches.{Splits, best_in}
 use Rattle.waiting_decisions.proofs.Turns.{split_done}
 use Rattle.waiting_decisions.proofs.search.Search.split.Goals as goal

@@ -1,5 +1,5 @@
-use Rattle.std.proofs.Common.{◌≡◌, ◌∙◌, true, length, refl, ap, sym, subst}
-use Rattle.waiting_decisions.specs.Listings.{cut_off, found, found_by}
+use Rattle.plan_num.proofs.Common.{arith, ◌≡◌, ◌∙◌, true, length, refl, ap, sym, subst}
+use Rattle.waiting_decisions.specs.Listings.{cut_off, found_by}
 use Rattle.waiting_decisions.specs.Searches.{Between, IsCheap, Leaves, Splits, TakesEntry, choice_of, entry_of}
 use Rattle.waiting_decisions.proofs.Turns.{next_free, outcome_by, takes_leaf, takes_split}
 use Rattle.waiting_decisions.proofs.search.Search.take_entry.Goals as goal
@@ -20,16 +20,8 @@ returns-in-CutOff-clause-takes c =
 
 pub returns-in-Found-clause-takes : goal.returns-in-Found-clause-takes
 returns-in-Found-clause-takes c =
-    let choice = choice_of (length c.args.self.now.path.problem.changes) c.in-Found.best in
-    outcome_by (Leaves c.hold.new.self c.leave-in-Found.new.self)
-    (TakesEntry c.args.penalty c.args.self.now c.leave-in-Found.new.self) c.leave-in-Found.result
-    c.leave-in-Found.ensures
-    (λ more leaves. takes_leaf c.args.penalty c.args.self.now (found choice)
-    (sym (ap (entry_of (length c.args.self.now.path.problem.changes)) c.in-Found.is)
-    ∙ c.in_ok-next_entry.ensures.next) refl
-    c.hold.new.self c.leave-in-Found.new.self more (ap (λ (at : Between). at.path) c.hold.ensures)
-    (ap (λ (at : Between). at.nodes) c.hold.ensures)
-    (ap (λ (at : Between). at.best) c.hold.ensures) leaves)
+    let choice = choice_of (length c.args.self.now.path.problem.changes) c.in-Found.best in grind
+    (arith, outcome_by, takes_leaf)
 
 pub returns-in-Split-clause-takes : goal.returns-in-Split-clause-takes
 returns-in-Split-clause-takes c =

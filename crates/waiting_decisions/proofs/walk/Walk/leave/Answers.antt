@@ -1,4 +1,4 @@
-use Rattle.std.proofs.Common.{ap, subst}
+use Rattle.plan_num.proofs.Common.{ap, subst}
 use Rattle.waiting_decisions.specs.Paths.{GoesOn}
 use Rattle.waiting_decisions.specs.Walks.{Walking}
 use Rattle.waiting_decisions.proofs.Walked.{over_leaf}

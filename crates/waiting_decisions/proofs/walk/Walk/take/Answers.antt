@@ -1,4 +1,4 @@
-use Rattle.std.proofs.Common.{◌∙◌, ap, sym}
+use Rattle.plan_num.proofs.Common.{◌∙◌, ap, sym}
 use Rattle.waiting_decisions.specs.Walks.{Walking}
 use Rattle.waiting_decisions.proofs.Walked.{none_waits}
 use Rattle.waiting_decisions.proofs.walk.Walk.take.Goals as goal
