@@ -1,7 +1,7 @@
 -- Columns that pass a test, word by word.
 use Rattle.plan_num.proofs.Common.{◌≡◌, ◌∙◌, inl, inr, ℕ, zero, suc, ◌+◌, ◌-◌, ◌*◌, ◌/◌, ◌%◌, ◌<◌}
 use Rattle.plan_num.proofs.Common.{◌≤◌, Bool, true, false, cond, ◌&&◌, List, [], ◌∷◌, ◌++◌, map}
-use Rattle.plan_num.proofs.Common.{filter, Some, None, bit_and, w64, refl, ap, sym, arith}
+use Rattle.plan_num.proofs.Common.{filter, Some, bit_and, w64, refl, ap, sym, arith}
 use Rattle.plan_num.proofs.Common.{range_with_len, cases_eq, false≢true, le-ltb, append-nil}
 use Rattle.plan_num.proofs.Common.{append_assoc, filter-append, and_le_l}
 use Rattle.std.specs.Int.{bit_not}
@@ -91,9 +91,6 @@ one_fewer word bit left first is =
     let other : left ≡ word → ⊥ = λ same. false≢true (sym (with_same word bit false first.1)
     ∙ ap (λ w. has_bit w bit) (sym is ∙ same) ∙ first.2) in
     omega (arith, is, no_more, other)
-
-pub no_place : (start word : ℕ) → IsFirstBit word 0 None → places_in start word ≡ []
-no_place start word none = grind arith
 
 -- the places so far, and those of the bits that are left
 pub place_pushed : (found more all : List ℕ) (start word bit left : ℕ)

@@ -5,7 +5,7 @@ use Rattle.plan_num.proofs.Common.{◌∷◌, ◌++◌, length, get_or, map, uns
 use Rattle.plan_num.proofs.Common.{append_assoc, append-nil, Option, Some, None, All, lt-ltb}
 use Rattle.plan_num.proofs.Common.{le-ltb, ltb-false, cases_lt, ints, reverse-append, All-nil}
 use Rattle.plan_num.proofs.Common.{All-push, fold_push}
-use Rattle.line_cost_model.proofs.Common.{Multiplier, AreMultipliers, IsAmount, multipliers_push}
+use Rattle.line_cost_model.proofs.Common.{Multiplier, IsAmount, multipliers_push}
 use Rattle.line_concepts.specs.declared.node.Node.{Node}
 use Rattle.line_concepts.specs.declared.node.Node.TheVariants as node
 use Rattle.branch_certificate.specs.declared.open_bound.OpenBound.{OpenBound}
@@ -85,9 +85,6 @@ module _ (ids : NamedIds) (before : List TreeRow) (row : TreeRow) (nodes : List 
     last = λ other edge stands. grind (arith, falls_more, le-ltb);
     sound = grind (arith, All-nil);
   }
-    where
-      no_multipliers : AreMultipliers []
-      no_multipliers = grind arith
 
 -- ---- a multiplier behind rows
 

@@ -14,7 +14,7 @@ use Rattle.connections.specs.declared.timed_event.TimedEvent.{TimedEvent}
 use Rattle.connections.specs.declared.way.Way.{Way}
 use Rattle.connections.specs.declared.way.Way.TheVariants as way
 use Rattle.connections.specs.Nets.{IsConnection, JourneyParts}
-use Rattle.connections.specs.Journeys.{IsReached, leads, passes_at, starts}
+use Rattle.connections.specs.Journeys.{IsReached, leads}
 use Rattle.connections.specs.Links.{AreLinks, IsInTurn}
 use Rattle.connections.specs.Ways.{AreWays, IsWay, first_way, go_by, is_by, is_reached, lesser, or_by, way_at}
 use Rattle.connections.specs.Ways.{ways_along}
@@ -169,11 +169,6 @@ module _ (net : JourneyParts) (sound : All (IsConnection net) net.connections)
       → Leads event (way_at (map (first_way from start) net.events) event)
   first_leads event = by (slice_get_cases net.events event).1
     where
-      put : (x : TimedEvent) → passes_at (starts from start) net event ≡ starts from start x
-          → Leads event (first_way from start x)
-      put x told = cond_both (starts from start x) way.Start way.Unreached (Leads event)
-          (λ is. told ∙ is) (λ fails. told ∙ fails)
-
       by : ((x : TimedEvent) × (event < length net.events)
           × (slice_get net.events event ≡ Some x) × (get_or net.events event x ≡ x))
           ⊎ ((length net.events ≤ event) × (slice_get net.events event ≡ None))

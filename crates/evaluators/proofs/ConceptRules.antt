@@ -1,17 +1,16 @@
 -- The rules of the file of the line concept, row by row.
-use Rattle.plan_num.proofs.Common.{◌≡◌, ℕ, ℤ, ◌+◌, ◌<◌, not, Bool, true, false, cond, eqb, List, []}
-use Rattle.plan_num.proofs.Common.{◌∷◌, ◌++◌, length, map, take, drop, get_or, slice_get, refl, ap}
-use Rattle.plan_num.proofs.Common.{sym, ◌∙◌, Option, Some, None, option_map, is_some, arith, find}
+use Rattle.plan_num.proofs.Common.{◌≡◌, ℕ, ℤ, ◌+◌, ◌<◌, Bool, true, false, cond, List, []}
+use Rattle.plan_num.proofs.Common.{◌∷◌, length, map, take, drop, get_or, slice_get, refl, ap}
+use Rattle.plan_num.proofs.Common.{sym, ◌∙◌, Option, Some, None, option_map, arith, find}
 use Rattle.plan_num.proofs.Common.{option_or, int_eq, Decides-int_eq, int_eq_equiv, drop_more}
 use Rattle.plan_num.proofs.Common.{get_or-map, length-map, take-append-drop, find-append}
 use Rattle.std.proofs.lemmas.List.{take-map}
-use Rattle.tables.specs.declared.row_why.RowWhy.TheVariants as why
 use Rattle.tables.proofs.Common.{broken_whys, records, TableRow, no_row}
 use Rattle.evaluators.specs.declared.costed_line.CostedLine.{CostedLine}
 use Rattle.evaluators.specs.declared.rows.CostRow.{CostRow}
 use Rattle.evaluators.specs.declared.rows.LineRow.{LineRow}
 use Rattle.evaluators.specs.CostedLines.{broken_by, costed}
-use Rattle.evaluators.specs.StatisticInputs.{concept_input, cost_with, differs, first_row, line_row, lines_of}
+use Rattle.evaluators.specs.StatisticInputs.{concept_input, first_row, line_row, lines_of}
 use Rattle.evaluators.proofs.FirstRowFacts.{find_firsts}
 
 -- the first row of the line of a row among rows that have it is before it, or it is that row
@@ -47,27 +46,6 @@ found_line line (first ∷ rows) row e = by (int_eq line first.line) refl e (fou
         (Decides-int_eq line first.line).0 is ∙ ap (λ (row : LineRow). row.line) same
     by false is e rest = rest e
 
-some_mapped : (o : Option CostRow) → is_some (option_map (λ (row : CostRow). row.cost) o) ≡
-    is_some o
-some_mapped None = refl
-some_mapped (Some row) = refl
-
--- the frequencies of a row and of the first row of its line differ where a rule is broken
-differs_from : (before : Option LineRow) (row found : LineRow)
-    → Some found ≡ option_or before (Some row)
-    → differs row before ≡ not (eqb row.frequency found.frequency)
-differs_from None row found e = grind arith
-differs_from (Some first) row found e = grind arith
-
-told_by : (known differs : Bool)
-    → slice_get (cond (not known) (why.UnknownLine ∷ []) [] ++ (cond differs (why.FrequencyDiffers
-    ∷ []) [] ++ [])) 0
-    ≡ cond (not known) (Some why.UnknownLine) (cond differs (Some why.FrequencyDiffers) None)
-told_by true true = refl
-told_by true false = refl
-told_by false true = refl
-told_by false false = refl
-
 module _ (costs : List CostRow) (rows : List LineRow) (i : ℕ) (d : LineRow)
     (inside : i < length rows) (lines : List CostedLine)
     (are : lines ≡ map (costed costs) (lines_of rows)) where
@@ -98,24 +76,6 @@ module _ (costs : List CostRow) (rows : List LineRow) (i : ℕ) (d : LineRow)
       ≡ slice_get (broken_whys (concept_input costs).row_rules (take i rows) row) 0
   line_tells line is = by (first_row (take i rows) row.line) refl
     where
-      tells : (found : LineRow) → row.line ≡ found.line → Some line ≡ Some (costed costs found)
-          → Some found ≡ option_or (first_row (take i rows) row.line) (Some row)
-          → broken_by line row.frequency
-          ≡ slice_get (broken_whys (concept_input costs).row_rules (take i rows) row) 0
-      tells found own same first =
-          let line_is : line ≡ costed costs found = cc in
-          let known : is_some (costed costs found).cost ≡ is_some (cost_with costs row.line) =
-          some_mapped (cost_with costs found.line)
-          ∙ ap (λ id. is_some (cost_with costs id)) (sym own) in
-          ap (λ line. broken_by line row.frequency) line_is
-          ∙ ap (λ k. cond (not k) (Some why.UnknownLine) (cond (not (eqb row.frequency
-          found.frequency)) (Some why.FrequencyDiffers) None)) known
-          ∙ ap (λ b. cond (not (is_some (cost_with costs row.line))) (Some why.UnknownLine)
-          (cond b (Some why.FrequencyDiffers) None))
-          (sym (differs_from (first_row (take i rows) row.line) row found first))
-          ∙ sym (told_by (is_some (cost_with costs row.line))
-          (differs row (first_row (take i rows) row.line)))
-
       by : (o : Option LineRow) → first_row (take i rows) row.line ≡ o
           → broken_by line row.frequency
           ≡ slice_get (broken_whys (concept_input costs).row_rules (take i rows) row) 0

@@ -97,15 +97,6 @@ minutes_small events rows are =
     let few = filter_few is_empty_row rows in
     omega (arith, sum, few, rows_few events rows are)
 
-latest_below : (time : ℕ) (others : List ℕ) (most : ℕ) → time ≤ most → All (λ t. t ≤ most) others
-    → latest time others ≤ most
-latest_below time [] most h all = h
-latest_below time (other ∷ others) most h all =
-    let head = All-head (λ t. t ≤ most) other others all in
-    latest_below (later time other) others most
-    (elim (ltb time other) as (λ b. cond b other time ≤ most) [ true ↦ head | false ↦ h ])
-    (All-tail (λ t. t ≤ most) other others all)
-
 late_below : (events : List ExpandedEvent) (times : List ℕ)
     → All (λ time. time ≤ LATEST) times
     → (time : ℕ) → time ≤ LATEST

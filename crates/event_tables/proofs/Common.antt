@@ -18,8 +18,8 @@ pub use Rattle.event_tables.specs.Headers.{disposed_time_header, expanded_activi
 pub use Rattle.event_tables.specs.Headers.{expanded_event_header, periodic_activity_header}
 pub use Rattle.event_tables.specs.Headers.{periodic_event_header, periodic_time_header}
 pub use Rattle.event_tables.specs.Headers.{schedule_header, trip_header}
-pub use Rattle.event_tables.specs.Kinds.{activity_kind_place, event_kind_at, event_kind_place}
-pub use Rattle.event_tables.specs.Kinds.{is_arrival, is_empty, is_sync, periodic_kind_place}
+pub use Rattle.event_tables.specs.Kinds.{event_kind_at, event_kind_place}
+pub use Rattle.event_tables.specs.Kinds.{is_arrival, is_empty, is_sync}
 pub use Rattle.event_tables.specs.Kinds.{same_direction}
 pub use Rattle.event_tables.specs.PeriodicFiles.{ArePeriodicActivities, ArePeriodicTimes}
 pub use Rattle.event_tables.specs.PeriodicFiles.{IsPeriodicActivity, periodic_activity_input}

@@ -1,5 +1,5 @@
 -- The first fault of nodes: that of their shape, or else the first of the nodes over their regions.
-use Rattle.plan_num.proofs.Common.{◌≡◌, ℤ, ◌+◌, ◌↔◌, arith, List, [], ◌∷◌, ◌++◌, length, slice_get}
+use Rattle.plan_num.proofs.Common.{◌≡◌, ℤ, ◌+◌, ◌↔◌, arith, List, ◌∷◌, ◌++◌, length, slice_get}
 use Rattle.plan_num.proofs.Common.{Option, Some, None, Result, Ok, Err, IfNone, IfOk, refl, sym}
 use Rattle.plan_num.proofs.Common.{false≢true, append_assoc, append-nil}
 use Rattle.line_cost_model.proofs.Common.{LineRange, ProblemParts, HasEachFeasible, part_from}
@@ -51,10 +51,6 @@ placed_are problem nodes (Some read) is none =
       tree_walked,
       append-nil,
     )
-  where
-    empty_by : (faults : List TreeFault) → slice_get faults 0 ≡ None → faults ≡ []
-    empty_by [] h = refl
-    empty_by (fault ∷ faults) h = absurd (cc)
 
 module _ (problem : ProblemParts) (cost : ℤ) (nodes : List Node) where
   -- a fault of the shape is the first one

@@ -4,7 +4,6 @@ pub use Rattle.line_cost_model.specs.Concepts.{IsFeasible, cost_of, frequency_on
 pub use Rattle.line_cost_model.specs.DualBounds.{are_within, bound_by, dual_bound, least_left}
 pub use Rattle.line_cost_model.specs.DualBounds.{multipliers_of, next_multiplier, open_lines}
 pub use Rattle.line_cost_model.specs.DualBounds.{shortfall, taken_off, unless_zero, with_next}
-pub use Rattle.line_cost_model.specs.EmptySides.{is_empty_on}
 pub use Rattle.line_cost_model.specs.Multipliers.{AreMultipliers, IsAfter, IsAmount}
 pub use Rattle.line_cost_model.specs.Problems.{CostedLine, IsBoundedEdge, IsCostedLine, IsId}
 pub use Rattle.line_cost_model.specs.Problems.{IsProblem, ProblemParts}

@@ -90,12 +90,6 @@ paid_more multipliers edge amount (line ∷ lines) paid =
       paid_more multipliers edge amount
           lines parts.1,
     )
-  where
-    gated : (goes : Bool) (can : CostedLine → Bool) (line : CostedLine) (rest : List CostedLine)
-        → (cond goes (can line) true && list_all can rest)
-        ≡ list_all can (cond goes (line ∷ rest) rest)
-    gated true can line rest = refl
-    gated false can line rest = refl
 
 -- ---- some first multipliers
 

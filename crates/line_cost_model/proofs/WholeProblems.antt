@@ -9,7 +9,7 @@ use Rattle.line_cost_model.specs.declared.edge.BoundedEdge.{BoundedEdge}
 use Rattle.line_cost_model.specs.declared.problem.Longer.{Longer}
 use Rattle.line_cost_model.specs.Concepts.{goes_over}
 use Rattle.line_cost_model.specs.Crossings.{CrossedEdge, AreCrossed, AreLonger, AreTaken, no_edge}
-use Rattle.line_cost_model.specs.Crossings.{edge_at, crossed_at, lines_over}
+use Rattle.line_cost_model.specs.Crossings.{edge_at, crossed_at}
 use Rattle.line_cost_model.specs.Problems.{CostedLine, ProblemParts, IsBoundedEdge, IsCostedLine, IsProblem}
 use Rattle.line_cost_model.proofs.Pushed.{edge_push, line_push, over_push, crossed_by_none}
 use Rattle.plan_num.proofs.Tests.{or_false, or_true}
@@ -56,12 +56,6 @@ module _ (edges after : List CrossedEdge) (lines : List CostedLine) (line : Cost
         let within : edge < length edges = omega (arith, slice_get_within after edge at there) in
         let here : edge_at after edge ≡ at = get_or_from_slice_get after edge at no_edge there in
         grind (arith, slice_get-get_or, taken_over, over_push)
-      where
-        either : (b : Bool) (edge : ℕ) → (edge_at edges edge).lines ≡ lines_over lines edge
-            → (cond b (crossed_at edges (length lines) edge) (edge_at edges edge)).lines ≡ cond b
-            (lines_over lines edge ++ length lines ∷ []) (lines_over lines edge)
-        either true edge old = ap (λ some. some ++ length lines ∷ []) old
-        either false edge old = old
 
 -- lists of the lines over edges, one after the other
 pub longer_more : (edges : List CrossedEdge) (line : ℕ) (longer : List Longer) (one : Longer)

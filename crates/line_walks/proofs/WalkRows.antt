@@ -26,11 +26,6 @@ front_from stop [] back is = refl
 front_from stop (edge ∷ front) back is =
     one (across edge stop) (λ next. front_from next front back) is
   where
-    joined : (stops : Option (List ℕ)) → is_some (option_map (λ more. stop ∷ more) stops)
-        ≡ is_some stops
-    joined None = refl
-    joined (Some stops) = refl
-
     one : (next : Option ℕ)
         → ((next : ℕ) → is_some (walk_from next (front ++ back)) ≡ true
         → is_some (walk_from next front) ≡ true)

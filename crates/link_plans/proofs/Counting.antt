@@ -55,9 +55,6 @@ one_less q taken from (suc n) low high free = by_number from taken
       one_less q taken (from + 1) n (omega (arith, low, ne)) (omega
           (arith, high)) free,
     ))
-  where
-    ne-of : {a b k : ℕ} → a + 1 ≤ k → a ≡ b → k ≡ b → ⊥
-    ne-of h is e = omega (arith, h, is, e)
 
 pub count_most : (p : ℕ → Bool) (from n : ℕ) → count p from n ≤ n
 count_most p from zero = omega arith

@@ -1,7 +1,7 @@
 -- A potential that covers what the links of a trip gain.
 use Rattle.plan_num.proofs.Common.{◌≡◌, ℕ, ◌<◌, ◌≤◌, ◌+◌, ◌-◌, max, List, length, slice_get}
-use Rattle.plan_num.proofs.Common.{slice_set, is_some, Option, Some, None, IfSome, refl, ap, sym}
-use Rattle.plan_num.proofs.Common.{◌∙◌, subst, arith, get_or-set_same, same_Some, slice_get_within}
+use Rattle.plan_num.proofs.Common.{slice_set, is_some, Option, Some, None, IfSome, refl, sym}
+use Rattle.plan_num.proofs.Common.{subst, arith, get_or-set_same, slice_get_within}
 use Rattle.link_plans.specs.Links.{Links, AreLinks}
 use Rattle.link_plans.proofs.Linking.{by_number}
 use Rattle.link_plans.proofs.Certified.{by_bound}
@@ -26,9 +26,6 @@ module _ (links : Links) (potentials : PotentialParts) (i most done : ℕ) (row 
     small = omega (arith, are.small, (is.right done link here).small, most_is);
     covers = λ k other before e. grind (arith, by_number);
   }
-    where
-      link_is : (other : Link) (k : ℕ) → k ≡ done → slice_get row k ≡ Some other → link ≡ other
-      link_is other k same e = same_Some link other (sym here ∙ ap (slice_get row) (sym same) ∙ e)
 
   -- the potential of the trip covers all its links, where none is to a trip that is not there
   pub covers_all : ((j : ℕ) → links.count ≤ j → worth (links.gain i j) ≡ None) → length row ≤ done

@@ -32,10 +32,6 @@ word_begun sets event word are inside small is =
     wide_begun sets.columns (is_left sets event) (word ∷ []) (λ time. one time (cases_lt time 64)
     (cases_lt time sets.columns))
   where
-    there : (time : ℕ) → time < 64 → marked (word ∷ []) time
-        ≡ has_bit (word_of sets event time) (time % 64)
-    there time low = grind (arith, in_word)
-
     one : (time : ℕ) → (time < 64) ⊎ (64 ≤ time) → (time < sets.columns) ⊎ (sets.columns ≤ time)
         → marked (word ∷ []) time ≡ (nat_lt time sets.columns && is_left sets event time)
     one time (inl low) (inl within) = grind arith

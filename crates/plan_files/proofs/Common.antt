@@ -4,7 +4,7 @@ pub use Rattle.plan_files.specs.Changes.{after_write, folder_after, left_by, wri
 pub use Rattle.plan_files.specs.Counts.{Counts, Rose}
 pub use Rattle.plan_files.specs.Folder.{Folder, found}
 pub use Rattle.plan_files.specs.Others.{AreOutside}
-pub use Rattle.plan_files.specs.Reads.{FoundBehind, LacksEnds, LacksFront, OnlyReads}
+pub use Rattle.plan_files.specs.Reads.{FoundBehind, LacksEnds, OnlyReads}
 pub use Rattle.plan_files.specs.declared.file_fault.FileFault.{FileFault}
 pub use Rattle.plan_files.specs.declared.file_fault.FileFault.TheVariants.{Failed}
 pub use Rattle.plan_files.specs.declared.store.Got.{Got}

@@ -105,7 +105,7 @@ pub use Rattle.std.proofs.lemmas.Str.{IsUtf8-from_ascii}
 pub use Rattle.std.proofs.lemmas.Str.Parse.{digits_value_short}
 pub use Rattle.std.specs.Bool.{then_some}
 pub use Rattle.std.specs.Char.{is_ascii_digit}
-pub use Rattle.std.specs.Cmp.{int_ranks, nat_cmp_is}
+pub use Rattle.std.specs.Cmp.{int_ranks}
 pub use Rattle.std.specs.Cmp.Derive.{both_true}
 pub use Rattle.std.specs.Cmp.Lexicographic.{slice_cmp}
 pub use Rattle.std.specs.Cmp.Rules.{signed_items}

@@ -40,9 +40,6 @@ module _ (links : Links) (potentials : PotentialParts) (i : ℕ) (row : List Lin
       best = (done, (here, omega (arith, rest_is, some)));
       others = λ k other before e. grind (arith, by_number, same_link);
     }
-      where
-        old_best : (other : Link) → offer.best ≡ Some other → Below offer.most other
-        old_best other was = grind (arith, slice_get)
 
     offer_lost : rest ≤ offer.most → IsOffer row potentials (done + 1) (next_offer offer link rest false)
     offer_lost low = grind arith

@@ -293,10 +293,6 @@ module _ (links : Links) (potentials : PotentialParts) (trip : ℕ) (plan : List
             near_after place within free (Some near) is_it nearest =
                 grind (arith, slack_after, by_tree, option_map)
 
-            told_it : (place : ℕ) → claim_at claims place ≡ None → place < length nears → (it : Option Near)
-                → get_or nears place None ≡ it → get_or now place None ≡ option_map (moved_near slack) it
-            told_it place free within it is_it = grind arith
-
             place_there : (place : ℕ) (near : Near) → get_or now place None ≡ Some near → place < length nears
             place_there place near e = grind (arith, by_bound, none-some, get_or-eq_default)
 

@@ -1,22 +1,20 @@
 -- Files of a stage, where they stand in a folder: which are there, where none lacks; and those that
 -- are to be what their stage makes of its inputs.
-use Rattle.plan_num.proofs.Common.{◌≡◌, ℕ, Bool, true, false, cond, not, is_some, ◌&&◌, ◌||◌, List}
+use Rattle.plan_num.proofs.Common.{◌≡◌, ℕ, Bool, true, false, cond, not, is_some, ◌||◌, List}
 use Rattle.plan_num.proofs.Common.{[], ◌∷◌, Option, Some, None, Result, Ok, Err, refl, ap, subst}
-use Rattle.plan_num.proofs.Common.{sym, ◌∙◌, arith, Contains, list_all, list_any, ok_or, and_from}
-use Rattle.plan_num.proofs.Common.{and_parts, true≢false}
+use Rattle.plan_num.proofs.Common.{sym, ◌∙◌, arith, Contains, list_any, ok_or}
+use Rattle.plan_num.proofs.Common.{true≢false}
 use Rattle.std.specs.FinMap as map
 use Rattle.plan_files.proofs.Common.{Folder}
 use Rattle.tables.proofs.Common.{FileId, Refusal, file_name}
 use Rattle.giv_files.proofs.Common.{Made, MadeFile, Stage, MakesAs, ids_of, made_lists, stage_makes}
 use Rattle.tables.specs.declared.file_id.FileId.TheVariants as file
-use Rattle.giv_files.specs.declared.stage.Stage.TheVariants as stage
 use Rattle.stage_chain.specs.declared.cause.Cause.TheVariants as cause
 use Rattle.stage_chain.specs.declared.finding.Finding.{Finding}
 use Rattle.planning_stages.specs.Verdicts.{content_found, same_texts}
 use Rattle.stage_chain.specs.Checks.{is_certificate, is_lacking, lacks_file, standing}
 use Rattle.stage_chain.specs.Right.{files_by, found_file, made_in}
-use Rattle.stage_chain.specs.StageLists.{always_made}
-use Rattle.stage_chain.proofs.MadeLists.{made_list, only_one}
+use Rattle.stage_chain.proofs.MadeLists.{only_one}
 use Rattle.planning_stages.proofs.SameTexts.{own_texts, same_files}
 
 -- ---- files that are found
@@ -37,51 +35,6 @@ module _ (folder : Folder) where
 
   abbrev is_there : FileId → Bool
   is_there file = is_some (text file)
-
-  -- those that are found are there
-  found_there : (files : List FileId) → list_all is_there (ids_of (there files)) ≡ true
-  found_there [] = refl
-  found_there (file ∷ files) = by (text file) refl (found_there files)
-    where
-      by : (found : Option (List ℕ)) → text file ≡ found → list_all is_there (ids_of (there files)) ≡ true
-          → list_all is_there (ids_of (with_one file found files)) ≡ true
-      by (Some bytes) is rest = and_from _ _ (ap is_some is) rest
-      by None is rest = rest
-
-  -- where all are there, none lacks
-  none_lacks : (files : List FileId) → list_all is_there files ≡ true → lacks files ≡ false
-  none_lacks [] all = refl
-  none_lacks (file ∷ files) all =
-      let parts = and_parts _ _ all in
-      ap (λ b. (not b && not (is_certificate file)) || lacks files) parts.0 ∙ none_lacks files parts.1
-
-  -- where none lacks, and none may be left out, all are found
-  all_found : (files : List FileId) → list_any is_certificate files ≡ false → lacks files ≡ false
-      → ids_of (there files) ≡ files
-  all_found [] needed none = refl
-  all_found (file ∷ files) needed none =
-      by (text file) (is_certificate file) needed none (all_found files)
-    where
-      by : (found : Option (List ℕ)) (may_lack : Bool)
-          → (may_lack || list_any is_certificate files) ≡ false
-          → ((not (is_some found) && not may_lack) || lacks files) ≡ false
-          → (list_any is_certificate files ≡ false → lacks files ≡ false
-          → ids_of (there files) ≡ files)
-          → ids_of (with_one file found files) ≡ file ∷ files
-      by found true needed none rest = absurd (true≢false needed)
-      by (Some bytes) false needed none rest = ap (λ ids. file ∷ ids) (rest needed none)
-      by None false needed none rest = absurd (true≢false none)
-
-  -- where the first of two is there, and the second one is a certificate, none lacks
-  first_there : (first second : FileId) → is_certificate second ≡ true
-      → list_all is_there (first ∷ []) ≡ true → lacks (first ∷ second ∷ []) ≡ false
-  first_there first second may_lack all =
-      ap (λ b. (not b && not (is_certificate first)) || lacks (second ∷ [])) (and_parts _ _ all).0
-      ∙ by (is_there second)
-    where
-      by : (here : Bool) → ((not here && not (is_certificate second)) || false) ≡ false
-      by true = refl
-      by false = ap (λ b. not b || false) may_lack
 
   -- where none of two lacks, of which the first one has to be there, they are both, or that one
   pub either_stand : (first second : FileId) → is_certificate first ≡ false → lacks (first ∷ second ∷ []) ≡ false
@@ -118,18 +71,6 @@ module _ (folder : Folder) where
       by (Some bytes) None none found = absurd (alone bytes found)
       by None other none found =
           absurd (true≢false (ap (λ b. not b || (is_lacking second other || false)) (sym needed) ∙ none))
-
--- where files stand that a stage may make, none lacks
-all_own : (at : Stage) (folder : Folder) → MakesAs at (ids_of (standing folder at)) → lacks_file folder at ≡ false
-all_own at folder makes =
-    by at ((made_list at (ids_of (standing folder at)) makes).always (is_there folder)
-    (found_there folder (stage_makes at)))
-  where
-    by : (at : Stage) → list_all (is_there folder) (always_made at) ≡ true → lacks_file folder at ≡ false
-    by stage.Concept all = first_there folder file.Concept file.Tree refl all
-    by stage.PinnedConcept all = first_there folder file.Concept file.Tree refl all
-    by stage.PinnedVehicles all = first_there folder file.Schedule file.Potential refl all
-    by at all = none_lacks folder (stage_makes at) all
 
 -- the same of files in the place of a stage that makes the same
 pub all_there : (at : Stage) (folder : Folder) (files : List FileId) → stage_makes at ≡ files

@@ -34,10 +34,6 @@ module _ (id start : ℕ) where
       let rest : run_ids run ≡ range_with_len (f + 1) (length run) = let e = are in cc in grind
       (arith, ne_eqb, no_copy (n + 1) (f + 1) run rest (further out))
     where
-      differs : at.event.id ≡ f → ((id < f) ⊎ (f + suc (length run) ≤ id)) → at.event.id ≡ id → ⊥
-      differs first (inl low) e = omega (arith, first, low, e)
-      differs first (inr high) e = omega (arith, first, high, e)
-
       further : ((id < f) ⊎ (f + suc (length run) ≤ id))
           → ((id < f + 1) ⊎ (f + 1 + length run ≤ id))
       further (inl low) = inl (omega (arith, low))

@@ -26,10 +26,6 @@ module _ (p : PeriodicEvent → Bool) (k : ℕ) (only : (x : PeriodicEvent) → 
             rest (further out),
       )
     where
-      differs : x.id ≡ a → ((k < a) ⊎ (a + suc (length xs) ≤ k)) → x.id ≡ k → ⊥
-      differs first (inl low) e = omega (arith, first, low, e)
-      differs first (inr high) e = omega (arith, first, high, e)
-
       further : ((k < a) ⊎ (a + suc (length xs) ≤ k)) → ((k < a + 1) ⊎ (a + 1 + length xs ≤ k))
       further (inl low) = inl (omega (arith, low))
       further (inr high) = inr (omega (arith, high))

@@ -1,5 +1,5 @@
 -- Names that differ from one another.
-use Rattle.plan_num.proofs.Common.{arith, ◌≡◌, ℕ, Bool, true, false, cond, not, List, [], ◌∷◌, ◌++◌}
+use Rattle.plan_num.proofs.Common.{arith, ◌≡◌, ℕ, Bool, true, false, not, List, [], ◌∷◌, ◌++◌}
 use Rattle.plan_num.proofs.Common.{filter, refl, sym, ◌∙◌, list_all, bytes_eq, and_parts, and_from}
 use Rattle.plan_num.proofs.Common.{not-true, list_all-append, bytes_eq-Decides}
 use Rattle.stage_chain.specs.Hand.{is_among}
@@ -19,11 +19,6 @@ pub all_filter : {X : Type 0} (p q : X → Bool) (xs : List X) → list_all p xs
 all_filter p q [] h = refl
 all_filter p q (x ∷ xs) h =
     let parts = and_parts _ _ h in grind (arith, all_filter p q xs parts.1)
-  where
-    by : (b : Bool) → p x ≡ true → list_all p (filter q xs) ≡ true
-        → list_all p (cond b (x ∷ filter q xs) (filter q xs)) ≡ true
-    by true is rest = and_from _ _ is rest
-    by false is rest = rest
 
 -- each of some names differs from each of others
 abbrev pub Differ : List (List ℕ) → List (List ℕ) → Type 0

@@ -1,5 +1,5 @@
 -- What the states of stages tell of the next run.
-use Rattle.plan_num.proofs.Common.{◌≡◌, ◌<◌, ◌⊎◌, ⊎_elim, ℕ, ℤ, zero, suc, ◌&&◌, Bool, true, false}
+use Rattle.plan_num.proofs.Common.{◌≡◌, ◌<◌, ◌⊎◌, ⊎_elim, ℕ, ℤ, zero, suc, Bool, true, false}
 use Rattle.plan_num.proofs.Common.{cond, not, ltb, All, Contains, List, [], ◌∷◌, ◌++◌, map, Option}
 use Rattle.plan_num.proofs.Common.{Some, None, Result, Ok, Err, refl, ap, sym, subst, ◌∙◌, arith}
 use Rattle.plan_num.proofs.Common.{list_all, list_any, bytes_eq, and_parts, ltb-true, or_parts}
@@ -35,11 +35,6 @@ none_all : {X : Type 0} (p : X → Bool) (xs : List X) → list_any p xs ≡ fal
 none_all p [] none = refl
 none_all p (x ∷ xs) none =
     let parts = or_parts _ _ none in grind (arith, none_all p xs parts.1)
-  where
-    by : (b : Bool) → b ≡ false → list_all (λ x. not (p x)) xs ≡ true
-        → (not b && list_all (λ x. not (p x)) xs) ≡ true
-    by true is rest = absurd (cc)
-    by false is rest = rest
 
 -- a stage makes no file but its own
 none_else : (at : Stage) (made : List MadeFile) (file : FileId) → MakesAs at (ids_of made)

@@ -311,10 +311,6 @@ all_there made some (file ∷ inputs) h k =
       all_there made
           some inputs parts.1 k,
     )
-  where
-    either : {b c : Bool} (a : Bool) → (b ≡ true → c ≡ true) → (a || b) ≡ true → (a || c) ≡ true
-    either true h e = refl
-    either false h e = h e
 
 module _ (S : StageParts) (laws : AreStages S) where
   -- ---- why a chain ends early

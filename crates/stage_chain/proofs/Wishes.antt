@@ -1,7 +1,7 @@
 -- Writes that change something leave what all of them leave, and then nothing is left to change.
 use Rattle.plan_num.proofs.Common.{arith, ◌≡◌, ℕ, Bool, true, false, cond, not, List, [], ◌∷◌, ◌++◌}
 use Rattle.plan_num.proofs.Common.{map, filter, Option, Some, None, refl, ap, ⊤, list_all, bytes_eq}
-use Rattle.plan_num.proofs.Common.{false≢true, and_parts, and_from, not-true, or_parts}
+use Rattle.plan_num.proofs.Common.{false≢true, and_parts, not-true, or_parts}
 use Rattle.plan_num.proofs.Common.{bytes_eq-Decides}
 use Rattle.std.specs.FinMap as files
 use Rattle.plan_files.proofs.Common.{Write, after_write, folder_after, left_by, write_name, Folder}
@@ -144,12 +144,6 @@ module _ (p : Write → Bool) where
   all_some q [] more h = h
   all_some q (write ∷ writes) more h =
       let parts = and_parts _ _ h in grind (arith, all_some q writes more parts.1)
-    where
-      by : (b : Bool) → q (write_name write) ≡ true
-          → list_all q (names_in (filter p writes ++ more)) ≡ true
-          → list_all q (names_in (cond b (write ∷ filter p writes) (filter p writes) ++ more)) ≡ true
-      by true is rest = and_from _ _ is rest
-      by false is rest = rest
 
   -- no two of some have one name where no two of all have
   pub once_some : (writes more : List Write) → differing (names_in (writes ++ more)) ≡ true

@@ -95,12 +95,6 @@ some_apart : (p : Stage → Bool) (stages : List Stage) → differing (map keep_
 some_apart p [] h = refl
 some_apart p (stage ∷ stages) h =
     let parts = and_parts _ _ h in grind (arith, some_keep, some_apart p stages parts.1)
-  where
-    by : (b : Bool) → differs_from (map keep_name (filter p stages)) (keep_name stage) ≡ true
-        → differing (map keep_name (filter p stages)) ≡ true
-        → differing (map keep_name (cond b (stage ∷ filter p stages) (filter p stages))) ≡ true
-    by true out rest = and_from _ _ out rest
-    by false out rest = rest
 
 module _ (S : StageParts) (laws : AreStages S) where
   pub run_apart : (values : List ℤ) → differing (map keep_name (stages_run S laws values)) ≡ true
@@ -201,11 +195,6 @@ differ_some : (p : List ℕ → Bool) (names : List (List ℕ)) → differing na
 differ_some p [] h = refl
 differ_some p (name ∷ names) h =
     let parts = and_parts _ _ h in grind (arith, all_filter, differ_some p names parts.1)
-  where
-    by : (b : Bool) → differs_from (filter p names) name ≡ true → differing (filter p names) ≡ true
-        → differing (cond b (name ∷ filter p names) (filter p names)) ≡ true
-    by true out rest = and_from _ _ out rest
-    by false out rest = rest
 
 besides_apart : (made : List MadeFile) (names : List (List ℕ))
     → list_all (λ name. not (is_among name (map name_of made))) (names_besides made names) ≡ true

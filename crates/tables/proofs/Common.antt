@@ -4,7 +4,7 @@ pub use Rattle.tables.specs.Columns.{delays_columns, disposed_columns, edge_colu
 pub use Rattle.tables.specs.Columns.{events_p_columns, events_x_columns, load_columns, od_columns}
 pub use Rattle.tables.specs.Columns.{pool_columns, pool_cost_columns, potential_columns}
 pub use Rattle.tables.specs.Columns.{reasons_columns, schedule_columns, stop_columns}
-pub use Rattle.tables.specs.Columns.{times_p_columns, tree_columns, trips_columns, word}
+pub use Rattle.tables.specs.Columns.{times_p_columns, tree_columns, trips_columns}
 pub use Rattle.tables.specs.CountedTexts.{counted_text}
 pub use Rattle.tables.specs.FileNames.{file_name}
 pub use Rattle.tables.specs.Inputs.{Input, Numbered, Refuses, RowRule, TableRule, UnlessFault}

@@ -137,9 +137,6 @@ least_of_all_walks network weight from to sound = by (least_of sums) refl
     edges : List Edge
     edges = network.edges
 
-    n : ℕ
-    n = length network.stops
-
     walks : List (List Edge)
     walks = walks_within network.edges (length network.stops) from to
 

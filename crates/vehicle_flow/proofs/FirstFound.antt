@@ -61,10 +61,6 @@ module _ (rests : List (List (Option ℕ))) (P : List (Option ℕ) → Bool) (pl
   begins_first (b ∷ choices) rising within found =
       split (find (λ rest. P (b ∷ rest)) rests) refl within (begins_first choices rising.1)
     where
-      order : IsIn (b ∷ choices) c → (b ≡ c) ⊎ (ComesNoLater c b → ⊥)
-      order (inl same) = inl same
-      order (inr more) = inr (rising.0 c more)
-
       split : (first : Option (List (Option ℕ))) → find (λ rest. P (b ∷ rest)) rests ≡ first
           → IsIn (b ∷ choices) c
           → (IsIn choices c → find P (behind rests P choices) ≡ Some plan → BeginsFirst rests P plan c)

@@ -226,10 +226,6 @@ module _ (trips : TripsParts) (are : AreTrips trips) (text : List ℕ) where
       none_at [] none e = none-some (fault.Trips row) e
       none_at (first ∷ all) none e = cc
 
-      none_form : (all : List PlanFault) → all ≡ [] → slice_get all 0 ≡ Some (fault.Trips row) → ⊥
-      none_form [] none e = none-some (fault.Trips row) e
-      none_form (first ∷ all) none e = cc
-
   late : (j : ℕ) → IsFault (fault.Follow j) → ReadsWhatIsDriven trips text (Err (fault.Follow j))
   late j it = elim it.told [
     | inl at ↦ grind (arith, row_first, row_no_follow)

@@ -122,9 +122,6 @@ module _ (trips : TripsParts) (are : AreTrips trips) where
       two_on : ((before.number + 2) == ((before.number + 1) + 1)) ≡ true
       two_on = grind arith
 
-      apart : {v w : ℕ} → w ≡ v → v ≡ w + 1 → ⊥
-      apart e f = omega (arith, e, f)
-
       not_begun : IsRideRow trips ride before.vehicle (before.number + 1) i j
           → begins (Some ride) (trip_row trips before.vehicle (before.number + 2) j) ≡ false
       not_begun it = grind (arith, ne_eqb)

@@ -4,7 +4,7 @@ use Rattle.plan_num.proofs.Common.{Bool, true, false, cond, List, [], ◌∷◌,
 use Rattle.plan_num.proofs.Common.{slice_get, slice_set, replicate, position, Option, Some, None}
 use Rattle.plan_num.proofs.Common.{IfSome, option_map, refl, ap, sym, ◌∙◌, subst, arith, eq-eqb}
 use Rattle.plan_num.proofs.Common.{inl, inr, get_or-set_same, get_or-set_other, list_any}
-use Rattle.plan_num.proofs.Common.{option_to_list, false≢true, ne_eqb, or_parts, not-true}
+use Rattle.plan_num.proofs.Common.{option_to_list, false≢true, ne_eqb, or_parts}
 use Rattle.plan_num.proofs.Common.{length-set, length-replicate, append-nil, fold_push}
 use Rattle.plan_num.proofs.Common.{position-Some, none-some, same_Some}
 use Rattle.event_tables.proofs.Common.{ScheduleRow, is_empty_row}
@@ -12,7 +12,7 @@ use Rattle.link_plans.proofs.Common.{next, is_next, AreSuccessors, by_number, no
 use Rattle.link_plans.proofs.Common.{none_linked, next_in, next_before, not_linked, linked}
 use Rattle.link_plans.proofs.Common.{never_next}
 use Rattle.vehicle_model.specs.ReadSchedules.{Reading, nothing_read, one_more, trip_in, begins}
-use Rattle.vehicle_model.specs.ReadSchedules.{is_new, last_seen, has_seen, row_fits, has_form}
+use Rattle.vehicle_model.specs.ReadSchedules.{last_seen, has_seen, row_fits, has_form}
 use Rattle.vehicle_model.specs.ReadSchedules.{same_run, link_of, link_to, plan_by}
 use Rattle.vehicle_model.specs.Readers.{ReaderParts, late_after, after_link, after_trip, after_row}
 use Rattle.vehicle_model.specs.Readers.{late_of, CanLink, Knows}
@@ -75,10 +75,6 @@ pub new_trip : (trips : TripsParts) (before : Option ScheduleRow) (last : Option
     → row_fits trips before last come row after ≡ true → trip_in trips row ≡ Some j → come j ≡ false
 new_trip trips before last come row after j fits is = split (is_empty_row row) refl
   where
-    told : (at : Option ℕ) → at ≡ Some j → is_new come at ≡ true → come j ≡ false
-    told None e h = absurd (none-some j e)
-    told (Some i) e h = ap come (sym (same_Some i j e)) ∙ not-true (come i) h
-
     split : (b : Bool) → is_empty_row row ≡ b → come j ≡ false
     split true e = absurd (none-some j (sym (ap (λ b. cond b None (position (same_run row.run) trips.trips)) e) ∙ is))
     split false e = grind arith

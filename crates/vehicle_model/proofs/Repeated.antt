@@ -32,9 +32,6 @@ repeats trips are i within = position_at (same_run (trip_of trips i)) trips.trip
     (λ k before. apart k before (same_run (trip_of trips i) (trip_of trips k)) refl)
     (run_itself (trip_of trips i))
   where
-    starts : List ℕ
-    starts = map (λ (trip : Trip). trip.start.event) trips.trips
-
     start_at : (k : ℕ) → k < length trips.trips → get_or (map (λ (trip : Trip). trip.start.event) trips.trips)
         k 0 ≡ (trip_of trips k).start.event
     start_at k inside = get_or-map (λ (trip : Trip). trip.start.event) trips.trips k no_trip 0 inside

@@ -154,9 +154,6 @@ module _ (trips : TripsParts) (plan : List (Option ℕ)) (are : AreTrips trips) 
         same = λ p h. grind (arith, has_cases, slice_set, next_is, next_in, not_both);
         none = λ p h. grind (arith, or_parts, next_in, not_both, eq-eqb);
       }
-        where
-          inside : i < length linked
-          inside = omega (arith, it.size, it.within)
 
   -- a tour from a trip on, where the fuel is enough
   tour_behind : (Rest : List ℕ → List (Option ℕ) → Type 0) (base : ℕ → Bool) (fuel : ℕ) (seen : List ℕ)

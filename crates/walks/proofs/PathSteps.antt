@@ -1,6 +1,6 @@
 -- A path, step by step from its end.
-use Rattle.plan_num.proofs.Common.{◌≡◌, ◌≢◌, ℕ, pos, zero, suc, ◌+◌, ◌-◌, ◌<◌, ◌≤◌, Bool, true}
-use Rattle.plan_num.proofs.Common.{false, cond, List, [], ◌∷◌, ◌++◌, length, get_or, reverse, refl}
+use Rattle.plan_num.proofs.Common.{◌≡◌, ◌≢◌, ℕ, pos, zero, suc, ◌+◌, ◌-◌, ◌<◌, ◌≤◌}
+use Rattle.plan_num.proofs.Common.{List, [], ◌∷◌, ◌++◌, length, get_or, reverse, refl}
 use Rattle.plan_num.proofs.Common.{ap, sym, ◌∙◌, arith, append_assoc, Option, Some, None}
 use Rattle.plan_num.proofs.Common.{option_map, option_and_then, unwrap_or, All, eq-eqb}
 use Rattle.plan_num.proofs.Common.{reverse-append, All-get_or, get_or-map-range_with_len}
@@ -86,9 +86,3 @@ before_there edges n index at sound within here =
       slice_get-get_or,
       no_edge,
     )
-  where
-    over : (a b : Bool) (left right : ℕ) → left < n → right < n
-        → unwrap_or (cond a (Some right) (cond b (Some left) None)) at < n
-    over true b left right l r = r
-    over false true left right l r = l
-    over false false left right l r = here
