@@ -3,9 +3,10 @@ use Rattle.plan_num.proofs.Common.{◌≡◌, ◌≢◌, ℕ, pos, ◌<◌, ◌�
 use Rattle.plan_num.proofs.Common.{MatchBool, List, length, slice_get, Option, Some, None, IfSome}
 use Rattle.plan_num.proofs.Common.{ap, sym, ◌∙◌, subst, arith, false≢true, none-some}
 use Rattle.bit_rows.specs.Bits.{Bits, has}
-use Rattle.link_plans.proofs.Common.{by_number, Links, PotentialParts, at, Link, end_of, reached}
-use Rattle.link_plans.proofs.Common.{IsRow, worth, Covers, gap_first, gap_next, reached_last}
-use Rattle.link_plans.proofs.Common.{reached_next, reached_within, link_covered, place_of}
+use Rattle.link_plans.specs.declared.link_table.Link.{Link}
+use Rattle.link_plans.proofs.Common.{by_number, Links, PotentialParts, at, end_of, reached, IsRow}
+use Rattle.link_plans.proofs.Common.{worth, Covers, gap_first, gap_next, reached_last, reached_next}
+use Rattle.link_plans.proofs.Common.{reached_within, link_covered, place_of}
 use Rattle.assignment.specs.ClaimablePlaces.{AreTies, IsInRow, IsPut, IsRowOf}
 use Rattle.plan_search.specs.Searches.{IsTightBy}
 use Rattle.plan_search.proofs.ShiftedTrees.{pos_worth}

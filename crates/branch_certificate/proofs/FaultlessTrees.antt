@@ -8,12 +8,15 @@ use Rattle.plan_num.proofs.Common.{ltb-false, ltb-true, ints, none-some, All-map
 use Rattle.plan_num.proofs.Common.{position-Some}
 use Rattle.std.specs.declared.cmp.Ordering.TheVariants.{Less}
 use Rattle.tables.specs.declared.file_id.FileId.TheVariants as file
-use Rattle.tables.proofs.Common.{RowWhy, tree_columns, Input, broken_whys, records}
-use Rattle.tables.proofs.Common.{table_row_faults, table_of, TableRow, no_row, InColumns}
-use Rattle.tables.proofs.Common.{none_breaks, parts_sound, records_all, table_sound}
-use Rattle.tables.proofs.Common.{whole_rule_sound, SoundBefore, table_in_columns}
+use Rattle.tables.specs.declared.row_why.RowWhy.{RowWhy}
+use Rattle.tables.proofs.Common.{tree_columns, Input, broken_whys, records, table_row_faults}
+use Rattle.tables.proofs.Common.{table_of, TableRow, no_row, InColumns, none_breaks, parts_sound}
+use Rattle.tables.proofs.Common.{records_all, table_sound, whole_rule_sound, SoundBefore}
+use Rattle.tables.proofs.Common.{table_in_columns}
 use Rattle.tables.specs.declared.row_why.RowWhy.TheVariants as why
-use Rattle.line_cost_model.proofs.Common.{BoundedEdge, Side, IsId, IsProblem, ProblemParts}
+use Rattle.line_cost_model.specs.declared.edge.BoundedEdge.{BoundedEdge}
+use Rattle.line_cost_model.specs.declared.side.Side.{Side}
+use Rattle.line_cost_model.proofs.Common.{IsId, IsProblem, ProblemParts}
 use Rattle.line_concepts.specs.declared.node.Node.TheVariants as node
 use Rattle.branch_certificate.specs.declared.read_so_far.ReadSoFar.{ReadSoFar}
 use Rattle.branch_certificate.specs.declared.row_says.RowSays.{RowSays}

@@ -3,9 +3,11 @@ use Rattle.plan_num.proofs.Common.{◌≡◌, ℕ, ◌+◌, ◌<◌, ◌≤◌, 
 use Rattle.plan_num.proofs.Common.{slice_get, refl, sym, ap, ◌∙◌, arith, Option, Some, None, Err}
 use Rattle.plan_num.proofs.Common.{All, length-drop, flat_map, drop_more, All-nil, All-cons}
 use Rattle.tables.specs.declared.file_id.FileId.TheVariants as file
-use Rattle.tables.proofs.Common.{ReadFault, RowFault, Refusal, tree_columns, cell_faults, or_else}
-use Rattle.tables.proofs.Common.{faults, table_row, ReadGives, TableRow, no_row, InColumns}
-use Rattle.tables.proofs.Common.{row_in_columns}
+use Rattle.tables.specs.declared.read_fault.ReadFault.{ReadFault}
+use Rattle.tables.specs.declared.read_fault.RowFault.{RowFault}
+use Rattle.tables.specs.declared.refusal.Refusal.{Refusal}
+use Rattle.tables.proofs.Common.{tree_columns, cell_faults, or_else, faults, table_row, ReadGives}
+use Rattle.tables.proofs.Common.{TableRow, no_row, InColumns, row_in_columns}
 use Rattle.tables.specs.declared.read_fault.ReadFault.TheVariants as row_fault
 use Rattle.tables.specs.declared.refusal.Refusal.TheVariants as refusal
 use Rattle.tables.specs.Reading.{row_faults}

@@ -5,9 +5,9 @@ use Rattle.plan_num.proofs.Common.{length, position, slice_get, unsigned_abs, in
 use Rattle.plan_num.proofs.Common.{subst, unwrap_or, ◌∙◌, Option, Some, None, list_any}
 use Rattle.plan_num.proofs.Common.{position_or_len, int_eq, ltb-false, not-true, not-false}
 use Rattle.plan_num.proofs.Common.{same_Some, ints, list_any_at, position-Some}
-use Rattle.tables.proofs.Common.{RowWhy}
+use Rattle.tables.specs.declared.row_why.RowWhy.{RowWhy}
 use Rattle.tables.specs.declared.row_why.RowWhy.TheVariants as why
-use Rattle.line_cost_model.proofs.Common.{Side}
+use Rattle.line_cost_model.specs.declared.side.Side.{Side}
 use Rattle.line_concepts.specs.declared.node.Node.TheVariants as node
 use Rattle.branch_certificate.specs.declared.tree_row.TreeRow.{TreeRow}
 use Rattle.branch_certificate.specs.ReadRows.{IsTreeRow, first_why, IsRefused, IsRefusedIf}

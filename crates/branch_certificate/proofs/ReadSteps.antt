@@ -5,7 +5,8 @@ use Rattle.plan_num.proofs.Common.{◌∷◌, ◌++◌, length, get_or, map, uns
 use Rattle.plan_num.proofs.Common.{append_assoc, append-nil, Option, Some, None, All, lt-ltb}
 use Rattle.plan_num.proofs.Common.{le-ltb, ltb-false, cases_lt, ints, reverse-append, All-nil}
 use Rattle.plan_num.proofs.Common.{All-push, fold_push}
-use Rattle.line_cost_model.proofs.Common.{Multiplier, IsAmount, multipliers_push}
+use Rattle.line_cost_model.specs.declared.multipliers.Multiplier.{Multiplier}
+use Rattle.line_cost_model.proofs.Common.{IsAmount, multipliers_push}
 use Rattle.line_concepts.specs.declared.node.Node.{Node}
 use Rattle.line_concepts.specs.declared.node.Node.TheVariants as node
 use Rattle.branch_certificate.specs.declared.open_bound.OpenBound.{OpenBound}

@@ -3,7 +3,7 @@ use Rattle.plan_num.proofs.Common.{◌≡◌, ℕ, ℤ, Bool, arith, true, false
 use Rattle.plan_num.proofs.Common.{nat_lt, List, [], ◌∷◌, ◌++◌, refl, ap, sym, ◌∙◌, append-nil}
 use Rattle.plan_num.proofs.Common.{Option, Some, None, option_map, unwrap_or, All, All-push}
 use Rattle.plan_num.proofs.Common.{not-true}
-use Rattle.tables.proofs.Common.{RowWhy}
+use Rattle.tables.specs.declared.row_why.RowWhy.{RowWhy}
 use Rattle.tables.specs.declared.row_why.RowWhy.TheVariants as why
 use Rattle.line_concepts.specs.declared.node.Node.{Node}
 use Rattle.branch_certificate.specs.declared.open_bound.OpenBound.{OpenBound}

@@ -2,10 +2,10 @@
 use Rattle.plan_num.proofs.Common.{◌≡◌, ℕ, arith, Bool, true, false, List, [], get_or, slice_get}
 use Rattle.plan_num.proofs.Common.{refl, subst, sym, ap, ◌∙◌, Some, Err, All, length-map}
 use Rattle.tables.specs.declared.file_id.FileId.TheVariants as file
-use Rattle.tables.proofs.Common.{Refusal, tree_columns, Input, cell_faults, records}
-use Rattle.tables.proofs.Common.{table_row_faults, table_of, TableRow, refused_cells}
-use Rattle.tables.proofs.Common.{faults_of_table, refused_rows, refused_whole, no_faults}
-use Rattle.tables.proofs.Common.{whole_rule_broken, whole_rule_kept}
+use Rattle.tables.specs.declared.refusal.Refusal.{Refusal}
+use Rattle.tables.proofs.Common.{tree_columns, Input, cell_faults, records, table_row_faults}
+use Rattle.tables.proofs.Common.{table_of, TableRow, refused_cells, faults_of_table, refused_rows}
+use Rattle.tables.proofs.Common.{refused_whole, no_faults, whole_rule_broken, whole_rule_kept}
 use Rattle.tables.specs.declared.refusal.Refusal.TheVariants as refusal
 use Rattle.tables.specs.declared.refusal.StageFault.TheVariants as stage
 use Rattle.tables.specs.declared.row_why.RowWhy.TheVariants as why

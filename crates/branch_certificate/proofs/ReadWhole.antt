@@ -4,7 +4,8 @@ use Rattle.plan_num.proofs.Common.{length, take, get_or, slice_get, subst, refl,
 use Rattle.plan_num.proofs.Common.{None}
 use Rattle.tables.specs.declared.file_id.FileId.TheVariants as file
 use Rattle.tables.specs.declared.refusal.Refusal.TheVariants as refusal
-use Rattle.tables.proofs.Common.{RowWhy, records, broken_whys, table_row_faults, TableRow, no_row}
+use Rattle.tables.specs.declared.row_why.RowWhy.{RowWhy}
+use Rattle.tables.proofs.Common.{records, broken_whys, table_row_faults, TableRow, no_row}
 use Rattle.tables.proofs.Common.{row_number, SoundBefore, row_met, row_refused, records_more}
 use Rattle.tables.specs.declared.row_why.RowWhy.TheVariants as why
 use Rattle.branch_certificate.specs.declared.read_so_far.ReadSoFar.{ReadSoFar}

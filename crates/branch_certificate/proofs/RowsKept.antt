@@ -7,9 +7,11 @@ use Rattle.plan_num.proofs.Common.{flat_map, ltb-false, ltb-true, not-false, Dec
 use Rattle.plan_num.proofs.Common.{flat_map-append, All-head, All-tail}
 use Rattle.tables.specs.declared.file_id.FileId.TheVariants as file
 use Rattle.tables.specs.declared.row_why.RowWhy.TheVariants as why
-use Rattle.tables.proofs.Common.{tree_columns, numbered, records, ReadFault, RowFault, faults}
-use Rattle.tables.proofs.Common.{table_of, table_row, TableRow, InColumns, line_text, KeepRules}
-use Rattle.tables.proofs.Common.{parts_sound, table_sound, whole_rule_sound, table_in_columns}
+use Rattle.tables.specs.declared.read_fault.ReadFault.{ReadFault}
+use Rattle.tables.specs.declared.read_fault.RowFault.{RowFault}
+use Rattle.tables.proofs.Common.{tree_columns, numbered, records, faults, table_of, table_row}
+use Rattle.tables.proofs.Common.{TableRow, InColumns, line_text, KeepRules, parts_sound}
+use Rattle.tables.proofs.Common.{table_sound, whole_rule_sound, table_in_columns}
 use Rattle.tables.specs.Inputs.{row_faults}
 use Rattle.tables.specs.declared.read_fault.ReadFault.TheVariants as read
 use Rattle.text_fields.specs.Rows.{Row}

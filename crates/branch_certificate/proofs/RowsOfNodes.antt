@@ -5,9 +5,12 @@ use Rattle.plan_num.proofs.Common.{slice_get, unsigned_abs, int_lt, int_eq, posi
 use Rattle.plan_num.proofs.Common.{◌∙◌, append-nil, option_map, unwrap_or, is_some, AllByRecursion}
 use Rattle.plan_num.proofs.Common.{flat_map, list_any, ltb-false, not-false, Decides-int_eq, ints}
 use Rattle.plan_num.proofs.Common.{length-map, position-Some}
-use Rattle.tables.proofs.Common.{RowWhy, RowRule, broken_whys, TableRow, KeepRules}
+use Rattle.tables.specs.declared.row_why.RowWhy.{RowWhy}
+use Rattle.tables.proofs.Common.{RowRule, broken_whys, TableRow, KeepRules}
 use Rattle.plan_num.proofs.Found.{any_is}
-use Rattle.line_cost_model.proofs.Common.{BoundedEdge, Multiplier, CostedLine, ProblemParts}
+use Rattle.line_cost_model.specs.declared.edge.BoundedEdge.{BoundedEdge}
+use Rattle.line_cost_model.specs.declared.multipliers.Multiplier.{Multiplier}
+use Rattle.line_cost_model.proofs.Common.{CostedLine, ProblemParts}
 use Rattle.line_concepts.specs.declared.node.Node.{Node}
 use Rattle.line_concepts.specs.declared.node.Node.TheVariants as node
 use Rattle.branch_certificate.specs.declared.tree_row.TreeRow.{TreeRow}

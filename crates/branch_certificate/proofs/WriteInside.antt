@@ -4,8 +4,10 @@ use Rattle.plan_num.proofs.Common.{length, map, slice_get, subst, option_map, un
 use Rattle.plan_num.proofs.Common.{flat_map, ints, All-nil, All-cons, All-head, All-tail}
 use Rattle.plan_num.proofs.Common.{All-append}
 use Rattle.tables.proofs.Common.{tree_columns, TableRow, InColumns}
-use Rattle.line_cost_model.proofs.Common.{BoundedEdge, Multiplier, Side, IsAmount, CostedLine, IsId}
-use Rattle.line_cost_model.proofs.Common.{IsProblem, ProblemParts}
+use Rattle.line_cost_model.specs.declared.edge.BoundedEdge.{BoundedEdge}
+use Rattle.line_cost_model.specs.declared.multipliers.Multiplier.{Multiplier}
+use Rattle.line_cost_model.specs.declared.side.Side.{Side}
+use Rattle.line_cost_model.proofs.Common.{IsAmount, CostedLine, IsId, IsProblem, ProblemParts}
 use Rattle.line_cost_model.specs.declared.side.Side.TheVariants as side
 use Rattle.line_concepts.specs.declared.node.Node.{Node}
 use Rattle.line_concepts.specs.declared.node.Node.TheVariants as node

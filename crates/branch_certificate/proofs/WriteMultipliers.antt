@@ -5,9 +5,11 @@ use Rattle.plan_num.proofs.Common.{map, position, slice_get, refl, sym, ap, subs
 use Rattle.plan_num.proofs.Common.{append_assoc, append-nil, Some, None, option_map, unwrap_or, All}
 use Rattle.plan_num.proofs.Common.{IsStrictlySortedBy, int_cmp, lt-ltb, le-ltb, int_cmp_total}
 use Rattle.plan_num.proofs.Common.{tied_itself, get_or_default, length-map}
-use Rattle.tables.proofs.Common.{RowWhy, broken_whys, KeepRules}
+use Rattle.tables.specs.declared.row_why.RowWhy.{RowWhy}
+use Rattle.tables.proofs.Common.{broken_whys, KeepRules}
 use Rattle.tables.specs.declared.row_why.RowWhy.TheVariants as why
-use Rattle.line_cost_model.proofs.Common.{Multiplier, IsAmount}
+use Rattle.line_cost_model.specs.declared.multipliers.Multiplier.{Multiplier}
+use Rattle.line_cost_model.proofs.Common.{IsAmount}
 use Rattle.line_concepts.specs.declared.node.Node.{Node}
 use Rattle.line_concepts.specs.declared.node.Node.TheVariants as node
 use Rattle.branch_certificate.specs.declared.open_bound.OpenBound.{OpenBound}

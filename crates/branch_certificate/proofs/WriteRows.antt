@@ -3,7 +3,7 @@ use Rattle.plan_num.proofs.Common.{◌≡◌, ℕ, ℤ, pos, zero, suc, ◌+◌,
 use Rattle.plan_num.proofs.Common.{take, slice_get, ap, sym, ◌∙◌, append_assoc, append-nil, Some}
 use Rattle.plan_num.proofs.Common.{option_map, All, flat_map, flat_map-append}
 use Rattle.tables.proofs.Common.{tree_columns, TableRow, line_text}
-use Rattle.line_cost_model.proofs.Common.{Multiplier}
+use Rattle.line_cost_model.specs.declared.multipliers.Multiplier.{Multiplier}
 use Rattle.branch_certificate.specs.TreeTexts.{cells_row}
 
 -- the line of a row behind others

@@ -7,8 +7,10 @@ use Rattle.tables.specs.declared.row_why.RowWhy.TheVariants as why
 use Rattle.tables.specs.declared.file_id.FileId.TheVariants as file
 use Rattle.tables.proofs.Common.{tree_columns, records, table_of, TableRow, ReadsBack, KeepRules}
 use Rattle.tables.proofs.Common.{accepted, whole_accepted}
-use Rattle.line_cost_model.proofs.Common.{BoundedEdge, Multiplier, Side, IsAmount, CostedLine, IsId}
-use Rattle.line_cost_model.proofs.Common.{IsProblem, ProblemParts}
+use Rattle.line_cost_model.specs.declared.edge.BoundedEdge.{BoundedEdge}
+use Rattle.line_cost_model.specs.declared.multipliers.Multiplier.{Multiplier}
+use Rattle.line_cost_model.specs.declared.side.Side.{Side}
+use Rattle.line_cost_model.proofs.Common.{IsAmount, CostedLine, IsId, IsProblem, ProblemParts}
 use Rattle.line_cost_model.specs.declared.side.Side.TheVariants as side
 use Rattle.line_concepts.specs.declared.node.Node.{Node}
 use Rattle.line_concepts.specs.declared.node.Node.TheVariants as node

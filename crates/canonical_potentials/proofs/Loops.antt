@@ -2,7 +2,8 @@
 use Rattle.plan_num.proofs.Common.{◌≡◌, ℕ, ◌+◌, ◌-◌, ◌<◌, ◌≤◌, ◌||◌, Bool, true, false, List}
 use Rattle.plan_num.proofs.Common.{length, slice_get, get_or, Option, Some, ap, subst, arith}
 use Rattle.plan_num.proofs.Common.{slice_get_within}
-use Rattle.link_plans.proofs.Common.{next, is_next, Links, link_to, IsRow, Link, by_bound}
+use Rattle.link_plans.specs.declared.link_table.Link.{Link}
+use Rattle.link_plans.proofs.Common.{next, is_next, Links, link_to, IsRow, by_bound}
 use Rattle.canonical_potentials.specs.Drops.{DropParts, one_if, IsStep, RowKept, NextKept, RootKept, TripPassed}
 use Rattle.canonical_potentials.proofs.Deeper.{two_steps}
 

@@ -5,8 +5,6 @@ pub use Rattle.config_keys.specs.Includes.{is_inside, path_of}
 pub use Rattle.config_keys.specs.Items.{config_name, file_limit, look_in}
 pub use Rattle.config_keys.specs.NamedConfigs.{ConfigNames}
 pub use Rattle.config_keys.specs.Values.{effective}
-pub use Rattle.config_keys.specs.declared.config_end.ConfigEnd.{ConfigEnd}
-pub use Rattle.config_keys.specs.declared.config_fault.ConfigFault.{ConfigFault}
 pub use Rattle.config_keys.proofs.Looks.{effective_same}
 pub use Rattle.config_keys.proofs.NamedConfigs.{config_names}
 pub use Rattle.config_keys.proofs.Settling.{effective_settings, part_fits}

@@ -5,7 +5,9 @@ use Rattle.plan_num.proofs.Common.{IfSome, IfOk, Result, Ok, Err, string_bytes, 
 use Rattle.plan_num.proofs.Common.{subst, arith, flat_map, nat_tests, append_assoc, drop_all}
 use Rattle.plan_num.proofs.Common.{drop_more}
 use Rattle.std.proofs.Math.Numerals.{sub-one}
-use Rattle.plan_files.proofs.Common.{Got, Bytes, Absent, Folder}
+use Rattle.plan_files.specs.declared.store.Got.{Got}
+use Rattle.plan_files.specs.declared.store.Got.TheVariants.{Bytes, Absent}
+use Rattle.plan_files.proofs.Common.{Folder}
 use Rattle.plan_files.specs.declared.store.Got.TheVariants.{TooLong as Long}
 use Rattle.config_keys.specs.declared.config_end.ConfigEnd.{ConfigEnd}
 use Rattle.config_keys.specs.declared.config_end.ConfigEnd.TheVariants.{Refused, FileFault, NoMemory}

@@ -2,7 +2,8 @@
 use Rattle.plan_num.proofs.Common.{◌≡◌, ℕ, zero, suc, ◌<◌, Bool, true, false, cond, eqb, List, []}
 use Rattle.plan_num.proofs.Common.{◌∷◌, length, get_or, Option, Some, None, refl, arith, find}
 use Rattle.plan_num.proofs.Common.{bytes_eq-Decides}
-use Rattle.giv_files.proofs.Common.{Key, all_keys, key_place, key_name, key_there}
+use Rattle.giv_files.specs.declared.key.Key.{Key}
+use Rattle.giv_files.proofs.Common.{all_keys, key_place, key_name, key_there}
 use Rattle.config_keys.specs.ReadSoFar.{is_named, key_named}
 
 -- a test that fails leads on

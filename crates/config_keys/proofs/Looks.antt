@@ -1,7 +1,7 @@
 -- Settings depend on the files alone that a config can name.
 use Rattle.plan_num.proofs.Common.{arith, ◌≡◌, ℕ, zero, suc, Bool, true, false, eqb, List, [], ◌∷◌}
 use Rattle.plan_num.proofs.Common.{length, Option, Some, None, refl, ap, if◌then◌else◌, flat_map}
-use Rattle.plan_files.proofs.Common.{Got}
+use Rattle.plan_files.specs.declared.store.Got.{Got}
 use Rattle.text_fields.specs.Rows.{Row, rows, has_mark}
 use Rattle.tables.specs.declared.row_why.RowWhy.TheVariants as why
 use Rattle.config_keys.specs.declared.config_fault.ConfigFault.{ConfigFault}

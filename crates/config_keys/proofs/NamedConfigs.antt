@@ -2,9 +2,10 @@
 use Rattle.plan_num.proofs.Common.{arith, ◌≡◌, ℕ, zero, suc, Bool, true, false, eqb, List, [], ◌∷◌}
 use Rattle.plan_num.proofs.Common.{◌++◌, ◌+◌, length, nat_lt, Option, Some, None, IfSome, IfErr}
 use Rattle.plan_num.proofs.Common.{Err, refl, if◌then◌else◌, flat_map, option_map_or}
-use Rattle.plan_files.proofs.Common.{Got, Bytes, Absent}
+use Rattle.plan_files.specs.declared.store.Got.{Got}
+use Rattle.plan_files.specs.declared.store.Got.TheVariants.{Bytes, Absent}
 use Rattle.plan_files.specs.declared.store.Got.TheVariants.{TooLong as Long}
-use Rattle.giv_files.proofs.Common.{Key}
+use Rattle.giv_files.specs.declared.key.Key.{Key}
 use Rattle.text_fields.specs.Rows.{Row}
 use Rattle.config_keys.specs.declared.config_fault.ConfigFault.{ConfigFault}
 use Rattle.config_keys.specs.declared.config_fault.ConfigFault.TheVariants as fault

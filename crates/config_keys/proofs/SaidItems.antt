@@ -3,7 +3,8 @@ use Rattle.plan_num.proofs.Common.{arith, ◌≡◌, ℕ, ◌+◌, Bool, true, f
 use Rattle.plan_num.proofs.Common.{◌++◌, take, get_or, length, ◌<◌, ◌≤◌, Option, Some, None, refl}
 use Rattle.plan_num.proofs.Common.{sym, ap, ◌∙◌, flat_map, option_map_or, bytes_eq, take_all}
 use Rattle.plan_num.proofs.Common.{take_more, flat_map-append, eqb-true, nat_tests}
-use Rattle.giv_files.proofs.Common.{Key, all_keys, key_place, key_name, same_key}
+use Rattle.giv_files.specs.declared.key.Key.{Key}
+use Rattle.giv_files.proofs.Common.{all_keys, key_place, key_name, same_key}
 use Rattle.giv_files.specs.declared.key.Key.TheVariants as key
 use Rattle.config_keys.specs.declared.reading.Reading.{Reading}
 use Rattle.config_keys.specs.declared.said.Said.{Said}

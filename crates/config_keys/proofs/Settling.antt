@@ -5,13 +5,16 @@ use Rattle.plan_num.proofs.Common.{Option, Some, None, is_some, unwrap_or, Ok, E
 use Rattle.plan_num.proofs.Common.{subst, ◌∙◌, filter, find, list_all, option_map, option_map_or}
 use Rattle.plan_num.proofs.Common.{eqb-true, take_all, take_more, take-append-drop, get_or-map}
 use Rattle.plan_num.proofs.Common.{map-append, append-nil, filter_more, find-append}
-use Rattle.giv_files.proofs.Common.{Key, Setting, Stage, CrossRule, cross_rule, keeps_bound, keeps}
-use Rattle.giv_files.proofs.Common.{keeps_rule, kept_if, spelled_as, all_keys, key_place, is_key}
-use Rattle.giv_files.proofs.Common.{key_kind, key_default, allows, has_key, SettingsFit, value_of}
-use Rattle.giv_files.proofs.Common.{key_there, same_key}
+use Rattle.giv_files.specs.declared.key.Key.{Key}
+use Rattle.giv_files.specs.declared.setting.Setting.{Setting}
+use Rattle.giv_files.specs.declared.stage.Stage.{Stage}
+use Rattle.giv_files.specs.declared.cross_rule.CrossRule.{CrossRule}
+use Rattle.giv_files.proofs.Common.{cross_rule, keeps_bound, keeps, keeps_rule, kept_if, spelled_as}
+use Rattle.giv_files.proofs.Common.{all_keys, key_place, is_key, key_kind, key_default, allows}
+use Rattle.giv_files.proofs.Common.{has_key, SettingsFit, value_of, key_there, same_key}
 use Rattle.giv_files.specs.declared.key.Key.TheVariants as key
 use Rattle.giv_files.specs.Keys.{stage_keys}
-use Rattle.plan_files.proofs.Common.{Got}
+use Rattle.plan_files.specs.declared.store.Got.{Got}
 use Rattle.config_keys.specs.declared.config_fault.ConfigFault.{ConfigFault}
 use Rattle.config_keys.specs.declared.config_fault.ConfigFault.TheVariants as fault
 use Rattle.config_keys.specs.Items.{config_items, first_fault}

@@ -3,10 +3,10 @@ use Rattle.plan_num.proofs.Common.{arith, ◌≡◌, ◌≢◌, ℕ, suc, ◌+�
 use Rattle.plan_num.proofs.Common.{eqb, ltb, cond, List, [], ◌∷◌, ◌++◌, length, Option, Some, None}
 use Rattle.plan_num.proofs.Common.{string_bytes, refl, sym, ap, ◌∙◌, flat_map, append_assoc}
 use Rattle.plan_num.proofs.Common.{append-nil, flat_map-append, nat_tests}
-use Rattle.plan_files.proofs.Common.{Got}
+use Rattle.plan_files.specs.declared.store.Got.{Got}
 use Rattle.text_fields.specs.Rows.{Row, rows, has_mark}
-use Rattle.giv_files.proofs.Common.{Key}
-use Rattle.tables.proofs.Common.{RowFault}
+use Rattle.giv_files.specs.declared.key.Key.{Key}
+use Rattle.tables.specs.declared.read_fault.RowFault.{RowFault}
 use Rattle.tables.specs.declared.row_why.RowWhy.TheVariants as why
 use Rattle.config_keys.specs.declared.config_fault.ConfigFault.{ConfigFault}
 use Rattle.config_keys.specs.declared.config_fault.ConfigFault.TheVariants as fault

@@ -2,7 +2,8 @@
 use Rattle.plan_num.proofs.Common.{◌≡◌, ℤ, List, Option, Some, None, IfSome, Result, Ok, Err, refl}
 use Rattle.plan_num.proofs.Common.{ap, sym, ◌∙◌}
 use Rattle.plan_files.proofs.Common.{Folder}
-use Rattle.giv_files.proofs.Common.{Key, key_name}
+use Rattle.giv_files.specs.declared.key.Key.{Key}
+use Rattle.giv_files.proofs.Common.{key_name}
 use Rattle.config_keys.specs.declared.config_end.ConfigEnd.{ConfigEnd}
 use Rattle.config_keys.specs.declared.config_end.ConfigEnd.TheVariants.{Refused, FileFault, NoMemory}
 use Rattle.config_keys.specs.declared.reading.Reading.{Reading}

@@ -4,9 +4,11 @@ use Rattle.plan_num.proofs.Common.{◌∷◌, length, map, filter, drop, get_or,
 use Rattle.plan_num.proofs.Common.{refl, sym, arith, range_with_len, eq-eqb, ne_eqb, drop_more}
 use Rattle.plan_num.proofs.Common.{ext_get_or, get_or-replicate, length-replicate}
 use Rattle.plan_num.proofs.Common.{get_or-map-range_with_len, length-map-range_with_len}
-use Rattle.event_tables.proofs.Common.{DelayRow, ExpandedActivity, ExpandedEvent, AreNumbered}
-use Rattle.event_tables.proofs.Common.{IsOneOf, id_at}
-use Rattle.propagation.proofs.Common.{Activity}
+use Rattle.event_tables.specs.declared.delay_row.DelayRow.{DelayRow}
+use Rattle.event_tables.specs.declared.expanded_activity.ExpandedActivity.{ExpandedActivity}
+use Rattle.event_tables.specs.declared.expanded_event.ExpandedEvent.{ExpandedEvent}
+use Rattle.event_tables.proofs.Common.{AreNumbered, IsOneOf, id_at}
+use Rattle.propagation.specs.declared.step.Activity.{Activity}
 use Rattle.delay_management.specs.InputProblems.{delay_of, delayed, earliest_of, is_of}
 use Rattle.bit_rows.proofs.Places.{told_anew}
 

@@ -1,9 +1,11 @@
 -- Which files the stage of dispositions makes, and which it names where it refuses a row.
 use Rattle.plan_num.proofs.Common.{◌≡◌, true, Bool, Ok, Err, ap, lit<}
-use Rattle.tables.proofs.Common.{FileId, Refusal, input_faults, NamesInput, AllName, input_names}
-use Rattle.tables.proofs.Common.{names_both}
+use Rattle.tables.specs.declared.file_id.FileId.{FileId}
+use Rattle.tables.specs.declared.refusal.Refusal.{Refusal}
+use Rattle.tables.proofs.Common.{input_faults, NamesInput, AllName, input_names, names_both}
 use Rattle.tables.specs.declared.file_id.FileId.TheVariants as file
-use Rattle.giv_files.proofs.Common.{Made, MakesAs, ids_of, BundleParts, input_text, refused_names}
+use Rattle.giv_files.specs.declared.made.Made.{Made}
+use Rattle.giv_files.proofs.Common.{MakesAs, ids_of, BundleParts, input_text, refused_names}
 use Rattle.giv_files.proofs.Common.{made_unless}
 use Rattle.giv_files.specs.declared.stage.Stage.TheVariants as stage
 use Rattle.event_tables.proofs.Common.{activity_delay_input, event_delay_input}

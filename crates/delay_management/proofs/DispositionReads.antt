@@ -2,17 +2,22 @@
 use Rattle.plan_num.proofs.Common.{filter, ◌≡◌, ◌∙◌, ℕ, ◌<◌, ◌≤◌, List, [], ◌++◌, length, map, All}
 use Rattle.plan_num.proofs.Common.{Result, Ok, Err, IfOk, None, refl, sym, subst, arith}
 use Rattle.plan_num.proofs.Common.{range_with_len, length-map, All-append, All-contains}
-use Rattle.giv_files.proofs.Common.{Made, BundleParts, Fits, StageGives, made_unless, none_unless}
-use Rattle.tables.proofs.Common.{StageFault, input_faults}
+use Rattle.giv_files.specs.declared.made.Made.{Made}
+use Rattle.giv_files.proofs.Common.{BundleParts, Fits, StageGives, made_unless, none_unless}
+use Rattle.tables.specs.declared.refusal.StageFault.{StageFault}
+use Rattle.tables.proofs.Common.{input_faults}
 use Rattle.giv_files.specs.declared.stage.Stage.TheVariants as stage
 use Rattle.event_tables.proofs.Common.{disposed_time_input, expanded_event_ids}
-use Rattle.propagation.proofs.Common.{Reason, Activity, named_activity, canonical_reason, IsLeast}
-use Rattle.propagation.proofs.Common.{least_times, AreChanges, DelayProblem, GoesForward, IsForward}
-use Rattle.propagation.proofs.Common.{minutes, steps_with, is_kept, times_alone, reasons_below}
-use Rattle.propagation.proofs.Common.{back_all, front_all, forward_with, reasons_prove_least}
+use Rattle.propagation.specs.declared.reason.Reason.{Reason}
+use Rattle.propagation.specs.declared.step.Activity.{Activity}
+use Rattle.propagation.specs.declared.times.TheConstants.{LATEST}
+use Rattle.propagation.proofs.Common.{named_activity, canonical_reason, IsLeast, least_times}
+use Rattle.propagation.proofs.Common.{AreChanges, DelayProblem, GoesForward, IsForward, minutes}
+use Rattle.propagation.proofs.Common.{steps_with, is_kept, times_alone, reasons_below, back_all}
+use Rattle.propagation.proofs.Common.{front_all, forward_with, reasons_prove_least}
 use Rattle.propagation.proofs.Common.{disposition_is_one, kept_are_changes, least_is_one}
 use Rattle.propagation.proofs.Common.{least_times_are_least, steps_fewer, least_small}
-use Rattle.propagation.proofs.Common.{written_reasons_are_right, LATEST}
+use Rattle.propagation.proofs.Common.{written_reasons_are_right}
 use Rattle.delay_management.specs.InputProblems.{day_event}
 use Rattle.delay_management.specs.DispositionStage.{disposed_of, disposition_faults, disposition_stage, events_in}
 use Rattle.delay_management.specs.DispositionStage.{kept_in, problem_in, reasons_text, times_text}

@@ -2,10 +2,12 @@
 use Rattle.plan_num.proofs.Common.{arith, ◌≡◌, ◌∙◌, ℕ, ◌==◌, ◌&&◌, ◌||◌, Bool, true, false, nat_eq}
 use Rattle.plan_num.proofs.Common.{nat_lt, List, [], ◌∷◌, ◌++◌, map, filter, refl, ap, sym}
 use Rattle.plan_num.proofs.Common.{list_any, list_any-append}
-use Rattle.propagation.proofs.Common.{Reason, Activity, Step, is_early_by, is_just, is_right_by}
-use Rattle.propagation.proofs.Common.{asked, time_at, is_source, is_turn, names, DelayProblem}
-use Rattle.propagation.proofs.Common.{earliest_at, steps_with, is_right, is_tight, reason_for}
-use Rattle.propagation.proofs.Common.{or_assoc}
+use Rattle.propagation.specs.declared.reason.Reason.{Reason}
+use Rattle.propagation.specs.declared.step.Activity.{Activity}
+use Rattle.propagation.specs.declared.step.Step.{Step}
+use Rattle.propagation.proofs.Common.{is_early_by, is_just, is_right_by, asked, time_at, is_source}
+use Rattle.propagation.proofs.Common.{is_turn, names, DelayProblem, earliest_at, steps_with}
+use Rattle.propagation.proofs.Common.{is_right, is_tight, reason_for, or_assoc}
 use Rattle.propagation.specs.declared.reason.Reason.TheVariants as reason
 use Rattle.delay_management.specs.Judged.{is_early}
 use Rattle.plan_num.proofs.Tests.{and_false, or_false}

@@ -3,14 +3,20 @@ use Rattle.plan_num.proofs.Common.{◌≡◌, ◌∙◌, ℕ, ◌+◌, ◌<◌, 
 use Rattle.plan_num.proofs.Common.{filter, get_or, All, refl, ap, sym, arith, range_with_len}
 use Rattle.plan_num.proofs.Common.{length-map, All-append, All-filter, All-map, All-weaker}
 use Rattle.plan_num.proofs.Common.{filter_passes, length-filter_both, map-map}
-use Rattle.event_tables.proofs.Common.{DelayRow, ExpandedActivity, ExpandedEvent, ScheduleRow}
+use Rattle.event_tables.specs.declared.delay_row.DelayRow.{DelayRow}
+use Rattle.event_tables.specs.declared.expanded_activity.ExpandedActivity.{ExpandedActivity}
+use Rattle.event_tables.specs.declared.expanded_event.ExpandedEvent.{ExpandedEvent}
+use Rattle.event_tables.specs.declared.schedule_row.ScheduleRow.{ScheduleRow}
 use Rattle.event_tables.proofs.Common.{AreDelays, AreExpandedActivities, AreExpandedEvents}
 use Rattle.event_tables.proofs.Common.{IsExpandedActivity, goes_forward, AreNumbered, IsOneOf}
 use Rattle.event_tables.proofs.Common.{AreScheduleRows, IsScheduleRow, is_empty_row, at, at_places}
 use Rattle.event_tables.proofs.Common.{id_at}
 use Rattle.event_tables.specs.ForwardOrder.{stands_before as rows_before}
-use Rattle.propagation.proofs.Common.{DayEvent, Activity, Step, stands_before, IsDay, parts_of}
-use Rattle.propagation.proofs.Common.{DelayProblem, GoesForward, IsForward, steps_all}
+use Rattle.propagation.specs.declared.day_event.DayEvent.{DayEvent}
+use Rattle.propagation.specs.declared.step.Activity.{Activity}
+use Rattle.propagation.specs.declared.step.Step.{Step}
+use Rattle.propagation.proofs.Common.{stands_before, IsDay, parts_of, DelayProblem, GoesForward}
+use Rattle.propagation.proofs.Common.{IsForward, steps_all}
 use Rattle.delay_management.specs.InputProblems.{activities_of, day_event, day_events, delayed, earliest_of, index_of}
 use Rattle.delay_management.specs.InputProblems.{is_of, problem_over, turn_of}
 use Rattle.delay_management.proofs.SoonInputs.{day_at, ids_rise, none_early, steps_gain}

@@ -8,8 +8,10 @@ use Rattle.giv_files.specs.declared.key.Key.TheVariants as key
 use Rattle.giv_files.specs.declared.stage.Stage.TheVariants as stage
 use Rattle.tables.proofs.Common.{input_faults, records_of, back_none, front_none}
 use Rattle.giv_files.proofs.Common.{BundleParts, Fits, SettingsFit, input_text, amount_within}
-use Rattle.event_tables.proofs.Common.{ExpandedActivity, ExpandedEvent, ScheduleRow, AreDelays}
-use Rattle.event_tables.proofs.Common.{activity_delay_input, event_delay_input}
+use Rattle.event_tables.specs.declared.expanded_activity.ExpandedActivity.{ExpandedActivity}
+use Rattle.event_tables.specs.declared.expanded_event.ExpandedEvent.{ExpandedEvent}
+use Rattle.event_tables.specs.declared.schedule_row.ScheduleRow.{ScheduleRow}
+use Rattle.event_tables.proofs.Common.{AreDelays, activity_delay_input, event_delay_input}
 use Rattle.event_tables.proofs.Common.{AreExpandedActivities, AreExpandedEvents, AreScheduleRows}
 use Rattle.event_tables.proofs.Common.{is_empty_row, expanded_activities_sound}
 use Rattle.event_tables.proofs.Common.{expanded_events_sound, delays_sound, schedule_rows_sound}

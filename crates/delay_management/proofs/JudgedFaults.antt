@@ -8,8 +8,11 @@ use Rattle.giv_files.proofs.Common.{BundleParts}
 use Rattle.event_tables.proofs.Common.{disposed_time}
 use Rattle.delay_management.specs.declared.fault.ReasonFault.{ReasonFault}
 use Rattle.delay_management.specs.declared.fault.ReasonFault.TheVariants as fault
-use Rattle.propagation.proofs.Common.{Reason, Activity, Step, is_early_by, is_right_by}
-use Rattle.propagation.proofs.Common.{DelayProblem, steps_with, filter_alike}
+use Rattle.propagation.specs.declared.reason.Reason.{Reason}
+use Rattle.propagation.specs.declared.step.Activity.{Activity}
+use Rattle.propagation.specs.declared.step.Step.{Step}
+use Rattle.propagation.proofs.Common.{is_early_by, is_right_by, DelayProblem, steps_with}
+use Rattle.propagation.proofs.Common.{filter_alike}
 use Rattle.delay_management.specs.DispositionStage.{ReasonRow, disposition_faults, kept_in, problem_in}
 use Rattle.delay_management.specs.Judged.{Passes, are_all, broken_reasons, broken_rows, broken_times, broken_where}
 use Rattle.delay_management.specs.Judged.{events_where, first_broken_rule, is_early, is_table, is_wrong, reason_faults}

@@ -8,11 +8,14 @@ use Rattle.plan_num.proofs.Common.{and_from, and_parts, eq-eqb, eqb-true, ltb-fa
 use Rattle.plan_num.proofs.Common.{le-ltb, not-false, or_parts, length-map, length-enumerate_from}
 use Rattle.tables.proofs.Common.{disposed_columns, reasons_columns, faults, back_none, front_none}
 use Rattle.tables.proofs.Common.{ReadsAs}
-use Rattle.event_tables.proofs.Common.{DisposedTime, disposed_time}
+use Rattle.event_tables.specs.declared.disposed_time.DisposedTime.{DisposedTime}
+use Rattle.event_tables.proofs.Common.{disposed_time}
 use Rattle.delay_management.specs.declared.fault.ReasonFault.{ReasonFault}
 use Rattle.delay_management.specs.declared.fault.ReasonFault.TheVariants as fault
-use Rattle.propagation.proofs.Common.{Reason, Activity, Step, IsFeasible, DelayProblem, steps_with}
-use Rattle.propagation.proofs.Common.{AreRight}
+use Rattle.propagation.specs.declared.reason.Reason.{Reason}
+use Rattle.propagation.specs.declared.step.Activity.{Activity}
+use Rattle.propagation.specs.declared.step.Step.{Step}
+use Rattle.propagation.proofs.Common.{IsFeasible, DelayProblem, steps_with, AreRight}
 use Rattle.delay_management.specs.DispositionStage.{ReasonRow, reason_rows, time_rows}
 use Rattle.delay_management.specs.Judged.{are_all, broken_reasons, broken_rows, broken_rules, broken_times}
 use Rattle.delay_management.specs.Judged.{broken_where, events_where, first_broken_rule, is_early, is_table, is_wrong}

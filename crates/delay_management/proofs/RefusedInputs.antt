@@ -1,8 +1,13 @@
 -- From the reading of one input after the other to the faults of all of them.
 use Rattle.plan_num.proofs.Common.{◌≡◌, ℕ, List, [], ◌++◌, Result, Vec, sym, subst, arith, Global}
-use Rattle.tables.proofs.Common.{Refusal, StageFault, Input, Refuses, refused_append, ReadsFile}
+use Rattle.tables.specs.declared.refusal.Refusal.{Refusal}
+use Rattle.tables.specs.declared.refusal.StageFault.{StageFault}
+use Rattle.tables.proofs.Common.{Input, Refuses, refused_append, ReadsFile}
 use Rattle.giv_files.proofs.Common.{BundleParts}
-use Rattle.event_tables.proofs.Common.{DelayRow, ExpandedActivity, ExpandedEvent, ScheduleRow}
+use Rattle.event_tables.specs.declared.delay_row.DelayRow.{DelayRow}
+use Rattle.event_tables.specs.declared.expanded_activity.ExpandedActivity.{ExpandedActivity}
+use Rattle.event_tables.specs.declared.expanded_event.ExpandedEvent.{ExpandedEvent}
+use Rattle.event_tables.specs.declared.schedule_row.ScheduleRow.{ScheduleRow}
 use Rattle.delay_management.specs.DispositionStage.{activities_in, activity_delay_faults, activity_delays_in}
 use Rattle.delay_management.specs.DispositionStage.{activity_faults, delay_faults, disposition_faults}
 use Rattle.delay_management.specs.DispositionStage.{event_delay_faults, event_delays_in, event_faults, events_in}

@@ -5,14 +5,20 @@ use Rattle.plan_num.proofs.Common.{sym, arith, IsStrictlyIncreasing, ltb-false, 
 use Rattle.plan_num.proofs.Common.{ints, get_or-map, length-map, All-filter, All-map, filter_passes}
 use Rattle.plan_num.proofs.Common.{AllPairs-filter, AllPairs}
 use Rattle.tables.proofs.Common.{delays_columns, InColumns}
-use Rattle.event_tables.proofs.Common.{DelayRow, ExpandedActivity, ExpandedEvent, ScheduleRow}
+use Rattle.event_tables.specs.declared.delay_row.DelayRow.{DelayRow}
+use Rattle.event_tables.specs.declared.expanded_activity.ExpandedActivity.{ExpandedActivity}
+use Rattle.event_tables.specs.declared.expanded_event.ExpandedEvent.{ExpandedEvent}
+use Rattle.event_tables.specs.declared.schedule_row.ScheduleRow.{ScheduleRow}
 use Rattle.event_tables.proofs.Common.{delay_cells, expanded_activity, expanded_event, AreDelays}
 use Rattle.event_tables.proofs.Common.{AreExpandedActivities, AreExpandedEvents, both_pass}
 use Rattle.event_tables.proofs.Common.{event_with, AreNumbered, AreScheduleRows, IsScheduleRow}
 use Rattle.event_tables.proofs.Common.{has_room, is_empty_row, find_numbered, id_at}
-use Rattle.propagation.proofs.Common.{planned_rises, DayEvent, Activity, Step, no_event}
-use Rattle.propagation.proofs.Common.{GainsLittle, DelayProblem, GoesForward, event_at, minutes}
-use Rattle.propagation.proofs.Common.{planned_at, steps_with, steps_all}
+use Rattle.propagation.specs.declared.day_event.DayEvent.{DayEvent}
+use Rattle.propagation.specs.declared.step.Activity.{Activity}
+use Rattle.propagation.specs.declared.step.Step.{Step}
+use Rattle.propagation.proofs.Common.{planned_rises, no_event, GainsLittle, DelayProblem}
+use Rattle.propagation.proofs.Common.{GoesForward, event_at, minutes, planned_at, steps_with}
+use Rattle.propagation.proofs.Common.{steps_all}
 use Rattle.delay_management.specs.InputProblems.{activities_of, day_event, day_events, delay_of, delayed, earliest_of}
 use Rattle.delay_management.specs.InputProblems.{index_of, is_of, problem_over, turn_of}
 

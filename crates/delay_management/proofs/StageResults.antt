@@ -1,10 +1,14 @@
 -- What the stage of dispositions gives.
 use Rattle.plan_num.proofs.Common.{◌≡◌, ◌∙◌, ℕ, ℤ, Bool, List, [], Ok, Err, ap, arith}
-use Rattle.giv_files.proofs.Common.{Made, BundleParts, StageGives}
-use Rattle.tables.proofs.Common.{StageFault, Refuses}
+use Rattle.giv_files.specs.declared.made.Made.{Made}
+use Rattle.giv_files.proofs.Common.{BundleParts, StageGives}
+use Rattle.tables.specs.declared.refusal.StageFault.{StageFault}
+use Rattle.tables.proofs.Common.{Refuses}
 use Rattle.giv_files.proofs.StageCalls as calls
-use Rattle.propagation.proofs.Common.{Reason, Activity, least_times, DelayProblem}
-use Rattle.propagation.proofs.Common.{canonical_reasons, chosen_changes, kept_changes}
+use Rattle.propagation.specs.declared.reason.Reason.{Reason}
+use Rattle.propagation.specs.declared.step.Activity.{Activity}
+use Rattle.propagation.proofs.Common.{least_times, DelayProblem, canonical_reasons, chosen_changes}
+use Rattle.propagation.proofs.Common.{kept_changes}
 use Rattle.delay_management.specs.DispositionStage.{disposed_of, disposition_faults, disposition_made}
 use Rattle.delay_management.specs.DispositionStage.{disposition_stage, kept_in, problem_in}
 use Rattle.delay_management.specs.WaitSettings.{wait_of}

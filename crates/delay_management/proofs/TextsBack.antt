@@ -3,17 +3,18 @@
 use Rattle.plan_num.proofs.Common.{◌≡◌, ◌∙◌, ℕ, ℤ, ◌+◌, ◌≤◌, List, [], ◌∷◌, ◌++◌, length, map, All}
 use Rattle.plan_num.proofs.Common.{refl, ap, sym, subst, arith, list_any, range_with_len, eq-eqb}
 use Rattle.plan_num.proofs.Common.{le-ltb, ne_eqb, length_push, All-map, map-map}
-use Rattle.tables.proofs.Common.{ColumnKind, disposed_columns, reasons_columns, broken_whys}
-use Rattle.tables.proofs.Common.{input_faults, records, table_of, TableRow, InColumns, ReadsBack}
-use Rattle.tables.proofs.Common.{KeepRules, accepted, whole_accepted, plain_header, written_back}
-use Rattle.tables.proofs.Common.{ReadsAs, records_by, rows_by, columns_written}
+use Rattle.tables.specs.declared.column.ColumnKind.{ColumnKind}
+use Rattle.tables.proofs.Common.{disposed_columns, reasons_columns, broken_whys, input_faults}
+use Rattle.tables.proofs.Common.{records, table_of, TableRow, InColumns, ReadsBack, KeepRules}
+use Rattle.tables.proofs.Common.{accepted, whole_accepted, plain_header, written_back, ReadsAs}
+use Rattle.tables.proofs.Common.{records_by, rows_by, columns_written}
 use Rattle.tables.specs.declared.row_why.RowWhy.TheVariants as why
 use Rattle.tables.specs.declared.file_id.FileId.TheVariants as file
-use Rattle.event_tables.proofs.Common.{DisposedTime, disposed_time, disposed_time_cells}
-use Rattle.event_tables.proofs.Common.{disposed_time_input, disposed_time_rules}
-use Rattle.event_tables.proofs.Common.{disposed_time_header, is_none_of, none_of_places}
-use Rattle.event_tables.proofs.Common.{some_missing}
-use Rattle.propagation.proofs.Common.{Reason}
+use Rattle.event_tables.specs.declared.disposed_time.DisposedTime.{DisposedTime}
+use Rattle.event_tables.proofs.Common.{disposed_time, disposed_time_cells, disposed_time_input}
+use Rattle.event_tables.proofs.Common.{disposed_time_rules, disposed_time_header, is_none_of}
+use Rattle.event_tables.proofs.Common.{none_of_places, some_missing}
+use Rattle.propagation.specs.declared.reason.Reason.{Reason}
 use Rattle.delay_management.specs.DispositionStage.{ReasonRow, reason_cells, reason_rows, reasons_header, reasons_text}
 use Rattle.delay_management.specs.DispositionStage.{time_rows, times_text}
 use Rattle.delay_management.specs.Judged.{reason_row}

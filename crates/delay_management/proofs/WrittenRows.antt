@@ -4,8 +4,11 @@ use Rattle.plan_num.proofs.Common.{map, take, get_or, All, refl, ap, arith, enum
 use Rattle.plan_num.proofs.Common.{get_or-map, length-map, take_all, take_more, All-cons, All-map}
 use Rattle.plan_num.proofs.Common.{All-nil, get_or-enumerate_from, length-enumerate_from}
 use Rattle.tables.proofs.Common.{disposed_columns, reasons_columns, TableRow, InColumns, rows_by}
-use Rattle.event_tables.proofs.Common.{DisposedTime, disposed_time_cells}
-use Rattle.propagation.proofs.Common.{Reason, named_activity, LATEST}
+use Rattle.event_tables.specs.declared.disposed_time.DisposedTime.{DisposedTime}
+use Rattle.event_tables.proofs.Common.{disposed_time_cells}
+use Rattle.propagation.specs.declared.reason.Reason.{Reason}
+use Rattle.propagation.specs.declared.times.TheConstants.{LATEST}
+use Rattle.propagation.proofs.Common.{named_activity}
 use Rattle.propagation.specs.declared.reason.Reason.TheVariants as reason
 use Rattle.delay_management.specs.DispositionStage.{ReasonRow, reason_cells, reason_place, reason_rows, time_rows}
 

@@ -4,10 +4,12 @@ use Rattle.plan_num.proofs.Common.{false, List, [], ◌∷◌, ◌++◌, length,
 use Rattle.plan_num.proofs.Common.{Option, None, Some, ap, refl, sym, subst, arith, replicate}
 use Rattle.plan_num.proofs.Common.{items_where_true, false≢true, get_or-eq_default, get_or_default}
 use Rattle.plan_num.proofs.Common.{get_or-map-range_with_len, All-permutation}
-use Rattle.propagation.proofs.Common.{rank_rises, Link, Activity, IsFeasible, IsLeast, asked}
-use Rattle.propagation.proofs.Common.{least_times, time_at, GainsLittle, IsLinked, counts, links_of}
-use Rattle.propagation.proofs.Common.{DelayProblem, GoesForward, IsForward, chosen_changes}
-use Rattle.propagation.proofs.Common.{all_chosen, change_steps, links_all, links_hold, steps_hold}
+use Rattle.propagation.specs.declared.links.Link.{Link}
+use Rattle.propagation.specs.declared.step.Activity.{Activity}
+use Rattle.propagation.proofs.Common.{rank_rises, IsFeasible, IsLeast, asked, least_times, time_at}
+use Rattle.propagation.proofs.Common.{GainsLittle, IsLinked, counts, links_of, DelayProblem}
+use Rattle.propagation.proofs.Common.{GoesForward, IsForward, chosen_changes, all_chosen}
+use Rattle.propagation.proofs.Common.{change_steps, links_all, links_hold, steps_hold}
 use Rattle.delay_trials.specs.declared.moved_event.Moved.{Moved}
 use Rattle.delay_trials.specs.declared.taken.Taken.{Taken}
 use Rattle.delay_trials.specs.OnTrial.{AreOnce, AreSaved, DropsNotes, Follows, GoesBack, IsHeld}

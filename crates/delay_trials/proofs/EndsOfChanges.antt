@@ -6,7 +6,7 @@ use Rattle.plan_num.proofs.Common.{All-append, All-cons, All-contains, All-conta
 use Rattle.plan_num.proofs.Common.{Contains-append_left, Contains-push, All-permutation}
 use Rattle.plan_num.proofs.Common.{IsPermutation-sym}
 use Rattle.delay_trials.specs.declared.ends.ChangeEnd.{ChangeEnd}
-use Rattle.propagation.proofs.Common.{Activity}
+use Rattle.propagation.specs.declared.step.Activity.{Activity}
 use Rattle.delay_trials.specs.ChangeEnds.{HasEnds, HasNone, IsFirst}
 use Rattle.bit_rows.proofs.Cases.{by_less}
 

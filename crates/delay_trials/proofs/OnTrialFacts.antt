@@ -4,8 +4,10 @@ use Rattle.plan_num.proofs.Common.{◌++◌, length, get_or, slice_set, All, Opt
 use Rattle.plan_num.proofs.Common.{sym, subst, arith, MatchOption, option_to_list, replicate}
 use Rattle.plan_num.proofs.Common.{reverse, append-nil, length-reverse, length-set, All-head}
 use Rattle.plan_num.proofs.Common.{All-set, All-tail, ints}
-use Rattle.propagation.proofs.Common.{DayEvent, Activity, delay_at, is_broken, more_delay, time_at}
-use Rattle.propagation.proofs.Common.{LATEST}
+use Rattle.propagation.specs.declared.day_event.DayEvent.{DayEvent}
+use Rattle.propagation.specs.declared.step.Activity.{Activity}
+use Rattle.propagation.specs.declared.times.TheConstants.{LATEST}
+use Rattle.propagation.proofs.Common.{delay_at, is_broken, more_delay, time_at}
 use Rattle.delay_trials.specs.declared.ends.ChangeEnd.{ChangeEnd}
 use Rattle.delay_trials.specs.declared.moved_event.Moved.{Moved}
 use Rattle.delay_trials.specs.OnTrial.{AreTested, IsLastMoved, IsOnTrial, TrialTimes}

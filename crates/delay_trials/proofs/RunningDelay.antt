@@ -6,8 +6,9 @@ use Rattle.plan_num.proofs.Common.{fold, ints}
 use Rattle.std.proofs.lemmas.Int.{to_z-of_z}
 use mir.Syntax.{w128}
 use mir.Val.{SFits}
-use Rattle.propagation.proofs.Common.{DayEvent, arrives, delay_at, lateness, more_delay, time_at}
-use Rattle.propagation.proofs.Common.{planned_at, LATEST}
+use Rattle.propagation.specs.declared.day_event.DayEvent.{DayEvent}
+use Rattle.propagation.specs.declared.times.TheConstants.{LATEST}
+use Rattle.propagation.proofs.Common.{arrives, delay_at, lateness, more_delay, time_at, planned_at}
 
 abbrev Timed : Type 0
 Timed = DayEvent × ℕ

@@ -4,11 +4,14 @@ use Rattle.plan_num.proofs.Common.{◌≡◌, ◌≢◌, ◌∙◌, ℕ, ◌+◌
 use Rattle.plan_num.proofs.Common.{false, cond, List, [], ◌∷◌, ◌++◌, length, get_or, slice_set, All}
 use Rattle.plan_num.proofs.Common.{None, ap, sym, subst, arith, false≢true, lt-ltb, append_assoc}
 use Rattle.plan_num.proofs.Common.{get_or_default}
-use Rattle.propagation.proofs.Common.{forward_rank, Link, Step, IsLeast, asked, later, least_times}
-use Rattle.propagation.proofs.Common.{time_at, IsLinked, counts, head_pushed, DelayProblem, Joins}
+use Rattle.propagation.specs.declared.links.Link.{Link}
+use Rattle.propagation.specs.declared.step.Step.{Step}
+use Rattle.propagation.specs.declared.times.TheConstants.{LATEST}
+use Rattle.propagation.proofs.Common.{forward_rank, IsLeast, asked, later, least_times, time_at}
+use Rattle.propagation.proofs.Common.{IsLinked, counts, head_pushed, DelayProblem, Joins}
 use Rattle.propagation.proofs.Common.{chosen_changes, is_pushed, all_join, chosen_are_changes}
 use Rattle.propagation.proofs.Common.{links_hold, pass_is, steps_hold, least_is_one}
-use Rattle.propagation.proofs.Common.{least_times_are_least, all_slow, pass_small, LATEST}
+use Rattle.propagation.proofs.Common.{least_times_are_least, all_slow, pass_small}
 use Rattle.delay_trials.specs.declared.moved_event.Moved.{Moved}
 use Rattle.bit_rows.specs.Markings.{IsNext}
 use Rattle.delay_trials.specs.OnTrial.{Follows, IsHeld, IsSettling, IsSettlingBut, NoneWaits, Pushes, TrialTimes}

@@ -2,7 +2,8 @@
 use Rattle.plan_num.proofs.Common.{◌≡◌, ◌≢◌, ◌∙◌, ℕ, ◌+◌, ◌<◌, ◌&&◌, Bool, false, List, length}
 use Rattle.plan_num.proofs.Common.{get_or, slice_set, ap, sym, subst, arith, length-set}
 use Rattle.delay_trials.specs.declared.ends.ChangeEnd.{ChangeEnd}
-use Rattle.propagation.proofs.Common.{Activity, is_broken}
+use Rattle.propagation.specs.declared.step.Activity.{Activity}
+use Rattle.propagation.proofs.Common.{is_broken}
 use Rattle.delay_trials.specs.Stillness.{TestsSome}
 use Rattle.bit_rows.proofs.Cases.{by_less, by_same}
 use Rattle.delay_trials.proofs.Apart.{set_here, set_there}

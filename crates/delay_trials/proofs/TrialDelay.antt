@@ -2,8 +2,10 @@
 use Rattle.plan_num.proofs.Common.{◌≡◌, ℕ, ℤ, suc, ◌+◌, ◌*◌, ◌<◌, ◌≤◌, ◌+ℤ◌, ◌≤ℤ◌, pos, cond, Bool}
 use Rattle.plan_num.proofs.Common.{true, false, List, [], ◌∷◌, length, All, subst, arith, filter}
 use Rattle.plan_num.proofs.Common.{zip, fold, ints}
-use Rattle.propagation.proofs.Common.{DayEvent, Activity, IsLeast, time_at, arrives, delay_at}
-use Rattle.propagation.proofs.Common.{lateness, DelayProblem, earliest_at, planned_at}
+use Rattle.propagation.specs.declared.day_event.DayEvent.{DayEvent}
+use Rattle.propagation.specs.declared.step.Activity.{Activity}
+use Rattle.propagation.proofs.Common.{IsLeast, time_at, arrives, delay_at, lateness, DelayProblem}
+use Rattle.propagation.proofs.Common.{earliest_at, planned_at}
 
 record Within (sum : ℤ) (count : ℕ) : Type 0 where
   least : pos 0 ≤ℤ sum

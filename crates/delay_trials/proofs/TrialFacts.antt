@@ -8,9 +8,10 @@ use Rattle.plan_num.proofs.Common.{ltb-false, lt-ltb, le-ltb, reverse-append}
 use Rattle.plan_num.proofs.Common.{get_or-map-range_with_len, length-enumerate_from}
 use Rattle.plan_num.proofs.Common.{length-map-range_with_len}
 use Rattle.delay_trials.specs.declared.decided.Decided.{Decided}
-use Rattle.propagation.proofs.Common.{Activity, IsLeast, least_times, DelayProblem, IsForward}
-use Rattle.propagation.proofs.Common.{is_broken, chosen_changes, chosen_are_changes, placed_at}
-use Rattle.propagation.proofs.Common.{told_alike, least_times_are_least}
+use Rattle.propagation.specs.declared.step.Activity.{Activity}
+use Rattle.propagation.proofs.Common.{IsLeast, least_times, DelayProblem, IsForward, is_broken}
+use Rattle.propagation.proofs.Common.{chosen_changes, chosen_are_changes, placed_at, told_alike}
+use Rattle.propagation.proofs.Common.{least_times_are_least}
 use Rattle.delay_trials.specs.OnTrial.{AreOnce, IsTrial, kept_flags, open_flags}
 use Rattle.delay_trials.specs.Trials.{TrialParts, first_broken, is_decided, is_kept, kept_of, times_of}
 use Rattle.bit_rows.proofs.Places.{told_anew}

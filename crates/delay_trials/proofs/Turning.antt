@@ -5,7 +5,7 @@ use Rattle.plan_num.proofs.Common.{replicate, Contains, IsNonDecreasingBy, get_o
 use Rattle.plan_num.proofs.Common.{length-replicate}
 use Rattle.std.proofs.Math.Nat.{min-le_left, min-le_right}
 use Rattle.delay_trials.specs.declared.ends.ChangeEnd.{ChangeEnd}
-use Rattle.propagation.proofs.Common.{Activity}
+use Rattle.propagation.specs.declared.step.Activity.{Activity}
 use Rattle.delay_trials.specs.ChangeEnds.{HasEnds, HasNone, IsFirst}
 use Rattle.delay_trials.specs.OnTrial.{AreTested, AreTestedBut}
 use Rattle.delay_trials.specs.Stillness.{AreLimits, AreStill, IsTested, MayHaveLimits, TestsSome, room_of}

@@ -2,7 +2,7 @@
 use Rattle.plan_num.proofs.Common.{◌≡◌, ◌≢◌, ◌∙◌, ℕ, ◌+◌, ◌<◌, ◌≤◌, ◌⊎◌, inl, inr, Bool, true}
 use Rattle.plan_num.proofs.Common.{false, List, length, get_or, slice_set, ap, sym, subst, arith}
 use Rattle.plan_num.proofs.Common.{IsNonDecreasingBy, false≢true, get_or_default, length-set}
-use Rattle.propagation.proofs.Common.{Link}
+use Rattle.propagation.specs.declared.links.Link.{Link}
 use Rattle.delay_trials.specs.OnTrial.{WaitBy}
 use Rattle.bit_rows.proofs.Cases.{by_less, by_same}
 use Rattle.delay_trials.proofs.Apart.{set_here, set_there}

@@ -3,10 +3,12 @@ use Rattle.plan_num.proofs.Common.{arith, ◌≡◌, ◌≢◌, ℕ, cond, true,
 use Rattle.plan_num.proofs.Common.{refl, subst, sym, ◌∙◌, Ok, Err, ne_eqb, eq-eqb, length-map}
 use Rattle.plan_num.proofs.Common.{length-map-range_with_len}
 use Rattle.giv_files.specs.declared.key.Key.TheVariants as key
-use Rattle.giv_files.proofs.Common.{Made, Setting, BundleParts, SettingsFit, Fits, amount}
-use Rattle.giv_files.proofs.Common.{input_text, StageGives, amount_within, stage_refused}
-use Rattle.tables.proofs.Common.{StageFault, Refuses, input_faults, records_of, refused_append}
-use Rattle.tables.proofs.Common.{refused_before}
+use Rattle.giv_files.specs.declared.made.Made.{Made}
+use Rattle.giv_files.specs.declared.setting.Setting.{Setting}
+use Rattle.giv_files.proofs.Common.{BundleParts, SettingsFit, Fits, amount, input_text, StageGives}
+use Rattle.giv_files.proofs.Common.{amount_within, stage_refused}
+use Rattle.tables.specs.declared.refusal.StageFault.{StageFault}
+use Rattle.tables.proofs.Common.{Refuses, input_faults, records_of, refused_append, refused_before}
 use Rattle.giv_files.specs.declared.stage.Stage.TheVariants as stage
 use Rattle.walks.proofs.Common.{NetworkParts}
 use Rattle.ptn_network.specs.Networks.{network_of, network_faults}

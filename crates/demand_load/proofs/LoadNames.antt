@@ -2,11 +2,14 @@
 use Rattle.plan_num.proofs.Common.{◌≡◌, ℕ, pos, Bool, true, false, cond, List, unsigned_abs, int_lt}
 use Rattle.plan_num.proofs.Common.{Err}
 use Rattle.tables.specs.declared.counted.Counted.TheVariants as counted
-use Rattle.tables.proofs.Common.{FileId, Refusal, input_faults, NamesInput, AllName, names_both}
-use Rattle.tables.proofs.Common.{names_or_else, names_where, input_names}
+use Rattle.tables.specs.declared.file_id.FileId.{FileId}
+use Rattle.tables.specs.declared.refusal.Refusal.{Refusal}
+use Rattle.tables.proofs.Common.{input_faults, NamesInput, AllName, names_both, names_or_else}
+use Rattle.tables.proofs.Common.{names_where, input_names}
 use Rattle.tables.specs.declared.file_id.FileId.TheVariants as file
 use Rattle.tables.specs.declared.refusal.Refusal.TheVariants as refusal
-use Rattle.giv_files.proofs.Common.{Setting, BundleParts, input_text, refused_names}
+use Rattle.giv_files.specs.declared.setting.Setting.{Setting}
+use Rattle.giv_files.proofs.Common.{BundleParts, input_text, refused_names}
 use Rattle.walks.proofs.Common.{NetworkParts}
 use Rattle.ptn_network.specs.Networks.{network_faults}
 use Rattle.ptn_network.proofs.NamedFaults.{network_names}

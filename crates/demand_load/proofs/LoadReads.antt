@@ -1,6 +1,7 @@
 -- The loads that are made, read again, are right.
 use Rattle.plan_num.proofs.Common.{◌≡◌, refl, ap, sym, arith, Ok}
-use Rattle.giv_files.proofs.Common.{Made, BundleParts, Fits, input_text, made_unless, none_unless}
+use Rattle.giv_files.specs.declared.made.Made.{Made}
+use Rattle.giv_files.proofs.Common.{BundleParts, Fits, input_text, made_unless, none_unless}
 use Rattle.giv_files.specs.declared.stage.Stage.TheVariants as stage
 use Rattle.tables.proofs.Common.{load_columns, table_text, ReadsBack, front_none, back_none}
 use Rattle.tables.proofs.Common.{written_back, plain_header, columns_written, none_after}

@@ -4,9 +4,10 @@ use Rattle.plan_num.proofs.Common.{cond, List, [], ◌∷◌, ◌++◌, length, 
 use Rattle.plan_num.proofs.Common.{◌∙◌, arith, All, unsigned_abs, take_more, take_all}
 use Rattle.plan_num.proofs.Common.{length-take-le, All-nil, All-cons, All-head, All-tail}
 use Rattle.tables.specs.declared.counted.Counted.TheVariants as counted
-use Rattle.tables.proofs.Common.{Refusal, load_columns, TableRow, InColumns, back_none}
+use Rattle.tables.specs.declared.refusal.Refusal.{Refusal}
+use Rattle.tables.proofs.Common.{load_columns, TableRow, InColumns, back_none}
 use Rattle.tables.specs.declared.refusal.Refusal.TheVariants as refusal
-use Rattle.walks.proofs.Common.{Edge}
+use Rattle.walks.specs.declared.edge.Edge.{Edge}
 use Rattle.ptn_network.specs.declared.edge_load.EdgeLoad.{EdgeLoad}
 use Rattle.ptn_network.specs.Loads.{IsBounded}
 use Rattle.demand_load.specs.LoadTables.{load_row, load_rows, HasId}

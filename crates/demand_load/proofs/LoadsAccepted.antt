@@ -8,7 +8,7 @@ use Rattle.tables.specs.declared.row_why.RowWhy.TheVariants as why
 use Rattle.tables.proofs.Common.{load_columns, records, input_faults, ReadsBack, accepted}
 use Rattle.tables.proofs.Common.{whole_accepted, all_keep, each_known, none_missing}
 use Rattle.plan_num.proofs.Found.{any_mapped, any_found}
-use Rattle.walks.proofs.Common.{Edge}
+use Rattle.walks.specs.declared.edge.Edge.{Edge}
 use Rattle.ptn_network.specs.declared.edge_load.EdgeLoad.{EdgeLoad}
 use Rattle.ptn_network.specs.Ids.{edge_with}
 use Rattle.ptn_network.specs.Loads.{load_input, load_rules, given_for, IsBounded}

@@ -4,7 +4,7 @@ use Rattle.plan_num.proofs.Common.{map, get_or, refl, arith, lit<, All, range_wi
 use Rattle.plan_num.proofs.Common.{All-nil, All-cons, All-head, All-tail, All-map, All-weaker}
 use Rattle.tables.specs.declared.column.ColumnKind.TheVariants as kind
 use Rattle.tables.specs.declared.counted.Counted.TheVariants as counted
-use Rattle.giv_files.proofs.Common.{Setting}
+use Rattle.giv_files.specs.declared.setting.Setting.{Setting}
 use Rattle.tables.proofs.Common.{edge_columns, records, records_of, row_limit, input_faults}
 use Rattle.tables.proofs.Common.{table_of, TableRow, InColumns, few_rows, sound_rows, back_none}
 use Rattle.tables.proofs.Common.{in_column}

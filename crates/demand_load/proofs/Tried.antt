@@ -5,10 +5,12 @@ use Rattle.std.specs.Fmt.{digits}
 use Rattle.tables.specs.declared.counted.Counted.TheVariants as counted
 use Rattle.tables.specs.declared.file_id.FileId.TheVariants as file
 use Rattle.giv_files.specs.declared.key.Key.TheVariants as key
-use Rattle.giv_files.proofs.Common.{Made, BundleParts}
+use Rattle.giv_files.specs.declared.made.Made.{Made}
+use Rattle.giv_files.proofs.Common.{BundleParts}
 use Rattle.tables.specs.declared.row_why.RowWhy.TheVariants as why
-use Rattle.tables.proofs.Common.{Refusal, input_faults, row_faults, faults, table_of, cells_from}
-use Rattle.tables.proofs.Common.{cell_of, errors, values, row_whys, cell_text, cell_texts, joined}
+use Rattle.tables.specs.declared.refusal.Refusal.{Refusal}
+use Rattle.tables.proofs.Common.{input_faults, row_faults, faults, table_of, cells_from, cell_of}
+use Rattle.tables.proofs.Common.{errors, values, row_whys, cell_text, cell_texts, joined}
 use Rattle.tables.proofs.Common.{table_text}
 use Rattle.tables.specs.declared.refusal.Refusal.TheVariants as refusal
 use Rattle.giv_files.specs.declared.stage.Stage.TheVariants as stage
@@ -16,7 +18,8 @@ use Rattle.text_fields.specs.Rows.{rows, cleaned}
 use Rattle.plan_num.specs.Number.{spelling_of, value_of, value_at, fixed_of, whole_of}
 use Rattle.plan_num.specs.Print.{digits_at}
 use Rattle.ptn_network.specs.Loads.{loads_of}
-use Rattle.walks.proofs.Common.{Edge, NetworkParts, by_id, path}
+use Rattle.walks.specs.declared.edge.Edge.{Edge}
+use Rattle.walks.proofs.Common.{NetworkParts, by_id, path}
 use Rattle.ptn_network.specs.Networks.{stops_of, network_of, network_faults}
 use Rattle.walks.specs.Walks.{walks_within, least_of, least_sum}
 use Rattle.walks.specs.Paths.{path_within}

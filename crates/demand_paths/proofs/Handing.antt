@@ -6,12 +6,12 @@ use Rattle.plan_num.proofs.Common.{is_some, unwrap_or, inl, inr, add-zero, get_o
 use Rattle.plan_num.proofs.Common.{get_or-set_same, All, list_any, cons_option, cases_eq, eq-eqb}
 use Rattle.plan_num.proofs.Common.{eqb-true, ne_eqb, false≢true, length-set, All-get_or}
 use Rattle.plan_num.proofs.Common.{filter_map-append, list_any-append, slice_get-get_or, same_Some}
-use Rattle.walks.proofs.Common.{Edge, NetworkParts, IsEdge, IsNetwork, edge_length, least_sums}
-use Rattle.walks.proofs.Common.{IsWalk, AreLeastSums, last_edge, stop_before, path, length_to}
-use Rattle.walks.proofs.Common.{edges_at, PathParts, ArePaths, splits, across_back, some_length}
-use Rattle.walks.proofs.Common.{last_is_step, last_is_new, comes_from, no_edge, none_there}
-use Rattle.walks.proofs.Common.{none_before, last_step, last_known, last_there, before_there}
-use Rattle.walks.proofs.Common.{path_shortest}
+use Rattle.walks.specs.declared.edge.Edge.{Edge}
+use Rattle.walks.proofs.Common.{NetworkParts, IsEdge, IsNetwork, edge_length, least_sums, IsWalk}
+use Rattle.walks.proofs.Common.{AreLeastSums, last_edge, stop_before, path, length_to, edges_at}
+use Rattle.walks.proofs.Common.{PathParts, ArePaths, splits, across_back, some_length, last_is_step}
+use Rattle.walks.proofs.Common.{last_is_new, comes_from, no_edge, none_there, none_before}
+use Rattle.walks.proofs.Common.{last_step, last_known, last_there, before_there, path_shortest}
 use Rattle.walks.specs.Paths.{path_within}
 use Rattle.walks.proofs.Walks as walks
 use Rattle.demand_paths.specs.Wanted.{distance, goes_over, sum_where, everyone, NobodyLeft}

@@ -6,15 +6,17 @@ use Rattle.plan_num.proofs.Common.{All-head, All-tail, All-map, All-filter, leng
 use Rattle.plan_num.proofs.Common.{sum_by-le, mul-le}
 use Rattle.tables.proofs.Common.{pool_cost_columns, concept_columns, input_faults, records_of}
 use Rattle.tables.proofs.Common.{TableRow, InColumns, few_rows, sound_rows}
-use Rattle.event_tables.proofs.Common.{DisposedTime, ExpandedEvent, ScheduleRow, AreDisposedTimes}
-use Rattle.event_tables.proofs.Common.{AreScheduleRows}
+use Rattle.event_tables.specs.declared.disposed_time.DisposedTime.{DisposedTime}
+use Rattle.event_tables.specs.declared.expanded_event.ExpandedEvent.{ExpandedEvent}
+use Rattle.event_tables.specs.declared.schedule_row.ScheduleRow.{ScheduleRow}
+use Rattle.event_tables.proofs.Common.{AreDisposedTimes, AreScheduleRows}
 use Rattle.evaluators.specs.declared.rows.CostRow.{CostRow}
 use Rattle.evaluators.specs.declared.rows.LineRow.{LineRow}
 use Rattle.evaluators.specs.FirstRows.{firsts}
 use Rattle.evaluators.specs.Statistic.{cost_of, cost_of_runs, times_of}
 use Rattle.evaluators.specs.StatisticInputs.{concept_input, cost_input, cost_row, cost_with, line_limit, line_row}
 use Rattle.evaluators.specs.StatisticInputs.{lines_of}
-use Rattle.propagation.proofs.Common.{LATEST}
+use Rattle.propagation.specs.declared.times.TheConstants.{LATEST}
 
 -- ---- costs and frequencies
 

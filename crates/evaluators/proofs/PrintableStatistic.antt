@@ -12,20 +12,25 @@ use Rattle.tables.proofs.Common.{input_faults, records_of, row_limit, few_rows, 
 use Rattle.tables.proofs.Common.{back_none}
 use Rattle.giv_files.proofs.Common.{BundleParts, Fits, SettingsFit, amount, input_text}
 use Rattle.giv_files.proofs.Common.{amount_within}
-use Rattle.event_tables.proofs.Common.{PeriodicKind, ExpandedEvent, PeriodicActivity, PeriodicTime}
-use Rattle.event_tables.proofs.Common.{ScheduleRow, disposed_time_input, AreDisposedTimes}
-use Rattle.event_tables.proofs.Common.{AreExpandedEvents, AreExpandedActivities}
-use Rattle.event_tables.proofs.Common.{expanded_activity_input, expanded_event_ids}
-use Rattle.event_tables.proofs.Common.{expanded_event_input, ArePeriodicActivities}
-use Rattle.event_tables.proofs.Common.{periodic_activity_input, periodic_event_ids}
-use Rattle.event_tables.proofs.Common.{periodic_event_input, periodic_time_input, same_kind}
-use Rattle.event_tables.proofs.Common.{AreScheduleRows, is_empty_row, schedule_input, trip_input}
+use Rattle.event_tables.specs.declared.periodic_kind.PeriodicKind.{PeriodicKind}
+use Rattle.event_tables.specs.declared.expanded_event.ExpandedEvent.{ExpandedEvent}
+use Rattle.event_tables.specs.declared.periodic_activity.PeriodicActivity.{PeriodicActivity}
+use Rattle.event_tables.specs.declared.periodic_time.PeriodicTime.{PeriodicTime}
+use Rattle.event_tables.specs.declared.schedule_row.ScheduleRow.{ScheduleRow}
+use Rattle.event_tables.proofs.Common.{disposed_time_input, AreDisposedTimes, AreExpandedEvents}
+use Rattle.event_tables.proofs.Common.{AreExpandedActivities, expanded_activity_input}
+use Rattle.event_tables.proofs.Common.{expanded_event_ids, expanded_event_input}
+use Rattle.event_tables.proofs.Common.{ArePeriodicActivities, periodic_activity_input}
+use Rattle.event_tables.proofs.Common.{periodic_event_ids, periodic_event_input}
+use Rattle.event_tables.proofs.Common.{periodic_time_input, same_kind, AreScheduleRows}
+use Rattle.event_tables.proofs.Common.{is_empty_row, schedule_input, trip_input}
 use Rattle.event_tables.proofs.Common.{expanded_activities_sound, expanded_events_sound}
 use Rattle.event_tables.proofs.Common.{periodic_activities_sound, periodic_events_sound}
 use Rattle.event_tables.proofs.Common.{disposed_times_sound, schedule_rows_sound}
 use Rattle.event_tables.specs.declared.periodic_kind.PeriodicKind.TheVariants as kind
 use Rattle.pesp.proofs.LeastTensions.{rest}
-use Rattle.propagation.proofs.Common.{is_missed, later, latest, LATEST}
+use Rattle.propagation.specs.declared.times.TheConstants.{LATEST}
+use Rattle.propagation.proofs.Common.{is_missed, later, latest}
 use Rattle.delay_management.specs.DayLateness.{arrives, lateness}
 use Rattle.delay_management.specs.InputProblems.{delayed, is_of}
 use Rattle.evaluators.specs.declared.day_values.DayValues.{DayValues}

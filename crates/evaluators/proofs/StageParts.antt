@@ -1,8 +1,10 @@
 -- The parts of the stage: faults in their order, and what is made.
 use Rattle.std.proofs.Common.{◌≡◌, ℕ, [], length, None, Ok, Err, arith}
 use Rattle.giv_files.specs.declared.key.Key.TheVariants as key
-use Rattle.giv_files.proofs.Common.{Made, BundleParts, amount, StageGives, input_text}
-use Rattle.tables.proofs.Common.{StageFault, Refuses, records_of, refused_append}
+use Rattle.giv_files.specs.declared.made.Made.{Made}
+use Rattle.giv_files.proofs.Common.{BundleParts, amount, StageGives, input_text}
+use Rattle.tables.specs.declared.refusal.StageFault.{StageFault}
+use Rattle.tables.proofs.Common.{Refuses, records_of, refused_append}
 use Rattle.giv_files.proofs.StageCalls as calls
 use Rattle.event_tables.proofs.Common.{trip_input}
 use Rattle.evaluators.specs.declared.day_values.DayValues.{DayValues}

@@ -1,7 +1,10 @@
 -- Which files the stage of the statistic makes, and which it names where it refuses a row.
 use Rattle.std.proofs.Common.{◌≡◌, Bool, Ok, Err, ap, lit<}
-use Rattle.tables.proofs.Common.{FileId, Refusal, NamesInput, AllName}
-use Rattle.giv_files.proofs.Common.{Made, MakesAs, ids_of, BundleParts, refused_names, made_unless}
+use Rattle.tables.specs.declared.file_id.FileId.{FileId}
+use Rattle.tables.specs.declared.refusal.Refusal.{Refusal}
+use Rattle.tables.proofs.Common.{NamesInput, AllName}
+use Rattle.giv_files.specs.declared.made.Made.{Made}
+use Rattle.giv_files.proofs.Common.{MakesAs, ids_of, BundleParts, refused_names, made_unless}
 use Rattle.giv_files.specs.declared.stage.Stage.TheVariants as stage
 use Rattle.evaluators.specs.StatisticStage.{statistic_faults, statistic_stage}
 

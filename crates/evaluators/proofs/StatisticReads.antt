@@ -1,7 +1,8 @@
 -- The file of the statistic that is made, read again, is right.
 use Rattle.plan_num.proofs.Common.{◌≡◌, Ok, Err, Result, arith, IfOk}
-use Rattle.giv_files.proofs.Common.{Made, BundleParts, Fits, StageGives, made_unless, none_unless}
-use Rattle.tables.proofs.Common.{StageFault}
+use Rattle.giv_files.specs.declared.made.Made.{Made}
+use Rattle.giv_files.proofs.Common.{BundleParts, Fits, StageGives, made_unless, none_unless}
+use Rattle.tables.specs.declared.refusal.StageFault.{StageFault}
 use Rattle.giv_files.specs.declared.stage.Stage.TheVariants as stage
 use Rattle.plan_num.proofs.ReadBack.{number_back}
 use Rattle.evaluators.specs.RightStatistic.{StatisticIsRight}

@@ -2,10 +2,17 @@
 use Rattle.plan_num.proofs.Common.{arith, ◌≡◌, ◌≤◌, ℕ, suc, ℤ, ◌+◌, ltb, true, Bool, false, cond}
 use Rattle.plan_num.proofs.Common.{List, [], ◌∷◌, ◌++◌, length, map, filter, take, refl, ap, codes}
 use Rattle.plan_num.proofs.Common.{flat_map, fold, sum_by, take_all}
-use Rattle.tables.proofs.Common.{Refusal, StageFault, Refuses}
+use Rattle.tables.specs.declared.refusal.Refusal.{Refusal}
+use Rattle.tables.specs.declared.refusal.StageFault.{StageFault}
+use Rattle.tables.proofs.Common.{Refuses}
 use Rattle.event_tables.specs.declared.periodic_kind.PeriodicKind.TheVariants as kind
-use Rattle.event_tables.proofs.Common.{DisposedTime, ExpandedActivity, ExpandedEvent}
-use Rattle.event_tables.proofs.Common.{PeriodicActivity, PeriodicEvent, PeriodicTime, ScheduleRow}
+use Rattle.event_tables.specs.declared.disposed_time.DisposedTime.{DisposedTime}
+use Rattle.event_tables.specs.declared.expanded_activity.ExpandedActivity.{ExpandedActivity}
+use Rattle.event_tables.specs.declared.expanded_event.ExpandedEvent.{ExpandedEvent}
+use Rattle.event_tables.specs.declared.periodic_activity.PeriodicActivity.{PeriodicActivity}
+use Rattle.event_tables.specs.declared.periodic_event.PeriodicEvent.{PeriodicEvent}
+use Rattle.event_tables.specs.declared.periodic_time.PeriodicTime.{PeriodicTime}
+use Rattle.event_tables.specs.declared.schedule_row.ScheduleRow.{ScheduleRow}
 use Rattle.propagation.proofs.Common.{missed_at}
 use Rattle.delay_management.specs.DayLateness.{delay_at}
 use Rattle.delay_management.specs.InputProblems.{activities_of}

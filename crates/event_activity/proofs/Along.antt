@@ -3,10 +3,11 @@ use Rattle.plan_num.proofs.Common.{◌≡◌, ℕ, pos, ◌-◌, ◌<◌, arith,
 use Rattle.plan_num.proofs.Common.{refl, subst, sym, Option, Some, cons_option, get_or-reverse}
 use Rattle.plan_num.proofs.Common.{length-reverse, All-nil, All-cons, All-head, All-tail}
 use Rattle.plan_num.proofs.Common.{All-get_or, slice_get-get_or, same_Some}
-use Rattle.event_tables.proofs.Common.{Direction}
+use Rattle.event_tables.specs.declared.direction.Direction.{Direction}
 use Rattle.event_tables.specs.declared.direction.Direction.TheVariants as direction
 use Rattle.line_walks.specs.Pools.{LineParts, walk_from, walk_of, IsLine}
-use Rattle.walks.proofs.Common.{Edge, NetworkParts, IsEdge, IsNetwork, edges_at, across}
+use Rattle.walks.specs.declared.edge.Edge.{Edge}
+use Rattle.walks.proofs.Common.{NetworkParts, IsEdge, IsNetwork, edges_at, across}
 use Rattle.event_activity.specs.Runs.{along}
 use Rattle.event_activity.proofs.Crossings.{step_of}
 

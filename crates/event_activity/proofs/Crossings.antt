@@ -3,10 +3,11 @@ use Rattle.plan_num.proofs.Common.{◌≡◌, ℕ, zero, suc, ◌+◌, ◌*◌, 
 use Rattle.plan_num.proofs.Common.{All, List, [], ◌∷◌, length, get_or, refl, ap, sym, ◌∙◌, Some}
 use Rattle.plan_num.proofs.Common.{None, cons_option, get_or-reverse, All-head, All-tail}
 use Rattle.plan_num.proofs.Common.{slice_get-get_or, same_Some}
-use Rattle.event_tables.proofs.Common.{Direction}
+use Rattle.event_tables.specs.declared.direction.Direction.{Direction}
 use Rattle.event_tables.specs.declared.direction.Direction.TheVariants as direction
 use Rattle.line_walks.specs.Pools.{LineParts, walk_from, or_walk, walk_of, IsLine}
-use Rattle.walks.proofs.Common.{Edge, NetworkParts, edges_at, across}
+use Rattle.walks.specs.declared.edge.Edge.{Edge}
+use Rattle.walks.proofs.Common.{NetworkParts, edges_at, across}
 use Rattle.event_activity.specs.ActivitiesOfRuns.{Crosses}
 use Rattle.event_activity.specs.Runs.{along, no_edge, edge_at, run_event}
 

@@ -2,10 +2,11 @@
 use Rattle.plan_num.proofs.Common.{◌≡◌, ℕ, ◌*◌, ◌/◌, ◌<◌, ◌≤◌, arith, All, List, length, get_or}
 use Rattle.plan_num.proofs.Common.{subst, sym, flat_map, range_with_len, All-append, All-map}
 use Rattle.plan_num.proofs.Common.{All-weaker, All-get_or, All-from_get_or}
-use Rattle.event_tables.proofs.Common.{Direction}
+use Rattle.event_tables.specs.declared.direction.Direction.{Direction}
 use Rattle.event_tables.specs.declared.direction.Direction.TheVariants as direction
 use Rattle.line_walks.specs.Pools.{LineParts, IsLine}
-use Rattle.walks.proofs.Common.{Edge, NetworkParts, IsEdge}
+use Rattle.walks.specs.declared.edge.Edge.{Edge}
+use Rattle.walks.proofs.Common.{NetworkParts, IsEdge}
 use Rattle.plan_num.proofs.Members.{All-flat_map as all_parts}
 use Rattle.event_activity.specs.declared.run_event.RunEvent.{RunEvent}
 use Rattle.event_activity.specs.Fitting.{AreBounds, drive_bounds, IsDriven, IsNumbered}

@@ -3,8 +3,9 @@ use Rattle.plan_num.proofs.Common.{◌≡◌, ℕ, ◌≤◌, All, List, [], ◌
 use Rattle.plan_num.proofs.Common.{range_with_len, le-ltb, recursion_from_All}
 use Rattle.tables.proofs.Common.{events_p_columns, activities_p_columns, records, broken_whys}
 use Rattle.tables.proofs.Common.{input_faults, ReadsBack, KeepRules, accepted, under_limit, rows_by}
-use Rattle.event_tables.proofs.Common.{PeriodicActivity, PeriodicEvent, periodic_event}
-use Rattle.event_tables.proofs.Common.{periodic_activity, periodic_event_cells}
+use Rattle.event_tables.specs.declared.periodic_activity.PeriodicActivity.{PeriodicActivity}
+use Rattle.event_tables.specs.declared.periodic_event.PeriodicEvent.{PeriodicEvent}
+use Rattle.event_tables.proofs.Common.{periodic_event, periodic_activity, periodic_event_cells}
 use Rattle.event_tables.proofs.Common.{periodic_activity_cells, periodic_event_input}
 use Rattle.event_tables.proofs.Common.{periodic_activity_input, IsPeriodicActivity, known_ends}
 use Rattle.event_tables.proofs.Common.{bounds_in_order, AreNumbered, periodic_event_same}

@@ -2,11 +2,13 @@
 use Rattle.plan_num.proofs.Common.{arith, ◌≡◌, ℕ, ◌<◌, ◌≤◌, List, [], length, subst, sym, ◌∙◌}
 use Rattle.plan_num.proofs.Common.{Result, Ok, Err}
 use Rattle.tables.specs.declared.counted.Counted.TheVariants as counted
-use Rattle.giv_files.proofs.Common.{Made, Setting, BundleParts, input_text, StageGives}
-use Rattle.giv_files.proofs.Common.{stage_refused}
+use Rattle.giv_files.specs.declared.made.Made.{Made}
+use Rattle.giv_files.specs.declared.setting.Setting.{Setting}
+use Rattle.giv_files.proofs.Common.{BundleParts, input_text, StageGives, stage_refused}
 use Rattle.tables.specs.declared.refusal.Refusal.TheVariants as refusal
-use Rattle.tables.proofs.Common.{StageFault, Refuses, UnlessFault, or_else, refused_append}
-use Rattle.tables.proofs.Common.{refused_before, after_none}
+use Rattle.tables.specs.declared.refusal.StageFault.{StageFault}
+use Rattle.tables.proofs.Common.{Refuses, UnlessFault, or_else, refused_append, refused_before}
+use Rattle.tables.proofs.Common.{after_none}
 use Rattle.tables.specs.declared.refusal.StageFault.TheVariants as fault
 use Rattle.event_activity.specs.declared.run_event.RunEvent.{RunEvent}
 use Rattle.event_activity.specs.Activities.{concept_activities}

@@ -3,8 +3,9 @@ use Rattle.plan_num.proofs.Common.{ℕ, ◌≤◌, arith, All, List, All-map, Al
 use Rattle.tables.proofs.Common.{events_p_columns, activities_p_columns, InColumns}
 use Rattle.event_tables.specs.declared.direction.Direction.TheVariants as direction
 use Rattle.event_tables.specs.declared.event_kind.EventKind.TheVariants as event
-use Rattle.event_tables.proofs.Common.{PeriodicActivity, PeriodicEvent, periodic_event_cells}
-use Rattle.event_tables.proofs.Common.{periodic_activity_cells}
+use Rattle.event_tables.specs.declared.periodic_activity.PeriodicActivity.{PeriodicActivity}
+use Rattle.event_tables.specs.declared.periodic_event.PeriodicEvent.{PeriodicEvent}
+use Rattle.event_tables.proofs.Common.{periodic_event_cells, periodic_activity_cells}
 use Rattle.event_activity.specs.declared.run_event.RunEvent.{RunEvent}
 use Rattle.event_activity.specs.EanStage.{rows_of}
 use Rattle.event_activity.specs.Fitting.{IsNumbered}

@@ -1,6 +1,7 @@
 -- Which files the stage of events and activities makes.
 use Rattle.plan_num.proofs.Common.{◌≡◌, Ok, ap, lit<}
-use Rattle.giv_files.proofs.Common.{Made, MakesAs, ids_of, BundleParts, made_unless}
+use Rattle.giv_files.specs.declared.made.Made.{Made}
+use Rattle.giv_files.proofs.Common.{MakesAs, ids_of, BundleParts, made_unless}
 use Rattle.giv_files.specs.declared.stage.Stage.TheVariants as stage
 use Rattle.event_activity.specs.EanStage.{ean_stage}
 

@@ -1,7 +1,10 @@
 -- Which files the stage of events and activities names where it refuses a row.
 use Rattle.plan_num.proofs.Common.{◌≡◌, ℕ, Bool, true, List, [], ◌∷◌, Err, arith}
-use Rattle.tables.proofs.Common.{Counted, FileId, Refusal, limit_faults, row_limit, NamesInput}
-use Rattle.tables.proofs.Common.{AllName, names_both, names_or_else, input_names}
+use Rattle.tables.specs.declared.counted.Counted.{Counted}
+use Rattle.tables.specs.declared.file_id.FileId.{FileId}
+use Rattle.tables.specs.declared.refusal.Refusal.{Refusal}
+use Rattle.tables.proofs.Common.{limit_faults, row_limit, NamesInput, AllName, names_both}
+use Rattle.tables.proofs.Common.{names_or_else, input_names}
 use Rattle.tables.specs.declared.counted.Counted.TheVariants as counted
 use Rattle.tables.specs.declared.file_id.FileId.TheVariants as file
 use Rattle.tables.specs.declared.refusal.Refusal.TheVariants as refusal

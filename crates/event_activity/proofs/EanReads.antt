@@ -3,20 +3,22 @@ use Rattle.plan_num.proofs.Common.{◌≡◌, ℕ, ◌≤◌, All, Contains, uns
 use Rattle.plan_num.proofs.Common.{refl, ap, subst, sym, arith, Ok, Err, Result, IfOk}
 use Rattle.plan_num.proofs.Common.{range_with_len, length-map, All-weaker}
 use Rattle.tables.specs.declared.counted.Counted.TheVariants as counted
-use Rattle.giv_files.proofs.Common.{Made, BundleParts, Fits, input_text, StageGives, made_unless}
+use Rattle.giv_files.specs.declared.made.Made.{Made}
+use Rattle.giv_files.proofs.Common.{BundleParts, Fits, input_text, StageGives, made_unless}
 use Rattle.giv_files.proofs.Common.{none_unless}
-use Rattle.tables.proofs.Common.{StageFault, events_p_columns, activities_p_columns, input_faults}
-use Rattle.tables.proofs.Common.{records_of, row_limit, ReadsBack, plain_header, limits_sound}
-use Rattle.tables.proofs.Common.{none_first, none_after, front_none, back_none, ReadsAs, rows_by}
-use Rattle.tables.proofs.Common.{file_text, columns_written}
+use Rattle.tables.specs.declared.refusal.StageFault.{StageFault}
+use Rattle.tables.proofs.Common.{events_p_columns, activities_p_columns, input_faults, records_of}
+use Rattle.tables.proofs.Common.{row_limit, ReadsBack, plain_header, limits_sound, none_first}
+use Rattle.tables.proofs.Common.{none_after, front_none, back_none, ReadsAs, rows_by, file_text}
+use Rattle.tables.proofs.Common.{columns_written}
 use Rattle.giv_files.specs.declared.stage.Stage.TheVariants as stage
-use Rattle.event_tables.proofs.Common.{PeriodicEvent, periodic_event, periodic_activity}
-use Rattle.event_tables.proofs.Common.{periodic_event_cells, periodic_activity_cells}
-use Rattle.event_tables.proofs.Common.{periodic_event_header, periodic_activity_header}
-use Rattle.event_tables.proofs.Common.{periodic_event_input, periodic_activity_input}
-use Rattle.event_tables.proofs.Common.{periodic_event_ids, IsPeriodicActivity, KeepRunRules}
-use Rattle.event_tables.proofs.Common.{periodic_event_same, periodic_activity_same, file_back}
-use Rattle.event_tables.proofs.Common.{text_as}
+use Rattle.event_tables.specs.declared.periodic_event.PeriodicEvent.{PeriodicEvent}
+use Rattle.event_tables.proofs.Common.{periodic_event, periodic_activity, periodic_event_cells}
+use Rattle.event_tables.proofs.Common.{periodic_activity_cells, periodic_event_header}
+use Rattle.event_tables.proofs.Common.{periodic_activity_header, periodic_event_input}
+use Rattle.event_tables.proofs.Common.{periodic_activity_input, periodic_event_ids}
+use Rattle.event_tables.proofs.Common.{IsPeriodicActivity, KeepRunRules, periodic_event_same}
+use Rattle.event_tables.proofs.Common.{periodic_activity_same, file_back, text_as}
 use Rattle.event_activity.specs.declared.run_event.RunEvent.{RunEvent}
 use Rattle.event_activity.specs.EanStage.{network_in, lines_in, events_in, activities_in, ean_faults, ean_stage, rows_of, too_many}
 use Rattle.event_activity.specs.Fitting.{IsNumbered}

@@ -5,7 +5,8 @@ use Rattle.plan_num.proofs.Common.{◌&&◌, true, false, All, MatchBool, List, 
 use Rattle.plan_num.proofs.Common.{map, unsigned_abs, refl, subst, sym, flat_map, range_with_len}
 use Rattle.plan_num.proofs.Common.{enumerate_from, eq-eqb, ne_eqb, append_assoc, All-nil, All-cons}
 use Rattle.std.proofs.lemmas.Bool.{and_left as line_false}
-use Rattle.event_tables.proofs.Common.{Direction, event_kind_at, same_direction, same_run}
+use Rattle.event_tables.specs.declared.direction.Direction.{Direction}
+use Rattle.event_tables.proofs.Common.{event_kind_at, same_direction, same_run}
 use Rattle.event_tables.specs.declared.direction.Direction.TheVariants as direction
 use Rattle.line_walks.specs.Pools.{LineParts}
 use Rattle.walks.proofs.Common.{NetworkParts}

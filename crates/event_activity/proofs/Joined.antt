@@ -1,8 +1,8 @@
 -- The activities of all joinings, and how many there are.
 use Rattle.plan_num.proofs.Common.{◌≡◌, ℕ, ◌≤◌, arith, List, length, take, ap, ◌∙◌, flat_map}
 use Rattle.plan_num.proofs.Common.{take_all}
-use Rattle.giv_files.proofs.Common.{Setting}
-use Rattle.event_tables.proofs.Common.{PeriodicActivity}
+use Rattle.giv_files.specs.declared.setting.Setting.{Setting}
+use Rattle.event_tables.specs.declared.periodic_activity.PeriodicActivity.{PeriodicActivity}
 use Rattle.event_activity.specs.declared.joining.Joining.{Joining}
 use Rattle.event_activity.specs.declared.run_event.RunEvent.{RunEvent}
 use Rattle.event_activity.specs.Activities.{joined_events, joinings, with_numbers, concept_activities}

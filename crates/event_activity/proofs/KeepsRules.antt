@@ -5,8 +5,10 @@ use Rattle.plan_num.proofs.Common.{false, not, Contains, List, [], ◌∷◌, le
 use Rattle.plan_num.proofs.Common.{unsigned_abs, refl, ap, subst, sym, ◌∙◌, eq-eqb, eqb-true}
 use Rattle.plan_num.proofs.Common.{ne_eqb, and_parts, not-true, MatchBool-at_true, All-weaker}
 use Rattle.plan_num.proofs.Common.{All-contains}
-use Rattle.giv_files.proofs.Common.{Setting}
-use Rattle.event_tables.proofs.Common.{PeriodicActivity, PeriodicEvent, PeriodicKind}
+use Rattle.giv_files.specs.declared.setting.Setting.{Setting}
+use Rattle.event_tables.specs.declared.periodic_activity.PeriodicActivity.{PeriodicActivity}
+use Rattle.event_tables.specs.declared.periodic_event.PeriodicEvent.{PeriodicEvent}
+use Rattle.event_tables.specs.declared.periodic_kind.PeriodicKind.{PeriodicKind}
 use Rattle.event_tables.proofs.Common.{periodic_event, is_arrival, event_kind_at, is_next, joins}
 use Rattle.event_tables.proofs.Common.{same_run, lacks_way, goes_between, is_placed, drives_at_once}
 use Rattle.event_tables.proofs.Common.{is_stray, KeepRunRules}

@@ -3,7 +3,7 @@ use Rattle.plan_num.proofs.Common.{◌≡◌, ℕ, ◌+◌, ◌*◌, ◌<◌, �
 use Rattle.plan_num.proofs.Common.{sym, ◌∙◌, Some, option_map, slice_get, flat_map, enumerate_from}
 use Rattle.plan_num.proofs.Common.{slice_get-get_or, same_Some, length-append, length-map, take_all}
 use Rattle.plan_num.proofs.Common.{length-map-range_with_len, length-enumerate_from, mul-le}
-use Rattle.event_tables.proofs.Common.{Direction}
+use Rattle.event_tables.specs.declared.direction.Direction.{Direction}
 use Rattle.event_tables.specs.declared.direction.Direction.TheVariants as direction
 use Rattle.line_walks.specs.Pools.{LineParts}
 use Rattle.walks.proofs.Common.{NetworkParts}

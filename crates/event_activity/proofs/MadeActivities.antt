@@ -2,8 +2,10 @@
 use Rattle.plan_num.proofs.Common.{◌≡◌, ℕ, ◌≤◌, arith, All, List, length, filter, subst, sym}
 use Rattle.plan_num.proofs.Common.{flat_map, All-map, All-weaker, All-filter}
 use Rattle.giv_files.specs.declared.key.Key.TheVariants as key
-use Rattle.giv_files.proofs.Common.{Setting}
-use Rattle.event_tables.proofs.Common.{PeriodicActivity, PeriodicKind, IsPeriodicActivity}
+use Rattle.giv_files.specs.declared.setting.Setting.{Setting}
+use Rattle.event_tables.specs.declared.periodic_activity.PeriodicActivity.{PeriodicActivity}
+use Rattle.event_tables.specs.declared.periodic_kind.PeriodicKind.{PeriodicKind}
+use Rattle.event_tables.proofs.Common.{IsPeriodicActivity}
 use Rattle.event_tables.specs.declared.periodic_kind.PeriodicKind.TheVariants as activity
 use Rattle.event_activity.specs.declared.joining.Joining.{Joining}
 use Rattle.event_activity.specs.declared.run_event.RunEvent.{RunEvent}

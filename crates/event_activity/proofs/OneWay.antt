@@ -3,9 +3,11 @@ use Rattle.plan_num.proofs.Common.{◌≡◌, ℕ, suc, ◌+◌, ◌<◌, arith,
 use Rattle.plan_num.proofs.Common.{List, [], ◌∷◌, length, map, filter, get_or, refl, ap, sym, ◌∙◌}
 use Rattle.plan_num.proofs.Common.{flat_map, enumerate_from, count_by, eq-eqb, ne_eqb, get_or-map}
 use Rattle.plan_num.proofs.Common.{get_or-range_with_len, length-filter}
-use Rattle.giv_files.proofs.Common.{Setting}
-use Rattle.event_tables.proofs.Common.{EventKind, PeriodicActivity, is_arrival, same_run, is_next}
-use Rattle.event_tables.proofs.Common.{AreNumbered, way_on, same_kind, leads, lacks_way}
+use Rattle.giv_files.specs.declared.setting.Setting.{Setting}
+use Rattle.event_tables.specs.declared.event_kind.EventKind.{EventKind}
+use Rattle.event_tables.specs.declared.periodic_activity.PeriodicActivity.{PeriodicActivity}
+use Rattle.event_tables.proofs.Common.{is_arrival, same_run, is_next, AreNumbered, way_on}
+use Rattle.event_tables.proofs.Common.{same_kind, leads, lacks_way}
 use Rattle.event_tables.specs.declared.event_kind.EventKind.TheVariants as kinds
 use Rattle.event_tables.specs.declared.periodic_kind.PeriodicKind.TheVariants as activity
 use Rattle.event_activity.specs.declared.joining.Joining.{Joining}

@@ -3,8 +3,9 @@ use Rattle.plan_num.proofs.Common.{◌≡◌, ℕ, arith, true, All, Contains, L
 use Rattle.plan_num.proofs.Common.{subst, sym, flat_map, enumerate_from, and_parts, All-map}
 use Rattle.plan_num.proofs.Common.{All-weaker, All-filter, All-contains, All-contains_itself}
 use Rattle.plan_num.proofs.Common.{filter_passes}
-use Rattle.giv_files.proofs.Common.{Setting}
-use Rattle.event_tables.proofs.Common.{PeriodicActivity, PeriodicKind}
+use Rattle.giv_files.specs.declared.setting.Setting.{Setting}
+use Rattle.event_tables.specs.declared.periodic_activity.PeriodicActivity.{PeriodicActivity}
+use Rattle.event_tables.specs.declared.periodic_kind.PeriodicKind.{PeriodicKind}
 use Rattle.event_tables.specs.declared.periodic_kind.PeriodicKind.TheVariants as kinds
 use Rattle.event_activity.specs.declared.bounds.Bounds.{Bounds}
 use Rattle.event_activity.specs.declared.joining.Joining.{Joining}

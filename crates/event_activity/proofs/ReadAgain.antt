@@ -1,7 +1,8 @@
 -- What is written of events and of activities is read again, and their ids are their places.
 use Rattle.plan_num.proofs.Common.{List, ap, sym, ◌∙◌, arith, range_with_len, length-map, map-map}
-use Rattle.giv_files.proofs.Common.{Setting}
-use Rattle.event_tables.proofs.Common.{PeriodicEvent, AreNumbered}
+use Rattle.giv_files.specs.declared.setting.Setting.{Setting}
+use Rattle.event_tables.specs.declared.periodic_event.PeriodicEvent.{PeriodicEvent}
+use Rattle.event_tables.proofs.Common.{AreNumbered}
 use Rattle.event_activity.specs.declared.run_event.RunEvent.{RunEvent}
 use Rattle.event_activity.specs.Activities.{concept_activities}
 use Rattle.event_activity.specs.EanStage.{rows_of}

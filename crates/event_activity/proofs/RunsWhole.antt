@@ -4,8 +4,9 @@
 use Rattle.plan_num.proofs.Common.{◌≡◌, ℕ, zero, suc, ◌+◌, ◌%◌, ◌<◌, arith, Bool, true, false, cond}
 use Rattle.plan_num.proofs.Common.{MatchBool, List, [], ◌∷◌, ◌++◌, length, map, filter, refl, ap}
 use Rattle.plan_num.proofs.Common.{subst, ◌∙◌, flat_map, enumerate_from, eq-eqb, and_right}
-use Rattle.event_tables.proofs.Common.{PeriodicEvent, event_kind_at, event_kind_place, same_run}
-use Rattle.event_tables.proofs.Common.{before_runs, neighbours, breaks, broken_in, broken_events}
+use Rattle.event_tables.specs.declared.periodic_event.PeriodicEvent.{PeriodicEvent}
+use Rattle.event_tables.proofs.Common.{event_kind_at, event_kind_place, same_run, before_runs}
+use Rattle.event_tables.proofs.Common.{neighbours, breaks, broken_in, broken_events}
 use Rattle.event_tables.specs.PeriodicRuns.{runs_of}
 use Rattle.walks.proofs.Common.{NetworkParts}
 use Rattle.event_activity.specs.declared.run_event.RunEvent.{RunEvent}

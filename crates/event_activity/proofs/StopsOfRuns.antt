@@ -2,7 +2,7 @@
 use Rattle.plan_num.proofs.Common.{◌≡◌, ℕ, ℤ, pos, negsuc, ◌+◌, ◌*◌, ◌/◌, ◌<◌, ◌≤◌, ◌≤ℤ◌, arith}
 use Rattle.plan_num.proofs.Common.{List, length, get_or, ap, subst, sym, ◌∙◌, Some, slice_get}
 use Rattle.plan_num.proofs.Common.{unsigned_abs, ints, All-get_or, slice_get-get_or, same_Some}
-use Rattle.event_tables.proofs.Common.{Direction}
+use Rattle.event_tables.specs.declared.direction.Direction.{Direction}
 use Rattle.line_walks.specs.Pools.{LineParts, IsLine}
 use Rattle.walks.proofs.Common.{NetworkParts}
 use Rattle.event_activity.specs.Fitting.{IsId}

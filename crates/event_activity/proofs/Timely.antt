@@ -5,10 +5,11 @@ use Rattle.plan_num.proofs.Common.{sym, ◌∙◌, Option, Some, unwrap_or, inl,
 use Rattle.plan_num.proofs.Common.{le_z_yes, list_all, and_parts, cases_Bool, T_from_true, ints}
 use Rattle.plan_num.proofs.Common.{same_Some}
 use Rattle.std.proofs.Common.{◌*ℤ◌}
-use Rattle.giv_files.proofs.Common.{Key, Setting, keeps_rule, keeps, cross_rule, not_below, least}
-use Rattle.giv_files.proofs.Common.{greatest, is_key, key_kind, has_key, BundleParts, Fits}
-use Rattle.giv_files.proofs.Common.{SettingsFit, value_of, amount, is_uncrossed, same_key}
-use Rattle.giv_files.proofs.Common.{amount_within}
+use Rattle.giv_files.specs.declared.key.Key.{Key}
+use Rattle.giv_files.specs.declared.setting.Setting.{Setting}
+use Rattle.giv_files.proofs.Common.{keeps_rule, keeps, cross_rule, not_below, least, greatest}
+use Rattle.giv_files.proofs.Common.{is_key, key_kind, has_key, BundleParts, Fits, SettingsFit}
+use Rattle.giv_files.proofs.Common.{value_of, amount, is_uncrossed, same_key, amount_within}
 use Rattle.giv_files.specs.declared.key.Key.TheVariants as key
 use Rattle.giv_files.specs.declared.stage.Stage.TheVariants as stage
 use Rattle.giv_files.proofs.SettingFacts.{key_there}

@@ -4,7 +4,8 @@ use Rattle.std.specs.Fmt.{digits}
 use Rattle.tables.specs.declared.counted.Counted.TheVariants as counted
 use Rattle.tables.specs.declared.file_id.FileId.TheVariants as file
 use Rattle.giv_files.specs.declared.key.Key.TheVariants as key
-use Rattle.giv_files.proofs.Common.{Made, BundleParts}
+use Rattle.giv_files.specs.declared.made.Made.{Made}
+use Rattle.giv_files.proofs.Common.{BundleParts}
 use Rattle.tables.specs.declared.row_why.RowWhy.TheVariants as why
 use Rattle.tables.specs.declared.refusal.Refusal.TheVariants as refusal
 use Rattle.giv_files.specs.declared.stage.Stage.TheVariants as stage

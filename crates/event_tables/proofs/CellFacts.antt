@@ -4,7 +4,8 @@ use Rattle.plan_num.proofs.Common.{true, false, ◌&&◌, Bool, List, [], ◌∷
 use Rattle.plan_num.proofs.Common.{int_le, refl, ap, sym, subst, ◌∙◌, unsigned_abs, list_all}
 use Rattle.plan_num.proofs.Common.{range_with_len, le_z_yes, and_parts, T_from_true, ints, All-nil}
 use Rattle.plan_num.proofs.Common.{All-cons}
-use Rattle.tables.proofs.Common.{ColumnKind, table_words, InColumn, InColumns}
+use Rattle.tables.specs.declared.column.ColumnKind.{ColumnKind}
+use Rattle.tables.proofs.Common.{table_words, InColumn, InColumns}
 use Rattle.tables.specs.declared.column.ColumnKind.TheVariants as kind
 use Rattle.tables.specs.declared.words.WordTable.TheVariants as table
 use Rattle.event_tables.specs.declared.activity_kind.ActivityKind.{ActivityKind}

@@ -37,21 +37,6 @@ pub use Rattle.event_tables.specs.Schedules.{AreScheduleRows, IsScheduleRow, end
 pub use Rattle.event_tables.specs.Schedules.{has_room, is_empty_row, is_trip_row, lacks_room}
 pub use Rattle.event_tables.specs.Schedules.{schedule_input, schedule_rules}
 pub use Rattle.event_tables.specs.Trips.{is_stop, lacks_stop, trip_input, trip_rules}
-pub use Rattle.event_tables.specs.declared.activity_kind.ActivityKind.{ActivityKind}
-pub use Rattle.event_tables.specs.declared.delay_row.DelayRow.{DelayRow}
-pub use Rattle.event_tables.specs.declared.direction.Direction.{Direction}
-pub use Rattle.event_tables.specs.declared.disposed_time.DisposedTime.{DisposedTime}
-pub use Rattle.event_tables.specs.declared.event_kind.EventKind.{EventKind}
-pub use Rattle.event_tables.specs.declared.expanded_activity.ExpandedActivity.{ExpandedActivity}
-pub use Rattle.event_tables.specs.declared.expanded_event.ExpandedEvent.{ExpandedEvent}
-pub use Rattle.event_tables.specs.declared.periodic_activity.PeriodicActivity.{PeriodicActivity}
-pub use Rattle.event_tables.specs.declared.periodic_event.PeriodicEvent.{PeriodicEvent}
-pub use Rattle.event_tables.specs.declared.periodic_kind.PeriodicKind.{PeriodicKind}
-pub use Rattle.event_tables.specs.declared.periodic_time.PeriodicTime.{PeriodicTime}
-pub use Rattle.event_tables.specs.declared.schedule_kind.ScheduleKind.{ScheduleKind}
-pub use Rattle.event_tables.specs.declared.schedule_row.ScheduleRow.{ScheduleRow}
-pub use Rattle.event_tables.specs.declared.trip.Trip.{Trip}
-pub use Rattle.event_tables.specs.declared.trip.TripEnd.{TripEnd}
 pub use Rattle.event_tables.proofs.CellFacts.{in_column, small_cells}
 pub use Rattle.event_tables.proofs.CellsBack.{expanded_activity_same, expanded_event_same}
 pub use Rattle.event_tables.proofs.CellsBack.{periodic_activity_same, periodic_event_same}

@@ -6,9 +6,10 @@ use Rattle.plan_num.proofs.Common.{ltb-true, eqb-false, ltb-false, ne_eqb, eq-eq
 use Rattle.plan_num.proofs.Common.{false≢true, not-false, length_push, length-map, list_any_at}
 use Rattle.plan_num.proofs.Common.{length-range_with_len, get_or-range_with_len, list_any}
 use Rattle.plan_num.proofs.Common.{range_with_len, find}
-use Rattle.tables.proofs.Common.{FileId, Input, RowRule, records_of, broken_whys, numbered}
-use Rattle.tables.proofs.Common.{input_faults, table_of, TableRow, rules_sound, parts_sound}
-use Rattle.tables.proofs.Common.{table_sound, front_none, back_none}
+use Rattle.tables.specs.declared.file_id.FileId.{FileId}
+use Rattle.tables.proofs.Common.{Input, RowRule, records_of, broken_whys, numbered, input_faults}
+use Rattle.tables.proofs.Common.{table_of, TableRow, rules_sound, parts_sound, table_sound}
+use Rattle.tables.proofs.Common.{front_none, back_none}
 use Rattle.tables.specs.declared.refusal.Refusal.TheVariants as refusal
 use Rattle.tables.specs.Inputs.{row_faults}
 use Rattle.event_tables.specs.Places.{own_place, is_none_of, AreNumbered, IsOneOf}

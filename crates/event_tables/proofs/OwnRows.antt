@@ -3,9 +3,10 @@ use Rattle.plan_num.proofs.Common.{◌≡◌, ℕ, pos, arith, false, nat_eq, Li
 use Rattle.plan_num.proofs.Common.{refl, sym, subst, ◌∙◌, append_assoc, list_any, nat_eq_equiv}
 use Rattle.plan_num.proofs.Common.{int_eq, append-nil, map_push, IsDistinct-push}
 use Rattle.std.specs.List.{IsDistinct}
-use Rattle.tables.proofs.Common.{FileId, Input, RowRule, own_id, broken_whys, records_of}
-use Rattle.tables.proofs.Common.{input_faults, table_of, TableRow, parts_sound, table_sound}
-use Rattle.tables.proofs.Common.{front_none, back_none}
+use Rattle.tables.specs.declared.file_id.FileId.{FileId}
+use Rattle.tables.proofs.Common.{Input, RowRule, own_id, broken_whys, records_of, input_faults}
+use Rattle.tables.proofs.Common.{table_of, TableRow, parts_sound, table_sound, front_none}
+use Rattle.tables.proofs.Common.{back_none}
 use Rattle.tables.specs.declared.refusal.Refusal.TheVariants as refusal
 use Rattle.tables.specs.Inputs.{row_faults}
 use Rattle.plan_num.proofs.Lists.{unmapped}

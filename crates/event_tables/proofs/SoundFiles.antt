@@ -2,8 +2,10 @@
 use Rattle.plan_num.proofs.Common.{arith, ◌≡◌, ℕ, List, [], refl, sym, subst, Result, Ok, Err, IfOk}
 use Rattle.plan_num.proofs.Common.{range_with_len, or_parts, ltb-false, not-false}
 use Rattle.tables.specs.declared.counted.Counted.TheVariants as counted
-use Rattle.tables.proofs.Common.{Refusal, StageFault, UnlessFault, row_limit, input_faults}
-use Rattle.tables.proofs.Common.{records_of, broken_whys, few_rows, rules_sound}
+use Rattle.tables.specs.declared.refusal.Refusal.{Refusal}
+use Rattle.tables.specs.declared.refusal.StageFault.{StageFault}
+use Rattle.tables.proofs.Common.{UnlessFault, row_limit, input_faults, records_of, broken_whys}
+use Rattle.tables.proofs.Common.{few_rows, rules_sound}
 use Rattle.event_tables.specs.declared.periodic_activity.PeriodicActivity.{PeriodicActivity}
 use Rattle.event_tables.specs.declared.expanded_activity.ExpandedActivity.{ExpandedActivity}
 use Rattle.event_tables.specs.declared.expanded_event.ExpandedEvent.{ExpandedEvent}

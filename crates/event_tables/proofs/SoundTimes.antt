@@ -1,6 +1,7 @@
 -- What holds of periodic and of disposed times, where their texts have no fault.
 use Rattle.plan_num.proofs.Common.{◌≡◌, ℕ, ◌<◌, List, [], refl, arith, range_with_len, leb-false}
-use Rattle.tables.proofs.Common.{FileId, input_faults, records_of, broken_whys, rules_sound}
+use Rattle.tables.specs.declared.file_id.FileId.{FileId}
+use Rattle.tables.proofs.Common.{input_faults, records_of, broken_whys, rules_sound}
 use Rattle.event_tables.specs.declared.disposed_time.DisposedTime.{DisposedTime}
 use Rattle.event_tables.specs.declared.periodic_time.PeriodicTime.{PeriodicTime}
 use Rattle.event_tables.specs.Cells.{periodic_time_cells, disposed_time_cells}

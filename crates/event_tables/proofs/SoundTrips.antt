@@ -3,9 +3,11 @@ use Rattle.plan_num.proofs.Common.{arith, ◌≡◌, ℕ, ℤ, pos, Bool, true, 
 use Rattle.plan_num.proofs.Common.{◌∷◌, length, refl, ap, sym, ◌∙◌, Option, range_with_len}
 use Rattle.plan_num.proofs.Common.{ltb-false, or_parts, not-false}
 use Rattle.tables.specs.declared.counted.Counted.TheVariants as counted
-use Rattle.tables.proofs.Common.{FileId, RowWhy, schedule_columns, RowRule, row_limit, own_id}
-use Rattle.tables.proofs.Common.{input_faults, records_of, broken_whys, table_of, few_rows}
-use Rattle.tables.proofs.Common.{rules_sound, limits_sound, parts_sound, table_sound}
+use Rattle.tables.specs.declared.file_id.FileId.{FileId}
+use Rattle.tables.specs.declared.row_why.RowWhy.{RowWhy}
+use Rattle.tables.proofs.Common.{schedule_columns, RowRule, row_limit, own_id, input_faults}
+use Rattle.tables.proofs.Common.{records_of, broken_whys, table_of, few_rows, rules_sound}
+use Rattle.tables.proofs.Common.{limits_sound, parts_sound, table_sound}
 use Rattle.event_tables.specs.declared.delay_row.DelayRow.{DelayRow}
 use Rattle.event_tables.specs.declared.expanded_event.ExpandedEvent.{ExpandedEvent}
 use Rattle.event_tables.specs.declared.schedule_row.ScheduleRow.{ScheduleRow}

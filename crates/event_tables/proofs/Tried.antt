@@ -3,7 +3,8 @@ use Rattle.plan_num.proofs.Common.{◌≡◌, ℕ, pos, true, false, List, [], �
 use Rattle.plan_num.proofs.Common.{codes, Some, None, flat_map}
 use Rattle.tables.specs.declared.file_id.FileId.TheVariants as file
 use Rattle.tables.specs.declared.row_why.RowWhy.TheVariants as why
-use Rattle.tables.proofs.Common.{Refusal, records_of}
+use Rattle.tables.specs.declared.refusal.Refusal.{Refusal}
+use Rattle.tables.proofs.Common.{records_of}
 use Rattle.tables.specs.declared.refusal.Refusal.TheVariants as refusal
 use Rattle.tables.specs.Inputs.{input_faults, row_faults}
 use Rattle.tables.specs.Reading.{faults, table_of, cells_from, cell_of, errors, values, row_whys}

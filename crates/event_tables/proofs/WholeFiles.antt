@@ -6,10 +6,10 @@ use Rattle.plan_num.proofs.Common.{ltb-false, get_or-map, get_or-range_with_len,
 use Rattle.plan_num.proofs.Common.{range_with_len}
 use Rattle.tables.specs.declared.row_why.RowWhy.TheVariants as why
 use Rattle.tables.specs.declared.refusal.Refusal.TheVariants as refusal
-use Rattle.tables.proofs.Common.{StageFault, Input, RowRule, records_of, numbered, whole_faults}
-use Rattle.tables.proofs.Common.{input_faults, Refuses, UnlessFault, table_of, parts_sound}
-use Rattle.tables.proofs.Common.{table_sound, whole_rule_sound, without_whole, refused_as_whole}
-use Rattle.tables.proofs.Common.{sound_as_whole}
+use Rattle.tables.specs.declared.refusal.StageFault.{StageFault}
+use Rattle.tables.proofs.Common.{Input, RowRule, records_of, numbered, whole_faults, input_faults}
+use Rattle.tables.proofs.Common.{Refuses, UnlessFault, table_of, parts_sound, table_sound}
+use Rattle.tables.proofs.Common.{whole_rule_sound, without_whole, refused_as_whole, sound_as_whole}
 use Rattle.tables.specs.declared.refusal.StageFault.TheVariants as stage
 use Rattle.event_tables.specs.Places.{own_place, all_there, is_none_of, AreNumbered, IsOneOf}
 use Rattle.event_tables.proofs.Numbering.{some_missing, numbered_rows}

@@ -1,8 +1,9 @@
 -- Records that are written are read back.
 use Rattle.plan_num.proofs.Common.{◌≡◌, ℕ, ℤ, ◌<◌, List, [], ◌∷◌, length, map, refl, ap, subst, sym}
 use Rattle.plan_num.proofs.Common.{◌∙◌, Result, Ok, Err, IfOk, All, All-map, map-map}
-use Rattle.tables.proofs.Common.{ColumnKind, table_of, TableRow, CanWrite, InColumns, IsHeader}
-use Rattle.tables.proofs.Common.{ReadsBack, ReadsAs, file_text, records_by, rows_by, written_back}
+use Rattle.tables.specs.declared.column.ColumnKind.{ColumnKind}
+use Rattle.tables.proofs.Common.{table_of, TableRow, CanWrite, InColumns, IsHeader, ReadsBack}
+use Rattle.tables.proofs.Common.{ReadsAs, file_text, records_by, rows_by, written_back}
 
 -- the rows for records stand for them
 pub records_back : {X : Type 0} (of : List ℤ → X) (cells_of : X → List ℤ)

@@ -1,8 +1,8 @@
 -- A text without a fault as potentials is some.
 use Rattle.plan_num.proofs.Common.{◌≡◌, ℕ, ◌+◌, ◌<◌, ◌≤◌, nat_lt, ◌&&◌, Bool, true, false, cond}
 use Rattle.plan_num.proofs.Common.{List, [], ◌∷◌, ◌++◌, length, refl, arith, ltb-false, ltb-true}
-use Rattle.tables.proofs.Common.{RowFault, potential_columns, faults, table_of, TableRow}
-use Rattle.tables.proofs.Common.{table_in_columns}
+use Rattle.tables.specs.declared.read_fault.RowFault.{RowFault}
+use Rattle.tables.proofs.Common.{potential_columns, faults, table_of, TableRow, table_in_columns}
 use Rattle.vehicle_model.specs.ReadSchedules.{or_others}
 use Rattle.link_plans.proofs.Common.{AreOver, ArePotentials}
 use Rattle.flow_potentials.specs.PotentialTables.{gaps_from, is_trip_row, potentials_of, table_faults}

@@ -3,9 +3,11 @@ use Rattle.plan_num.proofs.Common.{◌≡◌, ℕ, ℤ, suc, pos, ◌+◌, ◌�
 use Rattle.plan_num.proofs.Common.{map, drop, get_or, slice_get, unsigned_abs, All, Some, Result}
 use Rattle.plan_num.proofs.Common.{Ok, Err, IfOk, refl, ap, sym, subst, arith, eq-eqb, lt-ltb, ints}
 use Rattle.plan_num.proofs.Common.{All-nil, All-cons}
-use Rattle.tables.proofs.Common.{RowFault, ReadFault, potential_columns, faults, table_of}
-use Rattle.tables.proofs.Common.{ReadGives, TableRow, table_text, CanWrite, ReadsBack, plain_header}
-use Rattle.tables.proofs.Common.{table_in_columns, written_back}
+use Rattle.tables.specs.declared.read_fault.RowFault.{RowFault}
+use Rattle.tables.specs.declared.read_fault.ReadFault.{ReadFault}
+use Rattle.tables.proofs.Common.{potential_columns, faults, table_of, ReadGives, TableRow}
+use Rattle.tables.proofs.Common.{table_text, CanWrite, ReadsBack, plain_header, table_in_columns}
+use Rattle.tables.proofs.Common.{written_back}
 use Rattle.tables.specs.declared.read_fault.ReadFault.TheVariants as read
 use Rattle.vehicle_model.specs.ReadSchedules.{or_others}
 use Rattle.link_plans.proofs.Common.{PotentialParts, IsSmall, ArePotentials}

@@ -10,14 +10,6 @@ pub use Rattle.giv_files.specs.Settings.{value_of}
 pub use Rattle.giv_files.specs.SettingsText.{settings_text}
 pub use Rattle.giv_files.specs.StageCalls.{StageGives, TakesSteps, input_text}
 pub use Rattle.giv_files.specs.Stages.{all_stages, places, stage_inputs, stage_makes, stage_name}
-pub use Rattle.giv_files.specs.declared.cross_rule.CrossRule.{CrossRule}
-pub use Rattle.giv_files.specs.declared.key.Key.{Key}
-pub use Rattle.giv_files.specs.declared.key.Key.TheVariants.{LastStage}
-pub use Rattle.giv_files.specs.declared.made.Made.{Made}
-pub use Rattle.giv_files.specs.declared.made.MadeFile.{MadeFile}
-pub use Rattle.giv_files.specs.declared.setting.Setting.{Setting}
-pub use Rattle.giv_files.specs.declared.stage.Stage.{Stage}
-pub use Rattle.giv_files.specs.declared.stage.Stage.TheVariants.{Load}
 pub use Rattle.giv_files.proofs.KeyPlaces.{key_there, same_key}
 pub use Rattle.giv_files.proofs.SettingFacts.{amount_within}
 pub use Rattle.giv_files.proofs.SettingsTold.{text_tells}

@@ -2,8 +2,10 @@
 use Rattle.plan_num.proofs.Common.{◌≡◌, ◌⊎◌, ℕ, ◌+◌, Bool, true, List, [], ◌∷◌, refl, ap, subst}
 use Rattle.plan_num.proofs.Common.{sym, ◌∙◌, Ok, Err, Result, inr, arith, IfOk, same_Some}
 use Rattle.giv_files.specs.declared.made.Made.{Made}
-use Rattle.tables.proofs.Common.{FileId, Refusal, StageFault, Refuses, NamesInput, NamesOnly}
-use Rattle.tables.proofs.Common.{AllName, names_only}
+use Rattle.tables.specs.declared.file_id.FileId.{FileId}
+use Rattle.tables.specs.declared.refusal.Refusal.{Refusal}
+use Rattle.tables.specs.declared.refusal.StageFault.{StageFault}
+use Rattle.tables.proofs.Common.{Refuses, NamesInput, NamesOnly, AllName, names_only}
 use Rattle.tables.specs.declared.refusal.StageFault.TheVariants as stage
 use Rattle.giv_files.specs.StageCalls.{StageGives, TakesSteps, after_faults, unless_fault, work_after}
 

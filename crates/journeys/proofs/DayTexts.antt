@@ -1,8 +1,10 @@
 -- The day of texts, from what each of them gives.
 use Rattle.plan_num.proofs.Common.{◌≡◌, ◌∙◌, ℕ, List, [], ◌++◌, Option, ap, sym, arith}
-use Rattle.tables.proofs.Common.{StageFault, Refuses, input_faults, records_of, refused_append}
-use Rattle.event_tables.proofs.Common.{ExpandedActivity, ExpandedEvent, expanded_activity_input}
-use Rattle.event_tables.proofs.Common.{expanded_event_input}
+use Rattle.tables.specs.declared.refusal.StageFault.{StageFault}
+use Rattle.tables.proofs.Common.{Refuses, input_faults, records_of, refused_append}
+use Rattle.event_tables.specs.declared.expanded_activity.ExpandedActivity.{ExpandedActivity}
+use Rattle.event_tables.specs.declared.expanded_event.ExpandedEvent.{ExpandedEvent}
+use Rattle.event_tables.proofs.Common.{expanded_activity_input, expanded_event_input}
 use Rattle.journeys.specs.JourneyNets.{activities_of, events_of, journey_faults, net_of, net_over, time_faults_over}
 use Rattle.journeys.specs.JourneyNets.{times_of, times_over}
 

@@ -6,9 +6,10 @@ use Rattle.plan_num.proofs.Common.{All-map, filter_passes, length-filter_both}
 use Rattle.plan_num.proofs.Common.{get_or-range_with_len, length-range_with_len, get_or-zip}
 use Rattle.plan_num.proofs.Common.{length-zip}
 use Rattle.connections.specs.declared.event_kind.EventKind.TheVariants as kind
-use Rattle.event_tables.proofs.Common.{ExpandedActivity, ExpandedEvent, expanded_event}
-use Rattle.event_tables.proofs.Common.{AreExpandedActivities, AreExpandedEvents, IsExpandedActivity}
-use Rattle.event_tables.proofs.Common.{forward_rank, at_places, rank_rises}
+use Rattle.event_tables.specs.declared.expanded_activity.ExpandedActivity.{ExpandedActivity}
+use Rattle.event_tables.specs.declared.expanded_event.ExpandedEvent.{ExpandedEvent}
+use Rattle.event_tables.proofs.Common.{expanded_event, AreExpandedActivities, AreExpandedEvents}
+use Rattle.event_tables.proofs.Common.{IsExpandedActivity, forward_rank, at_places, rank_rises}
 use Rattle.connections.specs.declared.connection.Connection.{Connection}
 use Rattle.connections.specs.declared.timed_event.TimedEvent.{TimedEvent}
 use Rattle.connections.specs.Nets.{IsConnection, JourneyParts, time_at}

@@ -1,7 +1,8 @@
 -- Planned times are not too great.
 use Rattle.plan_num.proofs.Common.{◌≤◌, ◌≤ℤ◌, pos, List, map, All, arith, ints, All-map, All-weaker}
 use Rattle.tables.proofs.Common.{events_x_columns, InColumns}
-use Rattle.event_tables.proofs.Common.{ExpandedEvent, expanded_event_cells, AreExpandedEvents}
+use Rattle.event_tables.specs.declared.expanded_event.ExpandedEvent.{ExpandedEvent}
+use Rattle.event_tables.proofs.Common.{expanded_event_cells, AreExpandedEvents}
 use Rattle.connections.specs.declared.checked_net.TheConstants.{LATEST}
 
 high_of : (event : ExpandedEvent) → InColumns events_x_columns (expanded_event_cells event)

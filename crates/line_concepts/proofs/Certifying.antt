@@ -5,8 +5,9 @@ use Rattle.plan_num.proofs.Common.{Option, Some, None, option_map, option_and_th
 use Rattle.plan_num.proofs.Common.{ap, sym, arith, AllByRecursion, enumerate_from, flat_map}
 use Rattle.plan_num.proofs.Common.{false≢true, ne_eqb, append_assoc, append-nil, length-append}
 use Rattle.plan_num.proofs.Common.{All-set}
-use Rattle.line_cost_model.proofs.Common.{LineRange, CostedLine, ProblemParts, most_of, part_from}
-use Rattle.line_cost_model.proofs.Common.{part_up_to, root_of}
+use Rattle.line_cost_model.specs.declared.range.LineRange.{LineRange}
+use Rattle.line_cost_model.proofs.Common.{CostedLine, ProblemParts, most_of, part_from, part_up_to}
+use Rattle.line_cost_model.proofs.Common.{root_of}
 use Rattle.line_concepts.specs.declared.fault.TreeFault.{TreeFault}
 use Rattle.line_concepts.specs.declared.node.Node.{Node}
 use Rattle.line_concepts.specs.declared.node.Node.TheVariants as node

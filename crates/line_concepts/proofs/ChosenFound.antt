@@ -3,9 +3,9 @@
 use Rattle.plan_num.proofs.Common.{◌≡◌, ℕ, zero, suc, pos, List, [], ◌∷◌, ◌++◌, length, take}
 use Rattle.plan_num.proofs.Common.{filter_map, Option, Some, None, IfSome, ⊎_elim, subst, arith}
 use Rattle.plan_num.proofs.Common.{AllByRecursion, cons_option, last_or, ints, length-map}
-use Rattle.line_cost_model.proofs.Common.{LineRange, IsChosen, IsFeasible, cost_of, CostedLine}
-use Rattle.line_cost_model.proofs.Common.{IsProblem, ProblemParts, most_of, range_of, root_of}
-use Rattle.line_cost_model.proofs.Common.{root_has_each}
+use Rattle.line_cost_model.specs.declared.range.LineRange.{LineRange}
+use Rattle.line_cost_model.proofs.Common.{IsChosen, IsFeasible, cost_of, CostedLine, IsProblem}
+use Rattle.line_cost_model.proofs.Common.{ProblemParts, most_of, range_of, root_of, root_has_each}
 use Rattle.line_concepts.specs.Certified.{Certifies}
 use Rattle.line_concepts.specs.declared.node.Node.TheVariants as node
 use Rattle.line_concepts.specs.Budgets.{nodes_in}

@@ -5,7 +5,8 @@ use Rattle.plan_num.proofs.Common.{Contains, flat_map, range_with_len, length-ap
 use Rattle.plan_num.proofs.Common.{All-append, All-cons, All-contains, All-head, All-map, All-nil}
 use Rattle.plan_num.proofs.Common.{All-tail, AllPairs-cons, All-weaker, Contains-append_left}
 use Rattle.plan_num.proofs.Common.{Contains-append_right}
-use Rattle.line_cost_model.proofs.Common.{LineRange, LiesIn}
+use Rattle.line_cost_model.specs.declared.range.LineRange.{LineRange}
+use Rattle.line_cost_model.proofs.Common.{LiesIn}
 use Rattle.line_cost_model.specs.Regions.{concept_count, concepts_in}
 use Rattle.line_concepts.specs.RightSearches.{AreListed}
 

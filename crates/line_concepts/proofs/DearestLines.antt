@@ -8,8 +8,9 @@ use Rattle.plan_num.proofs.Common.{AllByRecursion, enumerate_from, list_all, int
 use Rattle.std.specs.List.Sorted.{IsStrictlySortedBy}
 use Rattle.std.specs.declared.cmp.Ordering.TheVariants.{Less}
 use Rattle.std.proofs.Math.Bool.{and-false as never}
-use Rattle.line_cost_model.proofs.Common.{LineRange, CostedLine, ProblemParts, stands_before}
-use Rattle.line_cost_model.proofs.Common.{has_several, range_of}
+use Rattle.line_cost_model.specs.declared.range.LineRange.{LineRange}
+use Rattle.line_cost_model.proofs.Common.{CostedLine, ProblemParts, stands_before, has_several}
+use Rattle.line_cost_model.proofs.Common.{range_of}
 use Rattle.line_concepts.specs.Listings.{first_among, first_open}
 use Rattle.line_concepts.specs.Searches.{dearer}
 use Rattle.line_concepts.proofs.Lengths.{open_from, all_map as all_by}

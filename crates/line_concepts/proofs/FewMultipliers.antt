@@ -4,8 +4,9 @@ use Rattle.plan_num.proofs.Common.{List, [], ◌∷◌, length, get_or, map, All
 use Rattle.plan_num.proofs.Common.{IsStrictlyIncreasing, int_cmp, ints, length-map}
 use Rattle.std.specs.List.Sorted.{IsStrictlySortedBy}
 use Rattle.std.specs.declared.cmp.Ordering.TheVariants.{Less}
-use Rattle.line_cost_model.proofs.Common.{BoundedEdge, Multiplier, AreMultipliers, IsBoundedEdge}
-use Rattle.line_cost_model.proofs.Common.{IsProblem, ProblemParts}
+use Rattle.line_cost_model.specs.declared.edge.BoundedEdge.{BoundedEdge}
+use Rattle.line_cost_model.specs.declared.multipliers.Multiplier.{Multiplier}
+use Rattle.line_cost_model.proofs.Common.{AreMultipliers, IsBoundedEdge, IsProblem, ProblemParts}
 use Rattle.plan_num.proofs.Tests.{less_is}
 
 -- ---- edges that rise

@@ -2,8 +2,9 @@
 use Rattle.plan_num.proofs.Common.{◌≡◌, ℤ, ◌+◌, ◌↔◌, arith, List, ◌∷◌, ◌++◌, length, slice_get}
 use Rattle.plan_num.proofs.Common.{Option, Some, None, Result, Ok, Err, IfNone, IfOk, refl, sym}
 use Rattle.plan_num.proofs.Common.{false≢true, append_assoc, append-nil}
-use Rattle.line_cost_model.proofs.Common.{LineRange, ProblemParts, HasEachFeasible, part_from}
-use Rattle.line_cost_model.proofs.Common.{part_up_to, root_of}
+use Rattle.line_cost_model.specs.declared.range.LineRange.{LineRange}
+use Rattle.line_cost_model.proofs.Common.{ProblemParts, HasEachFeasible, part_from, part_up_to}
+use Rattle.line_cost_model.proofs.Common.{root_of}
 use Rattle.line_concepts.specs.declared.fault.TreeFault.{TreeFault}
 use Rattle.line_concepts.specs.declared.node.Node.{Node}
 use Rattle.line_concepts.specs.declared.node.Node.TheVariants as node

@@ -2,7 +2,8 @@
 use Rattle.plan_num.proofs.Common.{◌≡◌, ℕ, ℤ, ◌+◌, ◌≤◌, ◌∙◌, Bool, true, false, if◌then◌else◌, List}
 use Rattle.plan_num.proofs.Common.{[], ◌∷◌, length, drop, slice_get, Some, All, refl, ap, sym}
 use Rattle.plan_num.proofs.Common.{arith, drop_all, length-map}
-use Rattle.line_cost_model.proofs.Common.{LineRange, ProblemParts, most_of, root_of, holds_at}
+use Rattle.line_cost_model.specs.declared.range.LineRange.{LineRange}
+use Rattle.line_cost_model.proofs.Common.{ProblemParts, most_of, root_of, holds_at}
 use Rattle.line_concepts.specs.declared.fault.TreeFault.TheVariants as fault
 use Rattle.line_concepts.specs.declared.first_faults.FirstFaults.{FirstFaults}
 use Rattle.line_concepts.specs.declared.node.Node.{Node}

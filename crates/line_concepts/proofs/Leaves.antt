@@ -4,8 +4,11 @@ use Rattle.plan_num.proofs.Common.{int_le, List, [], ◌∷◌, All, zero, suc, 
 use Rattle.plan_num.proofs.Common.{le_z_yes, list_any, false≢true, leb-true, le-leb, ltb-false}
 use Rattle.plan_num.proofs.Common.{le-ltb, T_from_true, AllPass-from_list_all}
 use Rattle.plan_num.proofs.Common.{list_all-from_AllPass, not-false, or_parts}
-use Rattle.line_cost_model.proofs.Common.{Multiplier, LineRange, Side, bound_by, open_lines}
-use Rattle.line_cost_model.proofs.Common.{taken_off, ProblemParts, has_several}
+use Rattle.line_cost_model.specs.declared.multipliers.Multiplier.{Multiplier}
+use Rattle.line_cost_model.specs.declared.range.LineRange.{LineRange}
+use Rattle.line_cost_model.specs.declared.side.Side.{Side}
+use Rattle.line_cost_model.proofs.Common.{bound_by, open_lines, taken_off, ProblemParts}
+use Rattle.line_cost_model.proofs.Common.{has_several}
 use Rattle.line_concepts.specs.declared.node.Node.{Node}
 use Rattle.line_concepts.specs.declared.node.Node.TheVariants as node
 use Rattle.line_concepts.specs.Certified.{LeafCertifies, ShowsBound, ShowsEmpty, ShowsPoint}

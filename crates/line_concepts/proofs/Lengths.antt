@@ -4,10 +4,13 @@ use Rattle.plan_num.proofs.Common.{false, cond, nat_le, List, [], ◌∷◌, len
 use Rattle.plan_num.proofs.Common.{zip, arith, Option, Some, None, option_map, unwrap_or, IfSome}
 use Rattle.plan_num.proofs.Common.{sym, subst, length-append, ltb-true, cases_Bool, IfSome_then}
 use Rattle.plan_num.proofs.Common.{AllByRecursion, enumerate_from}
-use Rattle.line_cost_model.proofs.Common.{Multiplier, BoundedEdge, LineRange, Side, CostedLine}
-use Rattle.line_cost_model.proofs.Common.{ProblemParts, cost_of, dual_bound, multipliers_of}
-use Rattle.line_cost_model.proofs.Common.{most_of, empty_edge, has_several, part_from, part_up_to}
-use Rattle.line_cost_model.proofs.Common.{range_of, root_of}
+use Rattle.line_cost_model.specs.declared.multipliers.Multiplier.{Multiplier}
+use Rattle.line_cost_model.specs.declared.edge.BoundedEdge.{BoundedEdge}
+use Rattle.line_cost_model.specs.declared.range.LineRange.{LineRange}
+use Rattle.line_cost_model.specs.declared.side.Side.{Side}
+use Rattle.line_cost_model.proofs.Common.{CostedLine, ProblemParts, cost_of, dual_bound}
+use Rattle.line_cost_model.proofs.Common.{multipliers_of, most_of, empty_edge, has_several}
+use Rattle.line_cost_model.proofs.Common.{part_from, part_up_to, range_of, root_of}
 use Rattle.line_cost_model.specs.Regions.{concept_count}
 use Rattle.line_concepts.specs.declared.node.Node.{Node}
 use Rattle.line_concepts.specs.declared.node.Node.TheVariants as node

@@ -1,7 +1,8 @@
 -- More levels than a region needs list the same.
 use Rattle.plan_num.proofs.Common.{◌≡◌, ℕ, zero, suc, ◌+◌, ◌-◌, ◌≤◌, ◌<◌, List, [], ◌∷◌, refl}
 use Rattle.plan_num.proofs.Common.{arith, Option, sum_by, sum_by-cons}
-use Rattle.line_cost_model.proofs.Common.{LineRange, ProblemParts, part_from, part_up_to, range_of}
+use Rattle.line_cost_model.specs.declared.range.LineRange.{LineRange}
+use Rattle.line_cost_model.proofs.Common.{ProblemParts, part_from, part_up_to, range_of}
 use Rattle.line_concepts.specs.declared.node.Node.TheVariants as node
 use Rattle.line_concepts.specs.Listings.{Entry, entries_by, entries_within, levels_of, middle}
 use Rattle.line_concepts.specs.Listings.{visit, node_at}

@@ -5,9 +5,9 @@ use Rattle.plan_num.proofs.Common.{Some, None, IfSome, option_map, ◌⊎◌, in
 use Rattle.plan_num.proofs.Common.{arith, list_all, int_cmp, cases_Bool, cases_lt, get_or-map}
 use Rattle.plan_num.proofs.Common.{length-map, Less-from_sorted, get_or_from_slice_get}
 use Rattle.plan_num.proofs.Common.{slice_get_within, none-some}
-use Rattle.line_cost_model.proofs.Common.{LineRange, ComesBefore, stands_before, CostedLine}
-use Rattle.line_cost_model.proofs.Common.{IsProblem, ProblemParts, LiesIn, has_several, part_from}
-use Rattle.line_cost_model.proofs.Common.{part_up_to}
+use Rattle.line_cost_model.specs.declared.range.LineRange.{LineRange}
+use Rattle.line_cost_model.proofs.Common.{ComesBefore, stands_before, CostedLine, IsProblem}
+use Rattle.line_cost_model.proofs.Common.{ProblemParts, LiesIn, has_several, part_from, part_up_to}
 use Rattle.line_concepts.specs.Listings.{first_open, open_at}
 use Rattle.line_concepts.proofs.Lengths.{IsOpenAt, open_from}
 use Rattle.line_concepts.proofs.LineOrder.{IsOneOf, all_have, found_passes, stands_behind}

@@ -2,9 +2,12 @@
 use Rattle.plan_num.proofs.Common.{◌≡◌, ℕ, ◌+◌, ◌≤◌, ◌<◌, List, [], ◌∷◌, length, filter_map, fold}
 use Rattle.plan_num.proofs.Common.{slice_get, arith, Option, Some, None, option_map, IfSome, All}
 use Rattle.plan_num.proofs.Common.{sym, subst, nat_le, All-nil, All-append, enumerate_from}
-use Rattle.line_cost_model.proofs.Common.{BoundedEdge, Multiplier, LineRange, Side, CostedLine}
-use Rattle.line_cost_model.proofs.Common.{ProblemParts, next_multiplier, unless_zero, with_next}
-use Rattle.line_cost_model.proofs.Common.{empty_side}
+use Rattle.line_cost_model.specs.declared.edge.BoundedEdge.{BoundedEdge}
+use Rattle.line_cost_model.specs.declared.multipliers.Multiplier.{Multiplier}
+use Rattle.line_cost_model.specs.declared.range.LineRange.{LineRange}
+use Rattle.line_cost_model.specs.declared.side.Side.{Side}
+use Rattle.line_cost_model.proofs.Common.{CostedLine, ProblemParts, next_multiplier, unless_zero}
+use Rattle.line_cost_model.proofs.Common.{with_next, empty_side}
 use Rattle.line_cost_model.specs.DualBounds.{multipliers_of}
 use Rattle.line_cost_model.specs.Regions.{empty_edge}
 use Rattle.line_concepts.specs.declared.node.Node.TheVariants as node

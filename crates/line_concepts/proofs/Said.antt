@@ -4,10 +4,13 @@ use Rattle.plan_num.proofs.Common.{length, filter_map, slice_get, Option, Some, 
 use Rattle.plan_num.proofs.Common.{option_map, unwrap_or, refl, ap, sym, subst, ◌∙◌, arith, inl}
 use Rattle.plan_num.proofs.Common.{inr, AllByRecursion, cons_option, enumerate_from, length-map}
 use Rattle.plan_num.proofs.Common.{none-some, ltb-false, leb-true, leb-false, cases_Bool}
-use Rattle.line_cost_model.proofs.Common.{BoundedEdge, LineRange, Side, IsFeasible, cost_of}
-use Rattle.line_cost_model.proofs.Common.{frequency_on, dual_bound, multipliers_of, CostedLine}
-use Rattle.line_cost_model.proofs.Common.{ProblemParts, IsEmptyAt, empty_edges, empty_side}
-use Rattle.line_cost_model.proofs.Common.{greatest_in, has_several, least_in, range_of}
+use Rattle.line_cost_model.specs.declared.edge.BoundedEdge.{BoundedEdge}
+use Rattle.line_cost_model.specs.declared.range.LineRange.{LineRange}
+use Rattle.line_cost_model.specs.declared.side.Side.{Side}
+use Rattle.line_cost_model.proofs.Common.{IsFeasible, cost_of, frequency_on, dual_bound}
+use Rattle.line_cost_model.proofs.Common.{multipliers_of, CostedLine, ProblemParts, IsEmptyAt}
+use Rattle.line_cost_model.proofs.Common.{empty_edges, empty_side, greatest_in, has_several}
+use Rattle.line_cost_model.proofs.Common.{least_in, range_of}
 use Rattle.line_cost_model.specs.Regions.{empty_edge}
 use Rattle.line_concepts.specs.declared.node.Node.{Node}
 use Rattle.line_concepts.specs.declared.node.Node.TheVariants as node

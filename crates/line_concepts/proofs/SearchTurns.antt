@@ -4,7 +4,8 @@ use Rattle.plan_num.proofs.Common.{arith, ap, sym, subst, Option, Some, None, Al
 use Rattle.plan_num.proofs.Common.{OnErr, true, false, le-leb, lt-leb, append_assoc, append-nil}
 use Rattle.plan_num.proofs.Common.{length-append, map-append, take_all, All-nil, All-push, le-min}
 use Rattle.plan_num.proofs.Common.{min-eq_left, min-eq_right, take-append_seam, AllByRecursion}
-use Rattle.line_cost_model.proofs.Common.{LineRange, ProblemParts, root_of}
+use Rattle.line_cost_model.specs.declared.range.LineRange.{LineRange}
+use Rattle.line_cost_model.proofs.Common.{ProblemParts, root_of}
 use Rattle.line_concepts.specs.declared.node.Node.{Node}
 use Rattle.line_concepts.specs.Nodes.{IsInLimits, NamesWhatIs}
 use Rattle.line_concepts.specs.Walks.{WalkedRegions}

@@ -2,10 +2,12 @@
 use Rattle.plan_num.proofs.Common.{◌≡◌, ℕ, ℤ, pos, negsuc, Bool, false, T, ◌≤◌, ◌≤ℤ◌, List, refl}
 use Rattle.plan_num.proofs.Common.{arith, inl, inr, true, le-leb, leb-true, T_from_true, le_z_yes}
 use Rattle.plan_num.proofs.Common.{list_all-from_AllPass}
-use Rattle.line_cost_model.proofs.Common.{Multiplier, LineRange, ProblemParts, IsProblem}
-use Rattle.line_cost_model.proofs.Common.{IsFeasible, cost_of, are_within, HasEachFeasible, LiesIn}
-use Rattle.line_cost_model.proofs.Common.{root_of, bound_is_least, empty_is_none, split_covers}
-use Rattle.line_cost_model.proofs.Common.{one_concept, root_has_each, one_by_one}
+use Rattle.line_cost_model.specs.declared.multipliers.Multiplier.{Multiplier}
+use Rattle.line_cost_model.specs.declared.range.LineRange.{LineRange}
+use Rattle.line_cost_model.proofs.Common.{ProblemParts, IsProblem, IsFeasible, cost_of, are_within}
+use Rattle.line_cost_model.proofs.Common.{HasEachFeasible, LiesIn, root_of, bound_is_least}
+use Rattle.line_cost_model.proofs.Common.{empty_is_none, split_covers, one_concept, root_has_each}
+use Rattle.line_cost_model.proofs.Common.{one_by_one}
 use Rattle.line_concepts.specs.declared.node.Node.{Node}
 use Rattle.line_concepts.specs.declared.node.Node.TheVariants as node
 use Rattle.line_concepts.specs.Certified.{Certifies, CostsAtLeast, ShowsBound, TreeCertifies}

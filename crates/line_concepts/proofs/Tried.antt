@@ -1,6 +1,7 @@
 -- The definitions on a small problem and its trees.
 use Rattle.plan_num.proofs.Common.{◌≡◌, ℕ, List, [], ◌∷◌, refl, pos}
-use Rattle.line_cost_model.proofs.Common.{BoundedEdge, CostedLine, ProblemParts}
+use Rattle.line_cost_model.specs.declared.edge.BoundedEdge.{BoundedEdge}
+use Rattle.line_cost_model.proofs.Common.{CostedLine, ProblemParts}
 use Rattle.line_cost_model.specs.declared.side.Side.TheVariants as side
 use Rattle.line_cost_model.specs.DualBounds.{bound_by, multipliers_of}
 use Rattle.line_cost_model.specs.Regions.{empty_edge}

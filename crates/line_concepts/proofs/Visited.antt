@@ -3,9 +3,9 @@
 use Rattle.plan_num.proofs.Common.{◌≡◌, ℕ, zero, suc, ℤ, pos, ◌+◌, ◌<◌, ◌≤◌, ◌≤ℤ◌, List, [], ◌∷◌}
 use Rattle.plan_num.proofs.Common.{◌++◌, Option, Some, None, IfSome, ◌⊎◌, inl, inr, ⊎_elim, refl}
 use Rattle.plan_num.proofs.Common.{sym, subst, ◌∙◌, arith, ints}
-use Rattle.line_cost_model.proofs.Common.{LineRange, ComesBefore, IsFeasible, cost_of, ProblemParts}
-use Rattle.line_cost_model.proofs.Common.{LiesIn, least_in, part_from, part_up_to, range_of}
-use Rattle.line_cost_model.proofs.Common.{split_covers}
+use Rattle.line_cost_model.specs.declared.range.LineRange.{LineRange}
+use Rattle.line_cost_model.proofs.Common.{ComesBefore, IsFeasible, cost_of, ProblemParts, LiesIn}
+use Rattle.line_cost_model.proofs.Common.{least_in, part_from, part_up_to, range_of, split_covers}
 use Rattle.line_concepts.specs.declared.node.Node.{Node}
 use Rattle.line_concepts.specs.declared.node.Node.TheVariants as node
 use Rattle.line_concepts.specs.Certified.{TreeCertifies}

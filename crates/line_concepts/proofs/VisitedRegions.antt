@@ -6,12 +6,15 @@ use Rattle.plan_num.proofs.Common.{Option, Some, None, IfSome, inl, inr, ⊎_eli
 use Rattle.plan_num.proofs.Common.{refl, ap, sym, subst, ◌∙◌, arith, append-nil, All}
 use Rattle.plan_num.proofs.Common.{AllByRecursion, enumerate_from, ints, leb-true, length-set}
 use Rattle.plan_num.proofs.Common.{map-append, AllPass-from_list_all}
-use Rattle.line_cost_model.proofs.Common.{Multiplier, BoundedEdge, LineRange, Side, IsFeasible}
-use Rattle.line_cost_model.proofs.Common.{cost_of, are_within, dual_bound, least_left, open_lines}
-use Rattle.line_cost_model.proofs.Common.{shortfall, taken_off, unless_zero, with_next, IsProblem}
-use Rattle.line_cost_model.proofs.Common.{ProblemParts, least_in, part_from, part_up_to, range_of}
-use Rattle.line_cost_model.proofs.Common.{bound_is_least, empty_is_none, one_concept, within_more}
-use Rattle.line_cost_model.proofs.Common.{within_none}
+use Rattle.line_cost_model.specs.declared.multipliers.Multiplier.{Multiplier}
+use Rattle.line_cost_model.specs.declared.edge.BoundedEdge.{BoundedEdge}
+use Rattle.line_cost_model.specs.declared.range.LineRange.{LineRange}
+use Rattle.line_cost_model.specs.declared.side.Side.{Side}
+use Rattle.line_cost_model.proofs.Common.{IsFeasible, cost_of, are_within, dual_bound, least_left}
+use Rattle.line_cost_model.proofs.Common.{open_lines, shortfall, taken_off, unless_zero, with_next}
+use Rattle.line_cost_model.proofs.Common.{IsProblem, ProblemParts, least_in, part_from, part_up_to}
+use Rattle.line_cost_model.proofs.Common.{range_of, bound_is_least, empty_is_none, one_concept}
+use Rattle.line_cost_model.proofs.Common.{within_more, within_none}
 use Rattle.line_cost_model.specs.DualBounds.{bound_by}
 use Rattle.line_cost_model.specs.DualBounds.{multipliers_of}
 use Rattle.line_concepts.specs.declared.node.Node.TheVariants as node

@@ -3,7 +3,8 @@ use Rattle.plan_num.proofs.Common.{arith, ◌≡◌, ℕ, ◌<◌, false, List, 
 use Rattle.plan_num.proofs.Common.{filter_map, refl, Option, Some, None, le-leb, lt-ltb}
 use Rattle.plan_num.proofs.Common.{append_assoc, append-nil, length-map, length-set}
 use Rattle.plan_num.proofs.Common.{filter_map-append, AllByRecursion, last_or}
-use Rattle.line_cost_model.proofs.Common.{LineRange, ProblemParts, range_of, root_of}
+use Rattle.line_cost_model.specs.declared.range.LineRange.{LineRange}
+use Rattle.line_cost_model.proofs.Common.{ProblemParts, range_of, root_of}
 use Rattle.line_concepts.specs.declared.node.Node.{Node}
 use Rattle.line_concepts.specs.declared.node.Node.TheVariants as node
 use Rattle.line_concepts.specs.TreeFaults.{splits_outside}

@@ -6,8 +6,9 @@ use Rattle.plan_num.proofs.Common.{set-get_or, length-set, reverse-append, lengt
 use Rattle.plan_num.proofs.Common.{get_or_push, get_or_default, take_all, take_more}
 use Rattle.plan_num.proofs.Common.{get_or_from_slice_get, slice_get-get_or, slice_get_within}
 use Rattle.plan_num.proofs.Common.{All-push, get_or-append}
-use Rattle.line_cost_model.proofs.Common.{LineRange, ProblemParts, RegionParts, range_of, root_of}
-use Rattle.line_cost_model.proofs.Common.{part_from, part_up_to}
+use Rattle.line_cost_model.specs.declared.range.LineRange.{LineRange}
+use Rattle.line_cost_model.proofs.Common.{ProblemParts, RegionParts, range_of, root_of, part_from}
+use Rattle.line_cost_model.proofs.Common.{part_up_to}
 use Rattle.line_concepts.specs.declared.region_walk.OpenSplit.{OpenSplit}
 use Rattle.line_concepts.specs.Walks.{IsOpenSplit, WalkedRegions, closed, upper_of, waiting_of}
 

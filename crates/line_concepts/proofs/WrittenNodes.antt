@@ -4,11 +4,13 @@ use Rattle.plan_num.proofs.Common.{◌++◌, fold, length, Option, IfSome, All, 
 use Rattle.plan_num.proofs.Common.{AllByRecursion, enumerate_from, eqb-false, cases_Bool}
 use Rattle.plan_num.proofs.Common.{append-nil, length-map, length-set, All-nil, All-cons}
 use Rattle.plan_num.proofs.Common.{All-append, All-set, slice_get_within}
-use Rattle.line_cost_model.proofs.Common.{BoundedEdge, Multiplier, LineRange, least_left}
-use Rattle.line_cost_model.proofs.Common.{next_multiplier, unless_zero, with_next, AreMultipliers}
-use Rattle.line_cost_model.proofs.Common.{IsAfter, CostedLine, IsProblem, ProblemParts, IsRange}
-use Rattle.line_cost_model.proofs.Common.{part_from, part_up_to, range_of, multipliers_push}
-use Rattle.line_cost_model.proofs.Common.{one_by_one, root_sound, few_left}
+use Rattle.line_cost_model.specs.declared.edge.BoundedEdge.{BoundedEdge}
+use Rattle.line_cost_model.specs.declared.multipliers.Multiplier.{Multiplier}
+use Rattle.line_cost_model.specs.declared.range.LineRange.{LineRange}
+use Rattle.line_cost_model.proofs.Common.{least_left, next_multiplier, unless_zero, with_next}
+use Rattle.line_cost_model.proofs.Common.{AreMultipliers, IsAfter, CostedLine, IsProblem}
+use Rattle.line_cost_model.proofs.Common.{ProblemParts, IsRange, part_from, part_up_to, range_of}
+use Rattle.line_cost_model.proofs.Common.{multipliers_push, one_by_one, root_sound, few_left}
 use Rattle.line_cost_model.specs.DualBounds.{multipliers_of}
 use Rattle.line_concepts.specs.declared.node.Node.TheVariants as node
 use Rattle.line_concepts.specs.Nodes.{IsInLimits, NamesWhatIs}

@@ -11,10 +11,6 @@ pub use Rattle.line_cost_model.specs.Regions.{HasEachFeasible, IsEmptyAt, IsRang
 pub use Rattle.line_cost_model.specs.Regions.{RegionParts, empty_edge, empty_edges, empty_side}
 pub use Rattle.line_cost_model.specs.Regions.{greatest_in, has_several, least_in, most_of}
 pub use Rattle.line_cost_model.specs.Regions.{part_from, part_up_to, range_of, root_of}
-pub use Rattle.line_cost_model.specs.declared.edge.BoundedEdge.{BoundedEdge}
-pub use Rattle.line_cost_model.specs.declared.multipliers.Multiplier.{Multiplier}
-pub use Rattle.line_cost_model.specs.declared.range.LineRange.{LineRange}
-pub use Rattle.line_cost_model.specs.declared.side.Side.{Side}
 pub use Rattle.line_cost_model.proofs.Duality.{bound_is_least, empty_is_none, one_concept}
 pub use Rattle.line_cost_model.proofs.Duality.{split_covers}
 pub use Rattle.line_cost_model.proofs.Feasible.{test_means}

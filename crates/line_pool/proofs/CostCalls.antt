@@ -1,9 +1,11 @@
 -- The stage of costs, from what each of its inputs gives.
 use Rattle.plan_num.proofs.Common.{◌≡◌, List, [], refl, subst, Ok, Err, arith}
 use Rattle.giv_files.specs.declared.key.Key.TheVariants as key
-use Rattle.giv_files.proofs.Common.{Made, BundleParts, SettingsFit, Fits, input_text, StageGives}
+use Rattle.giv_files.specs.declared.made.Made.{Made}
+use Rattle.giv_files.proofs.Common.{BundleParts, SettingsFit, Fits, input_text, StageGives}
 use Rattle.giv_files.proofs.Common.{amount_within, stage_refused}
-use Rattle.tables.proofs.Common.{StageFault, Refuses, refused_append}
+use Rattle.tables.specs.declared.refusal.StageFault.{StageFault}
+use Rattle.tables.proofs.Common.{Refuses, refused_append}
 use Rattle.giv_files.specs.declared.stage.Stage.TheVariants as stage
 use Rattle.walks.proofs.Common.{NetworkParts}
 use Rattle.ptn_network.specs.Networks.{network_of, network_faults}

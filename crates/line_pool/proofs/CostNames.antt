@@ -1,6 +1,8 @@
 -- Which files the stage of costs names where it refuses a row.
 use Rattle.plan_num.proofs.Common.{◌≡◌, ℕ, Bool, true, List, Err}
-use Rattle.tables.proofs.Common.{FileId, Refusal, NamesInput, AllName, names_both, input_names}
+use Rattle.tables.specs.declared.file_id.FileId.{FileId}
+use Rattle.tables.specs.declared.refusal.Refusal.{Refusal}
+use Rattle.tables.proofs.Common.{NamesInput, AllName, names_both, input_names}
 use Rattle.tables.specs.declared.file_id.FileId.TheVariants as file
 use Rattle.giv_files.proofs.Common.{BundleParts, input_text, refused_names}
 use Rattle.walks.proofs.Common.{NetworkParts}

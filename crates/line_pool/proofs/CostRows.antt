@@ -5,9 +5,10 @@ use Rattle.plan_num.proofs.Common.{All, Some, option_map, sum, w64, to_z, ints, 
 use Rattle.plan_num.proofs.Common.{slice_get-get_or, same_Some, map_more, All-map, All-weaker}
 use Rattle.plan_num.proofs.Common.{All-get_or}
 use Rattle.giv_files.specs.declared.key.Key.TheVariants as key
-use Rattle.giv_files.proofs.Common.{Setting, amount}
+use Rattle.giv_files.specs.declared.setting.Setting.{Setting}
+use Rattle.giv_files.proofs.Common.{amount}
 use Rattle.tables.proofs.Common.{pool_cost_columns, TableRow, InColumns}
-use Rattle.walks.proofs.Common.{Edge}
+use Rattle.walks.specs.declared.edge.Edge.{Edge}
 use Rattle.line_walks.specs.Pools.{LineParts}
 use Rattle.line_pool.specs.CostStage.{line_cost, cost_row}
 use Rattle.line_walks.specs.LineLengths.{line_length, IsModest}

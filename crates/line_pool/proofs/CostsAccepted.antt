@@ -4,11 +4,11 @@ use Rattle.plan_num.proofs.Common.{ap, subst, sym, ◌∙◌, AllByRecursion, li
 use Rattle.plan_num.proofs.Common.{IsStrictlySortedBy, int_eq, int_cmp}
 use Rattle.tables.specs.declared.file_id.FileId.TheVariants as file
 use Rattle.tables.specs.declared.row_why.RowWhy.TheVariants as why
-use Rattle.giv_files.proofs.Common.{Setting}
+use Rattle.giv_files.specs.declared.setting.Setting.{Setting}
 use Rattle.tables.proofs.Common.{pool_cost_columns, broken_whys, records, input_faults, ReadsBack}
 use Rattle.tables.proofs.Common.{accepted, whole_accepted, all_keep, each_known, none_missing}
 use Rattle.plan_num.proofs.Found.{any_mapped}
-use Rattle.walks.proofs.Common.{Edge}
+use Rattle.walks.specs.declared.edge.Edge.{Edge}
 use Rattle.line_pool.specs.CostStage.{cost_row}
 use Rattle.line_walks.specs.declared.cost_row.CostRow.{CostRow}
 use Rattle.line_walks.specs.PoolCosts.{cost_input, pool_cost_input}

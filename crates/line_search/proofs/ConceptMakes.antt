@@ -1,7 +1,9 @@
 -- Which files the stage of line concepts makes.
 use Rattle.plan_num.proofs.Common.{arith, ◌≡◌, List, [], Result, Ok, Err}
-use Rattle.tables.proofs.Common.{FileId, Refusal}
-use Rattle.giv_files.proofs.Common.{Made, MakesAs, ids_of, BundleParts}
+use Rattle.tables.specs.declared.file_id.FileId.{FileId}
+use Rattle.tables.specs.declared.refusal.Refusal.{Refusal}
+use Rattle.giv_files.specs.declared.made.Made.{Made}
+use Rattle.giv_files.proofs.Common.{MakesAs, ids_of, BundleParts}
 use Rattle.giv_files.specs.declared.stage.Stage.TheVariants as stage
 use Rattle.line_search.specs.ConceptStage.{concept_stage}
 

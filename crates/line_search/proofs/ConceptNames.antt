@@ -1,8 +1,10 @@
 -- Which files the stage of line concepts names where it refuses a row.
 use Rattle.plan_num.proofs.Common.{arith, ◌≡◌, ℕ, Bool, true, List, [], ◌∷◌, ◌++◌, slice_get, Some}
 use Rattle.plan_num.proofs.Common.{Err, refl, subst}
-use Rattle.tables.proofs.Common.{FileId, Refusal, input_faults, NamesInput, NamesOnly, AllName}
-use Rattle.tables.proofs.Common.{input_names, names_both}
+use Rattle.tables.specs.declared.file_id.FileId.{FileId}
+use Rattle.tables.specs.declared.refusal.Refusal.{Refusal}
+use Rattle.tables.proofs.Common.{input_faults, NamesInput, NamesOnly, AllName, input_names}
+use Rattle.tables.proofs.Common.{names_both}
 use Rattle.tables.specs.declared.file_id.FileId.TheVariants as file
 use Rattle.giv_files.proofs.Common.{BundleParts, input_text, names_after, fine_after}
 use Rattle.ptn_network.specs.Loads.{load_input}

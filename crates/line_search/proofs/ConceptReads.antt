@@ -4,14 +4,17 @@ use Rattle.plan_num.proofs.Common.{length, map, All, Option, Some, None, IfSome,
 use Rattle.plan_num.proofs.Common.{subst, arith, find, get_or, option_map, take, unsigned_abs}
 use Rattle.plan_num.proofs.Common.{unwrap_or, nat_le, ok_or, ⊤, AllZip, flat_map, int_eq}
 use Rattle.plan_num.proofs.Common.{signed_items, cases_Bool, pointwise, pointwise_decides}
-use Rattle.giv_files.proofs.Common.{Made, BundleParts, Fits, made_after}
-use Rattle.tables.proofs.Common.{Refusal, concept_columns, tree_columns, table_of, TableRow}
-use Rattle.tables.proofs.Common.{ReadsBack, plain_header, written_back, columns_written}
+use Rattle.giv_files.specs.declared.made.Made.{Made}
+use Rattle.giv_files.proofs.Common.{BundleParts, Fits, made_after}
+use Rattle.tables.specs.declared.refusal.Refusal.{Refusal}
+use Rattle.tables.proofs.Common.{concept_columns, tree_columns, table_of, TableRow, ReadsBack}
+use Rattle.tables.proofs.Common.{plain_header, written_back, columns_written}
 use Rattle.tables.specs.declared.refusal.Refusal.TheVariants as refusal
 use Rattle.giv_files.specs.declared.stage.Stage.TheVariants as stage
-use Rattle.line_cost_model.proofs.Common.{LineRange, IsChosen, IsFeasible, cost_of, is_feasible}
-use Rattle.line_cost_model.proofs.Common.{IsProblem, ProblemParts, IsRange, IsWithin, root_of}
-use Rattle.line_cost_model.proofs.Common.{test_means, root_has_each, root_sound}
+use Rattle.line_cost_model.specs.declared.range.LineRange.{LineRange}
+use Rattle.line_cost_model.proofs.Common.{IsChosen, IsFeasible, cost_of, is_feasible, IsProblem}
+use Rattle.line_cost_model.proofs.Common.{ProblemParts, IsRange, IsWithin, root_of, test_means}
+use Rattle.line_cost_model.proofs.Common.{root_has_each, root_sound}
 use Rattle.line_concepts.specs.declared.node.Node.{Node}
 use Rattle.line_concepts.specs.Certified.{Certifies}
 use Rattle.branch_certificate.specs.TreeTexts.{ReadsBackAs, node_rows, tree_header, tree_text}

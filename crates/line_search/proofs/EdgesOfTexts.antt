@@ -1,6 +1,6 @@
 -- The ids of the edges of a network that texts give.
 use Rattle.plan_num.proofs.Common.{◌≡◌, ℕ, List, [], All, All-weaker}
-use Rattle.walks.proofs.Common.{Edge}
+use Rattle.walks.specs.declared.edge.Edge.{Edge}
 use Rattle.ptn_network.specs.Networks.{network_faults, network_of}
 use Rattle.line_walks.proofs.EdgesOfTexts.{HasId}
 use Rattle.line_walks.proofs.EdgesOfTexts as texts

@@ -2,8 +2,10 @@
 use Rattle.plan_num.proofs.Common.{arith, ◌≡◌, ℕ, ◌≤◌, ◌∙◌, Bool, true, false, cond, nat_le, List}
 use Rattle.plan_num.proofs.Common.{[], length, take, ap, sym, refl, Option, Some, None, IfSome}
 use Rattle.plan_num.proofs.Common.{Result, Err, option_map, ok_or, le-leb}
-use Rattle.giv_files.proofs.Common.{Made, BundleParts, StageGives, gives_always, gives_only}
-use Rattle.tables.proofs.Common.{Refusal, StageFault}
+use Rattle.giv_files.specs.declared.made.Made.{Made}
+use Rattle.giv_files.proofs.Common.{BundleParts, StageGives, gives_always, gives_only}
+use Rattle.tables.specs.declared.refusal.Refusal.{Refusal}
+use Rattle.tables.specs.declared.refusal.StageFault.{StageFault}
 use Rattle.tables.specs.declared.refusal.Refusal.TheVariants as refusal
 use Rattle.line_cost_model.proofs.Common.{IsChosen, ProblemParts}
 use Rattle.line_concepts.specs.Budgets.{nodes_in}

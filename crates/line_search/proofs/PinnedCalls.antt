@@ -3,11 +3,13 @@ use Rattle.plan_num.proofs.Common.{arith, ◌≡◌, ℕ, true, false, not, List
 use Rattle.plan_num.proofs.Common.{Ok, Err, refl, ap, subst, sym, ◌∙◌, nat_eq, length, length-map}
 use Rattle.plan_num.proofs.Common.{map-map, int_eq, pointwise}
 use Rattle.tables.specs.declared.file_id.FileId.TheVariants as file
-use Rattle.giv_files.proofs.Common.{Made, BundleParts, StageGives, input_text, stage_refused}
+use Rattle.giv_files.specs.declared.made.Made.{Made}
+use Rattle.giv_files.proofs.Common.{BundleParts, StageGives, input_text, stage_refused}
 use Rattle.tables.specs.declared.refusal.Refusal.TheVariants as refusal
-use Rattle.tables.proofs.Common.{StageFault, Input, Refuses, input_faults, table_faults}
-use Rattle.tables.proofs.Common.{table_row_faults, whole_rule, TableRow, no_faults, refused_append}
-use Rattle.tables.proofs.Common.{refused_whole, whole_rule_broken, whole_rule_kept}
+use Rattle.tables.specs.declared.refusal.StageFault.{StageFault}
+use Rattle.tables.proofs.Common.{Input, Refuses, input_faults, table_faults, table_row_faults}
+use Rattle.tables.proofs.Common.{whole_rule, TableRow, no_faults, refused_append, refused_whole}
+use Rattle.tables.proofs.Common.{whole_rule_broken, whole_rule_kept}
 use Rattle.tables.specs.declared.refusal.StageFault.TheVariants as stage
 use Rattle.tables.specs.declared.row_why.RowWhy.TheVariants as why
 use Rattle.line_cost_model.proofs.Common.{cost_of, is_feasible, ProblemParts}

@@ -1,11 +1,12 @@
 -- The laws of the stage of a planner's concept: which files it makes, that they are right, and
 -- which file a refusal names.
 use Rattle.plan_num.proofs.Common.{arith, ◌≡◌, Bool, true, Ok, Err}
-use Rattle.tables.proofs.Common.{FileId, Refusal, input_faults, NamesInput, AllName, input_names}
-use Rattle.tables.proofs.Common.{names_both}
+use Rattle.tables.specs.declared.file_id.FileId.{FileId}
+use Rattle.tables.specs.declared.refusal.Refusal.{Refusal}
+use Rattle.tables.proofs.Common.{input_faults, NamesInput, AllName, input_names, names_both}
 use Rattle.tables.specs.declared.file_id.FileId.TheVariants as file
-use Rattle.giv_files.proofs.Common.{Made, MakesAs, ids_of, BundleParts, Fits, input_text}
-use Rattle.giv_files.proofs.Common.{refused_names}
+use Rattle.giv_files.specs.declared.made.Made.{Made}
+use Rattle.giv_files.proofs.Common.{MakesAs, ids_of, BundleParts, Fits, input_text, refused_names}
 use Rattle.giv_files.specs.declared.stage.Stage.TheVariants as stage
 use Rattle.ptn_network.specs.Loads.{load_input}
 use Rattle.ptn_network.specs.Networks.{network_in}

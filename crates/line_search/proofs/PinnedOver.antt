@@ -1,7 +1,8 @@
 -- What is right about a line concept, whoever gave it: over the inputs of the search alone, and
 -- what a judge finds.
 use Rattle.plan_num.proofs.Common.{arith, ◌≡◌, List, refl}
-use Rattle.giv_files.proofs.Common.{MadeFile, BundleParts, input_text}
+use Rattle.giv_files.specs.declared.made.MadeFile.{MadeFile}
+use Rattle.giv_files.proofs.Common.{BundleParts, input_text}
 use Rattle.ptn_network.specs.Networks.{network_in}
 use Rattle.line_search.specs.GivenProblems.{problem_faults, problem_of}
 use Rattle.line_search.specs.RightConcepts.{ConceptFilesAreRight}

@@ -2,7 +2,8 @@
 use Rattle.plan_num.proofs.Common.{◌≡◌, ℕ, pos, Bool, true, false, not, List, [], ◌∷◌, arith}
 use Rattle.plan_num.proofs.Common.{slice_get, option_map, is_some, Option, Some, None, Ok, refl, ap}
 use Rattle.plan_num.proofs.Common.{sym, ◌∙◌, subst, map-map}
-use Rattle.giv_files.proofs.Common.{Made, BundleParts, input_text, made_unless, none_unless}
+use Rattle.giv_files.specs.declared.made.Made.{Made}
+use Rattle.giv_files.proofs.Common.{BundleParts, input_text, made_unless, none_unless}
 use Rattle.tables.specs.declared.row_why.RowWhy.TheVariants as why
 use Rattle.tables.proofs.Common.{concept_columns, Input, records, whole_rule, table_of, TableRow}
 use Rattle.tables.proofs.Common.{parts_sound, table_sound, whole_rule_sound, back_none, front_none}

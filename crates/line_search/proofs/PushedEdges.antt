@@ -5,10 +5,11 @@ use Rattle.plan_num.proofs.Common.{of_z, w64, refl, ap, subst, sym, ◌∙◌, S
 use Rattle.plan_num.proofs.Common.{IsStrictlySortedBy, int_cmp, ints, length-map, slice_get-map}
 use Rattle.std.proofs.Common.{FitsSigned}
 use Rattle.std.proofs.lemmas.Int.{to_z-of_z}
-use Rattle.walks.proofs.Common.{Edge}
+use Rattle.walks.specs.declared.edge.Edge.{Edge}
 use Rattle.ptn_network.specs.declared.edge_load.EdgeLoad.{EdgeLoad}
 use Rattle.ptn_network.specs.Loads.{IsLoad}
-use Rattle.line_cost_model.proofs.Common.{BoundedEdge, IsBoundedEdge, IsId, map_more, map_whole}
+use Rattle.line_cost_model.specs.declared.edge.BoundedEdge.{BoundedEdge}
+use Rattle.line_cost_model.proofs.Common.{IsBoundedEdge, IsId, map_more, map_whole}
 use Rattle.line_search.specs.GivenProblems.{bounded_by}
 use Rattle.line_search.proofs.ConceptRows.{zip_length}
 use Rattle.line_concepts.proofs.Lists.{below, zip_at}

@@ -3,7 +3,7 @@ use Rattle.plan_num.proofs.Common.{◌≡◌, ℕ, ℤ, ◌+◌, ◌≤◌, ◌<
 use Rattle.plan_num.proofs.Common.{map, take, slice_get, zip, unsigned_abs, to_z, of_z, w64, refl}
 use Rattle.plan_num.proofs.Common.{ap, subst, sym, ◌∙◌, Some, option_map, All, IsStrictlySortedBy}
 use Rattle.plan_num.proofs.Common.{int_cmp, same_Some, slice_get-map}
-use Rattle.walks.proofs.Common.{Edge}
+use Rattle.walks.specs.declared.edge.Edge.{Edge}
 use Rattle.line_walks.specs.GivenCosts.{IsCost}
 use Rattle.line_walks.specs.Pools.{LineParts, IsLine}
 use Rattle.line_cost_model.proofs.Common.{CostedLine, IsCostedLine, IsId, map_more, map_whole}

@@ -1,7 +1,9 @@
 -- What each input of the search gives: the first fault, or a part of the line problem.
 use Rattle.plan_num.proofs.Common.{◌≡◌, ℕ, ℤ, List, [], ◌++◌, ap, subst, sym, ◌∙◌, arith}
 use Rattle.tables.specs.declared.file_id.FileId.TheVariants as file
-use Rattle.tables.proofs.Common.{Refusal, StageFault, Refuses, input_faults, refused_append}
+use Rattle.tables.specs.declared.refusal.Refusal.{Refusal}
+use Rattle.tables.specs.declared.refusal.StageFault.{StageFault}
+use Rattle.tables.proofs.Common.{Refuses, input_faults, refused_append}
 use Rattle.giv_files.proofs.Common.{BundleParts, input_text}
 use Rattle.ptn_network.specs.declared.edge_load.EdgeLoad.{EdgeLoad}
 use Rattle.ptn_network.specs.Loads.{load_input, loads_of}

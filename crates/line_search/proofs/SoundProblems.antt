@@ -5,7 +5,7 @@ use Rattle.plan_num.proofs.Common.{All-head, All-nil, All-tail}
 use Rattle.tables.specs.declared.file_id.FileId.TheVariants as file
 use Rattle.tables.proofs.Common.{front_none, back_none, input_faults}
 use Rattle.giv_files.proofs.Common.{BundleParts, input_text}
-use Rattle.walks.proofs.Common.{Edge}
+use Rattle.walks.specs.declared.edge.Edge.{Edge}
 use Rattle.ptn_network.specs.declared.edge_load.EdgeLoad.{EdgeLoad}
 use Rattle.ptn_network.specs.Loads.{IsLoad, load_input, loads_of}
 use Rattle.ptn_network.specs.Networks.{network_faults, network_in}

@@ -3,9 +3,12 @@ use Rattle.plan_num.proofs.Common.{◌≡◌, ℕ, ◌+◌, ◌≤◌, ◌∙◌
 use Rattle.plan_num.proofs.Common.{◌∷◌, length, take, slice_get, refl, arith, ap, sym, Option, Some}
 use Rattle.plan_num.proofs.Common.{None, option_map, Result, Ok, Err, ok_or, le-leb, leb-true}
 use Rattle.plan_num.proofs.Common.{leb-false, take_all, length-take-le, min-eq_left, min-eq_right}
-use Rattle.giv_files.proofs.Common.{Made, BundleParts, StageGives, TakesSteps, refused_after}
+use Rattle.giv_files.specs.declared.made.Made.{Made}
+use Rattle.giv_files.proofs.Common.{BundleParts, StageGives, TakesSteps, refused_after}
 use Rattle.giv_files.proofs.Common.{refused_steps}
-use Rattle.tables.proofs.Common.{Refusal, StageFault, Refuses}
+use Rattle.tables.specs.declared.refusal.Refusal.{Refusal}
+use Rattle.tables.specs.declared.refusal.StageFault.{StageFault}
+use Rattle.tables.proofs.Common.{Refuses}
 use Rattle.tables.specs.declared.refusal.Refusal.TheVariants as refusal
 use Rattle.tables.specs.declared.refusal.StageFault.TheVariants as stage
 use Rattle.line_cost_model.proofs.Common.{ProblemParts}

@@ -4,7 +4,8 @@ use Rattle.plan_num.proofs.Common.{values_of, All-cons, All-head, All-tail}
 use Rattle.tables.specs.declared.column.ColumnKind.TheVariants as kind
 use Rattle.tables.proofs.Common.{edge_columns, records, records_of, input_faults, table_of}
 use Rattle.tables.proofs.Common.{TableRow, InColumns, sound_rows, back_none, in_column}
-use Rattle.walks.proofs.Common.{Edge, all_by_id}
+use Rattle.walks.specs.declared.edge.Edge.{Edge}
+use Rattle.walks.proofs.Common.{all_by_id}
 use Rattle.ptn_network.specs.Inputs.{stop_input, edge_input, edge_row}
 use Rattle.ptn_network.specs.Networks.{edge_entry, edge_of, network_faults, network_of, stops_of}
 

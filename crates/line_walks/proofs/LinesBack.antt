@@ -8,7 +8,8 @@ use Rattle.plan_num.proofs.Common.{filter-append, list_any-append, map-map}
 use Rattle.std.specs.List.Sorted.{IsStrictlySortedBy}
 use Rattle.std.specs.declared.cmp.Ordering.TheVariants.{Less}
 use Rattle.tables.proofs.Common.{pool_columns, table_of, TableRow, ReadsBack}
-use Rattle.walks.proofs.Common.{Edge, NetworkParts, rising, sorted_ids}
+use Rattle.walks.specs.declared.edge.Edge.{Edge}
+use Rattle.walks.proofs.Common.{NetworkParts, rising, sorted_ids}
 use Rattle.line_walks.specs.declared.line_row.LineRow.{LineRow}
 use Rattle.line_walks.specs.Pools.{LineParts, index_of, line_of, line_row, lines_of, lines_over}
 use Rattle.line_walks.specs.Pools.{pool_of}

@@ -1,10 +1,12 @@
 -- The pool of a table, from the lines of its rows.
 use Rattle.plan_num.proofs.Common.{arith, ℕ, sym, ◌≡◌, refl, ℤ, ◌≤◌, List, [], length, map, subst}
 use Rattle.plan_num.proofs.Common.{All, All-weaker, map-map}
-use Rattle.walks.proofs.Common.{NetworkParts, Edge, rising}
-use Rattle.tables.proofs.Common.{TableRow, StageFault, Input, Refuses, cell_faults, records}
-use Rattle.tables.proofs.Common.{limit_faults, table_row_faults, table_faults, refused_cells}
-use Rattle.tables.proofs.Common.{faults_of_table, limit_kept, no_faults, table_of}
+use Rattle.walks.specs.declared.edge.Edge.{Edge}
+use Rattle.walks.proofs.Common.{NetworkParts, rising}
+use Rattle.tables.specs.declared.refusal.StageFault.{StageFault}
+use Rattle.tables.proofs.Common.{TableRow, Input, Refuses, cell_faults, records, limit_faults}
+use Rattle.tables.proofs.Common.{table_row_faults, table_faults, refused_cells, faults_of_table}
+use Rattle.tables.proofs.Common.{limit_kept, no_faults, table_of}
 use Rattle.line_walks.specs.declared.line_file.LineFile.{LineFile}
 use Rattle.line_walks.specs.declared.line_row.LineRow.{LineRow}
 use Rattle.line_walks.specs.Pools.{line_limit, LineParts, line_input, lines_over, lines_of, line_faults, file_of, columns_of, IsLine, AreLines}

@@ -9,9 +9,10 @@ use Rattle.plan_num.proofs.Common.{int_eq_equiv, append-nil, map_push, length-ma
 use Rattle.plan_num.proofs.Common.{take_more, same_lists, get_or-map, get_or-set_same}
 use Rattle.plan_num.proofs.Common.{get_or-set_other, filter-append, filter_map-append}
 use Rattle.plan_num.proofs.Common.{list_any-append, list_any_at}
-use Rattle.tables.proofs.Common.{RowWhy, broken_whys, TableRow, no_row, cell_at}
+use Rattle.tables.specs.declared.row_why.RowWhy.{RowWhy}
+use Rattle.tables.proofs.Common.{broken_whys, TableRow, no_row, cell_at}
 use Rattle.tables.specs.declared.row_why.RowWhy.TheVariants as why
-use Rattle.walks.proofs.Common.{Edge}
+use Rattle.walks.specs.declared.edge.Edge.{Edge}
 use Rattle.line_walks.specs.declared.ends.Ends.{Ends}
 use Rattle.line_walks.specs.declared.line_row.LineRow.{LineRow}
 use Rattle.line_walks.specs.Pools.{line_row, edge_with, index_of, rows_of, edges_of, walk_of, line_rules, first_frequency, differs}

@@ -18,7 +18,8 @@ use Rattle.tables.proofs.Common.{table_sound, sound_rows, front_none, back_none,
 use Rattle.tables.proofs.Common.{in_column}
 use Rattle.tables.specs.Inputs.{row_faults}
 use Rattle.plan_num.proofs.Found.{any_mapped}
-use Rattle.walks.proofs.Common.{Edge, NetworkParts, IsEdge, IsNetwork, all_rising, rising}
+use Rattle.walks.specs.declared.edge.Edge.{Edge}
+use Rattle.walks.proofs.Common.{NetworkParts, IsEdge, IsNetwork, all_rising, rising}
 use Rattle.line_walks.specs.declared.line_file.LineFile.{LineFile}
 use Rattle.line_walks.specs.declared.line_file.LineFile.TheVariants as kinds
 use Rattle.line_walks.specs.declared.line_row.LineRow.{LineRow}

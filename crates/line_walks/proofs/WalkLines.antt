@@ -12,7 +12,8 @@ use Rattle.tables.specs.declared.counted.Counted.TheVariants as counted
 use Rattle.tables.specs.declared.refusal.Refusal.TheVariants as refusal
 use Rattle.tables.proofs.Common.{concept_columns, pool_columns, TableRow, ReadsBack, KeepRules}
 use Rattle.tables.proofs.Common.{accepted, each_known}
-use Rattle.walks.proofs.Common.{Edge, NetworkParts, edges_at, rising, all_rising, rising_rises}
+use Rattle.walks.specs.declared.edge.Edge.{Edge}
+use Rattle.walks.proofs.Common.{NetworkParts, edges_at, rising, all_rising, rising_rises}
 use Rattle.line_walks.specs.declared.line_file.LineFile.{LineFile}
 use Rattle.line_walks.specs.declared.line_file.LineFile.TheVariants as kinds
 use Rattle.line_walks.specs.declared.line_row.LineRow.{LineRow}

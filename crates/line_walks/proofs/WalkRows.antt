@@ -11,7 +11,8 @@ use Rattle.plan_num.proofs.Common.{list_any-append, IsDistinct-head, IsDistinct-
 use Rattle.std.specs.List.Sorted.{IsStrictlySortedBy}
 use Rattle.std.specs.declared.cmp.Ordering.TheVariants.{Less}
 use Rattle.tables.proofs.Common.{broken_whys, KeepRules}
-use Rattle.walks.proofs.Common.{Edge, edges_at, across}
+use Rattle.walks.specs.declared.edge.Edge.{Edge}
+use Rattle.walks.proofs.Common.{edges_at, across}
 use Rattle.line_walks.specs.declared.line_row.LineRow.{LineRow}
 use Rattle.line_walks.specs.Pools.{differs, edge_with, edges_of, first_frequency, line_rules}
 use Rattle.line_walks.specs.Pools.{or_walk, rows_of, walk_from, walk_of}

@@ -4,7 +4,8 @@ use Rattle.plan_num.proofs.Common.{get_or, drop, fold, refl, ap, sym, ◌∙◌,
 use Rattle.plan_num.proofs.Common.{option_map, is_some, option_and_then, append_assoc, at_drop_more}
 use Rattle.plan_num.proofs.Common.{at_drop_all, fold_push}
 use Rattle.std.proofs.lemmas.List.Folds.{fold_stays}
-use Rattle.walks.proofs.Common.{Edge, across, end_from}
+use Rattle.walks.specs.declared.edge.Edge.{Edge}
+use Rattle.walks.proofs.Common.{across, end_from}
 use Rattle.line_walks.specs.Pools.{walk_from, or_walk, walk_of}
 use Rattle.line_walks.specs.LinesSoFar.{ends_of, next_ends}
 

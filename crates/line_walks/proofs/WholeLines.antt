@@ -15,8 +15,9 @@ use Rattle.tables.proofs.Common.{records, numbered, input_faults, table_of, Tabl
 use Rattle.tables.proofs.Common.{parts_sound, table_sound, sound_rows, few_rows, front_none}
 use Rattle.tables.proofs.Common.{back_none}
 use Rattle.tables.specs.Inputs.{row_faults}
-use Rattle.walks.proofs.Common.{Edge, NetworkParts, IsNetwork, rising, edges_at, across}
-use Rattle.walks.proofs.Common.{rising_rises, all_rising}
+use Rattle.walks.specs.declared.edge.Edge.{Edge}
+use Rattle.walks.proofs.Common.{NetworkParts, IsNetwork, rising, edges_at, across, rising_rises}
+use Rattle.walks.proofs.Common.{all_rising}
 use Rattle.line_walks.specs.declared.line_file.LineFile.{LineFile}
 use Rattle.line_walks.specs.declared.line_file.LineFile.TheVariants as kinds
 use Rattle.line_walks.specs.declared.line_row.LineRow.{LineRow}

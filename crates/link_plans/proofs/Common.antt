@@ -8,8 +8,6 @@ pub use Rattle.link_plans.specs.Plans.{IsPlan, is_next, is_trip, next, plan_gain
 pub use Rattle.link_plans.specs.Potentials.{AreOver, ArePotentials, AreValid, IsSmall, IsTight}
 pub use Rattle.link_plans.specs.Potentials.{PotentialParts, at, total}
 pub use Rattle.link_plans.specs.Slacks.{Covers, slack_of, slack_to}
-pub use Rattle.link_plans.specs.declared.link_table.Link.{Link}
-pub use Rattle.link_plans.specs.declared.solved.Solved.{Solved}
 pub use Rattle.link_plans.proofs.Certified.{by_bound, certified_best, gain_most, gains_all}
 pub use Rattle.link_plans.proofs.Certified.{tight_all, tight_best, valid_for_best}
 pub use Rattle.link_plans.proofs.ChosenThere.{HasValid, valid_there}

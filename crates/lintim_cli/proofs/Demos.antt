@@ -3,7 +3,7 @@ use Rattle.plan_num.proofs.Common.{◌≡◌, ℕ, ◌+◌, ◌≤◌, false, Li
 use Rattle.plan_num.proofs.Common.{refl, ap, ◌∙◌, arith, inl, inr, slice_cmp, option_map, nat_cmp}
 use Rattle.std.specs.FinMap as files
 use Rattle.plan_files.proofs.Common.{Rose, Folder}
-use Rattle.giv_files.proofs.Common.{Stage}
+use Rattle.giv_files.specs.declared.stage.Stage.{Stage}
 use Rattle.giv_files.specs.declared.stage.Stage.TheVariants as stage
 use Rattle.stage_keep.specs.Entries.{keep_name}
 use Rattle.demo_dataset.specs.Demo.{demo_folder, demo_writes}

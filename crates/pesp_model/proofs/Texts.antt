@@ -1,11 +1,12 @@
 -- The problem of two texts, from what each of them gives.
 use Rattle.plan_num.proofs.Common.{◌≡◌, ℕ, ◌<◌, ◌≤◌, List, [], length, map, get_or, sym, subst}
 use Rattle.plan_num.proofs.Common.{arith, length-map, All-map}
-use Rattle.tables.proofs.Common.{StageFault, Input, Refuses, records_of, input_faults}
-use Rattle.tables.proofs.Common.{refused_append}
-use Rattle.event_tables.proofs.Common.{PeriodicActivity, PeriodicEvent, periodic_event_input}
-use Rattle.event_tables.proofs.Common.{periodic_activity_input, periodic_event_ids}
-use Rattle.event_tables.proofs.Common.{ArePeriodicActivities}
+use Rattle.tables.specs.declared.refusal.StageFault.{StageFault}
+use Rattle.tables.proofs.Common.{Input, Refuses, records_of, input_faults, refused_append}
+use Rattle.event_tables.specs.declared.periodic_activity.PeriodicActivity.{PeriodicActivity}
+use Rattle.event_tables.specs.declared.periodic_event.PeriodicEvent.{PeriodicEvent}
+use Rattle.event_tables.proofs.Common.{periodic_event_input, periodic_activity_input}
+use Rattle.event_tables.proofs.Common.{periodic_event_ids, ArePeriodicActivities}
 use Rattle.pesp.specs.declared.activity.PespActivity.{PespActivity}
 use Rattle.pesp_model.specs.PespTexts.{activity_of, events_of, activities_of, problem_of, problem_faults}
 use Rattle.pesp.specs.Timetables.{IsActivity, IsProblem}

@@ -6,7 +6,8 @@ use Rattle.plan_num.proofs.Common.{IfOk, Result, Ok, Err, refl, ap, sym, arith, 
 use Rattle.plan_num.proofs.Common.{list_all, and_from, and_parts, eq-eqb, eqb-true, lt-ltb}
 use Rattle.plan_num.proofs.Common.{ltb-true, not-false, length-map, same_Some, All-cons, All-nil}
 use Rattle.tables.proofs.Common.{times_p_columns, faults, table_of, TableRow, ReadsAs, records_by}
-use Rattle.event_tables.proofs.Common.{PeriodicTime, periodic_time}
+use Rattle.event_tables.specs.declared.periodic_time.PeriodicTime.{PeriodicTime}
+use Rattle.event_tables.proofs.Common.{periodic_time}
 use Rattle.pesp.specs.Timetables.{IsProblem, IsTimetable, Problem, first_broken}
 use Rattle.pesp.proofs.FirstBroken.{first_is, none_is}
 use Rattle.pesp_search.specs.declared.fault.TimetableFault.{TimetableFault}

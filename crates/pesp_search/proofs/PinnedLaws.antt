@@ -2,12 +2,16 @@
 -- right, which file a refusal names, and what they are over the inputs of a search.
 use Rattle.plan_num.proofs.Common.{arith, ◌≡◌, ℕ, ◌≤◌, Bool, true, cond, List, [], ◌∷◌, is_some}
 use Rattle.plan_num.proofs.Common.{Option, None, Some, Ok, Err, refl, subst}
-use Rattle.tables.proofs.Common.{FileId, Refusal, input_faults, or_else, NamesInput, AllName}
-use Rattle.tables.proofs.Common.{input_names, names_both, names_or_else}
+use Rattle.tables.specs.declared.file_id.FileId.{FileId}
+use Rattle.tables.specs.declared.refusal.Refusal.{Refusal}
+use Rattle.tables.proofs.Common.{input_faults, or_else, NamesInput, AllName, input_names}
+use Rattle.tables.proofs.Common.{names_both, names_or_else}
 use Rattle.tables.specs.declared.file_id.FileId.TheVariants as file
 use Rattle.giv_files.specs.declared.key.Key.TheVariants as key
-use Rattle.giv_files.proofs.Common.{Made, MadeFile, MakesAs, ids_of, BundleParts, Fits, SettingsFit}
-use Rattle.giv_files.proofs.Common.{input_text, refused_names, amount_within}
+use Rattle.giv_files.specs.declared.made.Made.{Made}
+use Rattle.giv_files.specs.declared.made.MadeFile.{MadeFile}
+use Rattle.giv_files.proofs.Common.{MakesAs, ids_of, BundleParts, Fits, SettingsFit, input_text}
+use Rattle.giv_files.proofs.Common.{refused_names, amount_within}
 use Rattle.tables.specs.declared.refusal.Refusal.TheVariants as refusal
 use Rattle.tables.specs.declared.row_why.RowWhy.TheVariants as why
 use Rattle.giv_files.specs.declared.stage.Stage.TheVariants as stage

@@ -3,13 +3,15 @@ use Rattle.plan_num.proofs.Common.{All, arith, ◌≡◌, ℕ, ◌≤◌, ◌<�
 use Rattle.plan_num.proofs.Common.{is_some, Option, Some, None, Ok, refl, sym, ◌∙◌, subst}
 use Rattle.plan_num.proofs.Common.{length-map, All-map}
 use Rattle.tables.specs.declared.file_id.FileId.TheVariants as file
-use Rattle.giv_files.proofs.Common.{Made, BundleParts, input_text, made_unless, none_unless}
+use Rattle.giv_files.specs.declared.made.Made.{Made}
+use Rattle.giv_files.proofs.Common.{BundleParts, input_text, made_unless, none_unless}
 use Rattle.tables.specs.declared.refusal.Refusal.TheVariants as refusal
 use Rattle.tables.specs.declared.row_why.RowWhy.TheVariants as why
 use Rattle.tables.proofs.Common.{times_p_columns, InColumns, input_faults, back_none, front_none}
 use Rattle.tables.proofs.Common.{none_after, none_first}
-use Rattle.event_tables.proofs.Common.{PeriodicTime, periodic_time_cells, periodic_time_input}
-use Rattle.event_tables.proofs.Common.{ArePeriodicTimes, periodic_times_sound}
+use Rattle.event_tables.specs.declared.periodic_time.PeriodicTime.{PeriodicTime}
+use Rattle.event_tables.proofs.Common.{periodic_time_cells, periodic_time_input, ArePeriodicTimes}
+use Rattle.event_tables.proofs.Common.{periodic_times_sound}
 use Rattle.pesp_model.specs.PespTexts.{events_of, problem_of}
 use Rattle.pesp.specs.Timetables.{first_broken, IsTimetable}
 use Rattle.pesp.proofs.FirstBroken.{first_is}

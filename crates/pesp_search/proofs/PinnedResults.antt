@@ -2,13 +2,17 @@
 use Rattle.plan_num.proofs.Common.{arith, ◌≡◌, ◌++◌, List, [], ℕ, Option, Some, None, Ok, Err, refl}
 use Rattle.plan_num.proofs.Common.{ap, sym, subst, ◌∙◌}
 use Rattle.tables.specs.declared.file_id.FileId.TheVariants as file
-use Rattle.giv_files.proofs.Common.{Made, BundleParts, StageGives, input_text, stage_refused}
-use Rattle.tables.proofs.Common.{Refusal, StageFault, Refuses, input_faults, or_else, records_of}
-use Rattle.tables.proofs.Common.{refused_append, front_none, refused_before}
+use Rattle.giv_files.specs.declared.made.Made.{Made}
+use Rattle.giv_files.proofs.Common.{BundleParts, StageGives, input_text, stage_refused}
+use Rattle.tables.specs.declared.refusal.Refusal.{Refusal}
+use Rattle.tables.specs.declared.refusal.StageFault.{StageFault}
+use Rattle.tables.proofs.Common.{Refuses, input_faults, or_else, records_of, refused_append}
+use Rattle.tables.proofs.Common.{front_none, refused_before}
 use Rattle.tables.specs.declared.refusal.Refusal.TheVariants as refusal
 use Rattle.tables.specs.declared.refusal.StageFault.TheVariants as fault
 use Rattle.tables.specs.declared.row_why.RowWhy.TheVariants as why
-use Rattle.event_tables.proofs.Common.{PeriodicEvent, periodic_event_ids, periodic_event_input}
+use Rattle.event_tables.specs.declared.periodic_event.PeriodicEvent.{PeriodicEvent}
+use Rattle.event_tables.proofs.Common.{periodic_event_ids, periodic_event_input}
 use Rattle.event_tables.proofs.Common.{periodic_time_input}
 use Rattle.pesp_model.specs.PespTexts.{events_of, problem_faults}
 use Rattle.pesp.specs.Timetables.{Problem, first_broken}

@@ -4,7 +4,8 @@ use Rattle.plan_num.proofs.Common.{map, take, ap, arith, enumerate_from, get_or-
 use Rattle.plan_num.proofs.Common.{take_all, take_more, get_or-enumerate_from}
 use Rattle.plan_num.proofs.Common.{length-enumerate_from}
 use Rattle.tables.proofs.Common.{TableRow, no_row, records_by}
-use Rattle.event_tables.proofs.Common.{PeriodicTime, number_in, periodic_time}
+use Rattle.event_tables.specs.declared.periodic_time.PeriodicTime.{PeriodicTime}
+use Rattle.event_tables.proofs.Common.{number_in, periodic_time}
 use Rattle.pesp_search.specs.TimetableStage.{time_rows}
 
 no_time : PeriodicTime

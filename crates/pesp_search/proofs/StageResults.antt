@@ -1,9 +1,11 @@
 -- What the stage of timetables gives, by what the search found.
 use Rattle.plan_num.proofs.Common.{◌≡◌, ◌∙◌, ℕ, ◌+◌, ◌≤◌, nat_lt, List, [], length, All, Ok, Err}
 use Rattle.plan_num.proofs.Common.{ap, sym, subst, arith}
-use Rattle.giv_files.proofs.Common.{Made, BundleParts, StageGives, TakesSteps, refused_after}
+use Rattle.giv_files.specs.declared.made.Made.{Made}
+use Rattle.giv_files.proofs.Common.{BundleParts, StageGives, TakesSteps, refused_after}
 use Rattle.giv_files.proofs.Common.{refused_steps}
-use Rattle.tables.proofs.Common.{StageFault, times_p_columns, Refuses, InColumns}
+use Rattle.tables.specs.declared.refusal.StageFault.{StageFault}
+use Rattle.tables.proofs.Common.{times_p_columns, Refuses, InColumns}
 use Rattle.tables.specs.declared.refusal.StageFault.TheVariants as fault
 use Rattle.event_tables.proofs.Common.{periodic_time_cells}
 use Rattle.pesp.specs.Timetables.{IsProblem, IsTimetable, Problem}

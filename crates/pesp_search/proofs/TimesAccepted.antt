@@ -3,15 +3,16 @@ use Rattle.plan_num.proofs.Common.{◌≡◌, ◌∙◌, ℕ, suc, ◌+◌, ◌<
 use Rattle.plan_num.proofs.Common.{length, map, All, refl, ap, sym, subst, arith, enumerate_from}
 use Rattle.plan_num.proofs.Common.{list_any, range_with_len, eq-eqb, lt-leb, ne_eqb, le-ltb, ints}
 use Rattle.plan_num.proofs.Common.{length_push, All-cons, All-map, All-nil, map-map}
-use Rattle.tables.proofs.Common.{FileId, times_p_columns, broken_whys, input_faults, records}
-use Rattle.tables.proofs.Common.{table_of, TableRow, InColumns, ReadsBack, KeepRules, accepted}
+use Rattle.tables.specs.declared.file_id.FileId.{FileId}
+use Rattle.tables.proofs.Common.{times_p_columns, broken_whys, input_faults, records, table_of}
+use Rattle.tables.proofs.Common.{TableRow, InColumns, ReadsBack, KeepRules, accepted}
 use Rattle.tables.proofs.Common.{whole_accepted, plain_header, written_back, ReadsAs, records_by}
 use Rattle.tables.proofs.Common.{rows_by, columns_written}
 use Rattle.tables.specs.declared.row_why.RowWhy.TheVariants as why
-use Rattle.event_tables.proofs.Common.{PeriodicTime, periodic_time, periodic_time_cells}
-use Rattle.event_tables.proofs.Common.{periodic_time_header, periodic_time_input}
-use Rattle.event_tables.proofs.Common.{periodic_time_rules, is_none_of, none_of_places}
-use Rattle.event_tables.proofs.Common.{some_missing}
+use Rattle.event_tables.specs.declared.periodic_time.PeriodicTime.{PeriodicTime}
+use Rattle.event_tables.proofs.Common.{periodic_time, periodic_time_cells, periodic_time_header}
+use Rattle.event_tables.proofs.Common.{periodic_time_input, periodic_time_rules, is_none_of}
+use Rattle.event_tables.proofs.Common.{none_of_places, some_missing}
 use Rattle.pesp_search.specs.TimetableStage.{time_rows, times_text}
 
 -- the rows of times from the event of a number on

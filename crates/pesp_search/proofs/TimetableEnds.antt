@@ -1,8 +1,10 @@
 -- When a search says that there is no timetable, and when its budget is never spent.
 use Rattle.plan_num.proofs.Common.{◌≡◌, ◌≢◌, ◌∙◌, ℕ, ◌≤◌, cond, nat_lt, List, [], Option, Some}
 use Rattle.plan_num.proofs.Common.{None, Result, Err, ap, sym, arith, le-ltb, ltb-false}
-use Rattle.giv_files.proofs.Common.{Made, BundleParts, Fits, StageGives, gives_only, gives_always}
-use Rattle.tables.proofs.Common.{Refusal, StageFault}
+use Rattle.giv_files.specs.declared.made.Made.{Made}
+use Rattle.giv_files.proofs.Common.{BundleParts, Fits, StageGives, gives_only, gives_always}
+use Rattle.tables.specs.declared.refusal.Refusal.{Refusal}
+use Rattle.tables.specs.declared.refusal.StageFault.{StageFault}
 use Rattle.tables.specs.declared.refusal.Refusal.TheVariants as refusal
 use Rattle.giv_files.specs.declared.stage.Stage.TheVariants as stage
 use Rattle.pesp.specs.Timetables.{IsTimetable, Problem}

@@ -1,10 +1,13 @@
 -- Which files the stage of timetables makes, and which it names where it refuses a row.
 use Rattle.plan_num.proofs.Common.{arith, ◌≡◌, ℕ, Bool, true, List, [], Result, Ok, Err, ap, lit<}
 use Rattle.plan_num.proofs.Common.{refl}
-use Rattle.tables.proofs.Common.{FileId, Refusal, input_faults, NamesInput, NamesOnly, AllName}
-use Rattle.tables.proofs.Common.{input_names, names_both}
+use Rattle.tables.specs.declared.file_id.FileId.{FileId}
+use Rattle.tables.specs.declared.refusal.Refusal.{Refusal}
+use Rattle.tables.proofs.Common.{input_faults, NamesInput, NamesOnly, AllName, input_names}
+use Rattle.tables.proofs.Common.{names_both}
 use Rattle.tables.specs.declared.file_id.FileId.TheVariants as file
-use Rattle.giv_files.proofs.Common.{Made, MakesAs, ids_of, BundleParts, input_text, names_after}
+use Rattle.giv_files.specs.declared.made.Made.{Made}
+use Rattle.giv_files.proofs.Common.{MakesAs, ids_of, BundleParts, input_text, names_after}
 use Rattle.giv_files.proofs.Common.{fine_after, made_after}
 use Rattle.giv_files.specs.declared.stage.Stage.TheVariants as stage
 use Rattle.event_tables.proofs.Common.{periodic_activity_input, periodic_event_ids}

@@ -3,11 +3,13 @@ use Rattle.plan_num.proofs.Common.{◌≡◌, ℕ, ◌<◌, ◌≤◌, nat_lt, L
 use Rattle.plan_num.proofs.Common.{Option, Some, None, Ok, refl, sym, subst, arith, range_with_len}
 use Rattle.tables.specs.declared.file_id.FileId.TheVariants as file
 use Rattle.giv_files.specs.declared.key.Key.TheVariants as key
-use Rattle.giv_files.proofs.Common.{Made, BundleParts, Fits, SettingsFit, input_text, amount_within}
+use Rattle.giv_files.specs.declared.made.Made.{Made}
+use Rattle.giv_files.proofs.Common.{BundleParts, Fits, SettingsFit, input_text, amount_within}
 use Rattle.giv_files.proofs.Common.{made_after}
 use Rattle.giv_files.specs.declared.stage.Stage.TheVariants as stage
 use Rattle.tables.proofs.Common.{input_faults, front_none, back_none}
-use Rattle.event_tables.proofs.Common.{PeriodicEvent, periodic_activity_input, periodic_event_ids}
+use Rattle.event_tables.specs.declared.periodic_event.PeriodicEvent.{PeriodicEvent}
+use Rattle.event_tables.proofs.Common.{periodic_activity_input, periodic_event_ids}
 use Rattle.event_tables.proofs.Common.{periodic_event_input, periodic_time_input}
 use Rattle.event_tables.proofs.Common.{periodic_activities_sound, periodic_events_sound}
 use Rattle.pesp_model.specs.PespTexts.{activities_of, activity_of, events_of, problem_faults, problem_of}

@@ -4,8 +4,9 @@ use Rattle.plan_num.proofs.Common.{Result, Ok, Err}
 use Rattle.std.specs.Fmt.{digits}
 use Rattle.tables.specs.declared.file_id.FileId.TheVariants as file
 use Rattle.giv_files.specs.declared.key.Key.TheVariants as key
-use Rattle.giv_files.proofs.Common.{Made, BundleParts}
-use Rattle.tables.proofs.Common.{Refusal}
+use Rattle.giv_files.specs.declared.made.Made.{Made}
+use Rattle.giv_files.proofs.Common.{BundleParts}
+use Rattle.tables.specs.declared.refusal.Refusal.{Refusal}
 use Rattle.tables.specs.declared.refusal.Refusal.TheVariants as refusal
 use Rattle.giv_files.specs.declared.stage.Stage.TheVariants as stage
 use Rattle.tables.specs.Inputs.{input_faults, row_faults}

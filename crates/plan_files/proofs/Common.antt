@@ -5,12 +5,6 @@ pub use Rattle.plan_files.specs.Counts.{Counts, Rose}
 pub use Rattle.plan_files.specs.Folder.{Folder, found}
 pub use Rattle.plan_files.specs.Others.{AreOutside}
 pub use Rattle.plan_files.specs.Reads.{FoundBehind, LacksEnds, OnlyReads}
-pub use Rattle.plan_files.specs.declared.file_fault.FileFault.{FileFault}
-pub use Rattle.plan_files.specs.declared.file_fault.FileFault.TheVariants.{Failed}
-pub use Rattle.plan_files.specs.declared.store.Got.{Got}
-pub use Rattle.plan_files.specs.declared.store.Got.TheVariants.{Absent, Bytes, TooLong}
-pub use Rattle.plan_files.specs.declared.write.Write.{Write}
-pub use Rattle.plan_files.specs.declared.write.Write.TheVariants.{Put, Removal}
 pub use Rattle.plan_files.proofs.OtherFiles.{applied_part, cut_part, get_part, outside_both}
 pub use Rattle.plan_files.proofs.OtherFiles.{outside_front, part_after, same_folder}
 pub use Rattle.plan_files.proofs.Reading.{both_read, nothing_read}

@@ -1,9 +1,13 @@
 -- What is told of waiting decisions.
 use Rattle.std.proofs.Common.{◌≡◌, ℕ, List, [], ◌∷◌, Option, Some, None, IfSome, Result, Ok, Err, subst, sym}
-use Rattle.plan_files.proofs.Common.{Got, Folder}
-use Rattle.tables.proofs.Common.{Refusal, StageFault, Refuses, or_else}
+use Rattle.plan_files.specs.declared.store.Got.{Got}
+use Rattle.plan_files.proofs.Common.{Folder}
+use Rattle.tables.specs.declared.refusal.Refusal.{Refusal}
+use Rattle.tables.specs.declared.refusal.StageFault.{StageFault}
+use Rattle.tables.proofs.Common.{Refuses, or_else}
 use Rattle.tables.specs.declared.refusal.StageFault.TheVariants as fault
-use Rattle.giv_files.proofs.Common.{Stage, BundleParts}
+use Rattle.giv_files.specs.declared.stage.Stage.{Stage}
+use Rattle.giv_files.proofs.Common.{BundleParts}
 use Rattle.config_keys.proofs.Common.{look_in}
 use Rattle.delay_management.specs.DispositionStage.{disposition_faults}
 use Rattle.stage_chain.specs.declared.cause.Cause.{Cause}

@@ -4,8 +4,9 @@ use Rattle.plan_num.proofs.Common.{false, cond, List, length, slice_get, slice_s
 use Rattle.plan_num.proofs.Common.{None, IfSome, refl, ap, sym, ◌∙◌, subst, arith, get_or-set_same}
 use Rattle.plan_num.proofs.Common.{get_or-set_other, lt-ltb, length-set, none-some, same_Some}
 use Rattle.plan_num.proofs.Common.{slice_get_within}
+use Rattle.link_plans.specs.declared.link_table.Link.{Link}
 use Rattle.link_plans.proofs.Common.{next, is_next, Links, by_number, never_next, not_next}
-use Rattle.link_plans.proofs.Common.{by_bound, PotentialParts, at, Link, link_to, IsLinkOf, IsRow}
+use Rattle.link_plans.proofs.Common.{by_bound, PotentialParts, at, link_to, IsLinkOf, IsRow}
 use Rattle.link_plans.proofs.Common.{successor_at, worth, Covers, has_next}
 use Rattle.plan_search.specs.declared.bid.Offer.{Offer}
 use Rattle.plan_search.specs.Bids.{next_offer, AreOthersBelow, IsBid, IsTakenBut}

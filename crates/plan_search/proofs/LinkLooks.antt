@@ -2,10 +2,11 @@
 use Rattle.plan_num.proofs.Common.{◌≡◌, ℕ, zero, suc, ◌<◌, ◌≤◌, ◌+◌, ◌-◌, false, List, length}
 use Rattle.plan_num.proofs.Common.{slice_get, get_or, Option, Some, None, refl, ap, sym, ◌∙◌, subst}
 use Rattle.plan_num.proofs.Common.{arith, false≢true}
-use Rattle.link_plans.proofs.Common.{Links, PotentialParts, at, Link, end_of, link_to, reached}
-use Rattle.link_plans.proofs.Common.{IsRow, slack_to, Covers, gap_first, gap_next, item}
-use Rattle.link_plans.proofs.Common.{reached_last, reached_next, reached_within, gap_slack}
-use Rattle.link_plans.proofs.Common.{link_covered, link_slack}
+use Rattle.link_plans.specs.declared.link_table.Link.{Link}
+use Rattle.link_plans.proofs.Common.{Links, PotentialParts, at, end_of, link_to, reached, IsRow}
+use Rattle.link_plans.proofs.Common.{slack_to, Covers, gap_first, gap_next, item, reached_last}
+use Rattle.link_plans.proofs.Common.{reached_next, reached_within, gap_slack, link_covered}
+use Rattle.link_plans.proofs.Common.{link_slack}
 use Rattle.plan_search.specs.declared.near.Near.{Near}
 use Rattle.plan_search.specs.Claims.{ClaimsParts, claim_at}
 use Rattle.plan_search.specs.Growing.{looked, is_nearer, AreAsBefore, AreLooked}

@@ -2,8 +2,9 @@
 use Rattle.plan_num.proofs.Common.{◌≡◌, ℕ, ◌<◌, ◌≤◌, ◌+◌, List, length, slice_get, Option, Some}
 use Rattle.plan_num.proofs.Common.{None, IfSome, refl, sym, subst, arith, get_or-eq_default}
 use Rattle.plan_num.proofs.Common.{none-some, slice_get_within}
-use Rattle.link_plans.proofs.Common.{Links, PotentialParts, at, Link, link_to, worth, IsRow}
-use Rattle.link_plans.proofs.Common.{by_bound, Covers}
+use Rattle.link_plans.specs.declared.link_table.Link.{Link}
+use Rattle.link_plans.proofs.Common.{Links, PotentialParts, at, link_to, worth, IsRow, by_bound}
+use Rattle.link_plans.proofs.Common.{Covers}
 use Rattle.plan_search.specs.Growing.{IsTaken}
 use Rattle.plan_search.specs.Parting.{AreMet}
 

@@ -1,11 +1,13 @@
 -- What the stages of the line concept owe to the chain, and what later stages take of the concept.
-use Rattle.plan_num.proofs.Common.{◌≡◌, ℕ, ℤ, Bool, true, false, cond, inl, inr, List, [], Option}
-use Rattle.plan_num.proofs.Common.{None, Some, refl, subst, sym, Contains}
-use Rattle.tables.proofs.Common.{FileId, input_names, names_only}
+use Rattle.plan_num.proofs.Common.{arith, ◌≡◌, ℕ, ℤ, Bool, true, false, cond, inl, inr, List, []}
+use Rattle.plan_num.proofs.Common.{Option, None, Some, refl, subst, sym, Contains}
+use Rattle.tables.specs.declared.file_id.FileId.{FileId}
 use Rattle.tables.specs.declared.file_id.FileId.TheVariants as file
 use Rattle.giv_files.specs.declared.key.Key.TheVariants as key
-use Rattle.giv_files.proofs.Common.{MadeFile, ids_of, BundleParts, input_text}
+use Rattle.giv_files.specs.declared.made.MadeFile.{MadeFile}
 use Rattle.giv_files.specs.declared.stage.Stage.TheVariants as stage
+use Rattle.giv_files.proofs.Common.{ids_of, BundleParts, input_text}
+use Rattle.tables.proofs.Common.{input_names, names_only}
 use Rattle.ptn_network.specs.Loads.{load_input}
 use Rattle.ptn_network.specs.Networks.{network_in, network_of}
 use Rattle.line_walks.specs.PoolCosts.{pool_cost_input}
@@ -60,9 +62,7 @@ module _ (values : List ℤ) (look : FileId → List ℕ) where
   pub concept_accepted : IsRightOver planning values look (in_place values stage.Concept)
       → concept_faults (network_of (look file.Stop) (look file.Edge)) (look file.Concept) ≡ []
   concept_accepted concept =
-      let right = concept_right concept in
-      subst (λ text. concept_faults (network_of (look file.Stop) (look file.Edge)) text ≡ [])
-      (first_own look file.Concept concept.ids right.text (mark_files right.tree) right.each) right.accepted
+      let right = concept_right concept in grind (arith, first_own)
 
 pub concept_laws : StageLaws stage.Concept
 unfolding planning stage_model is_hand

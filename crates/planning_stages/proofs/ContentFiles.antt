@@ -1,14 +1,18 @@
 -- Files of a stage, where they stand in a folder: which are there, where none lacks; and those that
 -- are to be what their stage makes of its inputs.
-use Rattle.plan_num.proofs.Common.{◌≡◌, ℕ, Bool, true, false, cond, not, is_some, ◌||◌, List}
-use Rattle.plan_num.proofs.Common.{[], ◌∷◌, Option, Some, None, Result, Ok, Err, refl, ap, subst}
-use Rattle.plan_num.proofs.Common.{sym, ◌∙◌, arith, Contains, list_any, ok_or}
-use Rattle.plan_num.proofs.Common.{true≢false}
+use Rattle.plan_num.proofs.Common.{◌≡◌, ℕ, Bool, true, false, cond, not, is_some, ◌||◌, List, []}
+use Rattle.plan_num.proofs.Common.{◌∷◌, Option, Some, None, Result, Ok, Err, refl, ap, subst, sym}
+use Rattle.plan_num.proofs.Common.{◌∙◌, arith, Contains, list_any, ok_or, true≢false}
 use Rattle.std.specs.FinMap as map
 use Rattle.plan_files.proofs.Common.{Folder}
-use Rattle.tables.proofs.Common.{FileId, Refusal, file_name}
-use Rattle.giv_files.proofs.Common.{Made, MadeFile, Stage, MakesAs, ids_of, made_lists, stage_makes}
+use Rattle.tables.specs.declared.file_id.FileId.{FileId}
+use Rattle.giv_files.specs.declared.made.Made.{Made}
+use Rattle.giv_files.specs.declared.made.MadeFile.{MadeFile}
+use Rattle.tables.specs.declared.refusal.Refusal.{Refusal}
 use Rattle.tables.specs.declared.file_id.FileId.TheVariants as file
+use Rattle.giv_files.specs.declared.stage.Stage.{Stage}
+use Rattle.tables.proofs.Common.{file_name}
+use Rattle.giv_files.proofs.Common.{MakesAs, ids_of, made_lists, stage_makes}
 use Rattle.stage_chain.specs.declared.cause.Cause.TheVariants as cause
 use Rattle.stage_chain.specs.declared.finding.Finding.{Finding}
 use Rattle.planning_stages.specs.Verdicts.{content_found, same_texts}
@@ -57,20 +61,7 @@ module _ (folder : Folder) where
       → ((bytes : List ℕ) → verdict (record { file = first; text = bytes } ∷ []) ≡ None → ⊥)
       → verdict (there (first ∷ second ∷ [])) ≡ None
       → Contains ((first ∷ second ∷ []) ∷ []) (ids_of (there (first ∷ second ∷ [])))
-  both_stand first second needed lacking verdict alone = by (text first) (text second) lacking
-    where
-      by : (one other : Option (List ℕ)) → (is_lacking first one || (is_lacking second other || false)) ≡ false
-          → verdict
-          (found_file first (ok_or one (cause.Missing first))
-          (found_file second (ok_or other (cause.Missing second)) [])) ≡ None
-          → Contains ((first ∷ second ∷ []) ∷ [])
-          (ids_of
-          (found_file first (ok_or one (cause.Missing first))
-          (found_file second (ok_or other (cause.Missing second)) [])))
-      by (Some bytes) (Some more) none found = (0, omega arith, refl)
-      by (Some bytes) None none found = absurd (alone bytes found)
-      by None other none found =
-          absurd (true≢false (ap (λ b. not b || (is_lacking second other || false)) (sym needed) ∙ none))
+  both_stand first second needed lacking verdict alone = grind (arith, true≢false)
 
 -- the same of files in the place of a stage that makes the same
 pub all_there : (at : Stage) (folder : Folder) (files : List FileId) → stage_makes at ≡ files

@@ -1,13 +1,16 @@
 -- What the stage of dispositions owes to the chain, and what the statistic takes of it.
-use Rattle.std.proofs.Common.{◌≡◌, ℕ, ℤ, inr, List, [], ◌∷◌, None, Some, refl, arith}
-use Rattle.tables.proofs.Common.{FileId, Refusal, input_faults, records_of, AllName, input_names}
-use Rattle.tables.proofs.Common.{names_both, names_only}
+use Rattle.plan_num.proofs.Common.{◌≡◌, ℕ, ℤ, inr, List, [], ◌∷◌, None, Some, refl, arith}
+use Rattle.tables.specs.declared.file_id.FileId.{FileId}
 use Rattle.tables.specs.declared.file_id.FileId.TheVariants as file
-use Rattle.giv_files.proofs.Common.{MadeFile, BundleParts, input_text}
+use Rattle.giv_files.specs.declared.made.MadeFile.{MadeFile}
+use Rattle.tables.specs.declared.refusal.Refusal.{Refusal}
 use Rattle.giv_files.specs.declared.stage.Stage.TheVariants as stage
+use Rattle.tables.proofs.Common.{input_faults, records_of, AllName, input_names, names_both}
+use Rattle.tables.proofs.Common.{names_only}
+use Rattle.giv_files.proofs.Common.{BundleParts, input_text}
 use Rattle.event_tables.proofs.Common.{disposed_time_input, expanded_activity_input}
 use Rattle.event_tables.proofs.Common.{expanded_event_ids, expanded_event_input, schedule_input}
-use Rattle.delay_management.specs.DispositionStage.{disposition_faults, events_in, made_faults}
+use Rattle.delay_management.specs.DispositionStage.{events_in, made_faults}
 use Rattle.delay_management.specs.RightDispositions.{DispositionFilesAreRight}
 use Rattle.delay_management.proofs.DispositionMakes.{disposition_names_delays, disposition_stage_makes}
 use Rattle.delay_management.proofs.DispositionReads.{disposition_is_right}
@@ -66,7 +69,6 @@ disposition_laws = record {
       (fine (plans_accepted values look (was stage.Rollout refl) (was stage.Vehicles refl))) is);
   names = λ bundle reason is. inr (disposition_names_delays any refl refl bundle reason (made_named bundle) is);
   stand =
-      λ values folder bundle lacks none. both_stand folder file.Disposed file.Reasons refl lacks
-      (disposition_verdict bundle) (λ text none. bare_times (disposition_faults bundle) _ none) none;
+      λ values folder bundle lacks none. grind (arith, both_stand, bare_times);
   unbroken = λ values look made own. disposition_none (bundle_over values look stage.Disposition) made.files own.1;
 }

@@ -1,9 +1,10 @@
 -- What the stage of the periodic network owes to the chain, and what later stages take of it.
-use Rattle.std.proofs.Common.{◌≡◌, ℕ, ℤ, List, [], Some, inr, refl, arith}
-use Rattle.tables.proofs.Common.{FileId, names_only, front_none}
+use Rattle.plan_num.proofs.Common.{◌≡◌, ℕ, ℤ, List, [], Some, inr, refl, arith}
+use Rattle.tables.specs.declared.file_id.FileId.{FileId}
 use Rattle.tables.specs.declared.file_id.FileId.TheVariants as file
 use Rattle.giv_files.specs.declared.stage.Stage.TheVariants as stage
 use Rattle.giv_files.proofs.Common.{input_text}
+use Rattle.tables.proofs.Common.{names_only, front_none}
 use Rattle.ptn_network.specs.Networks.{network_faults, network_of, stops_of}
 use Rattle.event_activity.specs.EanStage.{network_in}
 use Rattle.event_activity.specs.RightEan.{EanFilesAreRight, EanIsAccepted}

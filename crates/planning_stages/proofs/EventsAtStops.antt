@@ -9,7 +9,8 @@ use Rattle.tables.proofs.Common.{sound_rows, in_column}
 use Rattle.walks.proofs.Common.{all_rising}
 use Rattle.ptn_network.specs.Inputs.{stop_input, stop_row}
 use Rattle.ptn_network.specs.Networks.{stops_of}
-use Rattle.event_tables.proofs.Common.{PeriodicEvent, is_stop}
+use Rattle.event_tables.specs.declared.periodic_event.PeriodicEvent.{PeriodicEvent}
+use Rattle.event_tables.proofs.Common.{is_stop}
 use Rattle.roll_out.specs.RightRollout.{AtStops}
 use Rattle.plan_num.proofs.Tests.{or_true}
 
@@ -34,8 +35,7 @@ any_at : {X : Type 0} (p : X → Bool) (xs : List X) (i : ℕ) (d : X) → i < l
     → p (get_or xs i d) ≡ true → list_any p xs ≡ true
 any_at p [] i d h is = absurd (omega (arith, h))
 any_at p (x ∷ xs) zero d h is = ap (λ b. b || list_any p xs) is
-any_at p (x ∷ xs) (suc i) d h is =
-    ap (λ b. p x || b) (any_at p xs i d (omega (arith, h)) is) ∙ or_true (p x)
+any_at p (x ∷ xs) (suc i) d h is = grind (arith, or_true, any_at p xs i d (omega (arith, h)) is)
 
 -- each stop is one of all
 stops_found : (stops : List ℤ) → All (λ id. pos 1 ≤ℤ id) stops

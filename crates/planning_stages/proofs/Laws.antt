@@ -1,9 +1,10 @@
 -- The planning stages owe to the chain what its laws say.
-use Rattle.std.proofs.Common.{arith, ◌≡◌, ℤ, List, [], ◌∷◌, Option, Some, None, IfOk, IfNone}
-use Rattle.std.proofs.Common.{Result, Ok, Err, refl, ap, subst, sym, ◌∙◌}
-use Rattle.giv_files.proofs.Common.{MadeFile, Stage, MakesAs, ids_of, made_lists, BundleParts, Fits}
-use Rattle.giv_files.proofs.Common.{stage_makes}
+use Rattle.plan_num.proofs.Common.{arith, ◌≡◌, ℤ, List, [], ◌∷◌, Option, Some, None, IfOk, IfNone}
+use Rattle.plan_num.proofs.Common.{Result, Ok, Err, refl, ap, subst, sym, ◌∙◌}
+use Rattle.giv_files.specs.declared.made.MadeFile.{MadeFile}
+use Rattle.giv_files.specs.declared.stage.Stage.{Stage}
 use Rattle.giv_files.specs.declared.stage.Stage.TheVariants as stage
+use Rattle.giv_files.proofs.Common.{MakesAs, ids_of, made_lists, BundleParts, Fits, stage_makes}
 use Rattle.stage_chain.specs.declared.finding.Finding.{Finding}
 use Rattle.stage_chain.specs.Hand.{is_hand}
 use Rattle.stage_chain.specs.Laws.{AreStages}

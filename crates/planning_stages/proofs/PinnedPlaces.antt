@@ -1,10 +1,11 @@
 -- The stages that run in the places of the planning chain make up a list that can run.
-use Rattle.std.proofs.Common.{◌≡◌, ℤ, Bool, true, false, cond, List, [], ◌∷◌, map, refl, subst}
-use Rattle.std.specs.List.{Contains}
-use Rattle.tables.proofs.Common.{FileId}
+use Rattle.plan_num.proofs.Common.{arith, ◌≡◌, ℤ, Bool, true, false, cond, List, [], ◌∷◌, map, refl}
+use Rattle.plan_num.proofs.Common.{subst, Contains}
+use Rattle.tables.specs.declared.file_id.FileId.{FileId}
 use Rattle.tables.specs.declared.file_id.FileId.TheVariants as file
-use Rattle.giv_files.proofs.Common.{MakesAs, made_lists, Stage, places}
+use Rattle.giv_files.proofs.Common.{MakesAs, made_lists, places}
 use Rattle.giv_files.specs.declared.key.Key.TheVariants as key
+use Rattle.giv_files.specs.declared.stage.Stage.{Stage}
 use Rattle.giv_files.specs.declared.stage.Stage.TheVariants as stage
 use Rattle.stage_chain.specs.Hand.{is_hand}
 use Rattle.stage_chain.specs.StageLists.{CanRunIn, IsStageList, is_earlier, rising}
@@ -67,18 +68,10 @@ can_run values _ = record { point = refl; makes = refl; more = []; inputs = refl
 
 -- a concept and a timetable are made of the same files, whoever gives them
 pub concept_lists : (values : List ℤ) → made_lists (in_place values stage.Concept) ≡ made_lists stage.Concept
-concept_lists values = by (is_pinned values key.PinConcept)
-  where
-    by : (pinned : Bool) → made_lists (cond pinned stage.PinnedConcept stage.Concept) ≡ made_lists stage.Concept
-    by true = refl
-    by false = refl
+concept_lists values = grind arith
 
 pub times_lists : (values : List ℤ) → made_lists (in_place values stage.Timetable) ≡ made_lists stage.Timetable
-times_lists values = by (is_pinned values key.PinTimetable)
-  where
-    by : (pinned : Bool) → made_lists (cond pinned stage.PinnedTimetable stage.Timetable) ≡ made_lists stage.Timetable
-    by true = refl
-    by false = refl
+times_lists values = grind arith
 
 -- so what is left in such a place is what the plain stage may make
 pub concept_list : (values : List ℤ) (ids : List FileId) → MakesAs (in_place values stage.Concept) ids

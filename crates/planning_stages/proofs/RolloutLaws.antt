@@ -1,11 +1,12 @@
 -- What the stage of the roll-out owes to the chain, and what later stages take of it.
-use Rattle.std.proofs.Common.{◌≡◌, ℕ, ℤ, List, [], ◌++◌, map, Some, inr, refl, arith}
-use Rattle.tables.proofs.Common.{FileId, activities_p_columns, events_p_columns, input_faults}
-use Rattle.tables.proofs.Common.{AllName, input_names, names_both, names_only, names_or_else}
+use Rattle.plan_num.proofs.Common.{◌≡◌, ℕ, ℤ, List, [], ◌++◌, map, Some, inr, refl, arith}
+use Rattle.tables.specs.declared.file_id.FileId.{FileId}
 use Rattle.tables.specs.declared.file_id.FileId.TheVariants as file
 use Rattle.giv_files.specs.declared.key.Key.TheVariants as key
 use Rattle.tables.specs.declared.row_why.RowWhy.TheVariants as why
 use Rattle.giv_files.specs.declared.stage.Stage.TheVariants as stage
+use Rattle.tables.proofs.Common.{activities_p_columns, events_p_columns, input_faults, AllName}
+use Rattle.tables.proofs.Common.{input_names, names_both, names_only, names_or_else}
 use Rattle.giv_files.specs.Keys.{stage_keys}
 use Rattle.giv_files.proofs.Common.{BundleParts, amount, input_text}
 use Rattle.config_keys.proofs.Common.{part_of}

@@ -1,7 +1,8 @@
 -- Files with the same texts.
 use Rattle.plan_num.proofs.Common.{◌≡◌, true, List, [], ◌∷◌, length, zip, refl, arith, list_all}
 use Rattle.plan_num.proofs.Common.{bytes_eq, and_parts, and_from, Decides-eqb, bytes_eq-Decides}
-use Rattle.giv_files.proofs.Common.{MadeFile, ids_of}
+use Rattle.giv_files.specs.declared.made.MadeFile.{MadeFile}
+use Rattle.giv_files.proofs.Common.{ids_of}
 use Rattle.planning_stages.specs.Verdicts.{same_texts}
 
 each_own : (made : List MadeFile)

@@ -1,16 +1,18 @@
 -- How a search ends that has a solution or none, within its budget or beyond it.
-use Rattle.plan_num.proofs.Common.{◌≡◌, ◌<◌, ◌⊎◌, inl, inr, ⊎_elim, ℕ, Bool, true, false, cond}
-use Rattle.plan_num.proofs.Common.{nat_le, nat_lt, List, [], length, take, Option, Some, None}
-use Rattle.plan_num.proofs.Common.{Result, Ok, Err, refl, ap, sym, ◌∙◌, arith, option_map, ok_or}
-use Rattle.plan_num.proofs.Common.{leb-false, leb-true, lt-ltb, ltb-true}
-use Rattle.giv_files.proofs.Common.{Made, Stage, BundleParts, Fits, StageGives}
-use Rattle.tables.proofs.Common.{Refusal, StageFault}
+use Rattle.plan_num.proofs.Common.{◌≡◌, ◌<◌, ◌⊎◌, inl, inr, ⊎_elim, ℕ, cond, nat_le, nat_lt, List}
+use Rattle.plan_num.proofs.Common.{[], length, take, Option, Some, None, Result, Ok, Err, refl, ap}
+use Rattle.plan_num.proofs.Common.{arith, option_map, ok_or, leb-false, leb-true, lt-ltb, ltb-true}
+use Rattle.giv_files.specs.declared.made.Made.{Made}
+use Rattle.tables.specs.declared.refusal.Refusal.{Refusal}
 use Rattle.tables.specs.declared.refusal.Refusal.TheVariants as refusal
+use Rattle.tables.specs.declared.refusal.StageFault.{StageFault}
 use Rattle.tables.specs.declared.refusal.StageFault.TheVariants as fault
+use Rattle.giv_files.specs.declared.stage.Stage.{Stage}
 use Rattle.giv_files.specs.declared.stage.Stage.TheVariants as stage
+use Rattle.giv_files.proofs.Common.{BundleParts, Fits, StageGives}
 use Rattle.line_cost_model.proofs.Common.{ProblemParts}
 use Rattle.line_concepts.specs.Budgets.{nodes_in}
-use Rattle.line_search.specs.ConceptResults.{result_within, spent_result, whole_result}
+use Rattle.line_search.specs.ConceptResults.{result_within}
 use Rattle.line_search.specs.ConceptStage.{after_faults, budget_of, concept_stage, search_made}
 use Rattle.line_search.specs.GivenProblems.{problem_faults, problem_of}
 use Rattle.line_concepts.specs.Listings.{Entry, best_after, listing}
@@ -74,30 +76,11 @@ module _ (problem : ProblemParts) (budget : ℕ) (all : List Entry) where
   spent_by : (spent : ℕ) → Ends (refusal.Spent spent)
       → (budget < length all) × (best_after None (take budget all) ≡ None)
   unfolding result_within
-  spent_by spent is = by (nat_le (length all) budget) refl is
-    where
-      by : (within : Bool) → nat_le (length all) budget ≡ within
-          → search_made problem (cond within (whole_result all) (spent_result budget all)) ≡ Err (refusal.Spent spent)
-          → (budget < length all) × (best_after None (take budget all) ≡ None)
-      by true within is = absurd (whole_unspent (best_after None all) spent is)
-      by false within is = (
-        leb-false (length all) budget within,
-        (by_found (best_after None (take budget all)) (refusal.Spent budget) (refusal.Spent spent) is).0,
-      )
+  spent_by spent is = grind (arith, nat_le, whole_unspent, leb-false, by_found)
 
   spent_ends : budget < length all → best_after None (take budget all) ≡ None → Ends (refusal.Spent budget)
   unfolding result_within
-  spent_ends over none =
-      ap (λ b. search_made problem (cond b (whole_result all) (spent_result budget all)))
-      (beyond (nat_le (length all) budget) refl)
-      ∙ ap (λ found. search_made problem
-      (ok_or (option_map
-      (λ frequencies. record { frequencies = frequencies; tree = None; entries = length (take budget all) })
-      found) (refusal.Spent budget))) none
-    where
-      beyond : (b : Bool) → nat_le (length all) budget ≡ b → b ≡ false
-      beyond false is = refl
-      beyond true is = absurd (omega (arith, over, leb-true (length all) budget is))
+  spent_ends over none = grind (arith, nat_le, option_map, leb-true)
 
 -- ---- timetables
 
@@ -109,14 +92,7 @@ module _ (budget : ℕ) (all : Listing) where
 
   times_spent_by : (spent : ℕ) → times_made (times_within budget all) ≡ Err (refusal.Spent spent) → budget < all.entries
   unfolding times_within
-  times_spent_by spent is = by (nat_lt budget all.entries) refl is
-    where
-      by : (over : Bool) → nat_lt budget all.entries ≡ over
-          → times_made (cond over (Err (refusal.Spent budget)) (whole_times all.entries all.found))
-          ≡ Err (refusal.Spent spent)
-          → budget < all.entries
-      by true over is = ltb-true budget all.entries over
-      by false over is = absurd (times_unspent all.found spent is)
+  times_spent_by spent is = grind (arith, nat_lt, ltb-true, times_unspent)
 
   times_spent : budget < all.entries → times_made (times_within budget all) ≡ Err (refusal.Spent budget)
   unfolding times_within
@@ -174,17 +150,13 @@ module _ (bundle : BundleParts) where
     pub ends_spent : (at : Stage) → bundle.stage ≡ at → (entries : ℕ) → told at ≡ Err (refusal.Spent entries)
         → IsSpent at bundle
     unfolding stage_model
-    ends_spent stage.Concept own entries is =
-        let fine = concept_fine bundle (refusal.Spent entries) (λ h. h) is in
-        let both = spent_by (problem_of bundle) (budget_of bundle) (listing (problem_of bundle)) entries
-        (sym (concept_outcome fine) ∙ is) in
-        (fine, both.0, both.1)
-    ends_spent stage.Timetable own entries is =
-        let fine = times_fine bundle (refusal.Spent entries) (λ h. h) is in (
-          fine,
-          times_spent_by (budget_in bundle) (times_listed (problem_in bundle)) entries
-              (sym (times_outcome fine) ∙ is),
-        )
+    ends_spent stage.Concept own entries is = grind (arith, concept_fine, spent_by, concept_outcome)
+    ends_spent stage.Timetable own entries is = grind (
+      arith,
+      times_fine,
+      times_spent_by,
+      times_outcome,
+    )
     ends_spent at own entries is =
         ⊎_elim (λ searches. absurd searches) (λ input. absurd input)
         ((stage_laws at).names bundle (refusal.Spent entries) is)
@@ -192,16 +164,8 @@ module _ (bundle : BundleParts) where
     pub spent_ends_so : (at : Stage) → bundle.stage ≡ at → IsSpent at bundle
         → (entries : ℕ) × (told at ≡ Err (refusal.Spent entries))
     unfolding stage_model
-    spent_ends_so stage.Concept own spent = (
-      budget_of bundle,
-      concept_outcome spent.0
-          ∙ spent_ends (problem_of bundle) (budget_of bundle) (listing (problem_of bundle)) spent.1 spent.2,
-    )
-    spent_ends_so stage.Timetable own spent = (
-      budget_in bundle,
-      times_outcome spent.0
-          ∙ times_spent (budget_in bundle) (times_listed (problem_in bundle)) spent.1,
-    )
+    spent_ends_so stage.Concept own spent = grind (arith, concept_outcome, spent_ends)
+    spent_ends_so stage.Timetable own spent = grind (arith, times_outcome, times_spent)
     spent_ends_so at own spent = absurd spent
 
     -- neither is so where a solution exists and the budget suffices

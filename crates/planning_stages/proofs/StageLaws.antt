@@ -1,9 +1,13 @@
 -- What a planning stage owes to the chain of them.
 use Rattle.plan_num.proofs.Common.{◌≡◌, ℕ, ℤ, Bool, true, false, ◌⊎◌, List, [], None, Ok, Err, ⊤}
 use Rattle.plan_files.proofs.Common.{Folder}
-use Rattle.tables.proofs.Common.{FileId, Refusal, NamesInput, NamesOnly, AllName, none_names}
-use Rattle.giv_files.proofs.Common.{Made, Stage, MakesAs, ids_of, BundleParts, Fits}
+use Rattle.tables.specs.declared.file_id.FileId.{FileId}
+use Rattle.giv_files.specs.declared.made.Made.{Made}
+use Rattle.tables.specs.declared.refusal.Refusal.{Refusal}
+use Rattle.giv_files.specs.declared.stage.Stage.{Stage}
 use Rattle.giv_files.specs.declared.stage.Stage.TheVariants as stage
+use Rattle.giv_files.proofs.Common.{MakesAs, ids_of, BundleParts, Fits}
+use Rattle.tables.proofs.Common.{NamesInput, NamesOnly, AllName, none_names}
 use Rattle.stage_chain.specs.Checks.{lacks_file, standing}
 use Rattle.stage_chain.specs.Hand.{is_hand_file}
 use Rattle.stage_chain.specs.Laws.{IsRightOver, bundle_over}

@@ -1,11 +1,12 @@
 -- What the stage of the statistic owes to the chain: all plans that earlier stages made have no fault
 -- as it reads them.
-use Rattle.std.proofs.Common.{◌≡◌, ℕ, ℤ, inr, List, [], None, refl, subst, arith}
-use Rattle.tables.proofs.Common.{FileId, concept_columns, Input, input_faults, ReadsBack, AllName}
-use Rattle.tables.proofs.Common.{input_names, names_both, names_only, back_none, front_none}
+use Rattle.plan_num.proofs.Common.{◌≡◌, ℕ, ℤ, inr, List, [], None, refl, subst, arith}
+use Rattle.tables.specs.declared.file_id.FileId.{FileId}
 use Rattle.tables.specs.declared.file_id.FileId.TheVariants as file
 use Rattle.giv_files.specs.declared.key.Key.TheVariants as key
 use Rattle.giv_files.specs.declared.stage.Stage.TheVariants as stage
+use Rattle.tables.proofs.Common.{concept_columns, Input, input_faults, ReadsBack, AllName}
+use Rattle.tables.proofs.Common.{input_names, names_both, names_only, back_none, front_none}
 use Rattle.giv_files.specs.Keys.{stage_keys}
 use Rattle.giv_files.proofs.Common.{BundleParts, amount, input_text}
 use Rattle.config_keys.proofs.Common.{part_of}

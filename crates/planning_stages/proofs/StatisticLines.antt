@@ -9,16 +9,17 @@ use Rattle.plan_num.proofs.Common.{All-filter, All-map, All-nil, All-weaker, fil
 use Rattle.plan_num.proofs.Common.{AllPairs-cons, AllPairs-filter, is_member-Decides}
 use Rattle.plan_num.proofs.Common.{length-le_from_is_member}
 use Rattle.std.proofs.lemmas.Map.Made.{IsDistinct-from_AllPairs}
-use Rattle.tables.proofs.Common.{FileId, concept_columns, pool_cost_columns, Input, Numbered}
-use Rattle.tables.proofs.Common.{RowRule, broken_whys, input_faults, table_of, TableRow, ReadsBack}
+use Rattle.tables.specs.declared.file_id.FileId.{FileId}
+use Rattle.tables.specs.declared.file_id.FileId.TheVariants as file
+use Rattle.tables.specs.declared.row_why.RowWhy.TheVariants as why
+use Rattle.tables.proofs.Common.{concept_columns, pool_cost_columns, Input, Numbered, RowRule}
+use Rattle.tables.proofs.Common.{broken_whys, input_faults, table_of, TableRow, ReadsBack}
 use Rattle.tables.proofs.Common.{each_known, faults_of_table, limit_kept, no_faults, parts_sound}
 use Rattle.tables.proofs.Common.{rule_kept, rules_sound, table_sound, whole_rule_sound, back_none}
 use Rattle.tables.proofs.Common.{front_none}
-use Rattle.tables.specs.declared.file_id.FileId.TheVariants as file
-use Rattle.tables.specs.declared.row_why.RowWhy.TheVariants as why
 use Rattle.tables.specs.Inputs.{row_faults}
 use Rattle.plan_num.proofs.Found.{any_mapped}
-use Rattle.walks.proofs.Common.{Edge}
+use Rattle.walks.specs.declared.edge.Edge.{Edge}
 use Rattle.line_walks.specs.PoolCosts.{cost_row_of, pool_cost_input}
 use Rattle.line_walks.specs.Pools.{LineParts, differs as differs_first, first_frequency}
 use Rattle.line_walks.specs.Pools.{line_limit as pool_limit, line_row as pool_row, line_rules}
@@ -218,12 +219,7 @@ same_first (row ∷ before) line cells is = by (int_eq line (line_in row.cells))
 
 found_is : {X : Type 0} (p : X → Bool) (xs : List X) → is_some (find p xs) ≡ list_any p xs
 found_is p [] = refl
-found_is p (x ∷ xs) = by (p x) (found_is p xs)
-  where
-    by : (b : Bool) → is_some (find p xs) ≡ list_any p xs
-        → is_some (cond b (Some x) (find p xs)) ≡ (b || list_any p xs)
-    by true rest = refl
-    by false rest = rest
+found_is p (x ∷ xs) = grind (arith, is_some, found_is p xs)
 
 none_lacks : (has : ℤ → Bool) (lines : List LineParts) → list_any (λ line. not (has line.id)) lines ≡ false
     → AllByRecursion (λ id. has id ≡ true) (map (λ line. line.id) lines)

@@ -1,12 +1,14 @@
 -- What the stages of the timetable owe to the chain, and what later stages take of the timetable.
-use Rattle.std.proofs.Common.{◌≡◌, ℕ, ℤ, Bool, true, false, cond, inl, inr, List, [], None, refl, subst, sym}
-use Rattle.std.specs.List.{Contains}
-use Rattle.tables.proofs.Common.{FileId, input_faults, names_only}
+use Rattle.plan_num.proofs.Common.{arith, ◌≡◌, ℕ, ℤ, Bool, true, false, cond, inl, inr, List, []}
+use Rattle.plan_num.proofs.Common.{None, refl, subst, sym, Contains}
+use Rattle.tables.specs.declared.file_id.FileId.{FileId}
 use Rattle.tables.specs.declared.file_id.FileId.TheVariants as file
 use Rattle.giv_files.specs.declared.key.Key.TheVariants as key
-use Rattle.giv_files.proofs.Common.{MadeFile, ids_of, BundleParts, amount}
+use Rattle.giv_files.specs.declared.made.MadeFile.{MadeFile}
 use Rattle.giv_files.specs.declared.stage.Stage.TheVariants as stage
+use Rattle.tables.proofs.Common.{input_faults, names_only}
 use Rattle.giv_files.specs.Keys.{stage_keys}
+use Rattle.giv_files.proofs.Common.{ids_of, BundleParts, amount}
 use Rattle.config_keys.proofs.Common.{part_of}
 use Rattle.event_tables.proofs.Common.{periodic_event_ids, periodic_time_input}
 use Rattle.pesp_model.specs.PespTexts.{events_of}
@@ -59,13 +61,7 @@ module _ (values : List ℤ) (look : FileId → List ℕ) where
       → input_faults (periodic_time_input file.TimesP period (periodic_event_ids (events_of (look file.EventsP))))
       (look file.TimesP) ≡ []
   times_accepted times period same =
-      let right = times_right times in
-      subst (λ text. input_faults
-      (periodic_time_input file.TimesP period (periodic_event_ids (events_of (look file.EventsP)))) text ≡ [])
-      (first_own look file.TimesP times.ids right.text [] right.one)
-      (subst (λ period. input_faults
-      (periodic_time_input file.TimesP period (periodic_event_ids (events_of (look file.EventsP)))) right.text ≡ [])
-      same right.accepted)
+      let right = times_right times in grind (arith, first_own)
 
 pub timetable_laws : StageLaws stage.Timetable
 unfolding planning stage_model is_hand

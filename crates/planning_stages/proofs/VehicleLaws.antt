@@ -1,18 +1,21 @@
 -- What the stages of vehicles owe to the chain, and what later stages take of the schedule.
-use Rattle.std.proofs.Common.{arith, ◌≡◌, ℕ, ℤ, Bool, true, false, cond, inr, List, [], ◌∷◌, map}
-use Rattle.std.proofs.Common.{slice_get, Option, Some, None, option_to_list, refl, subst, sym}
-use Rattle.std.proofs.lemmas.List.Elements.{All-weaker}
+use Rattle.plan_num.proofs.Common.{arith, ◌≡◌, ℕ, ℤ, Bool, true, false, cond, inr, List, [], ◌∷◌}
+use Rattle.plan_num.proofs.Common.{map, slice_get, Option, Some, None, option_to_list, refl, subst}
+use Rattle.plan_num.proofs.Common.{sym, All-weaker}
 use Rattle.plan_files.proofs.Common.{Folder}
-use Rattle.tables.proofs.Common.{FileId, Refusal, input_faults, records_of, AllName, input_names}
-use Rattle.tables.proofs.Common.{names_only}
+use Rattle.tables.specs.declared.file_id.FileId.{FileId}
 use Rattle.tables.specs.declared.file_id.FileId.TheVariants as file
 use Rattle.giv_files.specs.declared.key.Key.TheVariants as key
-use Rattle.giv_files.proofs.Common.{MadeFile, MakesAs, ids_of, BundleParts, input_text}
+use Rattle.giv_files.specs.declared.made.MadeFile.{MadeFile}
+use Rattle.tables.specs.declared.refusal.Refusal.{Refusal}
 use Rattle.giv_files.specs.declared.stage.Stage.TheVariants as stage
+use Rattle.tables.proofs.Common.{input_faults, records_of, AllName, input_names, names_only}
 use Rattle.giv_files.specs.Keys.{stage_keys}
+use Rattle.giv_files.proofs.Common.{MakesAs, ids_of, BundleParts, input_text}
 use Rattle.ptn_network.specs.Networks.{stops_of}
-use Rattle.event_tables.proofs.Common.{ExpandedEvent, Trip, expanded_event_input, schedule_input}
-use Rattle.event_tables.proofs.Common.{trip_input}
+use Rattle.event_tables.specs.declared.expanded_event.ExpandedEvent.{ExpandedEvent}
+use Rattle.event_tables.specs.declared.trip.Trip.{Trip}
+use Rattle.event_tables.proofs.Common.{expanded_event_input, schedule_input, trip_input}
 use Rattle.roll_out.specs.RightRollout.{IsTripOver}
 use Rattle.vehicle_model.specs.ReadSchedules.{or_others}
 use Rattle.vehicle_model.specs.Trips.{trips_of}

@@ -4,8 +4,9 @@ use Rattle.plan_num.proofs.Common.{[], inl, inr, ◌∷◌, ◌++◌, length, ma
 use Rattle.plan_num.proofs.Common.{ap, sym, subst, ◌∙◌, arith, append_assoc, ne_eqb, AllByRecursion}
 use Rattle.plan_num.proofs.Common.{enumerate_from, flat_map, onto_first, strip_carriage_return}
 use Rattle.plan_num.proofs.Common.{map-append, slice_split_none, cases_Bool}
-use Rattle.tables.proofs.Common.{ColumnKind, table_row, table_is, no_mark, TableRow, IsHeader}
-use Rattle.tables.proofs.Common.{ReadsBack, cell_texts, joined, line_text}
+use Rattle.tables.specs.declared.column.ColumnKind.{ColumnKind}
+use Rattle.tables.proofs.Common.{table_row, table_is, no_mark, TableRow, IsHeader, ReadsBack}
+use Rattle.tables.proofs.Common.{cell_texts, joined, line_text}
 use Rattle.tables.specs.Reading.{row_faults}
 use Rattle.text_fields.specs.Rows.{Row, has_byte, lines, parts_of, row_of, rows, has_mark}
 use Rattle.tables.specs.Writing.{table_text}

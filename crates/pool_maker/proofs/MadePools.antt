@@ -1,6 +1,7 @@
 -- What the parts of a pool give together.
 use Rattle.plan_num.proofs.Common.{◌≡◌, ℕ, ℤ, List, [], map, ap, subst, sym, ◌∙◌, arith}
-use Rattle.tables.proofs.Common.{StageFault, Refuses, first_stays}
+use Rattle.tables.specs.declared.refusal.StageFault.{StageFault}
+use Rattle.tables.proofs.Common.{Refuses, first_stays}
 use Rattle.tables.specs.declared.refusal.StageFault.TheVariants as stage
 use Rattle.walks.proofs.Common.{NetworkParts, rising}
 use Rattle.ptn_network.specs.Networks.{network_faults, network_of}

@@ -7,7 +7,8 @@ use Rattle.plan_num.proofs.Common.{map-append, All-head, All-tail}
 use Rattle.std.specs.List.Sorted.{IsStrictlySortedBy}
 use Rattle.std.specs.declared.cmp.Ordering.TheVariants.{Less}
 use Rattle.tables.proofs.Common.{pool_columns, ReadsBack}
-use Rattle.walks.proofs.Common.{Edge, NetworkParts, edges_at, IsWalk, ends_are, begins}
+use Rattle.walks.specs.declared.edge.Edge.{Edge}
+use Rattle.walks.proofs.Common.{NetworkParts, edges_at, IsWalk, ends_are, begins}
 use Rattle.line_walks.specs.Pools.{lines_over, or_walk, pool_faults, pool_of, walk_from}
 use Rattle.line_walks.specs.Pools.{walk_of}
 use Rattle.line_walks.proofs.LinesBack.{HasEdge, edges_back, ids_back, pool_back}

@@ -4,7 +4,8 @@ use Rattle.plan_num.proofs.Common.{Option, option_map, unwrap_or, refl, subst, s
 use Rattle.plan_num.proofs.Common.{enumerate_from, flat_map, ints, All-append, All-cons, All-get_or}
 use Rattle.plan_num.proofs.Common.{All-nil, slice_get-get_or}
 use Rattle.tables.proofs.Common.{pool_columns, TableRow, InColumns, IsHeader, plain_header}
-use Rattle.walks.proofs.Common.{Edge, NetworkParts, no_edge}
+use Rattle.walks.specs.declared.edge.Edge.{Edge}
+use Rattle.walks.proofs.Common.{NetworkParts, no_edge}
 use Rattle.pool_maker.specs.PoolTexts.{edge_id, line_rows, pool_header, pool_rows, row_at}
 use Rattle.pool_maker.specs.Tellable.{AreTellable, IsRowId}
 use Rattle.terminal_lines.specs.TerminalPaths.{IsShort}

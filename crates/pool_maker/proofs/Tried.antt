@@ -9,7 +9,8 @@ use Rattle.tables.specs.Reading.{faults, table_of, cells_from, cell_of, errors, 
 use Rattle.text_fields.specs.Rows.{rows, cleaned}
 use Rattle.tables.specs.Writing.{cell_text, cell_texts, joined, table_text}
 use Rattle.plan_num.specs.Number.{spelling_of, value_of, value_at, fixed_of, whole_of}
-use Rattle.walks.proofs.Common.{Edge, NetworkParts, path_within, least_of, least_sum, walks_within}
+use Rattle.walks.specs.declared.edge.Edge.{Edge}
+use Rattle.walks.proofs.Common.{NetworkParts, path_within, least_of, least_sum, walks_within}
 use Rattle.ptn_network.specs.Networks.{network_faults, network_of, stops_of}
 use Rattle.walks.specs.RisingIds.{by_id}
 use Rattle.line_walks.specs.Pools.{line_faults, lines_of, pool_faults, pool_of, walk_from}

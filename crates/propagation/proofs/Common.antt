@@ -13,12 +13,6 @@ pub use Rattle.propagation.specs.Problems.{earliest_at, event_at, minutes, plann
 pub use Rattle.propagation.specs.Reasons.{AreRight, canonical_reason, canonical_reasons, is_right}
 pub use Rattle.propagation.specs.Reasons.{is_tight, named_activity, reason_for}
 pub use Rattle.propagation.specs.Waiting.{chosen_changes, is_kept, kept_changes, times_alone}
-pub use Rattle.propagation.specs.declared.day_event.DayEvent.{DayEvent}
-pub use Rattle.propagation.specs.declared.links.Link.{Link}
-pub use Rattle.propagation.specs.declared.reason.Reason.{Reason}
-pub use Rattle.propagation.specs.declared.step.Activity.{Activity}
-pub use Rattle.propagation.specs.declared.step.Step.{Step}
-pub use Rattle.propagation.specs.declared.times.TheConstants.{LATEST}
 pub use Rattle.propagation.proofs.Canonical.{reasons_below}
 pub use Rattle.propagation.proofs.ForwardPass.{is_pushed}
 pub use Rattle.propagation.proofs.ForwardSteps.{changes_few}

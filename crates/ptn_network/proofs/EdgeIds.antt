@@ -5,7 +5,8 @@ use Rattle.plan_num.proofs.Common.{is_some, find, position_or_len, int_eq, ltb-f
 use Rattle.plan_num.proofs.Common.{Decides-int_eq, find_at, position-Some, cond_some}
 use Rattle.plan_num.proofs.Common.{slice_get_past, slice_get-get_or}
 use Rattle.tables.proofs.Common.{position-map}
-use Rattle.walks.proofs.Common.{Edge, no_edge}
+use Rattle.walks.specs.declared.edge.Edge.{Edge}
+use Rattle.walks.proofs.Common.{no_edge}
 use Rattle.ptn_network.specs.Ids.{edge_with, StandsAt}
 
 nothing_chosen : {X : Type 0} (b : Bool) (x : X) → cond b (Some x) None ≡ None → b ≡ false

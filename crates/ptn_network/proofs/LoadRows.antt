@@ -10,12 +10,14 @@ use Rattle.plan_num.proofs.Common.{length-set, same_lists, find-append, Less-fro
 use Rattle.plan_num.proofs.Common.{map-map}
 use Rattle.std.specs.declared.cmp.Ordering.TheVariants.{Less}
 use Rattle.tables.specs.declared.row_why.RowWhy.TheVariants as why
-use Rattle.tables.proofs.Common.{FileId, load_columns, Input, records_of, broken_whys, input_faults}
+use Rattle.tables.specs.declared.file_id.FileId.{FileId}
+use Rattle.tables.proofs.Common.{load_columns, Input, records_of, broken_whys, input_faults}
 use Rattle.tables.proofs.Common.{table_of, InColumns, sound_rows, without_whole, refused_as_whole}
 use Rattle.tables.proofs.Common.{sound_as_whole, TableRow}
 use Rattle.tables.specs.declared.refusal.Refusal.TheVariants as refusal
 use Rattle.plan_num.proofs.Found.{any_mapped, any_found}
-use Rattle.walks.proofs.Common.{Edge, no_edge}
+use Rattle.walks.specs.declared.edge.Edge.{Edge}
+use Rattle.walks.proofs.Common.{no_edge}
 use Rattle.ptn_network.specs.declared.edge_load.EdgeLoad.{EdgeLoad}
 use Rattle.ptn_network.specs.declared.load_row.LoadRow.{LoadRow}
 use Rattle.ptn_network.specs.Ids.{edge_with, StandsAt}

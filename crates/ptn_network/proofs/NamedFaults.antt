@@ -1,6 +1,7 @@
 -- Which files the faults of a network name.
 use Rattle.plan_num.proofs.Common.{◌≡◌, ℕ, Bool, true, List}
-use Rattle.tables.proofs.Common.{FileId, input_faults, AllName, names_both, input_names}
+use Rattle.tables.specs.declared.file_id.FileId.{FileId}
+use Rattle.tables.proofs.Common.{input_faults, AllName, names_both, input_names}
 use Rattle.tables.specs.declared.file_id.FileId.TheVariants as file
 use Rattle.ptn_network.specs.Inputs.{stop_input, edge_input}
 use Rattle.ptn_network.specs.Networks.{stops_of, network_faults}

@@ -2,9 +2,11 @@
 use Rattle.plan_num.proofs.Common.{arith, ◌≡◌, ℤ, Bool, true, false, cond, List, [], ◌∷◌, ◌++◌, map}
 use Rattle.plan_num.proofs.Common.{refl, ap, ◌∙◌, Option, Some, None, is_some, list_any, lookup}
 use Rattle.plan_num.proofs.Common.{int_eq, map_push}
-use Rattle.tables.proofs.Common.{RowWhy, broken_whys}
+use Rattle.tables.specs.declared.row_why.RowWhy.{RowWhy}
+use Rattle.tables.proofs.Common.{broken_whys}
 use Rattle.tables.specs.declared.row_why.RowWhy.TheVariants as why
-use Rattle.walks.proofs.Common.{Edge, AreKeyed}
+use Rattle.walks.specs.declared.edge.Edge.{Edge}
+use Rattle.walks.proofs.Common.{AreKeyed}
 use Rattle.ptn_network.specs.declared.edge_row.EdgeRow.{EdgeRow}
 use Rattle.ptn_network.specs.Inputs.{edge_rules}
 use Rattle.ptn_network.specs.Networks.{edge_entry, edge_of}

@@ -9,12 +9,14 @@ use Rattle.plan_num.proofs.Common.{length-keys_of}
 use Rattle.std.specs.Int.Signed.{lt_z_no}
 use Rattle.std.proofs.lemmas.Map.Entries.{length-values_of}
 use Rattle.tables.specs.declared.column.ColumnKind.TheVariants as kind
-use Rattle.tables.proofs.Common.{RowWhy, TableRow, edge_columns, table_of, InColumns, records}
-use Rattle.tables.proofs.Common.{records_of, row_limit, broken_whys, input_faults, few_rows}
-use Rattle.tables.proofs.Common.{sound_rows, front_none, back_none, in_column}
+use Rattle.tables.specs.declared.row_why.RowWhy.{RowWhy}
+use Rattle.tables.proofs.Common.{TableRow, edge_columns, table_of, InColumns, records, records_of}
+use Rattle.tables.proofs.Common.{row_limit, broken_whys, input_faults, few_rows, sound_rows}
+use Rattle.tables.proofs.Common.{front_none, back_none, in_column}
 use Rattle.tables.specs.declared.row_why.RowWhy.TheVariants as why
 use Rattle.tables.specs.declared.counted.Counted.TheVariants as counted
-use Rattle.walks.proofs.Common.{Edge, IsEdge, IsNetwork, by_id, index_in, by_id_sorted, by_id_keyed}
+use Rattle.walks.specs.declared.edge.Edge.{Edge}
+use Rattle.walks.proofs.Common.{IsEdge, IsNetwork, by_id, index_in, by_id_sorted, by_id_keyed}
 use Rattle.walks.proofs.Common.{all_by_id, length_by_id, rising_rises, sorted_rise}
 use Rattle.ptn_network.specs.declared.edge_row.EdgeRow.{EdgeRow}
 use Rattle.ptn_network.specs.Inputs.{stop_input, edge_input, edge_row, edge_rules}

@@ -1,7 +1,8 @@
 -- The network of two texts, from what each of them gives.
 use Rattle.plan_num.proofs.Common.{◌≡◌, ℕ, ℤ, List, [], map, arith, values_of}
 use Rattle.tables.proofs.Common.{records_of, input_faults}
-use Rattle.walks.proofs.Common.{Edge, by_id}
+use Rattle.walks.specs.declared.edge.Edge.{Edge}
+use Rattle.walks.proofs.Common.{by_id}
 use Rattle.ptn_network.specs.Inputs.{stop_input, edge_input}
 use Rattle.ptn_network.specs.Networks.{edge_entry, stops_of, network_of, network_faults}
 

@@ -2,7 +2,7 @@
 use Rattle.plan_num.proofs.Common.{◌≡◌, ℕ, ◌+◌, arith, List, [], ◌∷◌, ◌++◌, length, map, ap, ◌∙◌}
 use Rattle.plan_num.proofs.Common.{flat_map, range_with_len, length-append, length-map, append-nil}
 use Rattle.plan_num.proofs.Common.{flat_map-append}
-use Rattle.event_tables.proofs.Common.{PeriodicActivity}
+use Rattle.event_tables.specs.declared.periodic_activity.PeriodicActivity.{PeriodicActivity}
 use Rattle.roll_out.specs.declared.copies.Copies.{Copies}
 use Rattle.roll_out.specs.DayActivities.{change_copy}
 use Rattle.roll_out.specs.Plans.{changes_at, copies_with, copy_id, copy_time, ids_at}

@@ -7,9 +7,13 @@ use Rattle.plan_num.proofs.Common.{All-from_recursion, recursion_from_All, lengt
 use Rattle.plan_num.proofs.Common.{length-enumerate_from, get_or-enumerate_from}
 use Rattle.tables.proofs.Common.{activities_p_columns, activities_x_columns, events_x_columns}
 use Rattle.tables.proofs.Common.{trips_columns, InColumns}
-use Rattle.event_tables.proofs.Common.{ActivityKind, EventKind, ExpandedActivity, ExpandedEvent}
-use Rattle.event_tables.proofs.Common.{PeriodicActivity, expanded_activity_cells}
-use Rattle.event_tables.proofs.Common.{expanded_event_cells, periodic_activity_cells, trip_cells}
+use Rattle.event_tables.specs.declared.activity_kind.ActivityKind.{ActivityKind}
+use Rattle.event_tables.specs.declared.event_kind.EventKind.{EventKind}
+use Rattle.event_tables.specs.declared.expanded_activity.ExpandedActivity.{ExpandedActivity}
+use Rattle.event_tables.specs.declared.expanded_event.ExpandedEvent.{ExpandedEvent}
+use Rattle.event_tables.specs.declared.periodic_activity.PeriodicActivity.{PeriodicActivity}
+use Rattle.event_tables.proofs.Common.{expanded_activity_cells, expanded_event_cells}
+use Rattle.event_tables.proofs.Common.{periodic_activity_cells, trip_cells}
 use Rattle.event_tables.specs.declared.activity_kind.ActivityKind.TheVariants as day_kind
 use Rattle.roll_out.specs.declared.timed_event.TimedEvent.{TimedEvent}
 use Rattle.roll_out.specs.DayActivities.{change_copies, change_copy, changes_from, copy_of, day_activities, day_changes, day_ways, is_change, is_copy, is_head, trip_ways, way_from, way_kind, with_number}

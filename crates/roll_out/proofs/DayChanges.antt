@@ -3,7 +3,9 @@ use Rattle.plan_num.proofs.Common.{◌≡◌, ℕ, ◌+◌, ◌-◌, ◌≤◌, 
 use Rattle.plan_num.proofs.Common.{length, map, filter, refl, ap, sym, ◌∙◌, flat_map}
 use Rattle.plan_num.proofs.Common.{range_with_len, All-head, All-tail, flat_map-map}
 use Rattle.plan_num.proofs.Common.{length-range_with_len, map-map}
-use Rattle.event_tables.proofs.Common.{ExpandedActivity, ExpandedEvent, PeriodicActivity}
+use Rattle.event_tables.specs.declared.expanded_activity.ExpandedActivity.{ExpandedActivity}
+use Rattle.event_tables.specs.declared.expanded_event.ExpandedEvent.{ExpandedEvent}
+use Rattle.event_tables.specs.declared.periodic_activity.PeriodicActivity.{PeriodicActivity}
 use Rattle.roll_out.specs.declared.copies.Copies.{Copies}
 use Rattle.roll_out.specs.DayActivities.{change_copy, is_change, is_copy, changes_from, change_copies, day_changes}
 use Rattle.roll_out.specs.DayTrips.{day_events}

@@ -3,7 +3,10 @@ use Rattle.plan_num.proofs.Common.{◌≡◌, ℕ, ◌+◌, ◌-◌, ◌≤◌, 
 use Rattle.plan_num.proofs.Common.{◌∷◌, map, filter, get_or, ◌∙◌, flat_map, enumerate_from}
 use Rattle.plan_num.proofs.Common.{AllByRecursion, eqb-true, cases_Bool, recursion_from_All}
 use Rattle.std.proofs.lemmas.Bool.{and_parts as both_true}
-use Rattle.event_tables.proofs.Common.{ExpandedEvent, PeriodicActivity, PeriodicEvent, PeriodicKind}
+use Rattle.event_tables.specs.declared.expanded_event.ExpandedEvent.{ExpandedEvent}
+use Rattle.event_tables.specs.declared.periodic_activity.PeriodicActivity.{PeriodicActivity}
+use Rattle.event_tables.specs.declared.periodic_event.PeriodicEvent.{PeriodicEvent}
+use Rattle.event_tables.specs.declared.periodic_kind.PeriodicKind.{PeriodicKind}
 use Rattle.event_tables.proofs.Common.{IsExpandedActivity, is_arrival, joins, AreNumbered}
 use Rattle.event_tables.proofs.Common.{same_kind}
 use Rattle.event_tables.specs.declared.periodic_kind.PeriodicKind.TheVariants as kind

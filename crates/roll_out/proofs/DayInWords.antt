@@ -6,7 +6,10 @@ use Rattle.plan_num.proofs.Common.{eq-eqb, eqb-true, le-leb, leb-true, All-conta
 use Rattle.plan_num.proofs.Common.{All-from_recursion, recursion_from_All, div-add-mod'}
 use Rattle.plan_num.proofs.Common.{mod-mul-add}
 use Rattle.std.proofs.lemmas.Bool.{and_parts as both_true}
-use Rattle.event_tables.proofs.Common.{ExpandedActivity, ExpandedEvent, PeriodicEvent, runs_of}
+use Rattle.event_tables.specs.declared.expanded_activity.ExpandedActivity.{ExpandedActivity}
+use Rattle.event_tables.specs.declared.expanded_event.ExpandedEvent.{ExpandedEvent}
+use Rattle.event_tables.specs.declared.periodic_event.PeriodicEvent.{PeriodicEvent}
+use Rattle.event_tables.proofs.Common.{runs_of}
 use Rattle.roll_out.specs.declared.day.Day.{Day}
 use Rattle.roll_out.specs.declared.timed_event.TimedEvent.{TimedEvent}
 use Rattle.roll_out.specs.DayActivities.{change_copies, changes_from, change_copy, day_changes, is_change, is_copy, is_head}

@@ -2,7 +2,10 @@
 use Rattle.plan_num.proofs.Common.{◌≡◌, ℕ, zero, suc, ◌+◌, ◌-◌, ◌<◌, arith, true, false, List, []}
 use Rattle.plan_num.proofs.Common.{◌∷◌, length, get_or, refl, subst, AllByRecursion, enumerate_from}
 use Rattle.plan_num.proofs.Common.{All-from_recursion, get_or-enumerate_from, length-enumerate_from}
-use Rattle.event_tables.proofs.Common.{EventKind, ExpandedEvent, PeriodicEvent, is_arrival}
+use Rattle.event_tables.specs.declared.event_kind.EventKind.{EventKind}
+use Rattle.event_tables.specs.declared.expanded_event.ExpandedEvent.{ExpandedEvent}
+use Rattle.event_tables.specs.declared.periodic_event.PeriodicEvent.{PeriodicEvent}
+use Rattle.event_tables.proofs.Common.{is_arrival}
 use Rattle.event_tables.specs.declared.event_kind.EventKind.TheVariants as kinds
 use Rattle.roll_out.specs.DayTrips.{TripParts, day_event, no_timed, trip_end_at, trip_events, trip_row}
 use Rattle.roll_out.specs.RightRollout.{IsEndAt, IsTripOver}

@@ -1,10 +1,13 @@
 -- The timetable of a bundle, from what each of its inputs gives.
 use Rattle.plan_num.proofs.Common.{◌≡◌, ℕ, List, [], subst, sym, ◌∙◌, arith}
 use Rattle.tables.specs.declared.file_id.FileId.TheVariants as file
-use Rattle.tables.proofs.Common.{StageFault, Refuses, input_faults, records_of, refused_append}
-use Rattle.tables.proofs.Common.{front_none, back_none}
+use Rattle.tables.specs.declared.refusal.StageFault.{StageFault}
+use Rattle.tables.proofs.Common.{Refuses, input_faults, records_of, refused_append, front_none}
+use Rattle.tables.proofs.Common.{back_none}
 use Rattle.giv_files.proofs.Common.{BundleParts, input_text}
-use Rattle.event_tables.proofs.Common.{PeriodicActivity, PeriodicEvent, PeriodicTime}
+use Rattle.event_tables.specs.declared.periodic_activity.PeriodicActivity.{PeriodicActivity}
+use Rattle.event_tables.specs.declared.periodic_event.PeriodicEvent.{PeriodicEvent}
+use Rattle.event_tables.specs.declared.periodic_time.PeriodicTime.{PeriodicTime}
 use Rattle.event_tables.proofs.Common.{periodic_activity_input, periodic_event_ids}
 use Rattle.event_tables.proofs.Common.{periodic_event_input, periodic_time_input}
 use Rattle.pesp_model.specs.PespTexts.{activities_of, events_of, problem_faults}

@@ -1,7 +1,8 @@
 -- Events that stand before others in the forward order.
 use Rattle.plan_num.proofs.Common.{◌≡◌, ℕ, ◌<◌, ◌≤◌, cond, arith, true, false, List, Some}
-use Rattle.event_tables.proofs.Common.{EventKind, ExpandedEvent, event_with, goes_forward}
-use Rattle.event_tables.proofs.Common.{stands_before, is_arrival}
+use Rattle.event_tables.specs.declared.event_kind.EventKind.{EventKind}
+use Rattle.event_tables.specs.declared.expanded_event.ExpandedEvent.{ExpandedEvent}
+use Rattle.event_tables.proofs.Common.{event_with, goes_forward, stands_before, is_arrival}
 use Rattle.event_tables.specs.declared.event_kind.EventKind.TheVariants as kinds
 
 abbrev rank : EventKind → ℕ

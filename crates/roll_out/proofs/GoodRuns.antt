@@ -8,10 +8,12 @@ use Rattle.plan_num.proofs.Common.{get_or-map, get_or_default, All-from_recursio
 use Rattle.plan_num.proofs.Common.{recursion_from_All, get_or-enumerate_from, get_or-range_with_len}
 use Rattle.plan_num.proofs.Common.{length-enumerate_from, sum_by-cons}
 use Rattle.tables.proofs.Common.{front_none, back_none}
-use Rattle.event_tables.proofs.Common.{EventKind, PeriodicActivity, PeriodicEvent, event_kind_place}
-use Rattle.event_tables.proofs.Common.{is_arrival, runs_of, IsOneOf, KeepRunRules, breaks}
-use Rattle.event_tables.proofs.Common.{broken_in, drives_at_once, is_placed, is_stray, leads}
-use Rattle.event_tables.proofs.Common.{same_kind, unjoined_in}
+use Rattle.event_tables.specs.declared.event_kind.EventKind.{EventKind}
+use Rattle.event_tables.specs.declared.periodic_activity.PeriodicActivity.{PeriodicActivity}
+use Rattle.event_tables.specs.declared.periodic_event.PeriodicEvent.{PeriodicEvent}
+use Rattle.event_tables.proofs.Common.{event_kind_place, is_arrival, runs_of, IsOneOf, KeepRunRules}
+use Rattle.event_tables.proofs.Common.{breaks, broken_in, drives_at_once, is_placed, is_stray}
+use Rattle.event_tables.proofs.Common.{leads, same_kind, unjoined_in}
 use Rattle.event_tables.specs.declared.event_kind.EventKind.TheVariants as kinds
 use Rattle.event_tables.specs.declared.periodic_kind.PeriodicKind.TheVariants as kind
 use Rattle.roll_out.specs.Plans.{IsBetween, IsTimed}

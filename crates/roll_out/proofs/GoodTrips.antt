@@ -4,8 +4,11 @@ use Rattle.plan_num.proofs.Common.{List, [], ◌∷◌, length, map, get_or, fin
 use Rattle.plan_num.proofs.Common.{IfSome, AllByRecursion, int_cmp, ints, All-from_recursion}
 use Rattle.std.specs.List.Sorted.{IsStrictlySortedBy}
 use Rattle.std.specs.declared.cmp.Ordering.TheVariants.{Less}
-use Rattle.event_tables.proofs.Common.{EventKind, PeriodicActivity, PeriodicEvent, Trip, is_stop}
-use Rattle.event_tables.proofs.Common.{lacks_stop, is_arrival, leads, same_kind}
+use Rattle.event_tables.specs.declared.event_kind.EventKind.{EventKind}
+use Rattle.event_tables.specs.declared.periodic_activity.PeriodicActivity.{PeriodicActivity}
+use Rattle.event_tables.specs.declared.periodic_event.PeriodicEvent.{PeriodicEvent}
+use Rattle.event_tables.specs.declared.trip.Trip.{Trip}
+use Rattle.event_tables.proofs.Common.{is_stop, lacks_stop, is_arrival, leads, same_kind}
 use Rattle.event_tables.specs.declared.event_kind.EventKind.TheVariants as kinds
 use Rattle.roll_out.specs.declared.day.Day.{Day}
 use Rattle.event_tables.specs.RunRules as rules

@@ -3,7 +3,8 @@ use Rattle.plan_num.proofs.Common.{◌≡◌, ℕ, ◌+◌, ◌*◌, ◌<◌, �
 use Rattle.plan_num.proofs.Common.{drop, get_or, refl, ap, sym, ◌∙◌, Option, append_assoc}
 use Rattle.plan_num.proofs.Common.{append-nil, at_drop_more, at_drop_all}
 use Rattle.std.proofs.lemmas.List.Sums.{sum_by-drop_more}
-use Rattle.event_tables.proofs.Common.{PeriodicEvent, PeriodicActivity}
+use Rattle.event_tables.specs.declared.periodic_event.PeriodicEvent.{PeriodicEvent}
+use Rattle.event_tables.specs.declared.periodic_activity.PeriodicActivity.{PeriodicActivity}
 use Rattle.roll_out.specs.declared.timed_event.TimedEvent.{TimedEvent}
 use Rattle.roll_out.specs.Plans.{PlanParts, trip_after, copies_at, plan_trips, plan_copies, trips_by, copies_by, event_total}
 use Rattle.roll_out.specs.TimedRuns.{TimedParts, timed_from, way_on, minutes_on}

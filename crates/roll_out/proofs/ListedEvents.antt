@@ -4,8 +4,8 @@ use Rattle.plan_num.proofs.Common.{get_or, Some, refl, ap, sym, ◌∙◌, flat_
 use Rattle.plan_num.proofs.Common.{enumerate_from, AllByRecursion, length-append, length-map}
 use Rattle.plan_num.proofs.Common.{map-append, get_or-map, recursion_from_All}
 use Rattle.plan_num.proofs.Common.{get_or-range_with_len, length-enumerate_from}
-use Rattle.event_tables.proofs.Common.{ExpandedEvent, event_with, AreNumbered, IsOneOf}
-use Rattle.event_tables.proofs.Common.{find_numbered}
+use Rattle.event_tables.specs.declared.expanded_event.ExpandedEvent.{ExpandedEvent}
+use Rattle.event_tables.proofs.Common.{event_with, AreNumbered, IsOneOf, find_numbered}
 use Rattle.roll_out.specs.declared.day.Day.{Day}
 use Rattle.roll_out.specs.declared.timed_event.TimedEvent.{TimedEvent}
 use Rattle.roll_out.specs.DayTrips.{TripParts, day_event, day_events, numbered_trips, trip_events, trips_of}

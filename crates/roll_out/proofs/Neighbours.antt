@@ -2,7 +2,8 @@
 use Rattle.plan_num.proofs.Common.{◌≡◌, ℕ, zero, suc, ◌+◌, ◌-◌, ◌<◌, ◌≤◌, arith, List, [], ◌∷◌}
 use Rattle.plan_num.proofs.Common.{◌++◌, length, take, get_or, refl, ap, ◌∙◌, zip, take_all}
 use Rattle.plan_num.proofs.Common.{take_more}
-use Rattle.event_tables.proofs.Common.{PeriodicEvent, neighbours}
+use Rattle.event_tables.specs.declared.periodic_event.PeriodicEvent.{PeriodicEvent}
+use Rattle.event_tables.proofs.Common.{neighbours}
 
 -- an event with the one behind it
 pairs_size : (event : PeriodicEvent) (run : List PeriodicEvent) → length (zip (event ∷ run) run)

@@ -3,7 +3,9 @@ use Rattle.plan_num.proofs.Common.{◌≡◌, ◌∙◌, ◌==◌, not, Bool, ar
 use Rattle.plan_num.proofs.Common.{Some, filter, find, length, slice_get, refl, ap, sym, cases_Bool}
 use Rattle.plan_num.proofs.Common.{false≢true, false_from_ne_true, length-filter, none-some}
 use Rattle.plan_num.proofs.Common.{same_Some}
-use Rattle.event_tables.proofs.Common.{PeriodicActivity, PeriodicEvent, lacks_way, leads}
+use Rattle.event_tables.specs.declared.periodic_activity.PeriodicActivity.{PeriodicActivity}
+use Rattle.event_tables.specs.declared.periodic_event.PeriodicEvent.{PeriodicEvent}
+use Rattle.event_tables.proofs.Common.{lacks_way, leads}
 use Rattle.roll_out.specs.TimedRuns.{TimedParts}
 use Rattle.roll_out.specs.TimedRuns.{way_on as way_from}
 use Rattle.roll_out.specs.Plans.{leaves}

@@ -1,7 +1,9 @@
 -- Activities with their places as ids.
 use Rattle.plan_num.proofs.Common.{◌≡◌, ℕ, ◌+◌, List, [], ◌∷◌, length, map, refl, ap, arith}
 use Rattle.plan_num.proofs.Common.{AllByRecursion, enumerate_from, range_with_len}
-use Rattle.event_tables.proofs.Common.{ExpandedActivity, ExpandedEvent, IsExpandedActivity}
+use Rattle.event_tables.specs.declared.expanded_activity.ExpandedActivity.{ExpandedActivity}
+use Rattle.event_tables.specs.declared.expanded_event.ExpandedEvent.{ExpandedEvent}
+use Rattle.event_tables.proofs.Common.{IsExpandedActivity}
 use Rattle.roll_out.specs.DayActivities.{with_number}
 
 -- their ids are these places

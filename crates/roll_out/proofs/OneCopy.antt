@@ -7,7 +7,7 @@ use Rattle.plan_num.proofs.Common.{length-map, append-nil, filter-append, flat_m
 use Rattle.plan_num.proofs.Common.{get_or-enumerate_from, length-enumerate_from, flat_map-append}
 use Rattle.std.proofs.lemmas.List.{get_or-append_right}
 use Rattle.std.proofs.lemmas.List.Concat.{flat_map_single}
-use Rattle.event_tables.proofs.Common.{ExpandedEvent}
+use Rattle.event_tables.specs.declared.expanded_event.ExpandedEvent.{ExpandedEvent}
 use Rattle.roll_out.specs.declared.copies.Copies.{Copies}
 use Rattle.roll_out.specs.declared.timed_event.TimedEvent.{TimedEvent}
 use Rattle.roll_out.specs.DayActivities.{is_copy}

@@ -4,8 +4,9 @@ use Rattle.plan_num.proofs.Common.{arith, Bool, false, ◌&&◌, ◌||◌, List,
 use Rattle.plan_num.proofs.Common.{get_or, refl, ap, sym, ◌∙◌, list_any, range_with_len, eq-eqb}
 use Rattle.plan_num.proofs.Common.{ne_eqb, get_or-map, get_or-range_with_len}
 use Rattle.std.proofs.Math.Bool.{or-false as or_false}
-use Rattle.event_tables.proofs.Common.{PeriodicActivity, PeriodicEvent, joins, AreNumbered}
-use Rattle.event_tables.proofs.Common.{goes_between, is_placed}
+use Rattle.event_tables.specs.declared.periodic_activity.PeriodicActivity.{PeriodicActivity}
+use Rattle.event_tables.specs.declared.periodic_event.PeriodicEvent.{PeriodicEvent}
+use Rattle.event_tables.proofs.Common.{joins, AreNumbered, goes_between, is_placed}
 
 no_any : {X : Type 0} (p : X → Bool) (xs : List X) → ((x : X) → p x ≡ false) → list_any p xs ≡ false
 no_any p [] none = refl

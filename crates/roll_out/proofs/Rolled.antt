@@ -5,7 +5,7 @@ use Rattle.tables.specs.declared.counted.Counted.TheVariants as counted
 use Rattle.tables.specs.declared.refusal.Refusal.TheVariants as refusal
 use Rattle.tables.specs.declared.refusal.StageFault.TheVariants as fault
 use Rattle.tables.proofs.Common.{Refuses}
-use Rattle.event_tables.proofs.Common.{ExpandedActivity}
+use Rattle.event_tables.specs.declared.expanded_activity.ExpandedActivity.{ExpandedActivity}
 use Rattle.roll_out.specs.declared.copies.Copies.{Copies}
 use Rattle.roll_out.specs.DayActivities.{day_activities, day_ways, with_numbers}
 use Rattle.roll_out.specs.DayTrips.{TripParts}

@@ -2,7 +2,10 @@
 use Rattle.plan_num.proofs.Common.{◌≡◌, ℕ, ◌+◌, ◌≤◌, arith, true, false, All, IfSome, List, [], ◌∷◌}
 use Rattle.plan_num.proofs.Common.{◌++◌, length, map, Option, Some, None, refl, ap, subst, sym}
 use Rattle.plan_num.proofs.Common.{flat_map, enumerate_from, AllByRecursion}
-use Rattle.event_tables.proofs.Common.{EventKind, ExpandedEvent, PeriodicActivity, PeriodicEvent}
+use Rattle.event_tables.specs.declared.event_kind.EventKind.{EventKind}
+use Rattle.event_tables.specs.declared.expanded_event.ExpandedEvent.{ExpandedEvent}
+use Rattle.event_tables.specs.declared.periodic_activity.PeriodicActivity.{PeriodicActivity}
+use Rattle.event_tables.specs.declared.periodic_event.PeriodicEvent.{PeriodicEvent}
 use Rattle.event_tables.proofs.Common.{IsExpandedActivity, stands_before, is_arrival, is_sync}
 use Rattle.event_tables.proofs.Common.{runs_of, leads, same_kind}
 use Rattle.event_tables.specs.declared.event_kind.EventKind.TheVariants as kinds

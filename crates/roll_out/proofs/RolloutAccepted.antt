@@ -7,8 +7,10 @@ use Rattle.tables.proofs.Common.{activities_x_columns, events_x_columns, trips_c
 use Rattle.tables.proofs.Common.{broken_whys, input_faults, records, InColumns, ReadsBack}
 use Rattle.tables.proofs.Common.{KeepRules, accepted, all_keep, plain_header, under_limit, ReadsAs}
 use Rattle.tables.proofs.Common.{file_text, rows_by, columns_written}
-use Rattle.event_tables.proofs.Common.{ExpandedActivity, ExpandedEvent, Trip, expanded_activity}
-use Rattle.event_tables.proofs.Common.{expanded_activity_cells, expanded_event}
+use Rattle.event_tables.specs.declared.expanded_activity.ExpandedActivity.{ExpandedActivity}
+use Rattle.event_tables.specs.declared.expanded_event.ExpandedEvent.{ExpandedEvent}
+use Rattle.event_tables.specs.declared.trip.Trip.{Trip}
+use Rattle.event_tables.proofs.Common.{expanded_activity, expanded_activity_cells, expanded_event}
 use Rattle.event_tables.proofs.Common.{expanded_event_cells, trip, trip_cells, IsExpandedActivity}
 use Rattle.event_tables.proofs.Common.{expanded_activity_input, expanded_event_ids}
 use Rattle.event_tables.proofs.Common.{expanded_event_input, forward, no_sync}

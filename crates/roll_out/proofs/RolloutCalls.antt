@@ -2,12 +2,15 @@
 use Rattle.plan_num.proofs.Common.{◌≡◌, ℕ, ◌+◌, ◌<◌, ◌≤◌, arith, List, [], ◌∷◌, length, ◌∙◌, Ok}
 use Rattle.plan_num.proofs.Common.{Err, Result, length-append, length-map, length-enumerate_from}
 use Rattle.tables.specs.declared.counted.Counted.TheVariants as counted
-use Rattle.giv_files.proofs.Common.{Made, BundleParts, StageGives}
-use Rattle.tables.proofs.Common.{Refusal, StageFault, Refuses, UnlessFault, limit_faults, row_limit}
-use Rattle.tables.proofs.Common.{under_limit}
+use Rattle.giv_files.specs.declared.made.Made.{Made}
+use Rattle.giv_files.proofs.Common.{BundleParts, StageGives}
+use Rattle.tables.specs.declared.refusal.Refusal.{Refusal}
+use Rattle.tables.specs.declared.refusal.StageFault.{StageFault}
+use Rattle.tables.proofs.Common.{Refuses, UnlessFault, limit_faults, row_limit, under_limit}
 use Rattle.tables.specs.declared.refusal.Refusal.TheVariants as refusal
 use Rattle.tables.specs.declared.refusal.StageFault.TheVariants as fault
-use Rattle.event_tables.proofs.Common.{ExpandedActivity, ExpandedEvent}
+use Rattle.event_tables.specs.declared.expanded_activity.ExpandedActivity.{ExpandedActivity}
+use Rattle.event_tables.specs.declared.expanded_event.ExpandedEvent.{ExpandedEvent}
 use Rattle.roll_out.specs.DayActivities.{day_activities, day_changes, day_ways}
 use Rattle.roll_out.specs.DayTrips.{TripParts, day_events}
 use Rattle.roll_out.specs.RolloutStage.{file_faults, long_lists, made_of, network_in, rollout_stage, run_faults, trips_in}

@@ -1,8 +1,13 @@
 -- Which files the stage of the roll-out makes, and which it names where it refuses a row.
 use Rattle.plan_num.proofs.Common.{arith, ◌≡◌, ℕ, Bool, true, List, [], ◌∷◌, Err, Ok, ap, lit<}
-use Rattle.tables.proofs.Common.{ColumnKind, FileId, Refusal, RowWhy, NamesInput, AllName}
+use Rattle.tables.specs.declared.column.ColumnKind.{ColumnKind}
+use Rattle.tables.specs.declared.file_id.FileId.{FileId}
+use Rattle.tables.specs.declared.refusal.Refusal.{Refusal}
+use Rattle.tables.specs.declared.row_why.RowWhy.{RowWhy}
+use Rattle.tables.proofs.Common.{NamesInput, AllName}
 use Rattle.tables.specs.declared.counted.Counted.TheVariants as counted
-use Rattle.giv_files.proofs.Common.{Made, MakesAs, ids_of, BundleParts, made_unless}
+use Rattle.giv_files.specs.declared.made.Made.{Made}
+use Rattle.giv_files.proofs.Common.{MakesAs, ids_of, BundleParts, made_unless}
 use Rattle.tables.specs.declared.refusal.Refusal.TheVariants as refusal
 use Rattle.giv_files.specs.declared.stage.Stage.TheVariants as stage
 use Rattle.roll_out.specs.RolloutStage.{faults_at, rollout_faults, rollout_stage}

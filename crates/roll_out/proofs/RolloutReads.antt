@@ -6,9 +6,11 @@ use Rattle.plan_num.proofs.Common.{length-enumerate_from}
 use Rattle.tables.specs.declared.counted.Counted.TheVariants as counted
 use Rattle.tables.specs.declared.file_id.FileId.TheVariants as file
 use Rattle.giv_files.specs.declared.key.Key.TheVariants as key
-use Rattle.giv_files.proofs.Common.{Made, BundleParts, Fits, SettingsFit, StageGives, input_text}
+use Rattle.giv_files.specs.declared.made.Made.{Made}
+use Rattle.giv_files.proofs.Common.{BundleParts, Fits, SettingsFit, StageGives, input_text}
 use Rattle.giv_files.proofs.Common.{amount_within, made_unless, none_unless}
-use Rattle.tables.proofs.Common.{StageFault, activities_x_columns, events_x_columns, trips_columns}
+use Rattle.tables.specs.declared.refusal.StageFault.{StageFault}
+use Rattle.tables.proofs.Common.{activities_x_columns, events_x_columns, trips_columns}
 use Rattle.tables.proofs.Common.{input_faults, records_of, front_none, back_none, none_first}
 use Rattle.tables.proofs.Common.{none_after, file_text}
 use Rattle.tables.specs.declared.row_why.RowWhy.TheVariants as why

@@ -4,16 +4,19 @@ use Rattle.plan_num.proofs.Common.{drop, get_or, Result, ap, sym, ◌∙◌, fla
 use Rattle.plan_num.proofs.Common.{zip, AllByRecursion, length-map, get_or-map, All-filter, All-map}
 use Rattle.plan_num.proofs.Common.{All-append, All-nil, All-from_recursion, get_or-range_with_len}
 use Rattle.tables.specs.declared.file_id.FileId.TheVariants as file
-use Rattle.tables.proofs.Common.{Refusal, StageFault, events_p_columns, activities_p_columns, Input}
-use Rattle.tables.proofs.Common.{Refuses, UnlessFault, cell_faults, input_faults, records_of}
-use Rattle.tables.proofs.Common.{table_of, TableRow, parts_sound, refused_append}
+use Rattle.tables.specs.declared.refusal.Refusal.{Refusal}
+use Rattle.tables.specs.declared.refusal.StageFault.{StageFault}
+use Rattle.tables.proofs.Common.{events_p_columns, activities_p_columns, Input, Refuses}
+use Rattle.tables.proofs.Common.{UnlessFault, cell_faults, input_faults, records_of, table_of}
+use Rattle.tables.proofs.Common.{TableRow, parts_sound, refused_append}
 use Rattle.tables.specs.declared.row_why.RowWhy.TheVariants as why
 use Rattle.giv_files.proofs.Common.{BundleParts, input_text}
-use Rattle.event_tables.proofs.Common.{PeriodicActivity, PeriodicEvent, periodic_activity_input}
-use Rattle.event_tables.proofs.Common.{periodic_event_ids, periodic_event_input, neighbours}
-use Rattle.event_tables.proofs.Common.{runs_of, AreNumbered, IsOneOf, breaks, broken_in}
-use Rattle.event_tables.proofs.Common.{broken_events, is_stray, lacks_way, stray_activities}
-use Rattle.event_tables.proofs.Common.{unjoined_in, unjoined_events}
+use Rattle.event_tables.specs.declared.periodic_activity.PeriodicActivity.{PeriodicActivity}
+use Rattle.event_tables.specs.declared.periodic_event.PeriodicEvent.{PeriodicEvent}
+use Rattle.event_tables.proofs.Common.{periodic_activity_input, periodic_event_ids}
+use Rattle.event_tables.proofs.Common.{periodic_event_input, neighbours, runs_of, AreNumbered}
+use Rattle.event_tables.proofs.Common.{IsOneOf, breaks, broken_in, broken_events, is_stray}
+use Rattle.event_tables.proofs.Common.{lacks_way, stray_activities, unjoined_in, unjoined_events}
 use Rattle.pesp_model.specs.PespTexts.{activities_of, events_of}
 use Rattle.roll_out.specs.RolloutStage.{faults_at, network_in, run_faults}
 

@@ -3,7 +3,8 @@ use Rattle.plan_num.proofs.Common.{◌≡◌, ℕ, suc, ◌==◌, ◌-◌, ◌+�
 use Rattle.plan_num.proofs.Common.{List, [], ◌∷◌, ◌++◌, length, take, drop, get_or, refl, ap}
 use Rattle.plan_num.proofs.Common.{append_assoc, drop_more, drop_all, take_more, take_all, eqb-true}
 use Rattle.plan_num.proofs.Common.{cases_Bool}
-use Rattle.event_tables.proofs.Common.{PeriodicEvent, same_run, before_runs}
+use Rattle.event_tables.specs.declared.periodic_event.PeriodicEvent.{PeriodicEvent}
+use Rattle.event_tables.proofs.Common.{same_run, before_runs}
 use Rattle.event_tables.specs.PeriodicRuns.{runs_of}
 
 -- events with the last of them before runs: the first run goes on with them where it agrees with

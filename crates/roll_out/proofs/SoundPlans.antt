@@ -5,8 +5,10 @@ use Rattle.plan_num.proofs.Common.{None, refl, ap, subst, sym, ◌∙◌, flat_m
 use Rattle.plan_num.proofs.Common.{length-map, map-append, recursion_from_All, All-from_recursion}
 use Rattle.plan_num.proofs.Common.{ints, div-add-mod', mul-le, get_or-map, get_or-range_with_len}
 use Rattle.tables.proofs.Common.{events_p_columns, activities_p_columns, InColumns}
-use Rattle.event_tables.proofs.Common.{PeriodicActivity, PeriodicEvent, periodic_event_cells}
-use Rattle.event_tables.proofs.Common.{periodic_activity_cells, runs_of, leads, IsOneOf}
+use Rattle.event_tables.specs.declared.periodic_activity.PeriodicActivity.{PeriodicActivity}
+use Rattle.event_tables.specs.declared.periodic_event.PeriodicEvent.{PeriodicEvent}
+use Rattle.event_tables.proofs.Common.{periodic_event_cells, periodic_activity_cells, runs_of}
+use Rattle.event_tables.proofs.Common.{leads, IsOneOf}
 use Rattle.roll_out.specs.declared.day.Day.{Day}
 use Rattle.roll_out.specs.declared.timed_event.TimedEvent.{TimedEvent}
 use Rattle.roll_out.specs.Plans.{ArePlans, IsBetween, IsDay, IsPlan, IsTimed, IsTimely, PlanParts, first_start, plan_of, start_count}

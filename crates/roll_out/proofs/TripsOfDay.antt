@@ -2,7 +2,8 @@
 use Rattle.plan_num.proofs.Common.{◌≡◌, ℕ, zero, suc, ◌+◌, ◌*◌, ◌≤◌, arith, List, [], ◌∷◌, ◌++◌}
 use Rattle.plan_num.proofs.Common.{length, map, refl, ap, sym, ◌∙◌, flat_map, range_with_len}
 use Rattle.plan_num.proofs.Common.{sum_by, sum_by-cons, map-map}
-use Rattle.event_tables.proofs.Common.{PeriodicEvent, runs_of}
+use Rattle.event_tables.specs.declared.periodic_event.PeriodicEvent.{PeriodicEvent}
+use Rattle.event_tables.proofs.Common.{runs_of}
 use Rattle.roll_out.specs.declared.day.Day.{Day}
 use Rattle.roll_out.specs.declared.timed_event.TimedEvent.{TimedEvent}
 use Rattle.roll_out.specs.DayTrips.{departures_of, numbered_trips, trips_of}

@@ -3,7 +3,9 @@ use Rattle.plan_num.proofs.Common.{◌≡◌, ℕ, ◌+◌, List, [], ◌∷◌,
 use Rattle.plan_num.proofs.Common.{sym, ◌∙◌, flat_map, enumerate_from, sum_by, length-append}
 use Rattle.plan_num.proofs.Common.{sum_by-cons}
 use Rattle.std.proofs.lemmas.List.Concat.{flat_map-cons}
-use Rattle.event_tables.proofs.Common.{EventKind, ExpandedActivity, PeriodicActivity}
+use Rattle.event_tables.specs.declared.event_kind.EventKind.{EventKind}
+use Rattle.event_tables.specs.declared.expanded_activity.ExpandedActivity.{ExpandedActivity}
+use Rattle.event_tables.specs.declared.periodic_activity.PeriodicActivity.{PeriodicActivity}
 use Rattle.roll_out.specs.declared.timed_event.TimedEvent.{TimedEvent}
 use Rattle.roll_out.specs.DayActivities.{way_from}
 

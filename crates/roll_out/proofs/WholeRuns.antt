@@ -1,7 +1,8 @@
 -- The runs of events are all of them, each with some.
 use Rattle.plan_num.proofs.Common.{◌≡◌, ℕ, ◌≤◌, arith, List, [], ◌∷◌, ◌++◌, length, refl, ap, ◌∙◌}
 use Rattle.plan_num.proofs.Common.{flat_map, AllByRecursion, length-append}
-use Rattle.event_tables.proofs.Common.{PeriodicEvent, before_runs}
+use Rattle.event_tables.specs.declared.periodic_event.PeriodicEvent.{PeriodicEvent}
+use Rattle.event_tables.proofs.Common.{before_runs}
 use Rattle.event_tables.specs.PeriodicRuns.{runs_of}
 
 abbrev pub whole_run : List PeriodicEvent → List PeriodicEvent

@@ -5,7 +5,8 @@ use Rattle.plan_num.proofs.Common.{ℤ, pos, refl, arith, ap, sym, subst, All, �
 use Rattle.plan_num.proofs.Common.{take_more, All-push, get_or_from_slice_get, none-some}
 use Rattle.plan_num.proofs.Common.{slice_get_within}
 use Rattle.std.specs.List.{IsDistinct}
-use Rattle.line_cost_model.proofs.Common.{CostedLine, IsCostedLine, ProblemParts, Multiplier}
+use Rattle.line_cost_model.specs.declared.multipliers.Multiplier.{Multiplier}
+use Rattle.line_cost_model.proofs.Common.{CostedLine, IsCostedLine, ProblemParts}
 
 pub two_apart : IsDistinct nat_eq (0 ∷ 1 ∷ [])
 unfolding IsDistinct

@@ -3,8 +3,9 @@ use Rattle.plan_num.proofs.Common.{arith, ◌≡◌, ℕ, Bool, true, false, con
 use Rattle.plan_num.proofs.Common.{Option, Some, None, refl, ap, sym, subst, ◌∙◌, inl, ⊎_elim}
 use Rattle.plan_num.proofs.Common.{append-nil, option_map}
 use Rattle.std.specs.FinMap as files
-use Rattle.plan_files.proofs.Common.{Write, AreApplied, Folder, get_part, same_folder}
-use Rattle.giv_files.proofs.Common.{Stage}
+use Rattle.plan_files.specs.declared.write.Write.{Write}
+use Rattle.plan_files.proofs.Common.{AreApplied, Folder, get_part, same_folder}
+use Rattle.giv_files.specs.declared.stage.Stage.{Stage}
 use Rattle.stage_keep.specs.Entries.{keep_name}
 use Rattle.stage_chain.specs.declared.outcome.ChainFault.{ChainFault}
 use Rattle.command_line.specs.declared.mode.Mode.{Mode}

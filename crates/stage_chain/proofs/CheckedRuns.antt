@@ -1,11 +1,15 @@
 -- The folder that a finished run leaves passes a check.
-use Rattle.config_keys.proofs.Common.{last_stage_of, ConfigFault, look_in, effective}
+use Rattle.config_keys.specs.declared.config_fault.ConfigFault.{ConfigFault}
+use Rattle.config_keys.proofs.Common.{last_stage_of, look_in, effective}
 use Rattle.plan_num.proofs.Common.{map, nat_le, ◌≡◌, ℤ, suc, Bool, true, false, cond, List, [], ◌∷◌}
 use Rattle.plan_num.proofs.Common.{◌++◌, length, Option, Some, None, IfSome, Result, Ok, Err, refl}
 use Rattle.plan_num.proofs.Common.{ap, subst, sym, ◌∙◌, arith, option_or}
 use Rattle.plan_files.proofs.Common.{Folder}
-use Rattle.giv_files.proofs.Common.{Made, MadeFile, Stage, BundleParts, stage_makes}
-use Rattle.tables.proofs.Common.{Refusal}
+use Rattle.giv_files.specs.declared.made.Made.{Made}
+use Rattle.giv_files.specs.declared.made.MadeFile.{MadeFile}
+use Rattle.giv_files.specs.declared.stage.Stage.{Stage}
+use Rattle.giv_files.proofs.Common.{BundleParts, stage_makes}
+use Rattle.tables.specs.declared.refusal.Refusal.{Refusal}
 use Rattle.stage_chain.specs.declared.finding.Finding.{Finding}
 use Rattle.command_line.specs.declared.ends.RunEnd.TheVariants as end
 use Rattle.stage_chain.specs.Built.{cause_of, files_of, made, trace_of, trace_under}

@@ -3,11 +3,19 @@
 use Rattle.plan_num.proofs.Common.{◌≡◌, ℕ, ℤ, Bool, true, false, All, Contains, List, [], ◌∷◌, ◌++◌}
 use Rattle.plan_num.proofs.Common.{Option, Some, None, IfErr, Result, Ok, Err, refl, sym, ◌∙◌}
 use Rattle.plan_num.proofs.Common.{arith, All-cons, Contains-append_right, ⊤}
-use Rattle.plan_files.proofs.Common.{Got, Bytes, Absent, Folder}
+use Rattle.plan_files.specs.declared.store.Got.{Got}
+use Rattle.plan_files.specs.declared.store.Got.TheVariants.{Bytes, Absent}
+use Rattle.plan_files.proofs.Common.{Folder}
 use Rattle.plan_files.specs.declared.store.Got.TheVariants.{TooLong as Long}
-use Rattle.tables.proofs.Common.{FileId, Refusal, file_name}
-use Rattle.giv_files.proofs.Common.{Made, MadeFile, Stage, BundleParts, Fits, stage_inputs}
-use Rattle.config_keys.proofs.Common.{ConfigFault, AreSettings, look_in, effective_settings}
+use Rattle.tables.specs.declared.file_id.FileId.{FileId}
+use Rattle.tables.specs.declared.refusal.Refusal.{Refusal}
+use Rattle.tables.proofs.Common.{file_name}
+use Rattle.giv_files.specs.declared.made.Made.{Made}
+use Rattle.giv_files.specs.declared.made.MadeFile.{MadeFile}
+use Rattle.giv_files.specs.declared.stage.Stage.{Stage}
+use Rattle.giv_files.proofs.Common.{BundleParts, Fits, stage_inputs}
+use Rattle.config_keys.specs.declared.config_fault.ConfigFault.{ConfigFault}
+use Rattle.config_keys.proofs.Common.{AreSettings, look_in, effective_settings}
 use Rattle.stage_chain.specs.declared.cause.Cause.{Cause}
 use Rattle.stage_chain.specs.declared.cause.Cause.TheVariants as cause
 use Rattle.stage_chain.specs.declared.origin.Origin.{Origin}

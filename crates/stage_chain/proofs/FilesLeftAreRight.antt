@@ -6,10 +6,14 @@ use Rattle.plan_num.proofs.Common.{bytes_eq-Decides, and_from}
 use Rattle.stage_chain.proofs.Traces.{run_staged, staged_within}
 use Rattle.stage_chain.specs.StageParts.{staged}
 use Rattle.std.specs.FinMap as files
-use Rattle.plan_files.proofs.Common.{Put, Folder, get_part, part_after, get_written}
-use Rattle.tables.proofs.Common.{FileId, file_name}
+use Rattle.plan_files.specs.declared.write.Write.TheVariants.{Put}
+use Rattle.plan_files.proofs.Common.{Folder, get_part, part_after, get_written}
+use Rattle.tables.specs.declared.file_id.FileId.{FileId}
+use Rattle.tables.proofs.Common.{file_name}
 use Rattle.tables.specs.declared.file_id.FileId.TheVariants as file
-use Rattle.giv_files.proofs.Common.{MadeFile, Stage, stage_makes}
+use Rattle.giv_files.specs.declared.made.MadeFile.{MadeFile}
+use Rattle.giv_files.specs.declared.stage.Stage.{Stage}
+use Rattle.giv_files.proofs.Common.{stage_makes}
 use Rattle.giv_files.specs.declared.stage.Stage.TheVariants as stage
 use Rattle.config_keys.proofs.Common.{last_stage_of, look_in, effective, effective_settings}
 use Rattle.stage_chain.specs.declared.cause.Cause.{Cause}

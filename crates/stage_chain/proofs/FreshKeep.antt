@@ -3,9 +3,11 @@ use Rattle.plan_num.proofs.Common.{arith, ◌≡◌, ℕ, Bool, true, false, con
 use Rattle.plan_num.proofs.Common.{None, refl, ap, sym, ◌∙◌, nat_cmp, Option, Some, IfSome}
 use Rattle.plan_num.proofs.Common.{slice_cmp, bytes_eq, false≢true, bytes_eq-Decides}
 use Rattle.std.specs.FinMap as files
-use Rattle.plan_files.proofs.Common.{Write, after_write, folder_after, left_by, write_name, Folder}
+use Rattle.plan_files.specs.declared.write.Write.{Write}
+use Rattle.plan_files.proofs.Common.{after_write, folder_after, left_by, write_name, Folder}
 use Rattle.plan_files.proofs.Common.{get_part, same_folder, get_written}
-use Rattle.giv_files.proofs.Common.{Stage, all_stages}
+use Rattle.giv_files.specs.declared.stage.Stage.{Stage}
+use Rattle.giv_files.proofs.Common.{all_stages}
 use Rattle.stage_keep.specs.Entries.{keep_name}
 use Rattle.command_line.specs.declared.mode.Mode.{Mode}
 use Rattle.command_line.specs.declared.mode.Mode.TheVariants as mode

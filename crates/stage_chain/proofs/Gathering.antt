@@ -4,8 +4,9 @@ use Rattle.plan_num.proofs.Common.{get_or, drop, Option, Some, None, IfSome, Res
 use Rattle.plan_num.proofs.Common.{ap, sym, ◌∙◌, append-nil, append_assoc, at_drop_more}
 use Rattle.plan_num.proofs.Common.{at_drop_all}
 use Rattle.plan_files.proofs.Common.{Folder}
-use Rattle.tables.proofs.Common.{FileId}
-use Rattle.giv_files.proofs.Common.{Stage, BundleParts}
+use Rattle.tables.specs.declared.file_id.FileId.{FileId}
+use Rattle.giv_files.specs.declared.stage.Stage.{Stage}
+use Rattle.giv_files.proofs.Common.{BundleParts}
 use Rattle.stage_chain.specs.declared.cause.Cause.{Cause}
 use Rattle.stage_chain.specs.declared.chain_end.ChainEnd.{ChainEnd}
 use Rattle.stage_chain.specs.declared.chain_end.ChainEnd.TheVariants as end

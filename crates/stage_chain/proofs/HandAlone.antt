@@ -5,11 +5,17 @@ use Rattle.plan_num.proofs.Common.{false≢true, bytes_eq-Decides}
 use Rattle.stage_chain.specs.StageParts.{staged}
 use Rattle.std.specs.FinMap as files
 use Rattle.plan_files.proofs.Common.{Folder, found, get_part}
-use Rattle.tables.proofs.Common.{FileId, Refusal, file_name}
+use Rattle.tables.specs.declared.file_id.FileId.{FileId}
+use Rattle.tables.specs.declared.refusal.Refusal.{Refusal}
+use Rattle.tables.proofs.Common.{file_name}
 use Rattle.tables.specs.declared.file_id.FileId.TheVariants as file
-use Rattle.giv_files.proofs.Common.{Made, MadeFile, Stage, BundleParts, stage_inputs}
-use Rattle.config_keys.proofs.Common.{ConfigFault, is_inside, path_of, look_in, config_name}
-use Rattle.config_keys.proofs.Common.{file_limit, effective, effective_same}
+use Rattle.giv_files.specs.declared.made.Made.{Made}
+use Rattle.giv_files.specs.declared.made.MadeFile.{MadeFile}
+use Rattle.giv_files.specs.declared.stage.Stage.{Stage}
+use Rattle.giv_files.proofs.Common.{BundleParts, stage_inputs}
+use Rattle.config_keys.specs.declared.config_fault.ConfigFault.{ConfigFault}
+use Rattle.config_keys.proofs.Common.{is_inside, path_of, look_in, config_name, file_limit}
+use Rattle.config_keys.proofs.Common.{effective, effective_same}
 use Rattle.stage_chain.specs.Hand.{is_hand, hand_of}
 use Rattle.stage_chain.specs.Chain.{hand_text, input_text, texts_of}
 use Rattle.stage_chain.specs.Chain.{bundle_told, tried, go_on, visit_of, chain_from, to_run}

@@ -1,6 +1,6 @@
 -- People write the files that no stage makes.
 use Rattle.plan_num.proofs.Common.{◌≡◌, refl}
-use Rattle.tables.proofs.Common.{FileId}
+use Rattle.tables.specs.declared.file_id.FileId.{FileId}
 use Rattle.tables.specs.declared.file_id.FileId.TheVariants as file
 use Rattle.stage_chain.specs.Chain.{origin_of}
 use Rattle.stage_chain.specs.Findings.{is_of_people}

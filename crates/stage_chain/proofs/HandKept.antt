@@ -1,10 +1,15 @@
 -- The files that people write stay as they are.
 use Rattle.plan_num.proofs.Common.{arith, ◌≡◌, ℕ, true, not, List, [], ◌∷◌, ◌++◌, map, Option, Ok}
 use Rattle.plan_num.proofs.Common.{refl, list_all, and_parts, not-true, map-append, list_all-map}
-use Rattle.plan_files.proofs.Common.{Write, Removal, FileFault, Folder, AreApplied, AreCutShort}
-use Rattle.plan_files.proofs.Common.{AreOutside, outside_both, applied_part, cut_part}
-use Rattle.giv_files.proofs.Common.{Made, MadeFile, Stage, MakesAs, ids_of, BundleParts}
-use Rattle.giv_files.proofs.Common.{stage_makes}
+use Rattle.plan_files.specs.declared.write.Write.{Write}
+use Rattle.plan_files.specs.declared.write.Write.TheVariants.{Removal}
+use Rattle.plan_files.specs.declared.file_fault.FileFault.{FileFault}
+use Rattle.plan_files.proofs.Common.{Folder, AreApplied, AreCutShort, AreOutside, outside_both}
+use Rattle.plan_files.proofs.Common.{applied_part, cut_part}
+use Rattle.giv_files.specs.declared.made.Made.{Made}
+use Rattle.giv_files.specs.declared.made.MadeFile.{MadeFile}
+use Rattle.giv_files.specs.declared.stage.Stage.{Stage}
+use Rattle.giv_files.proofs.Common.{MakesAs, ids_of, BundleParts, stage_makes}
 use Rattle.giv_files.specs.declared.stage.Stage.TheVariants as stage
 use Rattle.stage_chain.specs.Hand.{is_hand, is_hand_file, hand_of}
 use Rattle.stage_chain.specs.Hand.{AreNoHandFiles}

@@ -4,10 +4,15 @@ use Rattle.plan_num.proofs.Common.{◌++◌, map, Option, Some, None, Result, Ok
 use Rattle.plan_num.proofs.Common.{subst, ◌∙◌, append_assoc, append-nil, arith, fold, ◌+◌, ◌||◌}
 use Rattle.plan_num.proofs.Common.{list_all, sum_by, and_parts, or_parts, map-append, filter-append}
 use Rattle.std.specs.FinMap as files
-use Rattle.plan_files.proofs.Common.{Write, Removal, Folder}
-use Rattle.tables.proofs.Common.{FileId, file_name}
-use Rattle.giv_files.proofs.Common.{Made, MadeFile, Stage, MakesAs, ids_of, BundleParts}
-use Rattle.giv_files.proofs.Common.{stage_inputs, stage_makes}
+use Rattle.plan_files.specs.declared.write.Write.{Write}
+use Rattle.plan_files.specs.declared.write.Write.TheVariants.{Removal}
+use Rattle.plan_files.proofs.Common.{Folder}
+use Rattle.tables.specs.declared.file_id.FileId.{FileId}
+use Rattle.tables.proofs.Common.{file_name}
+use Rattle.giv_files.specs.declared.made.Made.{Made}
+use Rattle.giv_files.specs.declared.made.MadeFile.{MadeFile}
+use Rattle.giv_files.specs.declared.stage.Stage.{Stage}
+use Rattle.giv_files.proofs.Common.{MakesAs, ids_of, BundleParts, stage_inputs, stage_makes}
 use Rattle.config_keys.proofs.Common.{look_in, effective}
 use Rattle.stage_chain.specs.declared.cause.Cause.{Cause}
 use Rattle.stage_chain.specs.declared.holding.Holding.{Holding}

@@ -3,8 +3,12 @@ use Rattle.plan_num.proofs.Common.{arith, ◌≡◌, ℕ, ℤ, Bool, true, false
 use Rattle.plan_num.proofs.Common.{Some, None, IfSome, IfOk, Result, Ok, Err, refl, ap, subst, sym}
 use Rattle.plan_num.proofs.Common.{◌∙◌, ◌+◌, ◌<◌, length, get_or, drop, option_or, at_drop_more}
 use Rattle.plan_files.proofs.Common.{Folder}
-use Rattle.giv_files.proofs.Common.{MadeFile, Stage, BundleParts}
-use Rattle.config_keys.proofs.Common.{ConfigEnd, ConfigFault, ConfigGives, look_in, effective}
+use Rattle.giv_files.specs.declared.made.MadeFile.{MadeFile}
+use Rattle.giv_files.specs.declared.stage.Stage.{Stage}
+use Rattle.giv_files.proofs.Common.{BundleParts}
+use Rattle.config_keys.specs.declared.config_end.ConfigEnd.{ConfigEnd}
+use Rattle.config_keys.specs.declared.config_fault.ConfigFault.{ConfigFault}
+use Rattle.config_keys.proofs.Common.{ConfigGives, look_in, effective}
 use Rattle.config_keys.specs.declared.config_end.ConfigEnd.TheVariants as config
 use Rattle.config_keys.specs.Ends.{is_broken as config_broken}
 use Rattle.stage_chain.specs.declared.cause.Cause.TheVariants as cause

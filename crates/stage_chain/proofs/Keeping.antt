@@ -2,8 +2,10 @@
 use Rattle.plan_num.proofs.Common.{arith, ◌≡◌, ℤ, cond, is_some, List, [], ◌∷◌, ◌++◌, None, Result}
 use Rattle.plan_num.proofs.Common.{Ok, Err, refl, ap, ◌∙◌}
 use Rattle.plan_files.proofs.Common.{Folder}
-use Rattle.giv_files.proofs.Common.{Made, MadeFile, Stage, MakesAs, ids_of, BundleParts, Fits}
-use Rattle.giv_files.proofs.Common.{stage_inputs}
+use Rattle.giv_files.specs.declared.made.Made.{Made}
+use Rattle.giv_files.specs.declared.made.MadeFile.{MadeFile}
+use Rattle.giv_files.specs.declared.stage.Stage.{Stage}
+use Rattle.giv_files.proofs.Common.{MakesAs, ids_of, BundleParts, Fits, stage_inputs}
 use Rattle.config_keys.proofs.Common.{AreSettings, effective_settings}
 use Rattle.stage_keep.specs.Honest.{kept_for}
 use Rattle.stage_keep.proofs.Honesty.{honest_is_made, kept_makes}

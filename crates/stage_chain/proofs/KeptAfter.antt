@@ -6,11 +6,14 @@ use Rattle.plan_num.proofs.Common.{bytes_eq-Decides, and_from}
 use Rattle.std.specs.FinMap as files
 use Rattle.plan_files.proofs.Common.{after_write, folder_after, Folder, get_part, folder_after_both}
 use Rattle.plan_files.proofs.Common.{get_written}
-use Rattle.giv_files.proofs.Common.{Made, MadeFile, Stage, Fits, all_stages}
-use Rattle.tables.proofs.Common.{Refusal}
+use Rattle.giv_files.specs.declared.made.Made.{Made}
+use Rattle.giv_files.specs.declared.made.MadeFile.{MadeFile}
+use Rattle.giv_files.specs.declared.stage.Stage.{Stage}
+use Rattle.giv_files.proofs.Common.{Fits, all_stages}
+use Rattle.tables.specs.declared.refusal.Refusal.{Refusal}
 use Rattle.giv_files.specs.declared.stage.Stage.TheVariants as stage
-use Rattle.config_keys.proofs.Common.{ConfigFault, AreSettings, look_in, effective}
-use Rattle.config_keys.proofs.Common.{effective_settings}
+use Rattle.config_keys.specs.declared.config_fault.ConfigFault.{ConfigFault}
+use Rattle.config_keys.proofs.Common.{AreSettings, look_in, effective, effective_settings}
 use Rattle.stage_keep.specs.Entries.{entry_bytes, entry_for, keep_name}
 use Rattle.stage_keep.specs.EntryReading.{read_entry}
 use Rattle.stage_keep.specs.Honest.{IsHonest, kept_for}

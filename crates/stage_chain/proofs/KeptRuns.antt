@@ -2,7 +2,8 @@
 use Rattle.plan_num.proofs.Common.{arith, ◌≡◌, ℕ, ◌+◌, ◌≤◌, List, [], ◌++◌, Option, Some, None}
 use Rattle.plan_num.proofs.Common.{IfSome, IfOk, IfErr, OnOk, Result, Ok, Err, ap, sym, subst, ◌∙◌}
 use Rattle.plan_num.proofs.Common.{inl, option_map, IfSome_then}
-use Rattle.plan_files.proofs.Common.{Write, AreApplied, Counts, Folder}
+use Rattle.plan_files.specs.declared.write.Write.{Write}
+use Rattle.plan_files.proofs.Common.{AreApplied, Counts, Folder}
 use Rattle.command_line.specs.declared.mode.Mode.TheVariants as mode
 use Rattle.stage_chain.specs.declared.cause.Cause.{Cause}
 use Rattle.stage_chain.specs.declared.outcome.ChainFault.{ChainFault}

@@ -3,9 +3,10 @@ use Rattle.plan_num.proofs.Common.{arith, ◌≡◌, ℕ, Bool, true, false, con
 use Rattle.plan_num.proofs.Common.{◌++◌, map, Option, Some, None, refl, ap, sym, ◌∙◌, bytes_eq}
 use Rattle.plan_num.proofs.Common.{false≢true, bytes_eq-Decides}
 use Rattle.std.specs.FinMap as files
-use Rattle.plan_files.proofs.Common.{Put, Removal, Folder, after_write, folder_after, get_part}
-use Rattle.plan_files.proofs.Common.{same_folder, folder_after_both, get_written}
-use Rattle.giv_files.proofs.Common.{MadeFile}
+use Rattle.plan_files.specs.declared.write.Write.TheVariants.{Put, Removal}
+use Rattle.plan_files.proofs.Common.{Folder, after_write, folder_after, get_part, same_folder}
+use Rattle.plan_files.proofs.Common.{folder_after_both, get_written}
+use Rattle.giv_files.specs.declared.made.MadeFile.{MadeFile}
 use Rattle.stage_chain.specs.Hand.{hand_of, is_among, keep_names, names_made_by}
 use Rattle.stage_chain.specs.Built.{files_of}
 use Rattle.stage_chain.specs.Kept.{made_over, trace_over}

@@ -1,8 +1,9 @@
 -- One look of texts, in which each file has one.
 use Rattle.plan_num.proofs.Common.{arith, ◌≡◌, ℕ, ℤ, List, [], ◌∷◌, ◌++◌, map, Result, Ok, Err}
 use Rattle.plan_num.proofs.Common.{refl, ap, sym, ◌∙◌}
-use Rattle.tables.proofs.Common.{FileId}
-use Rattle.giv_files.proofs.Common.{Stage, ids_of, BundleParts, stage_inputs}
+use Rattle.tables.specs.declared.file_id.FileId.{FileId}
+use Rattle.giv_files.specs.declared.stage.Stage.{Stage}
+use Rattle.giv_files.proofs.Common.{ids_of, BundleParts, stage_inputs}
 use Rattle.stage_chain.specs.declared.cause.Cause.{Cause}
 use Rattle.stage_chain.specs.Chain.{bundle_for, bundle_told, bundle_by, chosen, texts_by, with_text}
 use Rattle.stage_chain.specs.Laws.{bundle_over, files_over}

@@ -1,8 +1,10 @@
 -- What holds of each list of files that a stage may make.
 use Rattle.plan_num.proofs.Common.{◌≡◌, Bool, true, List, [], ◌∷◌, map, filter, refl, arith}
 use Rattle.plan_num.proofs.Common.{list_all, Contains}
-use Rattle.tables.proofs.Common.{FileId, file_name}
-use Rattle.giv_files.proofs.Common.{Stage, MakesAs, stage_makes}
+use Rattle.tables.specs.declared.file_id.FileId.{FileId}
+use Rattle.tables.proofs.Common.{file_name}
+use Rattle.giv_files.specs.declared.stage.Stage.{Stage}
+use Rattle.giv_files.proofs.Common.{MakesAs, stage_makes}
 use Rattle.giv_files.specs.declared.stage.Stage.TheVariants as stage
 use Rattle.stage_chain.specs.Hand.{is_among}
 use Rattle.stage_chain.specs.StageLists.{differing}

@@ -3,8 +3,10 @@ use Rattle.plan_num.proofs.Common.{All, Contains, arith, ◌≡◌, ℕ, ℤ, su
 use Rattle.plan_num.proofs.Common.{Result, Ok, Err, refl, ap, subst, sym, ◌∙◌, All-head, All-tail}
 use Rattle.stage_chain.specs.StageParts.{staged}
 use Rattle.plan_files.proofs.Common.{Folder}
-use Rattle.tables.proofs.Common.{FileId}
-use Rattle.giv_files.proofs.Common.{MadeFile, Stage, BundleParts, Fits, stage_inputs}
+use Rattle.tables.specs.declared.file_id.FileId.{FileId}
+use Rattle.giv_files.specs.declared.made.MadeFile.{MadeFile}
+use Rattle.giv_files.specs.declared.stage.Stage.{Stage}
+use Rattle.giv_files.proofs.Common.{BundleParts, Fits, stage_inputs}
 use Rattle.config_keys.proofs.Common.{AreSettings, part_fits}
 use Rattle.stage_chain.specs.declared.cause.Cause.{Cause}
 use Rattle.stage_chain.specs.Chain.{Visit, chosen, input_text, with_text, texts_by, bundle_for}

@@ -2,8 +2,10 @@
 use Rattle.plan_num.proofs.Common.{arith, ◌≡◌, ℕ, Bool, true, false, cond, List, [], ◌∷◌, ◌++◌, map}
 use Rattle.plan_num.proofs.Common.{filter, Result, Ok, Err, refl, ap, subst, sym, ◌∙◌, append_assoc}
 use Rattle.plan_num.proofs.Common.{and_parts, or_parts, map-append, bytes_eq-Decides}
-use Rattle.tables.proofs.Common.{FileId, file_name}
-use Rattle.giv_files.proofs.Common.{MadeFile, ids_of}
+use Rattle.tables.specs.declared.file_id.FileId.{FileId}
+use Rattle.tables.proofs.Common.{file_name}
+use Rattle.giv_files.specs.declared.made.MadeFile.{MadeFile}
+use Rattle.giv_files.proofs.Common.{ids_of}
 use Rattle.stage_chain.specs.declared.cause.Cause.{Cause}
 use Rattle.stage_chain.specs.declared.cause.Cause.TheVariants as cause
 use Rattle.stage_chain.specs.Chain.{is_file, made_text}

@@ -5,8 +5,11 @@ use Rattle.plan_num.proofs.Common.{IfSome, refl, ap, sym, ◌∙◌, append-nil,
 use Rattle.plan_num.proofs.Common.{ok_or, at_drop_more, at_drop_all}
 use Rattle.std.specs.FinMap as map
 use Rattle.plan_files.proofs.Common.{Folder}
-use Rattle.tables.proofs.Common.{FileId, file_name}
-use Rattle.giv_files.proofs.Common.{MadeFile, Stage, stage_makes}
+use Rattle.tables.specs.declared.file_id.FileId.{FileId}
+use Rattle.tables.proofs.Common.{file_name}
+use Rattle.giv_files.specs.declared.made.MadeFile.{MadeFile}
+use Rattle.giv_files.specs.declared.stage.Stage.{Stage}
+use Rattle.giv_files.proofs.Common.{stage_makes}
 use Rattle.stage_chain.specs.declared.cause.Cause.TheVariants as cause
 use Rattle.stage_chain.specs.Checks.{found_one, is_lacking}
 use Rattle.stage_chain.specs.Right.{files_by, found_file, made_in}

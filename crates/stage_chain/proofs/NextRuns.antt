@@ -6,9 +6,13 @@ use Rattle.plan_num.proofs.Common.{list_all, list_any, bytes_eq, and_parts, ltb-
 use Rattle.plan_num.proofs.Common.{All-cons, All-contains, Contains-append_cases, list_all-map}
 use Rattle.plan_num.proofs.Common.{list_any-append}
 use Rattle.plan_files.proofs.Common.{Folder}
-use Rattle.tables.proofs.Common.{FileId, Refusal, file_name}
-use Rattle.giv_files.proofs.Common.{Made, MadeFile, Stage, MakesAs, ids_of, BundleParts}
-use Rattle.giv_files.proofs.Common.{stage_inputs, stage_makes}
+use Rattle.tables.specs.declared.file_id.FileId.{FileId}
+use Rattle.tables.specs.declared.refusal.Refusal.{Refusal}
+use Rattle.tables.proofs.Common.{file_name}
+use Rattle.giv_files.specs.declared.made.Made.{Made}
+use Rattle.giv_files.specs.declared.made.MadeFile.{MadeFile}
+use Rattle.giv_files.specs.declared.stage.Stage.{Stage}
+use Rattle.giv_files.proofs.Common.{MakesAs, ids_of, BundleParts, stage_inputs, stage_makes}
 use Rattle.stage_chain.specs.declared.cause.Cause.{Cause}
 use Rattle.stage_chain.specs.declared.cause.Cause.TheVariants as cause
 use Rattle.stage_chain.specs.declared.holding.Holding.{Holding}

@@ -3,8 +3,11 @@ use Rattle.plan_num.proofs.Common.{arith, ◌≡◌, ℕ, ℤ, false, cond, is_s
 use Rattle.plan_num.proofs.Common.{length, get_or, drop, Option, Some, None, IfSome, IfOk, IfNone}
 use Rattle.plan_num.proofs.Common.{Result, Ok, Err, subst, sym, at_drop_more, at_drop_all}
 use Rattle.plan_files.proofs.Common.{Folder}
-use Rattle.giv_files.proofs.Common.{MadeFile, Stage, MakesAs, ids_of, BundleParts}
-use Rattle.config_keys.proofs.Common.{ConfigEnd, ConfigGives, look_in, effective}
+use Rattle.giv_files.specs.declared.made.MadeFile.{MadeFile}
+use Rattle.giv_files.specs.declared.stage.Stage.{Stage}
+use Rattle.giv_files.proofs.Common.{MakesAs, ids_of, BundleParts}
+use Rattle.config_keys.specs.declared.config_end.ConfigEnd.{ConfigEnd}
+use Rattle.config_keys.proofs.Common.{ConfigGives, look_in, effective}
 use Rattle.config_keys.specs.declared.config_end.ConfigEnd.TheVariants as config
 use Rattle.stage_chain.specs.declared.chain_end.ChainEnd.{ChainEnd}
 use Rattle.stage_chain.specs.declared.chain_end.ChainEnd.TheVariants as end

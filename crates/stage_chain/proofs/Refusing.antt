@@ -5,10 +5,15 @@ use Rattle.plan_num.proofs.Common.{Ok, Err, refl, ap, subst, sym, ◌∙◌, app
 use Rattle.plan_num.proofs.Common.{arith, ⊎_elim, list_all, flat_map, bytes_eq, false≢true}
 use Rattle.plan_num.proofs.Common.{and_parts, and_from, ltb-true, leb-true, le-leb, le-ltb}
 use Rattle.plan_num.proofs.Common.{bytes_eq-Decides}
-use Rattle.plan_files.proofs.Common.{Got, Bytes, Absent, Folder}
+use Rattle.plan_files.specs.declared.store.Got.{Got}
+use Rattle.plan_files.specs.declared.store.Got.TheVariants.{Bytes, Absent}
+use Rattle.plan_files.proofs.Common.{Folder}
 use Rattle.plan_files.specs.declared.store.Got.TheVariants.{TooLong as Long}
-use Rattle.giv_files.proofs.Common.{MadeFile, Stage, ids_of, stage_inputs, stage_makes}
-use Rattle.tables.proofs.Common.{FileId, file_name}
+use Rattle.giv_files.specs.declared.made.MadeFile.{MadeFile}
+use Rattle.giv_files.specs.declared.stage.Stage.{Stage}
+use Rattle.giv_files.proofs.Common.{ids_of, stage_inputs, stage_makes}
+use Rattle.tables.specs.declared.file_id.FileId.{FileId}
+use Rattle.tables.proofs.Common.{file_name}
 use Rattle.tables.specs.declared.file_id.FileId.TheVariants as file
 use Rattle.config_keys.proofs.Common.{last_stage_of, look_in, ConfigNames, config_names}
 use Rattle.config_keys.proofs.Common.{effective_settings}

@@ -1,8 +1,8 @@
 -- What is right over one look of texts, stage by stage.
 use Rattle.plan_num.proofs.Common.{arith, ◌≡◌, ℕ, ℤ, Bool, true, false, ◌||◌, List, [], ◌∷◌, map}
 use Rattle.plan_num.proofs.Common.{refl, subst, list_any, bytes_eq, false≢true, bytes_eq-Decides}
-use Rattle.tables.proofs.Common.{FileId}
-use Rattle.giv_files.proofs.Common.{Stage}
+use Rattle.tables.specs.declared.file_id.FileId.{FileId}
+use Rattle.giv_files.specs.declared.stage.Stage.{Stage}
 use Rattle.stage_keep.specs.Entries.{keep_name}
 use Rattle.stage_chain.specs.Chain.{stage_place}
 use Rattle.stage_chain.specs.Laws.{AreRightOver, IsRightOver}

@@ -1,7 +1,8 @@
 -- What a run says: the removals of a fresh one, and then a run over what is kept.
 use Rattle.plan_num.proofs.Common.{arith, ◌≡◌, ◌+◌, ◌≤◌, List, ◌++◌, Option, Some, IfSome, Result}
 use Rattle.plan_num.proofs.Common.{Ok, Err, ap, sym, subst, ◌∙◌, inl, option_map, IfSome_then}
-use Rattle.plan_files.proofs.Common.{Write, AreApplied, Counts, Folder}
+use Rattle.plan_files.specs.declared.write.Write.{Write}
+use Rattle.plan_files.proofs.Common.{AreApplied, Counts, Folder}
 use Rattle.command_line.specs.declared.mode.Mode.{Mode}
 use Rattle.command_line.specs.declared.mode.Mode.TheVariants as mode
 use Rattle.stage_chain.specs.declared.outcome.ChainFault.{ChainFault}

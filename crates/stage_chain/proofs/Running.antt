@@ -1,7 +1,8 @@
 -- A run is what its hand files and what is kept determine.
 use Rattle.plan_num.proofs.Common.{◌≡◌, List, ◌++◌, Option, Some, None, refl, ap, sym, ◌∙◌}
 use Rattle.plan_num.proofs.Common.{append_assoc, arith, option_map}
-use Rattle.plan_files.proofs.Common.{Write, Folder, outside_both}
+use Rattle.plan_files.specs.declared.write.Write.{Write}
+use Rattle.plan_files.proofs.Common.{Folder, outside_both}
 use Rattle.stage_chain.specs.declared.outcome.Outcome.{Outcome}
 use Rattle.stage_chain.specs.declared.cause.Cause.{Cause}
 use Rattle.stage_chain.specs.Built.{RunParts, cause_of, told_by}

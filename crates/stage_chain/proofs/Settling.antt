@@ -2,9 +2,12 @@
 use Rattle.plan_num.proofs.Common.{◌≡◌, ℕ, Bool, true, not, ◌⊎◌, List, [], ◌∷◌, ◌++◌, map, length}
 use Rattle.plan_num.proofs.Common.{Option, Some, None, IfSome, refl, ap, sym, subst, ◌∙◌, ⊎_elim}
 use Rattle.plan_num.proofs.Common.{append-nil, append_assoc, arith, list_all}
-use Rattle.plan_files.proofs.Common.{FileFault, Write, Removal, AreApplied, AreCutShort, Folder}
-use Rattle.plan_files.proofs.Common.{AreOutside, outside_both, outside_front}
-use Rattle.giv_files.proofs.Common.{MadeFile}
+use Rattle.plan_files.specs.declared.file_fault.FileFault.{FileFault}
+use Rattle.plan_files.specs.declared.write.Write.{Write}
+use Rattle.plan_files.specs.declared.write.Write.TheVariants.{Removal}
+use Rattle.plan_files.proofs.Common.{AreApplied, AreCutShort, Folder, AreOutside, outside_both}
+use Rattle.plan_files.proofs.Common.{outside_front}
+use Rattle.giv_files.specs.declared.made.MadeFile.{MadeFile}
 use Rattle.stage_chain.specs.Hand.{AreNoHandFiles, is_hand, keep_names}
 use Rattle.stage_chain.specs.Runs.{AddsNoHandFile, SameHand, unmet, writes_for}
 use Rattle.stage_chain.proofs.HandKept.{applied_hand, cut_hand, made_outside, removals_outside}

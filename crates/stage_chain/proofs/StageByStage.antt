@@ -4,8 +4,11 @@ use Rattle.plan_num.proofs.Common.{length, get_or, drop, Option, Some, None, IfS
 use Rattle.plan_num.proofs.Common.{Err, refl, ap, ◌∙◌, subst, arith, append-nil, append_assoc}
 use Rattle.plan_num.proofs.Common.{sum_by, at_drop_more, at_drop_all, sum_by-cons}
 use Rattle.plan_files.proofs.Common.{Folder}
-use Rattle.giv_files.proofs.Common.{Made, MadeFile, Stage, BundleParts}
-use Rattle.tables.proofs.Common.{Refusal}
+use Rattle.giv_files.specs.declared.made.Made.{Made}
+use Rattle.giv_files.specs.declared.made.MadeFile.{MadeFile}
+use Rattle.giv_files.specs.declared.stage.Stage.{Stage}
+use Rattle.giv_files.proofs.Common.{BundleParts}
+use Rattle.tables.specs.declared.refusal.Refusal.{Refusal}
 use Rattle.config_keys.proofs.Common.{last_stage_of}
 use Rattle.stage_chain.specs.declared.chain_end.ChainEnd.{ChainEnd}
 use Rattle.stage_chain.specs.declared.chain_end.ChainEnd.TheVariants as end

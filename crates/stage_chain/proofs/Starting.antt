@@ -3,7 +3,8 @@ use Rattle.stage_chain.specs.StageParts.{staged}
 use Rattle.plan_num.proofs.Common.{◌≡◌, ℕ, ℤ, List, [], Option, Some, None, IfSome, Result, Ok, Err}
 use Rattle.plan_num.proofs.Common.{arith}
 use Rattle.plan_files.proofs.Common.{Folder}
-use Rattle.config_keys.proofs.Common.{ConfigEnd, ConfigGives, look_in, effective}
+use Rattle.config_keys.specs.declared.config_end.ConfigEnd.{ConfigEnd}
+use Rattle.config_keys.proofs.Common.{ConfigGives, look_in, effective}
 use Rattle.config_keys.specs.declared.config_end.ConfigEnd.TheVariants as config
 use Rattle.stage_chain.specs.declared.chain_end.ChainEnd.{ChainEnd}
 use Rattle.stage_chain.specs.Chain.{chain_from, to_run}

@@ -6,9 +6,12 @@ use Rattle.plan_num.proofs.Common.{append_assoc, list_all, at_drop_more, at_drop
 use Rattle.plan_num.proofs.Common.{get_or_from_slice_get, slice_get_within}
 use Rattle.stage_chain.specs.States.{holding_in}
 use Rattle.plan_files.proofs.Common.{Folder}
-use Rattle.tables.proofs.Common.{FileId}
-use Rattle.giv_files.proofs.Common.{MadeFile, Stage}
-use Rattle.config_keys.proofs.Common.{ConfigEnd, ConfigFault, ConfigGives, look_in, effective}
+use Rattle.tables.specs.declared.file_id.FileId.{FileId}
+use Rattle.giv_files.specs.declared.made.MadeFile.{MadeFile}
+use Rattle.giv_files.specs.declared.stage.Stage.{Stage}
+use Rattle.config_keys.specs.declared.config_end.ConfigEnd.{ConfigEnd}
+use Rattle.config_keys.specs.declared.config_fault.ConfigFault.{ConfigFault}
+use Rattle.config_keys.proofs.Common.{ConfigGives, look_in, effective}
 use Rattle.config_keys.specs.declared.config_end.ConfigEnd.TheVariants as config
 use Rattle.config_keys.specs.Ends.{is_broken as config_broken}
 use Rattle.stage_chain.specs.declared.outcome.ChainFault.{ChainFault}

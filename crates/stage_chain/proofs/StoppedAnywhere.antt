@@ -1,7 +1,9 @@
 -- Where a run is stopped, the files that people write are as before, and what is kept is honest.
 use Rattle.plan_num.proofs.Common.{◌≡◌, ◌+◌, ◌≤◌, List, ◌∷◌, [], ◌++◌, Option, Some, None, refl, ap}
 use Rattle.plan_num.proofs.Common.{subst, ⊎_elim, same_Some}
-use Rattle.plan_files.proofs.Common.{Failed, Write, folder_after, Folder, AreOutside, outside_front}
+use Rattle.plan_files.specs.declared.file_fault.FileFault.TheVariants.{Failed}
+use Rattle.plan_files.specs.declared.write.Write.{Write}
+use Rattle.plan_files.proofs.Common.{folder_after, Folder, AreOutside, outside_front}
 use Rattle.command_line.specs.declared.mode.Mode.{Mode}
 use Rattle.command_line.specs.declared.mode.Mode.TheVariants as mode
 use Rattle.stage_chain.specs.Hand.{hand_of, is_hand}

@@ -4,9 +4,14 @@ use Rattle.plan_num.proofs.Common.{◌++◌, map, filter, take, drop, Option, So
 use Rattle.plan_num.proofs.Common.{refl, ap, sym, subst, ◌∙◌, inl, ⊎_elim, append-nil, option_map}
 use Rattle.plan_num.proofs.Common.{bytes_eq, and_parts, false≢true, take-append-drop}
 use Rattle.plan_num.proofs.Common.{bytes_eq-Decides}
-use Rattle.plan_files.proofs.Common.{Write, Removal, AreApplied, AreCutShort, LeftBy, folder_after}
-use Rattle.plan_files.proofs.Common.{Folder, AreOutside, outside_both, outside_front}
-use Rattle.giv_files.proofs.Common.{Made, MadeFile, Stage, Fits}
+use Rattle.plan_files.specs.declared.write.Write.{Write}
+use Rattle.plan_files.specs.declared.write.Write.TheVariants.{Removal}
+use Rattle.plan_files.proofs.Common.{AreApplied, AreCutShort, LeftBy, folder_after, Folder}
+use Rattle.plan_files.proofs.Common.{AreOutside, outside_both, outside_front}
+use Rattle.giv_files.specs.declared.made.Made.{Made}
+use Rattle.giv_files.specs.declared.made.MadeFile.{MadeFile}
+use Rattle.giv_files.specs.declared.stage.Stage.{Stage}
+use Rattle.giv_files.proofs.Common.{Fits}
 use Rattle.config_keys.proofs.Common.{AreSettings, look_in, effective_settings}
 use Rattle.stage_keep.specs.Entries.{entry_for, keep_name}
 use Rattle.stage_keep.specs.EntryReading.{read_entry}

@@ -4,9 +4,11 @@ use Rattle.plan_num.proofs.Common.{arith, take, length, Option, Some, None, IfSo
 use Rattle.plan_num.proofs.Common.{subst, ◌∙◌, ◌⊎◌, inl, inr, ⊎_elim, list_any, bytes_eq}
 use Rattle.plan_num.proofs.Common.{take-length, false≢true, or_cases, bytes_eq-Decides}
 use Rattle.std.specs.FinMap as files
-use Rattle.plan_files.proofs.Common.{Write, Put, Removal, IsTorn, after_write, folder_after}
-use Rattle.plan_files.proofs.Common.{left_by, write_name, Folder, get_written}
-use Rattle.giv_files.proofs.Common.{Stage}
+use Rattle.plan_files.specs.declared.write.Write.{Write}
+use Rattle.plan_files.specs.declared.write.Write.TheVariants.{Put, Removal}
+use Rattle.plan_files.proofs.Common.{IsTorn, after_write, folder_after, left_by, write_name, Folder}
+use Rattle.plan_files.proofs.Common.{get_written}
+use Rattle.giv_files.specs.declared.stage.Stage.{Stage}
 use Rattle.stage_keep.specs.Entries.{keep_name}
 use Rattle.stage_keep.specs.Honest.{IsHonest}
 use Rattle.stage_chain.specs.Kept.{IsKeptHonest}

@@ -4,9 +4,13 @@ use Rattle.plan_num.proofs.Common.{leb, List, [], ◌∷◌, filter, Result, Ok,
 use Rattle.plan_num.proofs.Common.{All-filter, All-contains_itself, list_all}
 use Rattle.stage_chain.specs.StageParts.{staged}
 use Rattle.plan_files.proofs.Common.{Folder}
-use Rattle.giv_files.proofs.Common.{Made, Stage, MakesAs, ids_of, BundleParts, stage_makes}
-use Rattle.tables.proofs.Common.{Refusal, file_name}
-use Rattle.config_keys.proofs.Common.{ConfigFault, last_stage_of, look_in, effective}
+use Rattle.giv_files.specs.declared.made.Made.{Made}
+use Rattle.giv_files.specs.declared.stage.Stage.{Stage}
+use Rattle.giv_files.proofs.Common.{MakesAs, ids_of, BundleParts, stage_makes}
+use Rattle.tables.specs.declared.refusal.Refusal.{Refusal}
+use Rattle.tables.proofs.Common.{file_name}
+use Rattle.config_keys.specs.declared.config_fault.ConfigFault.{ConfigFault}
+use Rattle.config_keys.proofs.Common.{last_stage_of, look_in, effective}
 use Rattle.stage_chain.specs.Built.{chain_under, files_of, trace_under, trace_of}
 use Rattle.stage_chain.specs.Chain.{Trace, stage_place, to_run}
 use Rattle.stage_chain.specs.Hand.{names_made_by}

@@ -3,8 +3,10 @@
 use Rattle.plan_num.proofs.Common.{◌≡◌, ℕ, List, ◌++◌, arith, refl, sym, subst, ◌∙◌, Bool, false}
 use Rattle.plan_num.proofs.Common.{Option, Some, None, Result, Ok, Err, IfSome, IfOk, option_map}
 use Rattle.std.specs.FinMap as files
-use Rattle.plan_files.proofs.Common.{FileFault, Folder, FoundBehind, LacksEnds}
-use Rattle.giv_files.proofs.Common.{Made, BundleParts, Fits}
+use Rattle.plan_files.specs.declared.file_fault.FileFault.{FileFault}
+use Rattle.plan_files.proofs.Common.{Folder, FoundBehind, LacksEnds}
+use Rattle.giv_files.specs.declared.made.Made.{Made}
+use Rattle.giv_files.proofs.Common.{BundleParts, Fits}
 use Rattle.stage_keep.specs.Entries.{entry_front, given_front, keep_name, last_line}
 use Rattle.stage_keep.specs.EntryReading.{read_made}
 use Rattle.stage_keep.specs.Honest.{kept_for}

@@ -2,7 +2,10 @@
 use Rattle.plan_num.proofs.Common.{◌≡◌, ℕ, ℤ, List, [], ◌∷◌, Option, Some, None, IfSome, Result, Ok}
 use Rattle.plan_num.proofs.Common.{Err, refl, ap, sym, ◌∙◌, subst, arith}
 use Rattle.plan_files.proofs.Common.{Folder}
-use Rattle.giv_files.proofs.Common.{Made, MadeFile, Stage, BundleParts, stage_inputs}
+use Rattle.giv_files.specs.declared.made.Made.{Made}
+use Rattle.giv_files.specs.declared.made.MadeFile.{MadeFile}
+use Rattle.giv_files.specs.declared.stage.Stage.{Stage}
+use Rattle.giv_files.proofs.Common.{BundleParts, stage_inputs}
 use Rattle.stage_chain.specs.declared.chain_end.ChainEnd.{ChainEnd}
 use Rattle.stage_chain.specs.declared.chain_end.ChainEnd.TheVariants as end
 use Rattle.stage_chain.specs.declared.cause.Cause.{Cause}

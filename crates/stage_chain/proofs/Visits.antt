@@ -2,8 +2,11 @@
 use Rattle.plan_num.proofs.Common.{arith, ◌≡◌, ℕ, ℤ, List, [], ◌∷◌, ◌++◌, ◌⊎◌, inl, inr, Option}
 use Rattle.plan_num.proofs.Common.{Some, None, Result, Ok, Err, refl}
 use Rattle.plan_files.proofs.Common.{Folder}
-use Rattle.giv_files.proofs.Common.{Made, MadeFile, Stage, BundleParts, stage_inputs}
-use Rattle.tables.proofs.Common.{Refusal}
+use Rattle.giv_files.specs.declared.made.Made.{Made}
+use Rattle.giv_files.specs.declared.made.MadeFile.{MadeFile}
+use Rattle.giv_files.specs.declared.stage.Stage.{Stage}
+use Rattle.giv_files.proofs.Common.{BundleParts, stage_inputs}
+use Rattle.tables.specs.declared.refusal.Refusal.{Refusal}
 use Rattle.stage_chain.specs.declared.cause.Cause.{Cause}
 use Rattle.stage_chain.specs.declared.cause.Cause.TheVariants as cause
 use Rattle.stage_chain.specs.Chain.{Visit, Halt, Trace, texts_of, bundle_told, tried}

@@ -4,7 +4,8 @@ use Rattle.plan_num.proofs.Common.{map, filter, Option, Some, None, refl, ap, ‚ä
 use Rattle.plan_num.proofs.Common.{false‚â¢true, and_parts, not-true, or_parts}
 use Rattle.plan_num.proofs.Common.{bytes_eq-Decides}
 use Rattle.std.specs.FinMap as files
-use Rattle.plan_files.proofs.Common.{Write, after_write, folder_after, left_by, write_name, Folder}
+use Rattle.plan_files.specs.declared.write.Write.{Write}
+use Rattle.plan_files.proofs.Common.{after_write, folder_after, left_by, write_name, Folder}
 use Rattle.plan_files.proofs.Common.{AreOutside, same_folder, get_written}
 use Rattle.stage_chain.specs.Hand.{is_among}
 use Rattle.stage_chain.specs.Runs.{IsOnce, is_met, same_bytes, unmet}

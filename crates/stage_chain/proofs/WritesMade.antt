@@ -1,7 +1,8 @@
 -- The puts of what was made and the removals of all else are the writes of a run.
 use Rattle.plan_num.proofs.Common.{◌≡◌, List, ◌++◌, map, arith}
-use Rattle.plan_files.proofs.Common.{Write, Removal}
-use Rattle.giv_files.proofs.Common.{MadeFile}
+use Rattle.plan_files.specs.declared.write.Write.{Write}
+use Rattle.plan_files.specs.declared.write.Write.TheVariants.{Removal}
+use Rattle.giv_files.specs.declared.made.MadeFile.{MadeFile}
 use Rattle.stage_chain.specs.Hand.{names_made_by}
 use Rattle.stage_chain.specs.Runs.{names_besides, put_of, writes_for}
 use Rattle.stage_chain.specs.StageParts.{StageParts}

@@ -4,10 +4,14 @@ use Rattle.plan_num.proofs.Common.{◌||◌, List, [], ◌∷◌, ◌++◌, map,
 use Rattle.plan_num.proofs.Common.{list_all, bytes_eq, false≢true, and_parts, and_from, map-append}
 use Rattle.plan_num.proofs.Common.{bytes_eq-Decides}
 use Rattle.stage_chain.specs.StageParts.{staged}
-use Rattle.plan_files.proofs.Common.{Write, Removal, write_name, Folder}
-use Rattle.tables.proofs.Common.{FileId, file_name}
+use Rattle.plan_files.specs.declared.write.Write.{Write}
+use Rattle.plan_files.specs.declared.write.Write.TheVariants.{Removal}
+use Rattle.plan_files.proofs.Common.{write_name, Folder}
+use Rattle.tables.specs.declared.file_id.FileId.{FileId}
+use Rattle.tables.proofs.Common.{file_name}
 use Rattle.tables.specs.declared.file_id.FileId.TheVariants as file
-use Rattle.giv_files.proofs.Common.{MadeFile, Stage}
+use Rattle.giv_files.specs.declared.made.MadeFile.{MadeFile}
+use Rattle.giv_files.specs.declared.stage.Stage.{Stage}
 use Rattle.giv_files.specs.declared.stage.Stage.TheVariants as stage
 use Rattle.config_keys.proofs.Common.{last_stage_of}
 use Rattle.stage_keep.specs.Entries.{keep_name}

@@ -2,7 +2,7 @@
 use Rattle.std.proofs.Common.{◌≡◌, Option, None, Some, IfSome}
 use Rattle.std.specs.FinMap as files
 use Rattle.plan_files.proofs.Common.{Folder}
-use Rattle.giv_files.proofs.Common.{Stage}
+use Rattle.giv_files.specs.declared.stage.Stage.{Stage}
 use Rattle.stage_keep.specs.Entries.{keep_name}
 use Rattle.command_line.specs.declared.mode.Mode.{Mode}
 use Rattle.stage_chain.specs.Hand.{hand_of}

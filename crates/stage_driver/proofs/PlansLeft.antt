@@ -6,12 +6,16 @@ use Rattle.plan_num.proofs.Common.{nat_cmp, slice_cmp, list_all, bytes_eq, and_f
 use Rattle.plan_num.proofs.Common.{false≢true, map-append, All-contains, AllPass-from_list_all}
 use Rattle.std.specs.FinMap as files
 use Rattle.plan_files.proofs.Common.{Folder, get_part}
-use Rattle.tables.proofs.Common.{FileId, file_name}
+use Rattle.tables.specs.declared.file_id.FileId.{FileId}
+use Rattle.tables.proofs.Common.{file_name}
 use Rattle.tables.specs.declared.file_id.FileId.TheVariants as file
 use Rattle.giv_files.specs.declared.key.Key.TheVariants as key
-use Rattle.giv_files.proofs.Common.{MadeFile, Stage, BundleParts, stage_inputs, stage_makes}
+use Rattle.giv_files.specs.declared.made.MadeFile.{MadeFile}
+use Rattle.giv_files.specs.declared.stage.Stage.{Stage}
+use Rattle.giv_files.proofs.Common.{BundleParts, stage_inputs, stage_makes}
 use Rattle.giv_files.specs.declared.stage.Stage.TheVariants as stage
-use Rattle.config_keys.proofs.Common.{ConfigFault, look_in, effective}
+use Rattle.config_keys.specs.declared.config_fault.ConfigFault.{ConfigFault}
+use Rattle.config_keys.proofs.Common.{look_in, effective}
 use Rattle.vehicle_flow.specs.RightSchedules.{ScheduleIsRight}
 use Rattle.vehicle_flow.specs.RightVehicles.{VehicleFilesAreRight, VehiclesAreRight}
 use Rattle.delay_management.specs.RightDispositions.{DispositionFilesAreRight}

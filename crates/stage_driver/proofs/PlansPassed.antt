@@ -4,7 +4,8 @@ use Rattle.std.proofs.Common.{Some, None, IfSome, IfOk, Result, Ok, Err, ap, sub
 use Rattle.plan_files.proofs.Common.{Folder}
 use Rattle.tables.specs.declared.file_id.FileId.TheVariants as file
 use Rattle.giv_files.specs.declared.key.Key.TheVariants as key
-use Rattle.giv_files.proofs.Common.{Stage, BundleParts, places}
+use Rattle.giv_files.specs.declared.stage.Stage.{Stage}
+use Rattle.giv_files.proofs.Common.{BundleParts, places}
 use Rattle.giv_files.specs.declared.stage.Stage.TheVariants as stage
 use Rattle.vehicle_flow.specs.RightSchedules.{ScheduleIsRight}
 use Rattle.vehicle_flow.proofs.PinnedOver.{plain_schedule}

@@ -4,9 +4,11 @@ use Rattle.plan_num.proofs.Common.{Some, None, IfSome, Ok, option_to_list, refl,
 use Rattle.plan_num.proofs.Common.{arith, ints, ok_or}
 use Rattle.std.specs.FinMap as files
 use Rattle.plan_files.proofs.Common.{Folder}
-use Rattle.tables.proofs.Common.{FileId, file_name}
+use Rattle.tables.specs.declared.file_id.FileId.{FileId}
+use Rattle.tables.proofs.Common.{file_name}
 use Rattle.tables.specs.declared.file_id.FileId.TheVariants as file
-use Rattle.giv_files.proofs.Common.{MadeFile, ids_of, BundleParts}
+use Rattle.giv_files.specs.declared.made.MadeFile.{MadeFile}
+use Rattle.giv_files.proofs.Common.{ids_of, BundleParts}
 use Rattle.giv_files.specs.declared.stage.Stage.TheVariants as stage
 use Rattle.config_keys.proofs.Common.{look_in, effective}
 use Rattle.line_search.specs.GivenProblems.{problem_faults, problem_of}

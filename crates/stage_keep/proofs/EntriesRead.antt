@@ -6,9 +6,10 @@ use Rattle.plan_num.proofs.Common.{option_and_then, codes, slice_get, append_ass
 use Rattle.plan_num.proofs.Common.{Contains, cons_option, filter_map, flat_map, zip, get_or-drop}
 use Rattle.plan_num.proofs.Common.{length-append, length-drop, length-map, length-take-le}
 use Rattle.plan_num.proofs.Common.{same_Some}
-use Rattle.tables.proofs.Common.{FileId}
-use Rattle.giv_files.proofs.Common.{Made, Stage, MakesAs, ids_of, made_lists, BundleParts, Fits}
-use Rattle.giv_files.proofs.Common.{stage_inputs}
+use Rattle.tables.specs.declared.file_id.FileId.{FileId}
+use Rattle.giv_files.specs.declared.made.Made.{Made}
+use Rattle.giv_files.specs.declared.stage.Stage.{Stage}
+use Rattle.giv_files.proofs.Common.{MakesAs, ids_of, made_lists, BundleParts, Fits, stage_inputs}
 use Rattle.stage_keep.specs.Entries.{Block, EntryParts, IsEntryOf, block_bytes, entry_blocks}
 use Rattle.stage_keep.specs.Entries.{entry_bytes, entry_for, first_line, input_block, last_line}
 use Rattle.stage_keep.specs.Entries.{made_block, made_head}

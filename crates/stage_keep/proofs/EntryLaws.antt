@@ -1,8 +1,10 @@
 -- What holds of entries, whatever is kept in them.
 use Rattle.plan_num.proofs.Common.{◌≡◌, ◌≢◌, ◌<◌, ◌^◌, length, ℕ, List, [], ◌++◌, Option, Some}
 use Rattle.plan_num.proofs.Common.{None, Result, Ok}
-use Rattle.giv_files.proofs.Common.{Made, Stage, BundleParts, Fits}
-use Rattle.tables.proofs.Common.{Refusal}
+use Rattle.giv_files.specs.declared.made.Made.{Made}
+use Rattle.giv_files.specs.declared.stage.Stage.{Stage}
+use Rattle.giv_files.proofs.Common.{BundleParts, Fits}
+use Rattle.tables.specs.declared.refusal.Refusal.{Refusal}
 use Rattle.stage_keep.specs.Entries.{EntryParts, IsEntryOf, entry_bytes}
 use Rattle.stage_keep.specs.EntryReading.{ReadsEntry, read_entry}
 use Rattle.stage_keep.specs.Honest.{IsHonest, IsHonestKeep, kept_for}

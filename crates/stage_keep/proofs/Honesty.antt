@@ -4,9 +4,10 @@ use Rattle.plan_num.proofs.Common.{arith, ◌≡◌, ℕ, List, refl, ap, sym, s
 use Rattle.plan_num.proofs.Common.{Option, Some, None, option_and_then, Result, Ok, pointwise}
 use Rattle.plan_num.proofs.Common.{bytes_eq, and_parts, same_Some, bytes_eq-Decides}
 use Rattle.std.proofs.lemmas.Slice.Eq.{slice_eq-Decides}
-use Rattle.giv_files.proofs.Common.{Made, MakesAs, ids_of, BundleParts, Fits, SettingsFit}
-use Rattle.giv_files.proofs.Common.{settings_text, text_tells}
-use Rattle.tables.proofs.Common.{Refusal}
+use Rattle.giv_files.specs.declared.made.Made.{Made}
+use Rattle.giv_files.proofs.Common.{MakesAs, ids_of, BundleParts, Fits, SettingsFit, settings_text}
+use Rattle.giv_files.proofs.Common.{text_tells}
+use Rattle.tables.specs.declared.refusal.Refusal.{Refusal}
 use Rattle.stage_keep.specs.Entries.{entry_for}
 use Rattle.stage_keep.specs.EntryReading.{read_entry}
 use Rattle.stage_keep.specs.Honest.{IsHonest, held_for, kept_for, matches}

@@ -7,9 +7,11 @@ use Rattle.plan_num.proofs.Common.{filter_map, flat_map, zip, pointwise, bytes_e
 use Rattle.plan_num.proofs.Common.{take-append_seam, and_parts, flat_map-append, get_or-drop}
 use Rattle.plan_num.proofs.Common.{length-append, length-map, same_Some, bytes_eq-Decides}
 use Rattle.std.proofs.lemmas.Iterator.Adapters.{option_map_id}
-use Rattle.tables.proofs.Common.{FileId}
-use Rattle.giv_files.proofs.Common.{Made, Stage, MakesAs, ids_of, made_lists, BundleParts, Fits}
-use Rattle.giv_files.proofs.Common.{settings_text, stage_inputs}
+use Rattle.tables.specs.declared.file_id.FileId.{FileId}
+use Rattle.giv_files.specs.declared.made.Made.{Made}
+use Rattle.giv_files.specs.declared.stage.Stage.{Stage}
+use Rattle.giv_files.proofs.Common.{MakesAs, ids_of, made_lists, BundleParts, Fits, settings_text}
+use Rattle.giv_files.proofs.Common.{stage_inputs}
 use Rattle.stage_keep.specs.Entries.{Block, EntryParts, block_bytes, entry_bytes, entry_for}
 use Rattle.stage_keep.specs.Entries.{entry_front, first_line, given_front, input_block, last_line}
 use Rattle.stage_keep.specs.Entries.{made_block, made_head}

@@ -5,8 +5,11 @@ use Rattle.plan_num.proofs.Common.{arith, Option, Some, None, option_map, slice_
 use Rattle.plan_num.proofs.Common.{append-nil, filter_map, take-map, zip, option_to_list}
 use Rattle.plan_num.proofs.Common.{drop-append_seam, take-append_seam, get_or-map, length-append}
 use Rattle.plan_num.proofs.Common.{length-drop, map-append, nil_from_length, take_all, All-push}
-use Rattle.tables.proofs.Common.{FileId}
-use Rattle.giv_files.proofs.Common.{Made, MadeFile, Stage, made_lists, stage_makes}
+use Rattle.tables.specs.declared.file_id.FileId.{FileId}
+use Rattle.giv_files.specs.declared.made.Made.{Made}
+use Rattle.giv_files.specs.declared.made.MadeFile.{MadeFile}
+use Rattle.giv_files.specs.declared.stage.Stage.{Stage}
+use Rattle.giv_files.proofs.Common.{made_lists, stage_makes}
 use Rattle.stage_keep.specs.declared.place.Place.{Place}
 use Rattle.stage_keep.specs.Entries.{opening}
 use Rattle.stage_keep.specs.EntryReading.{block_at, last_heads, made_file, made_of, made_with, read_made, texts_at}

@@ -9,8 +9,11 @@ use Rattle.plan_num.proofs.Common.{take_more}
 use Rattle.std.specs.List.{drop-map}
 use Rattle.std.proofs.Math.ListN.{drop_of_length-le}
 use Rattle.std.proofs.Math.Seq.{drop-cons}
-use Rattle.tables.proofs.Common.{FileId}
-use Rattle.giv_files.proofs.Common.{Made, MadeFile, Stage, made_lists, stage_inputs, stage_makes}
+use Rattle.tables.specs.declared.file_id.FileId.{FileId}
+use Rattle.giv_files.specs.declared.made.Made.{Made}
+use Rattle.giv_files.specs.declared.made.MadeFile.{MadeFile}
+use Rattle.giv_files.specs.declared.stage.Stage.{Stage}
+use Rattle.giv_files.proofs.Common.{made_lists, stage_inputs, stage_makes}
 use Rattle.stage_keep.specs.Entries.{EntryParts, last_line}
 use Rattle.stage_keep.specs.EntryReading.{block_at, entry_of, entry_with, made_file, made_with}
 use Rattle.stage_keep.specs.EntryReading.{read_entry, read_made, texts_at}

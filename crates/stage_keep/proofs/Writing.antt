@@ -2,7 +2,7 @@
 use Rattle.plan_num.proofs.Common.{◌≡◌, ℕ, ◌+◌, List, ◌∷◌, ◌++◌, map, drop, ap, sym, ◌∙◌, Some}
 use Rattle.plan_num.proofs.Common.{slice_get, append_assoc, flat_map, get_or_from_slice_get}
 use Rattle.plan_num.proofs.Common.{slice_get_within}
-use Rattle.giv_files.proofs.Common.{MadeFile}
+use Rattle.giv_files.specs.declared.made.MadeFile.{MadeFile}
 use Rattle.stage_keep.specs.Entries.{block_bytes, made_block, made_head}
 use Rattle.stage_keep.proofs.Reading.{drop_at}
 

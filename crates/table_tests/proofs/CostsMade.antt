@@ -1,8 +1,9 @@
 -- The one list of files that the stage of costs makes.
 use Rattle.std.proofs.Common.{◌≡◌, List, [], ◌∷◌, sym, subst, refl, arith}
-use Rattle.tables.proofs.Common.{FileId}
+use Rattle.tables.specs.declared.file_id.FileId.{FileId}
 use Rattle.tables.specs.declared.file_id.FileId.TheVariants as file
-use Rattle.giv_files.proofs.Common.{Stage, MakesAs}
+use Rattle.giv_files.specs.declared.stage.Stage.{Stage}
+use Rattle.giv_files.proofs.Common.{MakesAs}
 use Rattle.giv_files.specs.declared.stage.Stage.TheVariants as stage
 
 -- it makes the file of the costs

@@ -21,16 +21,6 @@ pub use Rattle.tables.specs.RowsOfTables.{rows_by, too_many_rows}
 pub use Rattle.tables.specs.Tables.{TableRow, Wide, cell_at, no_row, row_number}
 pub use Rattle.tables.specs.Writing.{CanWrite, InColumn, InColumns, IsHeader, IsSmall, ReadsBack}
 pub use Rattle.tables.specs.Writing.{cell_text, cell_texts, joined, line_text, table_text}
-pub use Rattle.tables.specs.declared.column.ColumnKind.{ColumnKind}
-pub use Rattle.tables.specs.declared.counted.Counted.{Counted}
-pub use Rattle.tables.specs.declared.file_id.FileId.{FileId}
-pub use Rattle.tables.specs.declared.file_id.FileId.TheVariants.{Stop}
-pub use Rattle.tables.specs.declared.read_fault.ReadFault.{ReadFault}
-pub use Rattle.tables.specs.declared.read_fault.RowFault.{RowFault}
-pub use Rattle.tables.specs.declared.refusal.Refusal.{Refusal}
-pub use Rattle.tables.specs.declared.refusal.StageFault.{StageFault}
-pub use Rattle.tables.specs.declared.row_limit.RowLimit.{RowLimit}
-pub use Rattle.tables.specs.declared.row_why.RowWhy.{RowWhy}
 pub use Rattle.tables.proofs.Accepted.{KeepRules, accepted, all_keep, each_known, none_missing}
 pub use Rattle.tables.proofs.Accepted.{whole_accepted}
 pub use Rattle.tables.proofs.CellFacts.{position-map}

@@ -8,7 +8,8 @@ use Rattle.plan_num.proofs.Common.{All-head, All-tail, slice_get-get_or, Any-fro
 use Rattle.plan_num.proofs.Common.{AllPass-from_list_all}
 use Rattle.std.specs.List.{IsDistinct}
 use Rattle.std.proofs.lemmas.Bool.{or_right as or_second}
-use Rattle.walks.proofs.Common.{Edge, IsEdge, IsSimple, edges_at, IsWalk, across, ends_are, no_edge}
+use Rattle.walks.specs.declared.edge.Edge.{Edge}
+use Rattle.walks.proofs.Common.{IsEdge, IsSimple, edges_at, IsWalk, across, ends_are, no_edge}
 use Rattle.walks.proofs.Common.{begins, staying_end}
 
 -- ---- one of two, and not both

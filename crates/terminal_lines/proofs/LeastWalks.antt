@@ -6,10 +6,11 @@ use Rattle.plan_num.proofs.Common.{None, option_map, unsigned_abs, unwrap_or, Al
 use Rattle.plan_num.proofs.Common.{AllByRecursion, list_any, eqb-true, cases_Bool, All-contains}
 use Rattle.plan_num.proofs.Common.{get_or-map-range_with_len, length-le_from_distinct_below}
 use Rattle.std.specs.List.{IsDistinct}
-use Rattle.walks.proofs.Common.{Edge, IsEdge, IsNetwork, NetworkParts, AreLeastSums, IsLeastSum}
-use Rattle.walks.proofs.Common.{IsWalk, across, least_of, least_sums, walk_sum, walks_within}
-use Rattle.walks.proofs.Common.{starts_within, IsUpTo, begins, edge_first, least_of_all}
-use Rattle.walks.proofs.Common.{least_of_there, walk_sum-cons, within_all, within_there}
+use Rattle.walks.specs.declared.edge.Edge.{Edge}
+use Rattle.walks.proofs.Common.{IsEdge, IsNetwork, NetworkParts, AreLeastSums, IsLeastSum, IsWalk}
+use Rattle.walks.proofs.Common.{across, least_of, least_sums, walk_sum, walks_within, starts_within}
+use Rattle.walks.proofs.Common.{IsUpTo, begins, edge_first, least_of_all, least_of_there}
+use Rattle.walks.proofs.Common.{walk_sum-cons, within_all, within_there}
 use Rattle.walks.specs.Walks.{least_sum}
 use Rattle.plan_num.proofs.Members.{Contains-cons, Contains-head, Contains-map}
 use Rattle.plan_num.proofs.Members.{Contains-rec}

@@ -1,7 +1,9 @@
 -- The chosen plan, from the first of the plans that gain the most over the links that are worth
 -- something.
 use Rattle.plan_num.proofs.Common.{arith, ◌≡◌, ℕ, List, Option, subst}
-use Rattle.link_plans.proofs.Common.{Link, Solved, links_in, worthy, IsPlan, IsFirstBest, AreValid}
+use Rattle.link_plans.specs.declared.link_table.Link.{Link}
+use Rattle.link_plans.specs.declared.solved.Solved.{Solved}
+use Rattle.link_plans.proofs.Common.{links_in, worthy, IsPlan, IsFirstBest, AreValid}
 use Rattle.assignment.proofs.Worthwhile.{first_up, plan_down, valid_down}
 use Rattle.vehicle_model.specs.Plans.{IsCheapest, IsChosen}
 use Rattle.vehicle_model.specs.Trips.{TripsParts, links_of}

@@ -2,7 +2,7 @@
 use Rattle.plan_num.proofs.Common.{arith, ◌≡◌, ℕ, List, [], ◌∷◌, length, map, filter_map, slice_get}
 use Rattle.plan_num.proofs.Common.{Option, Some, None, option_map, Result, Ok, Err, IfOk, IfNone}
 use Rattle.plan_num.proofs.Common.{refl, ap, ◌∙◌, subst, none-some, same_Some, slice_get-map}
-use Rattle.tables.proofs.Common.{RowFault}
+use Rattle.tables.specs.declared.read_fault.RowFault.{RowFault}
 use Rattle.vehicle_model.specs.declared.plan_fault.PlanFault.{PlanFault}
 use Rattle.vehicle_model.specs.declared.plan_fault.PlanFault.TheVariants as plan_faults
 use Rattle.vehicle_model.specs.Plans.{IsCheapest}

@@ -1,7 +1,10 @@
 -- An empty ride between two trips goes forward over the events of the day.
 use Rattle.plan_num.proofs.Common.{◌≡◌, ℕ, ◌+◌, ◌≤◌, ◌==◌, ◌||◌, Bool, true, false, cond, not, List}
 use Rattle.plan_num.proofs.Common.{[], ◌∷◌, Some, refl, ap, ◌∙◌, arith, list_any, le-ltb, none-some}
-use Rattle.event_tables.proofs.Common.{EventKind, ExpandedEvent, ScheduleRow, TripEnd}
+use Rattle.event_tables.specs.declared.event_kind.EventKind.{EventKind}
+use Rattle.event_tables.specs.declared.expanded_event.ExpandedEvent.{ExpandedEvent}
+use Rattle.event_tables.specs.declared.schedule_row.ScheduleRow.{ScheduleRow}
+use Rattle.event_tables.specs.declared.trip.TripEnd.{TripEnd}
 use Rattle.event_tables.proofs.Common.{expanded_event_ids, both_pass, event_with, stands_before}
 use Rattle.event_tables.proofs.Common.{is_arrival, is_none_of, ends_early, goes_back, lacks_room}
 use Rattle.event_tables.specs.declared.event_kind.EventKind.TheVariants as kinds

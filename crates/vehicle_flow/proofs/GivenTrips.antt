@@ -4,9 +4,11 @@ use Rattle.plan_num.proofs.Common.{unsigned_abs, to_z, ints}
 use Rattle.std.proofs.lemmas.Int.{to_z-of_z}
 use mir.Syntax.{w64}
 use Rattle.giv_files.specs.declared.key.Key.TheVariants as key
-use Rattle.tables.proofs.Common.{StageFault, UnlessFault, UnlessFault-weaker}
-use Rattle.giv_files.proofs.Common.{Stage, BundleParts, Fits, amount, has_key, input_text}
-use Rattle.giv_files.proofs.Common.{stage_inputs, amount_within}
+use Rattle.tables.specs.declared.refusal.StageFault.{StageFault}
+use Rattle.tables.proofs.Common.{UnlessFault, UnlessFault-weaker}
+use Rattle.giv_files.specs.declared.stage.Stage.{Stage}
+use Rattle.giv_files.proofs.Common.{BundleParts, Fits, amount, has_key, input_text, stage_inputs}
+use Rattle.giv_files.proofs.Common.{amount_within}
 use Rattle.giv_files.specs.declared.stage.Stage.TheVariants as stage
 use Rattle.vehicle_model.specs.Trips.{TripsParts, trips_faults, trips_of}
 use Rattle.vehicle_flow.specs.VehicleStage.{takes_trips, trips_in, vehicles_faults}

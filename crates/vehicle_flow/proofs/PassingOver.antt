@@ -1,7 +1,7 @@
 -- What is known of a schedule of which no rule is broken but that of a certificate.
 use Rattle.plan_num.proofs.Common.{arith, ◌≡◌, List, [], ◌∷◌, ℕ, map, slice_get, Option, Some, None}
 use Rattle.plan_num.proofs.Common.{Result, Ok, Err, IfOk, IfNone, IfSome, sym, subst, ⊤, none-some}
-use Rattle.tables.proofs.Common.{RowFault}
+use Rattle.tables.specs.declared.read_fault.RowFault.{RowFault}
 use Rattle.giv_files.proofs.Common.{BundleParts}
 use Rattle.vehicle_model.specs.declared.plan_fault.PlanFault.{PlanFault}
 use Rattle.vehicle_model.specs.declared.plan_fault.PlanFault.TheVariants as plan_fault

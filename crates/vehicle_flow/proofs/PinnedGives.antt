@@ -2,8 +2,11 @@
 use Rattle.plan_num.proofs.Common.{arith, ◌≡◌, ℕ, List, [], ◌∷◌, ◌++◌, length, map, slice_get}
 use Rattle.plan_num.proofs.Common.{Option, Some, None, option_map, Ok, Err, refl, ap, sym, ◌∙◌}
 use Rattle.plan_num.proofs.Common.{subst, none-some, slice_get-map}
-use Rattle.giv_files.proofs.Common.{Made, BundleParts, StageGives, input_text, stage_refused}
-use Rattle.tables.proofs.Common.{StageFault, RowFault, Refuses, refused_append}
+use Rattle.giv_files.specs.declared.made.Made.{Made}
+use Rattle.giv_files.proofs.Common.{BundleParts, StageGives, input_text, stage_refused}
+use Rattle.tables.specs.declared.refusal.StageFault.{StageFault}
+use Rattle.tables.specs.declared.read_fault.RowFault.{RowFault}
+use Rattle.tables.proofs.Common.{Refuses, refused_append}
 use Rattle.vehicle_model.specs.declared.plan_fault.PlanFault.{PlanFault}
 use Rattle.vehicle_model.specs.declared.plan_fault.PlanFault.TheVariants as plan_fault
 use Rattle.vehicle_model.specs.ReadSchedules.{plan_faults, plan_of, PlanGives}

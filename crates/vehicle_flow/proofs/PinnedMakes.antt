@@ -1,11 +1,14 @@
 -- Which files the stage of a planner's schedule makes, which it names where it refuses a row, and what it gives.
 use Rattle.plan_num.proofs.Common.{arith, ◌≡◌, List, [], ◌∷◌, map, true, Bool, Some, Result, Ok}
 use Rattle.plan_num.proofs.Common.{Err, IfOk, ap}
-use Rattle.tables.proofs.Common.{FileId, Refusal, StageFault, input_faults, NamesInput, AllName}
-use Rattle.tables.proofs.Common.{names_both, front_none}
+use Rattle.tables.specs.declared.file_id.FileId.{FileId}
+use Rattle.tables.specs.declared.refusal.Refusal.{Refusal}
+use Rattle.tables.specs.declared.refusal.StageFault.{StageFault}
+use Rattle.tables.proofs.Common.{input_faults, NamesInput, AllName, names_both, front_none}
 use Rattle.tables.specs.declared.file_id.FileId.TheVariants as file
-use Rattle.giv_files.proofs.Common.{Made, MakesAs, ids_of, BundleParts, Fits, StageGives}
-use Rattle.giv_files.proofs.Common.{input_text, none_unless, refused_names}
+use Rattle.giv_files.specs.declared.made.Made.{Made}
+use Rattle.giv_files.proofs.Common.{MakesAs, ids_of, BundleParts, Fits, StageGives, input_text}
+use Rattle.giv_files.proofs.Common.{none_unless, refused_names}
 use Rattle.giv_files.specs.declared.stage.Stage.TheVariants as stage
 use Rattle.ptn_network.specs.Networks.{network_faults, stops_of}
 use Rattle.ptn_network.proofs.NamedFaults.{network_names}

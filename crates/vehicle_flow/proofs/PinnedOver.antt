@@ -2,7 +2,8 @@
 -- place; and so is what the plain stage makes.
 use Rattle.plan_num.proofs.Common.{◌≡◌, List, Some, ap, subst, arith}
 use Rattle.giv_files.specs.declared.key.Key.TheVariants as key
-use Rattle.giv_files.proofs.Common.{MadeFile, BundleParts, amount, input_text}
+use Rattle.giv_files.specs.declared.made.MadeFile.{MadeFile}
+use Rattle.giv_files.proofs.Common.{BundleParts, amount, input_text}
 use Rattle.vehicle_model.specs.Trips.{TripsParts, trips_of, trips_faults}
 use Rattle.vehicle_flow.specs.AcceptedSchedules.{IsAccepted}
 use Rattle.vehicle_flow.specs.RightSchedules.{passed_over, PinnedScheduleIsRight, ScheduleIsRight}

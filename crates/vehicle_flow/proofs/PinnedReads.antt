@@ -1,7 +1,8 @@
 -- What is made of a planner's schedule is right.
 use Rattle.plan_num.proofs.Common.{◌≡◌, ℕ, List, [], ◌∷◌, length, map, slice_get, Option, Some}
 use Rattle.plan_num.proofs.Common.{None, Ok, refl, ap, sym, subst, arith}
-use Rattle.giv_files.proofs.Common.{Made, BundleParts, input_text, made_unless, none_unless}
+use Rattle.giv_files.specs.declared.made.Made.{Made}
+use Rattle.giv_files.proofs.Common.{BundleParts, input_text, made_unless, none_unless}
 use Rattle.tables.proofs.Common.{back_none, front_none}
 use Rattle.link_plans.proofs.Common.{IsPlan, ArePotentials, AreOver, PotentialParts, AreValid}
 use Rattle.vehicle_model.specs.ReadSchedules.{or_others, plan_faults, plan_of, IsReadBack}

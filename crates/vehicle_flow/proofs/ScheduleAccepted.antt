@@ -3,11 +3,12 @@ use Rattle.plan_num.proofs.Common.{◌≡◌, ℕ, ◌+◌, ◌<◌, ◌≤◌, 
 use Rattle.plan_num.proofs.Common.{List, [], ◌∷◌, ◌++◌, length, filter, replicate, slice_set, All}
 use Rattle.plan_num.proofs.Common.{Option, Some, None, unwrap_or, refl, ap, sym, ◌∙◌, subst, arith}
 use Rattle.plan_num.proofs.Common.{AllByRecursion, le-ltb}
-use Rattle.event_tables.proofs.Common.{ExpandedEvent, ScheduleRow, schedule_row, schedule_cells}
-use Rattle.event_tables.proofs.Common.{expanded_event_ids, schedule_header, is_none_of, ends_early}
-use Rattle.event_tables.proofs.Common.{goes_back, is_empty_row, is_trip_row, lacks_room}
-use Rattle.event_tables.proofs.Common.{schedule_input, schedule_rules, schedule_row_same}
-use Rattle.event_tables.proofs.Common.{rows_inside}
+use Rattle.event_tables.specs.declared.expanded_event.ExpandedEvent.{ExpandedEvent}
+use Rattle.event_tables.specs.declared.schedule_row.ScheduleRow.{ScheduleRow}
+use Rattle.event_tables.proofs.Common.{schedule_row, schedule_cells, expanded_event_ids}
+use Rattle.event_tables.proofs.Common.{schedule_header, is_none_of, ends_early, goes_back}
+use Rattle.event_tables.proofs.Common.{is_empty_row, is_trip_row, lacks_room, schedule_input}
+use Rattle.event_tables.proofs.Common.{schedule_rules, schedule_row_same, rows_inside}
 use Rattle.tables.proofs.Common.{rows_by, columns_written, schedule_columns, input_faults}
 use Rattle.tables.proofs.Common.{limit_faults, records, ReadsBack, KeepRules, accepted}
 use Rattle.tables.proofs.Common.{plain_header, written_back}

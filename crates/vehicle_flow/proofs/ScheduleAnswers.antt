@@ -1,6 +1,7 @@
 -- What the test of a schedule answers, over a bundle.
 use Rattle.plan_num.proofs.Common.{arith, ◌≡◌, ℕ, List, [], map, Option, Some, None, refl, ap}
-use Rattle.giv_files.proofs.Common.{MadeFile, BundleParts}
+use Rattle.giv_files.specs.declared.made.MadeFile.{MadeFile}
+use Rattle.giv_files.proofs.Common.{BundleParts}
 use Rattle.vehicle_model.specs.Trips.{TripsParts}
 use Rattle.vehicle_flow.specs.RightVehicles.{VehiclesAreRight, files_of}
 use Rattle.vehicle_flow.specs.ScheduleChecks.{schedule_fault, Passes}

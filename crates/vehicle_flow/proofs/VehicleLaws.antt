@@ -1,7 +1,9 @@
 -- What the stage of vehicles makes of a bundle that fits it is right.
 use Rattle.plan_num.proofs.Common.{◌≡◌, true, [], Some, Result, Ok, Err, IfOk, ap}
-use Rattle.giv_files.proofs.Common.{Made, BundleParts, Fits, StageGives, input_text, none_unless}
-use Rattle.tables.proofs.Common.{StageFault, input_faults, back_none, front_none}
+use Rattle.giv_files.specs.declared.made.Made.{Made}
+use Rattle.giv_files.proofs.Common.{BundleParts, Fits, StageGives, input_text, none_unless}
+use Rattle.tables.specs.declared.refusal.StageFault.{StageFault}
+use Rattle.tables.proofs.Common.{input_faults, back_none, front_none}
 use Rattle.giv_files.specs.declared.stage.Stage.TheVariants as stage
 use Rattle.ptn_network.specs.Networks.{network_faults, network_of, stops_of}
 use Rattle.ptn_network.proofs.Sound.{network_sound}

@@ -1,9 +1,12 @@
 -- Which files the stage of vehicles makes, which it names where it refuses a row, and what it gives.
 use Rattle.plan_num.proofs.Common.{◌≡◌, [], true, Bool, Some, Ok, Err, ap, lit<, arith}
-use Rattle.tables.proofs.Common.{FileId, Refusal, StageFault, Refuses, input_faults, NamesInput}
-use Rattle.tables.proofs.Common.{AllName, names_both}
+use Rattle.tables.specs.declared.file_id.FileId.{FileId}
+use Rattle.tables.specs.declared.refusal.Refusal.{Refusal}
+use Rattle.tables.specs.declared.refusal.StageFault.{StageFault}
+use Rattle.tables.proofs.Common.{Refuses, input_faults, NamesInput, AllName, names_both}
 use Rattle.tables.specs.declared.file_id.FileId.TheVariants as file
-use Rattle.giv_files.proofs.Common.{Made, MakesAs, ids_of, BundleParts, StageGives, input_text}
+use Rattle.giv_files.specs.declared.made.Made.{Made}
+use Rattle.giv_files.proofs.Common.{MakesAs, ids_of, BundleParts, StageGives, input_text}
 use Rattle.giv_files.proofs.Common.{refused_names, made_unless, stage_refused}
 use Rattle.giv_files.specs.declared.stage.Stage.TheVariants as stage
 use Rattle.ptn_network.specs.Networks.{network_faults, stops_of}

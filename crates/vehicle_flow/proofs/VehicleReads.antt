@@ -1,6 +1,7 @@
 -- The files of the stage are right, from what is known of the chosen plan.
 use Rattle.plan_num.proofs.Common.{◌≡◌, ℕ, List, [], Option, Some, Ok, sym, subst, arith}
-use Rattle.giv_files.proofs.Common.{Made, BundleParts, made_unless, none_unless}
+use Rattle.giv_files.specs.declared.made.Made.{Made}
+use Rattle.giv_files.proofs.Common.{BundleParts, made_unless, none_unless}
 use Rattle.vehicle_model.specs.Plans.{chosen_plan, IsChosen}
 use Rattle.link_plans.proofs.Common.{IsPlan, PotentialParts}
 use Rattle.vehicle_model.specs.ReadSchedules.{IsReadBack}

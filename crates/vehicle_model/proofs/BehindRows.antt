@@ -6,7 +6,8 @@ use Rattle.plan_num.proofs.Common.{subst, arith, append_assoc, option_to_list, a
 use Rattle.plan_num.proofs.Common.{length-map, none-some, map-map}
 use Rattle.std.proofs.Math.Seq.{drop-cons}
 use Rattle.std.proofs.lemmas.List.{drop-map}
-use Rattle.event_tables.proofs.Common.{ScheduleRow, schedule_row}
+use Rattle.event_tables.specs.declared.schedule_row.ScheduleRow.{ScheduleRow}
+use Rattle.event_tables.proofs.Common.{schedule_row}
 use Rattle.tables.proofs.Common.{records_by, numbered_by, Numbered, TableRow, no_row, row_number}
 use Rattle.vehicle_model.specs.declared.plan_fault.PlanFault.{PlanFault}
 use Rattle.vehicle_model.specs.declared.plan_fault.PlanFault.TheVariants as fault

@@ -6,7 +6,7 @@ use Rattle.plan_num.proofs.Common.{take_more, map-append, length-map, get_or-map
 use Rattle.plan_num.proofs.Common.{All-push, get_or-range_with_len, length-range_with_len}
 use Rattle.plan_num.proofs.Common.{slice_get-map, slice_get-get_or, get_or_from_slice_get}
 use Rattle.plan_num.proofs.Common.{same_Some}
-use Rattle.event_tables.proofs.Common.{Trip}
+use Rattle.event_tables.specs.declared.trip.Trip.{Trip}
 use Rattle.walks.proofs.Common.{NetworkParts, edge_time, least_sum, IsLeastSum}
 use Rattle.vehicle_model.specs.DeadTables.{DeadTable, AreTimesFrom, HasTimesFrom, IsDeadTable, AreDeadMinutes}
 use Rattle.vehicle_model.specs.Schedules.{no_trip}

@@ -3,8 +3,10 @@ use Rattle.plan_num.proofs.Common.{arith, ◌≡◌, ℕ, suc, not, is_some, Boo
 use Rattle.plan_num.proofs.Common.{[], ◌∷◌, ◌++◌, length, map, filter, slice_get, Option, Some}
 use Rattle.plan_num.proofs.Common.{None, ◌⊎◌, inl, inr, Result, Ok, Err, refl, ap, sym, ◌∙◌, subst}
 use Rattle.plan_num.proofs.Common.{concat, All-weaker, none-some, same_Some, slice_get-map}
-use Rattle.event_tables.proofs.Common.{ScheduleRow, schedule_row}
-use Rattle.tables.proofs.Common.{RowFault, schedule_columns, Numbered, faults, table_of, records_by}
+use Rattle.event_tables.specs.declared.schedule_row.ScheduleRow.{ScheduleRow}
+use Rattle.event_tables.proofs.Common.{schedule_row}
+use Rattle.tables.specs.declared.read_fault.RowFault.{RowFault}
+use Rattle.tables.proofs.Common.{schedule_columns, Numbered, faults, table_of, records_by}
 use Rattle.tables.proofs.Common.{numbered_by}
 use Rattle.vehicle_model.specs.declared.plan_fault.PlanFault.{PlanFault}
 use Rattle.vehicle_model.specs.declared.plan_fault.PlanFault.TheVariants as fault

@@ -2,7 +2,8 @@
 use Rattle.plan_num.proofs.Common.{◌≡◌, ℕ, ◌+◌, ◌<◌, ◌==◌, ◌||◌, Bool, true, false, List, [], ◌∷◌}
 use Rattle.plan_num.proofs.Common.{◌++◌, length, map, slice_get, Option, Some, None, refl, ap, sym}
 use Rattle.plan_num.proofs.Common.{◌∙◌, arith, eq-eqb, concat, option_to_list, ne_eqb, All-tail}
-use Rattle.event_tables.proofs.Common.{ScheduleRow, is_trip_row}
+use Rattle.event_tables.specs.declared.schedule_row.ScheduleRow.{ScheduleRow}
+use Rattle.event_tables.proofs.Common.{is_trip_row}
 use Rattle.vehicle_model.specs.DrivenSchedules.{as_told}
 use Rattle.vehicle_model.specs.ReadSchedules.{Reading, nothing_read, one_more, trip_in, begins}
 use Rattle.vehicle_model.specs.ReadSchedules.{last_vehicle, follows_empty}

@@ -5,7 +5,8 @@ use Rattle.plan_num.proofs.Common.{None, flat_map, refl, ap, sym, ◌∙◌, sub
 use Rattle.plan_num.proofs.Common.{position, concat, list_all, range_with_len, false≢true, eqb-true}
 use Rattle.plan_num.proofs.Common.{and_parts, ne_eqb, cases_Bool, not-true, All-nil, All-cons}
 use Rattle.plan_num.proofs.Common.{none-some}
-use Rattle.event_tables.proofs.Common.{ScheduleRow, is_trip_row, is_empty_row}
+use Rattle.event_tables.specs.declared.schedule_row.ScheduleRow.{ScheduleRow}
+use Rattle.event_tables.proofs.Common.{is_trip_row, is_empty_row}
 use Rattle.vehicle_model.specs.DrivenSchedules.{as_told}
 use Rattle.vehicle_model.specs.ReadSchedules.{Reading, nothing_read, one_more, trip_in}
 use Rattle.vehicle_model.specs.ReadSchedules.{last_vehicle, begins, follows_trip}

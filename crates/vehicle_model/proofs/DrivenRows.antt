@@ -2,8 +2,11 @@
 use Rattle.plan_num.proofs.Common.{◌≡◌, ℕ, ◌<◌, ◌==◌, not, is_some, cond, Bool, true, false, length}
 use Rattle.plan_num.proofs.Common.{Option, Some, None, unwrap_or, refl, ap, sym, ◌∙◌, arith, eq-eqb}
 use Rattle.plan_num.proofs.Common.{eqb-true, and_parts, position-Some, none-some}
-use Rattle.event_tables.proofs.Common.{ScheduleKind, ScheduleRow, Trip, TripEnd, is_empty}
-use Rattle.event_tables.proofs.Common.{is_empty_row}
+use Rattle.event_tables.specs.declared.schedule_kind.ScheduleKind.{ScheduleKind}
+use Rattle.event_tables.specs.declared.schedule_row.ScheduleRow.{ScheduleRow}
+use Rattle.event_tables.specs.declared.trip.Trip.{Trip}
+use Rattle.event_tables.specs.declared.trip.TripEnd.{TripEnd}
+use Rattle.event_tables.proofs.Common.{is_empty, is_empty_row}
 use Rattle.event_tables.specs.declared.schedule_kind.ScheduleKind.TheVariants as kind
 use Rattle.vehicle_model.specs.DrivenSchedules.{is_nowhere, at_once, as_told}
 use Rattle.vehicle_model.specs.ReadSchedules.{same_end, same_run, trip_in, leaves, takes, goes_to, is_ride}

@@ -2,7 +2,8 @@
 use Rattle.plan_num.proofs.Common.{◌≡◌, ℕ, zero, suc, ◌+◌, ◌≤◌, Bool, true, false, cond, List, []}
 use Rattle.plan_num.proofs.Common.{◌∷◌, length, map, drop, replicate, slice_get, Option, Some, None}
 use Rattle.plan_num.proofs.Common.{Err, IfOk, refl, ap, sym, ◌∙◌, subst, arith, none-some, drop_all}
-use Rattle.event_tables.proofs.Common.{ScheduleRow, schedule_row}
+use Rattle.event_tables.specs.declared.schedule_row.ScheduleRow.{ScheduleRow}
+use Rattle.event_tables.proofs.Common.{schedule_row}
 use Rattle.tables.proofs.Common.{numbered_by, schedule_columns, Numbered, faults, table_of}
 use Rattle.vehicle_model.specs.declared.plan_fault.PlanFault.{PlanFault}
 use Rattle.vehicle_model.specs.declared.plan_fault.PlanFault.TheVariants as fault

@@ -4,8 +4,9 @@ use Rattle.plan_num.proofs.Common.{List, length, slice_get, is_some, Option, Som
 use Rattle.plan_num.proofs.Common.{option_and_then, IfSome, ap, sym, ◌∙◌, arith, false≢true}
 use Rattle.plan_num.proofs.Common.{leb-true, le-leb, ints, none-some, same_Some, slice_get-get_or}
 use Rattle.plan_num.proofs.Common.{slice_get_within, get_or_from_slice_get}
-use Rattle.event_tables.proofs.Common.{Trip}
-use Rattle.walks.proofs.Common.{Edge, edge_time, IsLeastSum}
+use Rattle.event_tables.specs.declared.trip.Trip.{Trip}
+use Rattle.walks.specs.declared.edge.Edge.{Edge}
+use Rattle.walks.proofs.Common.{edge_time, IsLeastSum}
 use Rattle.link_plans.proofs.Common.{some_of}
 use Rattle.vehicle_model.specs.Schedules.{trip_of, no_trip, dead_between}
 use Rattle.vehicle_model.specs.Trips.{TripsParts, AreTrips, MayFollow, start_stop, end_stop}

@@ -1,7 +1,8 @@
 -- A text that is read as the rows of a plan is read as the plan.
 use Rattle.plan_num.proofs.Common.{◌≡◌, ℕ, List, [], ◌∷◌, length, map, cond, Ok, arith, Option}
 use Rattle.plan_num.proofs.Common.{refl, ap, sym, ◌∙◌, slice_get-map}
-use Rattle.event_tables.proofs.Common.{ScheduleRow, schedule_row, schedule_cells, schedule_header}
+use Rattle.event_tables.specs.declared.schedule_row.ScheduleRow.{ScheduleRow}
+use Rattle.event_tables.proofs.Common.{schedule_row, schedule_cells, schedule_header}
 use Rattle.event_tables.proofs.Common.{schedule_row_same, rows_inside, reads_as}
 use Rattle.tables.proofs.Common.{rows_by, ReadsAs, schedule_columns, Numbered, table_text}
 use Rattle.tables.proofs.Common.{plain_header, written_back, columns_written}

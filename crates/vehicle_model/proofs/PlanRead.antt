@@ -4,7 +4,8 @@ use Rattle.plan_num.proofs.Common.{[], ◌∷◌, ◌++◌, length, filter, fold
 use Rattle.plan_num.proofs.Common.{slice_set, Option, Some, None, IfSome, unwrap_or, refl, ap, sym}
 use Rattle.plan_num.proofs.Common.{◌∙◌, subst, arith, list_all, range_with_len, option_to_list}
 use Rattle.plan_num.proofs.Common.{ne_eqb}
-use Rattle.event_tables.proofs.Common.{ScheduleRow, is_trip_row}
+use Rattle.event_tables.specs.declared.schedule_row.ScheduleRow.{ScheduleRow}
+use Rattle.event_tables.proofs.Common.{is_trip_row}
 use Rattle.link_plans.proofs.Common.{next, IsPlan}
 use Rattle.vehicle_model.specs.ReadSchedules.{Reading, nothing_read, one_more, trip_in, begins}
 use Rattle.vehicle_model.specs.ReadSchedules.{last_vehicle, follows_trip, follows_empty, is_new}

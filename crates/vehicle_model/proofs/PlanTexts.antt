@@ -2,8 +2,10 @@
 use Rattle.plan_num.proofs.Common.{arith, ◌≡◌, ℕ, List, [], ◌∷◌, length, map, slice_get, Option}
 use Rattle.plan_num.proofs.Common.{Some, All, Result, Err, refl, ap, sym, subst, same_Some}
 use Rattle.event_tables.proofs.Common.{schedule_row, AreSmall, small_cells}
-use Rattle.tables.proofs.Common.{records_by, numbered_by, ReadFault, RowFault, schedule_columns}
-use Rattle.tables.proofs.Common.{faults, table_of, ReadGives, TableRow, table_in_columns}
+use Rattle.tables.specs.declared.read_fault.ReadFault.{ReadFault}
+use Rattle.tables.specs.declared.read_fault.RowFault.{RowFault}
+use Rattle.tables.proofs.Common.{records_by, numbered_by, schedule_columns, faults, table_of}
+use Rattle.tables.proofs.Common.{ReadGives, TableRow, table_in_columns}
 use Rattle.tables.specs.declared.read_fault.ReadFault.TheVariants as read
 use Rattle.vehicle_model.specs.declared.plan_fault.PlanFault.{PlanFault}
 use Rattle.vehicle_model.specs.declared.plan_fault.PlanFault.TheVariants as fault

@@ -7,7 +7,8 @@ use Rattle.plan_num.proofs.Common.{inl, inr, get_or-set_same, get_or-set_other, 
 use Rattle.plan_num.proofs.Common.{option_to_list, false≢true, ne_eqb, or_parts}
 use Rattle.plan_num.proofs.Common.{length-set, length-replicate, append-nil, fold_push}
 use Rattle.plan_num.proofs.Common.{position-Some, none-some, same_Some}
-use Rattle.event_tables.proofs.Common.{ScheduleRow, is_empty_row}
+use Rattle.event_tables.specs.declared.schedule_row.ScheduleRow.{ScheduleRow}
+use Rattle.event_tables.proofs.Common.{is_empty_row}
 use Rattle.link_plans.proofs.Common.{next, is_next, AreSuccessors, by_number, none_next}
 use Rattle.link_plans.proofs.Common.{none_linked, next_in, next_before, not_linked, linked}
 use Rattle.link_plans.proofs.Common.{never_next}

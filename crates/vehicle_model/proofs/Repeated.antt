@@ -3,7 +3,8 @@ use Rattle.plan_num.proofs.Common.{◌≡◌, ℕ, ◌<◌, ◌==◌, ◌&&◌, 
 use Rattle.plan_num.proofs.Common.{get_or, position, nat_lt, Some, refl, ap, ◌∙◌, arith, eq-eqb}
 use Rattle.plan_num.proofs.Common.{lt-ltb, Decides-eqb, length-map, get_or-map, position_or_len_is}
 use Rattle.std.proofs.lemmas.Map.Made.{AllPairs-from_IsDistinct}
-use Rattle.event_tables.proofs.Common.{Trip, TripEnd}
+use Rattle.event_tables.specs.declared.trip.Trip.{Trip}
+use Rattle.event_tables.specs.declared.trip.TripEnd.{TripEnd}
 use Rattle.vehicle_model.specs.ReadSchedules.{same_end, same_run}
 use Rattle.vehicle_model.specs.Schedules.{no_trip, trip_of}
 use Rattle.vehicle_model.specs.Trips.{TripsParts, AreTrips}

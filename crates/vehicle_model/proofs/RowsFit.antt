@@ -3,7 +3,8 @@ use Rattle.plan_num.proofs.Common.{◌≡◌, ℕ, zero, suc, pos, ◌+◌, ◌*
 use Rattle.plan_num.proofs.Common.{◌++◌, length, not, replicate, slice_set, get_or, All, Option}
 use Rattle.plan_num.proofs.Common.{Some, None, unwrap_or, refl, ap, sym, ◌∙◌, arith, ints}
 use Rattle.plan_num.proofs.Common.{length-map, All-nil, All-cons, All-map}
-use Rattle.event_tables.proofs.Common.{ScheduleRow, trip_cells, schedule_cells}
+use Rattle.event_tables.specs.declared.schedule_row.ScheduleRow.{ScheduleRow}
+use Rattle.event_tables.proofs.Common.{trip_cells, schedule_cells}
 use Rattle.tables.proofs.Common.{trips_columns, schedule_columns, InColumns}
 use Rattle.vehicle_model.specs.Plans.{starts}
 use Rattle.link_plans.proofs.Common.{next, is_next, IsPlan, count_most, some_of}

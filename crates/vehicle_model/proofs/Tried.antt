@@ -3,7 +3,8 @@ use Rattle.std.specs.Prelude.{⊤}
 use Rattle.plan_num.proofs.Common.{◌≡◌, ℕ, refl, pos, negsuc, ◌+◌, ◌*◌, List, [], ◌∷◌, ◌++◌, codes}
 use Rattle.plan_num.proofs.Common.{slice_get, Option, Some, None}
 use Rattle.std.specs.Fmt.{digits}
-use Rattle.event_tables.proofs.Common.{Trip, TripEnd}
+use Rattle.event_tables.specs.declared.trip.Trip.{Trip}
+use Rattle.event_tables.specs.declared.trip.TripEnd.{TripEnd}
 use Rattle.tables.specs.declared.file_id.FileId.TheVariants as file
 use Rattle.tables.specs.declared.row_why.RowWhy.TheVariants as why
 use Rattle.tables.specs.declared.refusal.Refusal.TheVariants as refusal
@@ -13,7 +14,8 @@ use Rattle.tables.specs.Reading.{faults, table_of, errors, row_whys}
 use Rattle.text_fields.specs.Rows.{rows, cleaned}
 use Rattle.tables.specs.Writing.{cell_text, cell_texts, joined, table_text}
 use Rattle.plan_num.specs.Number.{spelling_of, value_of, value_at, fixed_of, whole_of}
-use Rattle.walks.proofs.Common.{Edge, NetworkParts}
+use Rattle.walks.specs.declared.edge.Edge.{Edge}
+use Rattle.walks.proofs.Common.{NetworkParts}
 use Rattle.ptn_network.specs.Networks.{stops_of, network_of, network_faults}
 use Rattle.walks.specs.RisingIds.{by_id}
 use Rattle.walks.specs.Walks.{walks_within, least_of, least_sum}

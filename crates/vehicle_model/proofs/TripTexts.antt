@@ -2,7 +2,8 @@
 use Rattle.plan_num.proofs.Common.{◌≡◌, ℕ, ℤ, pos, negsuc, ◌+◌, ◌≤◌, ◌≤ℤ◌, List, [], ◌∷◌, ◌++◌}
 use Rattle.plan_num.proofs.Common.{take, slice_get, unsigned_abs, Some, ap, sym, ◌∙◌, arith, ints}
 use Rattle.plan_num.proofs.Common.{take_more, get_or_from_slice_get, slice_get_within}
-use Rattle.event_tables.proofs.Common.{Trip, trip_input}
+use Rattle.event_tables.specs.declared.trip.Trip.{Trip}
+use Rattle.event_tables.proofs.Common.{trip_input}
 use Rattle.tables.proofs.Common.{records_of, input_faults}
 use Rattle.walks.proofs.Common.{NetworkParts}
 use Rattle.ptn_network.specs.Networks.{stops_of, network_of, network_faults}

@@ -5,7 +5,8 @@ use Rattle.plan_num.proofs.Common.{Ok, Err, IfOk, refl, ap, sym, ◌∙◌, subs
 use Rattle.plan_num.proofs.Common.{range_with_len, append-nil, drop_all, All-filter}
 use Rattle.plan_num.proofs.Common.{get_or-range_with_len, length-range_with_len}
 use Rattle.std.proofs.Math.Seq.{drop-cons}
-use Rattle.event_tables.proofs.Common.{ScheduleRow, schedule_row}
+use Rattle.event_tables.specs.declared.schedule_row.ScheduleRow.{ScheduleRow}
+use Rattle.event_tables.proofs.Common.{schedule_row}
 use Rattle.tables.proofs.Common.{ReadsAs, schedule_columns}
 use Rattle.vehicle_model.specs.Plans.{starts}
 use Rattle.link_plans.proofs.Common.{next, is_next, IsPlan}

@@ -11,7 +11,7 @@ use Rattle.delay_trials.proofs.TrialFacts.{first_found, none_found}
 use Rattle.wait_choice.specs.declared.row.WaitRow.{WaitRow}
 use Rattle.wait_choice.specs.Judged.{are_choices, is_choice, is_node}
 use Rattle.waiting_decisions.proofs.PathFacts.{position_alike}
-use Rattle.propagation.proofs.Common.{Activity}
+use Rattle.propagation.specs.declared.step.Activity.{Activity}
 
 -- what one more item of a list is turned into stands behind those of the first ones
 pub one_pushed : {X Y : Type 0} (f : X → Y) (xs : List X) (i : ℕ) (d : X) (old new : List Y) (y : Y) → i < length xs

@@ -11,8 +11,9 @@ use Rattle.plan_num.proofs.Common.{length-take-le, take-append-drop, All-nil, po
 use Rattle.tables.proofs.Common.{faults, table_of, TableRow, InColumns, back_none, front_none}
 use Rattle.tables.proofs.Common.{table_in_columns, ReadsAs, records_by}
 use Rattle.event_tables.proofs.Common.{number_in, in_column}
-use Rattle.propagation.proofs.Common.{Activity, DelayProblem, IsForward, chosen_changes}
-use Rattle.propagation.proofs.Common.{least_is_one, least_times_are_least}
+use Rattle.propagation.specs.declared.step.Activity.{Activity}
+use Rattle.propagation.proofs.Common.{DelayProblem, IsForward, chosen_changes, least_is_one}
+use Rattle.propagation.proofs.Common.{least_times_are_least}
 use Rattle.waiting_decisions.specs.declared.node.WaitNode.{WaitNode}
 use Rattle.waiting_decisions.specs.declared.node.WaitNode.TheVariants as node
 use Rattle.wait_choice.specs.declared.row.WaitRow.{WaitRow}

@@ -1,7 +1,9 @@
 -- What the choice of a waiting decision gives, exit by exit.
 use Rattle.plan_num.proofs.Common.{◌≡◌, ◌∙◌, ℕ, ◌+◌, ◌≤◌, List, [], ◌∷◌, slice_get, Option, Some}
 use Rattle.plan_num.proofs.Common.{None, Err, ap, sym, subst, arith, IsSome}
-use Rattle.tables.proofs.Common.{Refusal, StageFault, Refuses, UnlessFault, or_else}
+use Rattle.tables.specs.declared.refusal.Refusal.{Refusal}
+use Rattle.tables.specs.declared.refusal.StageFault.{StageFault}
+use Rattle.tables.proofs.Common.{Refuses, UnlessFault, or_else}
 use Rattle.tables.specs.declared.refusal.StageFault.TheVariants as fault
 use Rattle.giv_files.proofs.Common.{BundleParts, TakesSteps}
 use Rattle.delay_management.specs.DispositionStage.{disposition_faults, problem_in}

@@ -1,10 +1,13 @@
 -- No fault of an input is a spent budget.
 use Rattle.plan_num.proofs.Common.{arith, ◌≡◌, ℕ, Bool, true, false, cond, List, [], ◌∷◌, ◌++◌, map}
 use Rattle.plan_num.proofs.Common.{nat_lt, slice_get, Option, Some, None, Err, subst, ⊤, flat_map}
-use Rattle.tables.proofs.Common.{FileId, RowWhy, Refusal, StageFault, faults, table_of, Input}
-use Rattle.tables.proofs.Common.{Numbered, RowRule, TableRule, Refuses, broken_whys, cell_faults}
-use Rattle.tables.proofs.Common.{fault_at, limit_faults, numbered, or_else, records}
-use Rattle.tables.proofs.Common.{table_row_faults, whole_faults}
+use Rattle.tables.specs.declared.file_id.FileId.{FileId}
+use Rattle.tables.specs.declared.row_why.RowWhy.{RowWhy}
+use Rattle.tables.specs.declared.refusal.Refusal.{Refusal}
+use Rattle.tables.specs.declared.refusal.StageFault.{StageFault}
+use Rattle.tables.proofs.Common.{faults, table_of, Input, Numbered, RowRule, TableRule, Refuses}
+use Rattle.tables.proofs.Common.{broken_whys, cell_faults, fault_at, limit_faults, numbered}
+use Rattle.tables.proofs.Common.{or_else, records, table_row_faults, whole_faults}
 use Rattle.tables.specs.declared.refusal.Refusal.TheVariants as refusal
 use Rattle.tables.specs.declared.refusal.StageFault.TheVariants as fault
 use Rattle.tables.specs.Inputs.{input_faults, row_faults}

@@ -10,10 +10,12 @@ use Rattle.plan_num.proofs.Common.{All-contains_itself, All-map, sum_by-cons}
 use Rattle.std.proofs.lemmas.Bool.{and_parts as both}
 use Rattle.std.proofs.lemmas.List.Elements.{All-tail as behind}
 use Rattle.std.proofs.lemmas.List.Elements.{All-head as head_of}
-use Rattle.propagation.proofs.Common.{DayEvent, Activity, Step, IsFeasible, IsLeast, asked, time_at}
-use Rattle.propagation.proofs.Common.{arrives, delay_at, is_broken, lateness, AreChanges}
-use Rattle.propagation.proofs.Common.{DelayProblem, IsForward, steps_with, chosen_changes}
-use Rattle.propagation.proofs.Common.{least_times_are_least}
+use Rattle.propagation.specs.declared.day_event.DayEvent.{DayEvent}
+use Rattle.propagation.specs.declared.step.Activity.{Activity}
+use Rattle.propagation.specs.declared.step.Step.{Step}
+use Rattle.propagation.proofs.Common.{IsFeasible, IsLeast, asked, time_at, arrives, delay_at}
+use Rattle.propagation.proofs.Common.{is_broken, lateness, AreChanges, DelayProblem, IsForward}
+use Rattle.propagation.proofs.Common.{steps_with, chosen_changes, least_times_are_least}
 use Rattle.waiting_decisions.specs.declared.decision.Decision.{Decision}
 use Rattle.waiting_decisions.specs.declared.decision.Decision.TheVariants as decision
 use Rattle.waiting_decisions.specs.declared.node.WaitNode.{WaitNode}

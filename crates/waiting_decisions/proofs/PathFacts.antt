@@ -13,7 +13,8 @@ use Rattle.plan_num.proofs.Common.{get_or-map-range_with_len, length-map-range_w
 use Rattle.plan_num.proofs.Common.{list_any-append, sum_by-cons}
 use Rattle.std.proofs.Math.Bool.{or-false}
 use Rattle.delay_trials.specs.declared.decided.Decided.{Decided}
-use Rattle.propagation.proofs.Common.{Activity, delay_at, is_broken, DelayProblem}
+use Rattle.propagation.specs.declared.step.Activity.{Activity}
+use Rattle.propagation.proofs.Common.{delay_at, is_broken, DelayProblem}
 use Rattle.delay_trials.specs.Trials.{TrialParts, is_decided}
 use Rattle.delay_trials.specs.Trials.{first_broken as trial_broken, is_kept as kept_in, times_of as trial_times}
 use Rattle.waiting_decisions.specs.declared.decision.Decision.{Decision}

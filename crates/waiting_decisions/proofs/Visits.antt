@@ -7,7 +7,8 @@ use Rattle.plan_num.proofs.Common.{⊤, last_or, both_ways, ints, length-set, ma
 use Rattle.plan_num.proofs.Common.{filter_map-append, position-Some, sum_by-cons, get_or-zip}
 use Rattle.plan_num.proofs.Common.{length-zip}
 use Rattle.std.proofs.lemmas.Bool.{and_parts as both}
-use Rattle.propagation.proofs.Common.{Activity, is_broken, DelayProblem, IsForward}
+use Rattle.propagation.specs.declared.step.Activity.{Activity}
+use Rattle.propagation.proofs.Common.{is_broken, DelayProblem, IsForward}
 use Rattle.waiting_decisions.specs.declared.decision.Decision.{Decision}
 use Rattle.waiting_decisions.specs.declared.decision.Decision.TheVariants as decision
 use Rattle.waiting_decisions.specs.declared.node.WaitNode.TheVariants as node

@@ -5,7 +5,6 @@ pub use Rattle.walks.specs.Paths.{length_to, path, path_within, paths_from, stop
 pub use Rattle.walks.specs.RisingIds.{by_id, index_in, rising}
 pub use Rattle.walks.specs.Walks.{AreLeastSums, IsLeastSum, IsWalk, across, edge_length, edge_time}
 pub use Rattle.walks.specs.Walks.{end_from, least_of, least_sum, least_sums, walk_sum, walks_within}
-pub use Rattle.walks.specs.declared.edge.Edge.{Edge}
 pub use Rattle.walks.proofs.ById.{by_id_keyed, by_id_sorted, sorted_entries, sorted_ids}
 pub use Rattle.walks.proofs.LastWalks.{across_back, splits, starts_within}
 pub use Rattle.walks.proofs.PathEdges.{comes_from, ends_are, last_is_new, last_is_step, path_simple}

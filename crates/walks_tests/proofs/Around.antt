@@ -2,7 +2,8 @@
 use Rattle.plan_num.proofs.Common.{ℕ, ℤ, pos, List, [], ◌∷◌, refl, arith, All, ints, All-cons}
 use Rattle.plan_num.proofs.Common.{All-nil}
 use Rattle.std.specs.List.Sorted.{IsStrictlySortedBy}
-use Rattle.walks.proofs.Common.{Edge, IsEdge, IsNetwork}
+use Rattle.walks.specs.declared.edge.Edge.{Edge}
+use Rattle.walks.proofs.Common.{IsEdge, IsNetwork}
 
 abbrev pub edge : ℤ → ℕ → ℕ → ℤ → Edge
 edge id left right length =

@@ -1,7 +1,8 @@
 use Rattle.plan_num.proofs.Common.{arith, ◌≡◌, ◌∷◌, ◌++◌, ◌+◌, ◌∙◌, List, [], ap, sym, get_or}
 use Rattle.plan_num.proofs.Common.{slice_get, Some, flat_map, err_from_is_err_and}
-use Rattle.tables.proofs.Common.{RowFault, tree_columns, table_of, table_row, TableRow, no_row}
-use Rattle.tables.proofs.Common.{records_all, rows_met, no_mark, row_ends, mark_first, table_is}
+use Rattle.tables.specs.declared.read_fault.RowFault.{RowFault}
+use Rattle.tables.proofs.Common.{tree_columns, table_of, table_row, TableRow, no_row, records_all}
+use Rattle.tables.proofs.Common.{rows_met, no_mark, row_ends, mark_first, table_is}
 use Rattle.tables.specs.Reading.{row_faults}
 use Rattle.branch_certificate.proofs.ReadLines.{by_cell, cell_refused, in_order, no_cells, nothing_read}
 use Rattle.branch_certificate.proofs.ReadLines.{one_inside, row_own, row_within, rows_behind, rows_past}

@@ -2,7 +2,7 @@ use Rattle.plan_num.proofs.Common.{◌≤◌, ◌++◌, ◌∷◌, ◌∙◌, Li
 use Rattle.plan_num.proofs.Common.{sym, arith, take, w64, flat_map, take_all}
 use Rattle.std.proofs.lemmas.Int.{to_z-of_z}
 use Rattle.tables.proofs.Common.{tree_columns, TableRow, InColumns, line_text}
-use Rattle.line_cost_model.proofs.Common.{Multiplier}
+use Rattle.line_cost_model.specs.declared.multipliers.Multiplier.{Multiplier}
 use Rattle.branch_certificate.specs.TreeTexts.{cells_row, edge_id, row_with}
 use Rattle.plan_num.proofs.SortedIds.{kept_more}
 use Rattle.line_concepts.proofs.FewMultipliers.{few_multipliers}

@@ -2,7 +2,8 @@ use Rattle.plan_num.proofs.Common.{◌≡◌, ◌∙◌, ◌<◌, ◌+◌, ◌+�
 use Rattle.plan_num.proofs.Common.{to_z, of_z, ints}
 use Rattle.std.proofs.lemmas.Int.{to_z-of_z}
 use mir.Syntax.{w128}
-use Rattle.event_tables.proofs.Common.{is_arrival, ExpandedEvent}
+use Rattle.event_tables.specs.declared.expanded_event.ExpandedEvent.{ExpandedEvent}
+use Rattle.event_tables.proofs.Common.{is_arrival}
 use Rattle.propagation.proofs.Common.{more_delay, late_in, late_more}
 use Rattle.delay_management.proofs.day_lateness.delay_at.Goals as goal
 

@@ -2,7 +2,7 @@
 use Rattle.plan_num.proofs.Common.{◌≡◌, ◌*◌, ◌+ℤ◌, ◌≤ℤ◌, neg_ℤ, pos, drop, filter, zip, fold}
 use Rattle.delay_management.specs.DayLateness.{arrives, delay_at, lateness}
 use Rattle.delay_management.proofs.day_lateness.delay_at.Given as goal
-use Rattle.propagation.proofs.Common.{LATEST}
+use Rattle.propagation.specs.declared.times.TheConstants.{LATEST}
 
 abbrev pub invariant-loop-index : goal.invariant-loop-index
 invariant-loop-index l = record {

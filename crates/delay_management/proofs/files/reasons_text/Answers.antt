@@ -2,7 +2,7 @@ use Rattle.plan_num.proofs.Common.{◌≡◌, ◌∙◌, ◌+◌, ◌++◌, ◌�
 use Rattle.plan_num.proofs.Common.{take, ap, refl, sym, subst, arith, map_push}
 use Rattle.tables.proofs.Common.{reasons_columns, TableRow, InColumns, table_text, plain_header}
 use Rattle.tables.proofs.Common.{rows_by, columns_written}
-use Rattle.propagation.proofs.Common.{Reason}
+use Rattle.propagation.specs.declared.reason.Reason.{Reason}
 use Rattle.propagation.specs.declared.reason.Reason.TheVariants as reasons
 use Rattle.delay_management.specs.DispositionStage.{ReasonRow, reason_cells, reason_rows, reasons_header}
 use Rattle.delay_management.proofs.WrittenRows.{reason_table_fits, reasons_fit, row_more, rows_whole}

@@ -1,5 +1,5 @@
 use Rattle.plan_num.proofs.Common.{◌+◌, ◌++◌, ◌∷◌, [], ap, get_or, sym, ◌∙◌, arith, List, ℕ}
-use Rattle.event_tables.proofs.Common.{DisposedTime}
+use Rattle.event_tables.specs.declared.disposed_time.DisposedTime.{DisposedTime}
 use Rattle.delay_management.proofs.WrittenRows.{row_more, rows_whole}
 use Rattle.delay_management.proofs.files.time_rows.Goals as goal
 

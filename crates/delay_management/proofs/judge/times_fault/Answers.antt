@@ -1,5 +1,6 @@
 use Rattle.plan_num.proofs.Common.{◌≡◌, ◌∙◌, ◌++◌, List, IfOk, slice_get, sym, subst}
-use Rattle.propagation.proofs.Common.{Activity, chosen_changes}
+use Rattle.propagation.specs.declared.step.Activity.{Activity}
+use Rattle.propagation.proofs.Common.{chosen_changes}
 use Rattle.delay_management.specs.Judged.{reason_faults}
 use Rattle.delay_management.proofs.JudgedFaults.{found_early, none_early}
 use Rattle.delay_management.proofs.judge.times_fault.Goals as goal

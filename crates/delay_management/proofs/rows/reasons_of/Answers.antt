@@ -1,5 +1,5 @@
 use Rattle.plan_num.proofs.Common.{arith}
-use Rattle.propagation.proofs.Common.{Reason}
+use Rattle.propagation.specs.declared.reason.Reason.{Reason}
 use Rattle.delay_management.specs.DispositionStage.{ReasonRow}
 use Rattle.delay_management.specs.Judged.{reason_row}
 use Rattle.delay_management.proofs.TableParts.{part_pushed}

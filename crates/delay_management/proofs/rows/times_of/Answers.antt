@@ -1,8 +1,9 @@
 use Rattle.plan_num.proofs.Common.{◌≤◌, ℕ, All, sym, subst, arith, All-push}
-use Rattle.event_tables.proofs.Common.{DisposedTime, disposed_time}
+use Rattle.event_tables.specs.declared.disposed_time.DisposedTime.{DisposedTime}
+use Rattle.event_tables.proofs.Common.{disposed_time}
 use Rattle.delay_management.proofs.TableParts.{part_pushed}
 use Rattle.delay_management.proofs.rows.times_of.Goals as goal
-use Rattle.propagation.proofs.Common.{LATEST}
+use Rattle.propagation.specs.declared.times.TheConstants.{LATEST}
 
 abbrev time : DisposedTime → ℕ
 time row = row.time

@@ -1,7 +1,8 @@
 use Rattle.std.proofs.Common.{◌≤◌, true, [], All, ap, subst, sym, ◌∙◌}
 use Rattle.std.proofs.lemmas.Int.{to_z-of_z}
 use mir.Syntax.{w128}
-use Rattle.propagation.proofs.Common.{missed_at, LATEST}
+use Rattle.propagation.specs.declared.times.TheConstants.{LATEST}
+use Rattle.propagation.proofs.Common.{missed_at}
 use Rattle.delay_management.specs.DayLateness.{delay_at}
 use Rattle.delay_management.specs.InputProblems.{activities_of}
 use Rattle.evaluators.specs.Statistic.{greatest_delay}

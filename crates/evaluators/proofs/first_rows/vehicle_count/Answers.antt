@@ -1,7 +1,7 @@
 use Rattle.plan_num.proofs.Common.{length, pos, not, ap, ◌∙◌, sym, arith, ◌||◌, w64, contains}
 use Rattle.plan_num.proofs.Common.{list_any, int_eq}
 use Rattle.std.proofs.lemmas.Int.{to_z-of_z}
-use Rattle.event_tables.proofs.Common.{ScheduleRow}
+use Rattle.event_tables.specs.declared.schedule_row.ScheduleRow.{ScheduleRow}
 use Rattle.evaluators.proofs.FirstRowFacts.{no_firsts}
 use Rattle.evaluators.proofs.SeenLines.{new_noted, noted_more, old_noted}
 use Rattle.evaluators.proofs.first_rows.vehicle_count.Goals.{then-branch, else-branch}

@@ -1,6 +1,6 @@
 -- The count of the pairs from the events so far, which is no greater than the limits allow.
 use Rattle.plan_num.proofs.Common.{◌≡◌, ◌*◌, ◌≤◌, List, length, take, flat_map}
-use Rattle.giv_files.proofs.Common.{Setting}
+use Rattle.giv_files.specs.declared.setting.Setting.{Setting}
 use Rattle.event_activity.specs.Activities.{from_event}
 use Rattle.event_activity.proofs.activities.count_joined.Given as goal
 

@@ -1,7 +1,8 @@
 use Rattle.plan_num.proofs.Common.{◌≡◌, ◌-◌, arith, ap, ◌∙◌, length, filter, Option, Some}
 use Rattle.plan_num.proofs.Common.{slice_get, option_or}
 use Rattle.tables.specs.declared.counted.Counted.TheVariants as counted
-use Rattle.tables.proofs.Common.{RowLimit, records_by, too_many_rows}
+use Rattle.tables.specs.declared.row_limit.RowLimit.{RowLimit}
+use Rattle.tables.proofs.Common.{records_by, too_many_rows}
 use Rattle.event_tables.specs.Cells.{schedule_row}
 use Rattle.event_tables.specs.Schedules.{is_trip_row, is_empty_row}
 use Rattle.event_tables.proofs.ScheduleRows.{both_kinds, first_of_two}

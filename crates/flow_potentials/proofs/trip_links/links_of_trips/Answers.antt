@@ -1,6 +1,6 @@
 use Rattle.plan_num.proofs.Common.{ℕ, ◌≡◌, List, length, map, ap, ◌∙◌, arith}
-use Rattle.link_plans.proofs.Common.{links_in, Link, AreRows, IsRow, lists_are, lists_sound}
-use Rattle.link_plans.proofs.Common.{lists_more}
+use Rattle.link_plans.specs.declared.link_table.Link.{Link}
+use Rattle.link_plans.proofs.Common.{links_in, AreRows, IsRow, lists_are, lists_sound, lists_more}
 use Rattle.vehicle_model.specs.Trips.{links_of}
 use Rattle.vehicle_model.proofs.TripLinks.{trips_links}
 use Rattle.flow_potentials.proofs.trip_links.links_of_trips.Goals as goal

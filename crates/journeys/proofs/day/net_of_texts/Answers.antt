@@ -1,7 +1,8 @@
 use Rattle.plan_num.proofs.Common.{◌≡◌, ◌∙◌, List, [], ap, sym, subst, option_copied}
 use Rattle.plan_num.proofs.Common.{err_from_is_err_and}
 use Rattle.tables.proofs.Common.{Refuses, input_faults, records_of}
-use Rattle.event_tables.proofs.Common.{ExpandedEvent, expanded_activity_input}
+use Rattle.event_tables.specs.declared.expanded_event.ExpandedEvent.{ExpandedEvent}
+use Rattle.event_tables.proofs.Common.{expanded_activity_input}
 use Rattle.journeys.specs.JourneyNets.{net_over, time_faults_over, times_over}
 use Rattle.journeys.proofs.DayTexts.{net_is, refused_activities, refused_events, time_faults}
 use Rattle.journeys.proofs.day.net_of_texts.Goals as goal

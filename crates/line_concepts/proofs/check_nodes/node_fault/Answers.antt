@@ -1,7 +1,8 @@
 use Rattle.plan_num.proofs.Common.{◌∙◌, ◌∷◌, [], ◌+◌, List, to_z, of_z, slice_get, if◌then◌else◌}
 use Rattle.plan_num.proofs.Common.{ap, sym, subst, arith, w128}
 use Rattle.std.proofs.lemmas.Int.{to_z-of_z}
-use Rattle.line_cost_model.proofs.Common.{LineRange, ProblemParts}
+use Rattle.line_cost_model.specs.declared.range.LineRange.{LineRange}
+use Rattle.line_cost_model.proofs.Common.{ProblemParts}
 use Rattle.line_concepts.specs.TreeFaults.{placed_faults, splits_outside}
 use Rattle.line_concepts.specs.Nodes.{NamesWhatIs}
 use Rattle.line_concepts.specs.Walks.{SplitsOne, noted}

@@ -1,5 +1,6 @@
 use Rattle.plan_num.proofs.Common.{ℤ, ◌<ℤ◌, [], ◌∷◌, ◌++◌, ap, sym, ◌∙◌, arith, subst, All}
-use Rattle.line_cost_model.proofs.Common.{BoundedEdge, ProblemParts, IsBoundedEdge, IsId}
+use Rattle.line_cost_model.specs.declared.edge.BoundedEdge.{BoundedEdge}
+use Rattle.line_cost_model.proofs.Common.{ProblemParts, IsBoundedEdge, IsId}
 use Rattle.line_cost_model.proofs.Proving.{holds_at as held}
 use Rattle.line_search.specs.GivenProblems.{bounded_by}
 use Rattle.line_search.proofs.PushedEdges.{edges_below, edges_more, edges_whole, is_bounded, told_edge, told_id}

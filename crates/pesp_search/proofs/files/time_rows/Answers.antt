@@ -1,5 +1,5 @@
 use Rattle.plan_num.proofs.Common.{◌+◌, ◌++◌, ◌∷◌, [], ap, get_or, sym, ◌∙◌, arith, List}
-use Rattle.event_tables.proofs.Common.{PeriodicTime}
+use Rattle.event_tables.specs.declared.periodic_time.PeriodicTime.{PeriodicTime}
 use Rattle.pesp_search.proofs.RowsOfTimes.{row_more, rows_whole}
 use Rattle.pesp_search.proofs.files.time_rows.Goals as goal
 

@@ -1,5 +1,5 @@
 use Rattle.std.proofs.Common.{Ok}
-use Rattle.plan_files.proofs.Common.{Bytes, Absent, TooLong}
+use Rattle.plan_files.specs.declared.store.Got.TheVariants.{Bytes, Absent, TooLong}
 use Rattle.stage_chain.specs.Reports.{missing_text, too_long_text}
 use Rattle.plan_queries.specs.Queries.{waits_name}
 use Rattle.plan_queries.proofs.Telling.{bad_is, saved_right, saved_told}

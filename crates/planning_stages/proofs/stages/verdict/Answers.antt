@@ -1,4 +1,4 @@
-use Rattle.std.proofs.Common.{sym, ◌∙◌}
+use Rattle.plan_num.proofs.Common.{sym, ◌∙◌}
 use Rattle.giv_files.specs.declared.stage.Stage.TheVariants as stage
 use Rattle.giv_files.proofs.Common.{ids_of}
 use Rattle.planning_stages.specs.Planning.{planning, stage_model}

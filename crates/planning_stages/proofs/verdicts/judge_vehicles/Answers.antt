@@ -1,4 +1,4 @@
-use Rattle.std.proofs.Common.{cond, IfNone, IfOk, subst, sym, ◌∙◌}
+use Rattle.plan_num.proofs.Common.{cond, IfNone, IfOk, subst, sym, ◌∙◌}
 use Rattle.giv_files.specs.declared.stage.Stage.TheVariants as stage
 use Rattle.giv_files.proofs.Common.{MakesAs, ids_of}
 use Rattle.planning_stages.specs.Planning.{schedule_judged}

@@ -1,5 +1,6 @@
 use Rattle.plan_num.proofs.Common.{IfSome, ◌∙◌, ap, find, subst, sym}
-use Rattle.event_tables.proofs.Common.{PeriodicEvent, leads}
+use Rattle.event_tables.specs.declared.periodic_event.PeriodicEvent.{PeriodicEvent}
+use Rattle.event_tables.proofs.Common.{leads}
 use Rattle.roll_out.specs.Plans.{IsBetween}
 use Rattle.plan_num.proofs.Found.{found_has}
 use Rattle.roll_out.proofs.NotedWays.{leads_as, way_found}

@@ -1,6 +1,7 @@
 -- What holds before each turn.
 use Rattle.plan_num.proofs.Common.{◌≡◌, map, take, flat_map}
-use Rattle.event_tables.proofs.Common.{PeriodicEvent, unjoined_in}
+use Rattle.event_tables.specs.declared.periodic_event.PeriodicEvent.{PeriodicEvent}
+use Rattle.event_tables.proofs.Common.{unjoined_in}
 use Rattle.roll_out.proofs.rules.unjoined_events.Given as goal
 
 abbrev pub invariant-loop-run : goal.invariant-loop-run

@@ -1,7 +1,7 @@
 use Rattle.plan_num.proofs.Common.{◌≡◌, true, false, get_or, Err, ap, ◌∙◌, arith, le-leb, lt-leb}
 use Rattle.plan_num.proofs.Common.{err_from_is_err_and}
 use Rattle.plan_files.proofs.Common.{nothing_read, both_read}
-use Rattle.giv_files.proofs.Common.{Load}
+use Rattle.giv_files.specs.declared.stage.Stage.TheVariants.{Load}
 use Rattle.stage_chain.specs.Kept.{solve_over}
 use Rattle.stage_chain.specs.Chain.{stage_place}
 use Rattle.stage_chain.proofs.StageByStage.{told_first, told_more, told_same, told_ended}

@@ -1,6 +1,6 @@
 use Rattle.plan_num.proofs.Common.{sym, ◌∙◌}
 use Rattle.plan_files.proofs.Common.{both_read}
-use Rattle.giv_files.proofs.Common.{Load}
+use Rattle.giv_files.specs.declared.stage.Stage.TheVariants.{Load}
 use Rattle.stage_chain.proofs.Judging.{told_some, told_none}
 use Rattle.stage_chain.proofs.Passed.{rest_next, rest_end}
 use Rattle.stage_chain.proofs.check.find_under.Goals as goal

@@ -1,5 +1,5 @@
 use Rattle.plan_num.proofs.Common.{◌≡◌, map, take}
-use Rattle.plan_files.proofs.Common.{Removal}
+use Rattle.plan_files.specs.declared.write.Write.TheVariants.{Removal}
 use Rattle.stage_keep.specs.Entries.{keep_name}
 use Rattle.stage_chain.proofs.fresh.removals.Given as goal
 

@@ -1,7 +1,7 @@
 use Rattle.plan_num.proofs.Common.{◌≡◌, Err, ap, ◌∙◌, ◌∷◌, [], ◌+◌, length, length-append}
 use Rattle.plan_num.proofs.Common.{err_from_is_err_and}
 use Rattle.plan_files.proofs.Common.{both_read}
-use Rattle.tables.proofs.Common.{Stop}
+use Rattle.tables.specs.declared.file_id.FileId.TheVariants.{Stop}
 use Rattle.giv_files.proofs.Common.{BundleParts}
 use Rattle.stage_chain.specs.Chain.{bundle_for}
 use Rattle.stage_chain.specs.Looks.{look_over}

@@ -1,5 +1,5 @@
 use Rattle.plan_files.proofs.Common.{both_read}
-use Rattle.tables.proofs.Common.{Stop}
+use Rattle.tables.specs.declared.file_id.FileId.TheVariants.{Stop}
 use Rattle.stage_chain.proofs.MadeThere.{told_more}
 use Rattle.plan_num.proofs.Common.{sym, ◌∙◌}
 use Rattle.stage_chain.proofs.standing.standing.Goals as goal

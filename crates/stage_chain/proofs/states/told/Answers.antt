@@ -1,5 +1,5 @@
 use Rattle.plan_files.proofs.Common.{both_read}
-use Rattle.giv_files.proofs.Common.{Load}
+use Rattle.giv_files.specs.declared.stage.Stage.TheVariants.{Load}
 use Rattle.stage_chain.proofs.Stating.{lines_more, lines_all}
 use Rattle.stage_chain.proofs.states.told.Goals as goal
 

@@ -1,5 +1,5 @@
 use Rattle.plan_num.proofs.Common.{◌≡◌, ◌++◌, map, take}
-use Rattle.plan_files.proofs.Common.{Removal}
+use Rattle.plan_files.specs.declared.write.Write.TheVariants.{Removal}
 use Rattle.tables.proofs.Common.{file_name}
 use Rattle.stage_chain.specs.Runs.{names_besides}
 use Rattle.stage_chain.proofs.writes.add_removals.Given as goal

@@ -1,5 +1,5 @@
 use Rattle.plan_num.proofs.Common.{◌≡◌, map, take}
-use Rattle.plan_files.proofs.Common.{Removal}
+use Rattle.plan_files.specs.declared.write.Write.TheVariants.{Removal}
 use Rattle.stage_chain.specs.Hand.{names_made_by}
 use Rattle.stage_chain.specs.Runs.{names_besides}
 use Rattle.stage_chain.proofs.writes.removals.Given as goal

@@ -1,5 +1,5 @@
 use Rattle.plan_num.proofs.Common.{ap, ◌∙◌, sym, ◌∷◌, ◌++◌, [], List, ℕ, codes}
-use Rattle.tables.proofs.Common.{Stop}
+use Rattle.tables.specs.declared.file_id.FileId.TheVariants.{Stop}
 use Rattle.stage_keep.proofs.Reading.{head_more}
 use Rattle.stage_keep.proofs.heads.heads.Goals as goal
 

@@ -1,5 +1,5 @@
 use Rattle.plan_num.proofs.Common.{ℕ, ◌-◌, ap, ◌∙◌, length, map, take, drop, [], List, zip}
-use Rattle.tables.proofs.Common.{FileId}
+use Rattle.tables.specs.declared.file_id.FileId.{FileId}
 use Rattle.giv_files.proofs.Common.{stage_inputs}
 use Rattle.stage_keep.specs.EntryReading.{made_file}
 use Rattle.stage_keep.proofs.Reading.{back_texts, entry_by_parts, first_text, front_texts, last_text}

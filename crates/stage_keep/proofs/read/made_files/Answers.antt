@@ -1,5 +1,5 @@
 use Rattle.plan_num.proofs.Common.{◌<◌, ◌∙◌, sym, arith, length, map, [], get_or-map, length-map}
-use Rattle.tables.proofs.Common.{Stop}
+use Rattle.tables.specs.declared.file_id.FileId.TheVariants.{Stop}
 use Rattle.stage_keep.proofs.Reading.{file_pushed}
 use Rattle.stage_keep.proofs.read.made_files.Goals as goal
 

@@ -1,5 +1,5 @@
 use Rattle.std.proofs.Common.{arith}
-use Rattle.propagation.proofs.Common.{Activity}
+use Rattle.propagation.specs.declared.step.Activity.{Activity}
 use Rattle.wait_choice.proofs.ListItems.{one_pushed}
 use Rattle.wait_choice.proofs.ids.change_ids.Goals as goal
 

@@ -1,6 +1,6 @@
 use Rattle.plan_num.proofs.Common.{◌∙◌, ◌++◌, ◌<◌, Bool, false, get_or, length, ap, sym, arith, zip}
 use Rattle.plan_num.proofs.Common.{get_or-zip, length-zip}
-use Rattle.propagation.proofs.Common.{Activity}
+use Rattle.propagation.specs.declared.step.Activity.{Activity}
 use Rattle.wait_choice.specs.PrintedRows.{RowFits}
 use Rattle.wait_choice.specs.WaitTexts.{choice_row}
 use Rattle.wait_choice.proofs.ListItems.{all_taken, behind_pushed, fits_pushed, got}

@@ -1,6 +1,6 @@
 use Rattle.std.proofs.Common.{◌+◌, ◌∙◌, ◌<◌, ◌&&◌, true, false, drop, get_or, length, ap, sym, refl, arith}
 use Rattle.std.specs.List.{list_all}
-use Rattle.propagation.proofs.Common.{Activity}
+use Rattle.propagation.specs.declared.step.Activity.{Activity}
 use Rattle.wait_choice.specs.declared.row.WaitRow.TheVariants as row
 use Rattle.wait_choice.specs.Judged.{is_node}
 use Rattle.wait_choice.proofs.ListItems.{choices_are, fit_end, fit_more, left_fit, rest_all}

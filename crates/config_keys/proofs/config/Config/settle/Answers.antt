@@ -1,5 +1,5 @@
 use Rattle.plan_num.proofs.Common.{sym}
-use Rattle.giv_files.proofs.Common.{LastStage}
+use Rattle.giv_files.specs.declared.key.Key.TheVariants.{LastStage}
 use Rattle.config_keys.specs.ReadSoFar.{said_of}
 use Rattle.config_keys.proofs.Settling.{settled_bad, settled_good, are_settings}
 use Rattle.config_keys.proofs.config.Config.settle.Goals as goal

@@ -1,5 +1,5 @@
 use Rattle.plan_num.proofs.Common.{[], ◌∷◌, ◌++◌, map, get_or, ap, sym, ◌∙◌}
-use Rattle.giv_files.proofs.Common.{LastStage}
+use Rattle.giv_files.specs.declared.key.Key.TheVariants.{LastStage}
 use Rattle.config_keys.specs.Config.{setting_at}
 use Rattle.config_keys.proofs.Settling.{passed_over, part_more, part_whole, part_fits}
 use Rattle.config_keys.proofs.config.Config.stage_settings.Goals as goal

@@ -1,4 +1,4 @@
-use Rattle.giv_files.proofs.Common.{LastStage}
+use Rattle.giv_files.specs.declared.key.Key.TheVariants.{LastStage}
 use Rattle.config_keys.proofs.SaidItems.{says_begin, says_more, says_all}
 use Rattle.config_keys.proofs.said.Said.add.Goals as goal
 

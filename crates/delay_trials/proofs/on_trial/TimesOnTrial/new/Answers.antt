@@ -3,7 +3,8 @@ use Rattle.plan_num.proofs.Common.{length, subst, sym, true, replicate, reverse,
 use Rattle.plan_num.proofs.Common.{All-nil}
 use Rattle.std.proofs.lemmas.Int.{to_z-of_z}
 use mir.Syntax.{w128}
-use Rattle.propagation.proofs.Common.{forward_rank, Link, delay_at}
+use Rattle.propagation.specs.declared.links.Link.{Link}
+use Rattle.propagation.proofs.Common.{forward_rank, delay_at}
 use Rattle.delay_trials.specs.declared.ends.ChangeEnd.{ChangeEnd}
 use Rattle.delay_trials.specs.ChangeEnds.{AreFirst, HasEnds}
 use Rattle.delay_trials.specs.OnTrial.{AreTested}

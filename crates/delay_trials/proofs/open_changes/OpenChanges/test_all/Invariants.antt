@@ -1,6 +1,7 @@
 -- The changes so far are tested.
 use Rattle.plan_num.proofs.Common.{◌≡◌, ◌<◌, ◌&&◌, ℕ, false, get_or, length}
-use Rattle.propagation.proofs.Common.{Activity, is_broken}
+use Rattle.propagation.specs.declared.step.Activity.{Activity}
+use Rattle.propagation.proofs.Common.{is_broken}
 use Rattle.delay_trials.proofs.open_changes.OpenChanges.test_all.Given as goal
 
 abbrev pub invariant-loop-change : goal.invariant-loop-change

@@ -1,7 +1,7 @@
 -- The changes of the ends so far are tested, and the least room is that of them.
 use Rattle.plan_num.proofs.Common.{◌≤◌, ◌<◌, ℕ, get_or}
 use Rattle.delay_trials.specs.declared.ends.ChangeEnd.{ChangeEnd}
-use Rattle.propagation.proofs.Common.{Activity}
+use Rattle.propagation.specs.declared.step.Activity.{Activity}
 use Rattle.delay_trials.specs.OpenChanges.{TestsEnds}
 use Rattle.delay_trials.specs.Stillness.{room_of}
 use Rattle.delay_trials.proofs.open_changes.OpenChanges.test_block.Given as goal
