@@ -1,5 +1,5 @@
 -- What holds of the chain of any stages, of the planning stages.
-use Rattle.std.proofs.Common.{◌≡◌, Option, None, Some, IfSome}
+use Rattle.plan_num.proofs.Common.{◌≡◌, Option, None, Some, IfSome}
 use Rattle.std.specs.FinMap as files
 use Rattle.plan_files.proofs.Common.{Folder}
 use Rattle.giv_files.specs.declared.stage.Stage.{Stage}

@@ -1,23 +1,23 @@
 -- The plans that a run leaves are feasible, and best where certificates stand beside them.
-use Rattle.plan_num.proofs.Common.{◌≡◌, ℕ, ℤ, Bool, true, false, cond, not, is_some, List, [], ◌∷◌}
-use Rattle.plan_num.proofs.Common.{◌++◌, map, Option, Some, None, IfSome, IfOk, Result, Ok, Err}
-use Rattle.plan_num.proofs.Common.{Contains, ◌⊎◌, inl, inr, ⊎_elim, refl, ap, subst, sym, ◌∙◌}
-use Rattle.plan_num.proofs.Common.{nat_cmp, slice_cmp, list_all, bytes_eq, and_from, and_parts}
-use Rattle.plan_num.proofs.Common.{false≢true, map-append, All-contains, AllPass-from_list_all}
+use Rattle.plan_num.proofs.Common.{arith, ◌≡◌, ℕ, ℤ, Bool, true, false, cond, not, is_some, List}
+use Rattle.plan_num.proofs.Common.{[], ◌∷◌, ◌++◌, map, Option, Some, None, IfSome, IfOk, Result, Ok}
+use Rattle.plan_num.proofs.Common.{Err, Contains, ◌⊎◌, inl, inr, ⊎_elim, refl, ap, subst, sym, ◌∙◌}
+use Rattle.plan_num.proofs.Common.{nat_cmp, slice_cmp, list_all, and_from, and_parts, false≢true}
+use Rattle.plan_num.proofs.Common.{map-append, All-contains, AllPass-from_list_all}
 use Rattle.std.specs.FinMap as files
 use Rattle.plan_files.proofs.Common.{Folder, get_part}
 use Rattle.tables.specs.declared.file_id.FileId.{FileId}
-use Rattle.tables.proofs.Common.{file_name}
 use Rattle.tables.specs.declared.file_id.FileId.TheVariants as file
 use Rattle.giv_files.specs.declared.key.Key.TheVariants as key
 use Rattle.giv_files.specs.declared.made.MadeFile.{MadeFile}
 use Rattle.giv_files.specs.declared.stage.Stage.{Stage}
-use Rattle.giv_files.proofs.Common.{BundleParts, stage_inputs, stage_makes}
 use Rattle.giv_files.specs.declared.stage.Stage.TheVariants as stage
+use Rattle.tables.proofs.Common.{file_name}
+use Rattle.giv_files.proofs.Common.{BundleParts, stage_inputs, stage_makes}
 use Rattle.config_keys.specs.declared.config_fault.ConfigFault.{ConfigFault}
 use Rattle.config_keys.proofs.Common.{look_in, effective}
 use Rattle.vehicle_flow.specs.RightSchedules.{ScheduleIsRight}
-use Rattle.vehicle_flow.specs.RightVehicles.{VehicleFilesAreRight, VehiclesAreRight}
+use Rattle.vehicle_flow.specs.RightVehicles.{VehicleFilesAreRight}
 use Rattle.delay_management.specs.RightDispositions.{DispositionFilesAreRight}
 use Rattle.stage_chain.specs.declared.cause.Cause.{Cause}
 use Rattle.command_line.specs.declared.mode.Mode.{Mode}
@@ -103,18 +103,19 @@ module _ (Holds : Type 0) (file : FileId) where
   both_or : (some others : List MadeFile) → HoldsOr some → HoldsOr others → HoldsOr (some ++ others)
   both_or some others (inl holds) rest = inl holds
   both_or some others (inr none) (inl holds) = inl holds
-  both_or some others (inr none) (inr other) =
-      inr (subst (λ names. differs_from names (file_name file) ≡ true) (sym (map-append name_of some others))
-      (all_both (λ other. not (bytes_eq (file_name file) other)) (map name_of some) (map name_of others) none other))
+  both_or some others (inr none) (inr other) = grind (arith, map-append, all_both)
 
   visits_or : (look : FileId → Result (List ℕ) Cause) (values : List ℤ) (visits : List Visit)
       → AllStandRight planning look values visits
       → ((bundle : BundleParts) (some : List MadeFile) → StandsRight planning look values bundle some → HoldsOr some)
       → HoldsOr (files_of visits)
   visits_or look values [] right each = inr refl
-  visits_or look values (visit ∷ visits) right each =
-      both_or visit.made.files (files_of visits) (each visit.bundle visit.made.files right.0)
-      (visits_or look values visits right.1 each)
+  visits_or look values (visit ∷ visits) right each = grind (
+    arith,
+    both_or,
+    visits_or look values
+        visits right.1 each,
+  )
 
 -- what stands in a folder under the name of a file that stages make was made
 made_there : (some : List MadeFile) (folder : Folder) (name : List ℕ)
@@ -151,8 +152,7 @@ module _ (folder : Folder) (values : List ℤ) (settled : effective (look_in fol
   -- what is right over what a stage is given is right over the texts there
   over_looked : (at : Stage) (bundle : BundleParts) (some : List MadeFile)
       → bundle_by look values at ≡ Ok bundle → Right at bundle some → Right at (given_to at) some
-  over_looked at bundle some given right =
-      subst (λ bundle. Right at bundle some) (sym (bundle_looked look values at bundle given)) right
+  over_looked at bundle some given right = grind (arith, bundle_looked)
 
   concept_by : (pinned : Bool) (bundle : BundleParts) (more : List FileId)
       → stage_inputs (cond pinned stage.PinnedConcept stage.Concept) ≡ stage_inputs stage.Concept ++ more
@@ -219,8 +219,7 @@ module _ (folder : Folder) (values : List ℤ) (settled : effective (look_in fol
   marked_by : (bundle : BundleParts) (some : List MadeFile)
       → files_by look (stage_makes stage.Vehicles) ≡ some → VehicleFilesAreRight bundle some
       → is_there folder file.Potential ≡ true
-  marked_by bundle some found right =
-      potentials_there folder values settled bundle (subst (VehiclesAreRight bundle) (sym found) right.right)
+  marked_by bundle some found right = grind (arith, potentials_there)
 
   -- a stage stands right there, or has not the name of a file
   abbrev AtOr : (Holds : Type 0) (name : FileId) → Stage → Type 0
@@ -298,11 +297,8 @@ module _ (folder : Folder) (values : List ℤ) (settled : effective (look_in fol
   marked_or : (at : Stage) → AtOr IsMarked file.Schedule at
   unfolding planning stage_model
   marked_or stage.Vehicles = λ bundle some runs given found right. inl (λ plain. marked_by bundle some found right)
-  marked_or stage.PinnedVehicles =
-      λ bundle some runs given found right. inl (λ plain. absurd (not_pinned values plain runs))
-  marked_or at =
-      λ bundle some runs given found right. inr
-      (subst (NoneHas file.Schedule) found (found_differ look file.Schedule (stage_makes at) refl))
+  marked_or stage.PinnedVehicles = grind (arith, not_pinned)
+  marked_or at = grind (arith, found_differ)
 
   -- the same of all stages that were made
   all_or : (Holds : Type 0) (name : FileId) → ((at : Stage) → AtOr Holds name at) → (visits : List Visit)
@@ -424,8 +420,7 @@ module _ (by : Mode) (read : Folder) (trusts : Trusts by read) where
 -- In the folder that a run leaves over what it may trust, the plans are feasible.
 pub feasible_left : (by : Mode) (read : Folder) (left : Option Folder) → Trusts by read
     → left ≡ Some (after planning (started by read)) → IfSome left (PlansAreFeasible each_stage)
-feasible_left by read left trusts is =
-    subst (λ left. IfSome left (PlansAreFeasible each_stage)) (sym is) (plans_hold by read trusts).feasible
+feasible_left by read left trusts is = grind (arith, plans_hold)
 
 -- And none is better than those that have a certificate beside them.
 pub best_left : (by : Mode) (read : Folder) (left : Option Folder) → Trusts by read

@@ -1,12 +1,12 @@
 -- The plans of a folder that passes a check are feasible, and best where certificates stand beside them.
-use Rattle.std.proofs.Common.{◌≡◌, ℤ, Bool, true, false, List, [], ◌∷◌, ◌++◌, take, drop, Option}
-use Rattle.std.proofs.Common.{Some, None, IfSome, IfOk, Result, Ok, Err, ap, subst, sym, ◌∙◌}
+use Rattle.plan_num.proofs.Common.{arith, ◌≡◌, ℤ, Bool, true, false, List, [], ◌∷◌, ◌++◌, take}
+use Rattle.plan_num.proofs.Common.{drop, Option, IfSome, IfOk, Result, Ok, subst, sym}
 use Rattle.plan_files.proofs.Common.{Folder}
 use Rattle.tables.specs.declared.file_id.FileId.TheVariants as file
 use Rattle.giv_files.specs.declared.key.Key.TheVariants as key
 use Rattle.giv_files.specs.declared.stage.Stage.{Stage}
-use Rattle.giv_files.proofs.Common.{BundleParts, places}
 use Rattle.giv_files.specs.declared.stage.Stage.TheVariants as stage
+use Rattle.giv_files.proofs.Common.{BundleParts, places}
 use Rattle.vehicle_flow.specs.RightSchedules.{ScheduleIsRight}
 use Rattle.vehicle_flow.proofs.PinnedOver.{plain_schedule}
 use Rattle.stage_chain.specs.declared.checked.CheckEnd.TheVariants as ends
@@ -24,7 +24,7 @@ use Rattle.planning_stages.specs.Planning.{planning, schedule_judged, stage_mode
 use Rattle.stage_driver.specs.BestPlans.{DispositionIsEarliest, IsMarkedUnlessPinned, PlansAreBest}
 use Rattle.stage_driver.specs.FeasiblePlans.{PlansAreFeasible, TimetableIsFeasible}
 use Rattle.stage_driver.specs.PlanningChain.{PassesIn}
-use Rattle.stage_driver.specs.PlansThere.{is_run_in, is_run_under, is_there}
+use Rattle.stage_driver.specs.PlansThere.{is_run_in, is_there}
 use Rattle.stage_driver.proofs.PlansStand.{ConceptHolds, ScheduleHolds, concept_holds, disposition_holds}
 use Rattle.stage_driver.proofs.PlansStand.{potentials_there, schedule_holds, timetable_holds}
 
@@ -47,13 +47,7 @@ module _ (folder : Folder) (passes : PassesIn folder) where
   stand_at (one ∷ before) at more all = stand_at before at more all.1
 
   stood : (at : Stage) → RunsStand planning folder values at → is_run_in folder at ≡ true → Stood at
-  stood at run counts =
-      let stands = run (sym (ap (λ settings. is_run_under settings at) passes.settled) ∙ counts) in
-      let same = bundle_looked (text_in folder) values at stands.bundle stands.given in
-      record {
-        given = stands.given ∙ ap Ok (sym same);
-        model = subst (λ bundle. planning.Satisfies values bundle (standing folder at)) (sym same) stands.model;
-      }
+  stood at run counts = grind (arith, bundle_looked)
 
   concept_passed : is_run_in folder stage.Concept ≡ true → ConceptHolds folder values passes.settled
   unfolding planning stage_model
@@ -75,9 +69,7 @@ module _ (folder : Folder) (passes : PassesIn folder) where
 
   vehicles_stood : is_run_in folder stage.Vehicles ≡ true → Stood stage.Vehicles
   unfolding planning
-  vehicles_stood counts =
-      let stand = stand_at (take 6 places) stage.Vehicles (drop 7 places) passes.stand in
-      stood stage.Vehicles stand counts
+  vehicles_stood counts = grind (arith, stand_at, stood)
 
   -- what its model says, by whether the schedule is pinned
   vehicles_model : (own : Stood stage.Vehicles)
@@ -139,18 +131,10 @@ module _ (contents : Option Folder) (result : Result CheckOutcome ChainFault) wh
 
   also_passed : (Has More : Folder → Type 0) → ((folder : Folder) → Has folder → More folder)
       → WherePassed Has → WherePassed More
-  also_passed Has More more passed = by contents result passed
-    where
-      by : (contents : Option Folder) (result : Result CheckOutcome ChainFault)
-          → IfSome contents (λ folder. IfOk result (λ outcome. outcome.end ≡ ends.Passed → Has folder))
-          → IfSome contents (λ folder. IfOk result (λ outcome. outcome.end ≡ ends.Passed → More folder))
-      by None result passed = tt
-      by (Some folder) (Err fault) passed = tt
-      by (Some folder) (Ok outcome) passed = λ is. more folder (passed is)
+  also_passed Has More more passed = grind arith
 
   pub feasible_found : WherePassed PassesIn → WherePassed (λ folder. PlansAreFeasible (is_run_in folder) folder)
-  feasible_found passed =
-      also_passed PassesIn (λ folder. PlansAreFeasible (is_run_in folder) folder) feasible_passed passed
+  feasible_found passed = grind (arith, also_passed, feasible_passed)
 
   pub best_found : WherePassed PassesIn → WherePassed (λ folder. PlansAreBest (is_run_in folder) folder)
   best_found passed = also_passed PassesIn (λ folder. PlansAreBest (is_run_in folder) folder) best_passed passed

@@ -5,11 +5,11 @@ use Rattle.plan_num.proofs.Common.{arith, ints, ok_or}
 use Rattle.std.specs.FinMap as files
 use Rattle.plan_files.proofs.Common.{Folder}
 use Rattle.tables.specs.declared.file_id.FileId.{FileId}
-use Rattle.tables.proofs.Common.{file_name}
 use Rattle.tables.specs.declared.file_id.FileId.TheVariants as file
 use Rattle.giv_files.specs.declared.made.MadeFile.{MadeFile}
-use Rattle.giv_files.proofs.Common.{ids_of, BundleParts}
 use Rattle.giv_files.specs.declared.stage.Stage.TheVariants as stage
+use Rattle.tables.proofs.Common.{file_name}
+use Rattle.giv_files.proofs.Common.{ids_of, BundleParts}
 use Rattle.config_keys.proofs.Common.{look_in, effective}
 use Rattle.line_search.specs.GivenProblems.{problem_faults, problem_of}
 use Rattle.line_search.specs.Judged.{Passes}
@@ -191,7 +191,4 @@ module _ (folder : Folder) (values : List ℤ) (settled : effective (look_in fol
   -- where its own model wants potentials, they stand beside it
   pub potentials_there : (bundle : BundleParts) → VehiclesAreRight bundle (standing folder stage.Vehicles)
       → is_there folder file.Potential ≡ true
-  potentials_there bundle right =
-      ap is_some
-      (two_found file.Schedule file.Potential (λ same. cc) (there file.Schedule) (there file.Potential) right.schedule
-      (Some right.potentials) right.both).1
+  potentials_there bundle right = grind (arith, is_some, two_found)

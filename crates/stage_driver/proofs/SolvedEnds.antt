@@ -1,12 +1,12 @@
 -- How the chain of the planning stages ends.
-use Rattle.std.proofs.Common.{◌≡◌, ℕ, Contains, Option, Some, None, Result, Err, refl, ap, sym, ◌∙◌}
-use Rattle.std.proofs.lemmas.List.Elements.{All-contains}
+use Rattle.plan_num.proofs.Common.{arith, ◌≡◌, ℕ, Contains, Option, Some, None, Result, Err, refl}
+use Rattle.plan_num.proofs.Common.{ap, sym, ◌∙◌, All-contains}
 use Rattle.plan_files.proofs.Common.{Folder}
 use Rattle.giv_files.specs.declared.made.Made.{Made}
-use Rattle.giv_files.specs.declared.stage.Stage.{Stage}
-use Rattle.giv_files.proofs.Common.{BundleParts}
 use Rattle.tables.specs.declared.refusal.Refusal.{Refusal}
 use Rattle.tables.specs.declared.refusal.Refusal.TheVariants as refusal
+use Rattle.giv_files.specs.declared.stage.Stage.{Stage}
+use Rattle.giv_files.proofs.Common.{BundleParts}
 use Rattle.stage_chain.specs.declared.cause.Cause.{Cause}
 use Rattle.stage_chain.specs.declared.cause.Cause.TheVariants as cause
 use Rattle.command_line.specs.declared.ends.RunEnd.TheVariants as end
@@ -87,8 +87,7 @@ module _ (hand : Folder) where
   done_by : CanBeDone hand → (halted : Option Cause) → why ≡ halted → (made hand).end ≡ end.Done
   done_by can None is = end_is ∙ ap end_of is
   done_by can (Some (cause.Refused at refusal.NoSolution)) is =
-      let some = some_none at is in
-      absurd ((can_end some.0 (handed_so some.0 some.1).fits some.0.stage refl (can.found some.0 some.1)).0 some.2)
+      let some = some_none at is in grind (arith, can_end, handed_so)
   done_by can (Some (cause.Refused at (refusal.Spent entries))) is =
       let some = some_spent at entries is in
       absurd ((can_end some.0 (handed_so some.0 some.1).fits some.0.stage refl (can.found some.0 some.1)).1 some.2)
@@ -132,9 +131,7 @@ module _ (folder : Folder) where
 
   handed_to : (bundle : BundleParts) → Contains (handed_over folder) bundle
       → IsHanded (solve_over planning folder) (trace_over planning folder (hand_of folder)).halt bundle
-  handed_to bundle given =
-      All-contains (IsHanded (solve_over planning folder) (trace_over planning folder (hand_of folder)).halt)
-      (handed_over folder) bundle ends_over.all given
+  handed_to bundle given = grind (arith, All-contains, IsHanded, ends_over)
 
   -- a stage that is not kept and refuses what it is handed ends the run so
   refused_over : (bundle : BundleParts) → Contains (handed_over folder) bundle → kept_in folder bundle ≡ None
