@@ -10,9 +10,9 @@ use Rattle.giv_files.proofs.Common.{BundleParts}
 use Rattle.tables.specs.declared.row_why.RowWhy.TheVariants as why
 use Rattle.tables.specs.declared.refusal.Refusal.TheVariants as refusal
 use Rattle.giv_files.specs.declared.stage.Stage.TheVariants as stage
-use Rattle.tables.proofs.Common.{input_faults, row_faults, faults, table_of, cells_from, cell_of}
-use Rattle.tables.proofs.Common.{errors, values, row_whys, cell_text, cell_texts, joined}
-use Rattle.tables.proofs.Common.{table_text}
+use Rattle.tables.specs.Inputs.{input_faults, row_faults}
+use Rattle.tables.specs.Reading.{faults, table_of, cells_from, cell_of, errors, values, row_whys}
+use Rattle.tables.specs.Writing.{cell_text, cell_texts, joined, table_text}
 use Rattle.text_fields.specs.Rows.{rows, cleaned}
 use Rattle.plan_num.specs.Number.{spelling_of, value_of, value_at, fixed_of, whole_of}
 use Rattle.plan_num.specs.Print.{digits_at}
@@ -23,8 +23,10 @@ use Rattle.delay_management.specs.DispositionStage.{reasons_header, events_in, a
 use Rattle.delay_management.specs.DispositionStage.{event_delays_in, activity_delays_in, problem_in, kept_in}
 use Rattle.delay_management.specs.DispositionStage.{disposed_of, disposition_stage, disposition_faults}
 use Rattle.delay_management.specs.Judged.{first_broken_rule}
-use Rattle.propagation.proofs.Common.{pushed_often, least_times, canonical_reasons, chosen_changes}
-use Rattle.propagation.proofs.Common.{kept_changes}
+use Rattle.propagation.specs.LeastTimes.{pushed_often, least_times}
+use Rattle.propagation.specs.Reasons.{canonical_reasons}
+use Rattle.propagation.proofs.Common.{chosen_changes}
+use Rattle.propagation.specs.Waiting.{kept_changes}
 use Rattle.delay_management.specs.InputProblems.{delay_of}
 
 -- what computes on the texts of a small dataset

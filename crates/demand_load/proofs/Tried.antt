@@ -9,9 +9,9 @@ use Rattle.giv_files.specs.declared.made.Made.{Made}
 use Rattle.giv_files.proofs.Common.{BundleParts}
 use Rattle.tables.specs.declared.row_why.RowWhy.TheVariants as why
 use Rattle.tables.specs.declared.refusal.Refusal.{Refusal}
-use Rattle.tables.proofs.Common.{input_faults, row_faults, faults, table_of, cells_from, cell_of}
-use Rattle.tables.proofs.Common.{errors, values, row_whys, cell_text, cell_texts, joined}
-use Rattle.tables.proofs.Common.{table_text}
+use Rattle.tables.specs.Inputs.{input_faults, row_faults}
+use Rattle.tables.specs.Reading.{faults, table_of, cells_from, cell_of, errors, values, row_whys}
+use Rattle.tables.specs.Writing.{cell_text, cell_texts, joined, table_text}
 use Rattle.tables.specs.declared.refusal.Refusal.TheVariants as refusal
 use Rattle.giv_files.specs.declared.stage.Stage.TheVariants as stage
 use Rattle.text_fields.specs.Rows.{rows, cleaned}
@@ -19,7 +19,8 @@ use Rattle.plan_num.specs.Number.{spelling_of, value_of, value_at, fixed_of, who
 use Rattle.plan_num.specs.Print.{digits_at}
 use Rattle.ptn_network.specs.Loads.{loads_of}
 use Rattle.walks.specs.declared.edge.Edge.{Edge}
-use Rattle.walks.proofs.Common.{NetworkParts, by_id, path}
+use Rattle.walks.specs.RisingIds.{by_id}
+use Rattle.walks.proofs.Common.{NetworkParts, path}
 use Rattle.ptn_network.specs.Networks.{stops_of, network_of, network_faults}
 use Rattle.walks.specs.Walks.{walks_within, least_of, least_sum}
 use Rattle.walks.specs.Paths.{path_within}

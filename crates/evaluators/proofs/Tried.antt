@@ -8,8 +8,8 @@ use Rattle.giv_files.proofs.Common.{BundleParts}
 use Rattle.tables.specs.declared.row_why.RowWhy.TheVariants as why
 use Rattle.tables.specs.declared.refusal.Refusal.TheVariants as refusal
 use Rattle.giv_files.specs.declared.stage.Stage.TheVariants as stage
-use Rattle.tables.proofs.Common.{input_faults, row_faults, faults, table_of, cells_from, cell_of}
-use Rattle.tables.proofs.Common.{errors, values, row_whys}
+use Rattle.tables.specs.Inputs.{input_faults, row_faults}
+use Rattle.tables.specs.Reading.{faults, table_of, cells_from, cell_of, errors, values, row_whys}
 use Rattle.text_fields.specs.Rows.{rows, cleaned}
 use Rattle.plan_num.specs.Number.{spelling_of, value_of, value_at, fixed_of, whole_of}
 use Rattle.plan_num.specs.Print.{digits_at}

@@ -8,8 +8,8 @@ use Rattle.tables.specs.declared.row_why.RowWhy.TheVariants as why
 use Rattle.tables.specs.declared.refusal.Refusal.TheVariants as refusal
 use Rattle.giv_files.specs.declared.stage.Stage.TheVariants as stage
 use Rattle.tables.specs.Inputs.{input_faults, row_faults}
-use Rattle.tables.proofs.Common.{faults, errors, row_whys, cell_text, cell_texts, joined}
-use Rattle.tables.proofs.Common.{table_text}
+use Rattle.tables.specs.Reading.{faults, errors, row_whys}
+use Rattle.tables.specs.Writing.{cell_text, cell_texts, joined, table_text}
 use Rattle.tables.specs.Reading.{table_of, cells_from, cell_of, values}
 use Rattle.text_fields.specs.Rows.{rows, cleaned}
 use Rattle.plan_num.specs.Number.{spelling_of, value_of, value_at, fixed_of, whole_of}

@@ -4,7 +4,8 @@ use Rattle.plan_num.proofs.Common.{pos, codes, Some, None, arith, ints}
 use Rattle.tables.specs.declared.file_id.FileId.TheVariants as file
 use Rattle.tables.specs.declared.row_why.RowWhy.TheVariants as why
 use Rattle.tables.specs.declared.refusal.Refusal.TheVariants as refusal
-use Rattle.tables.proofs.Common.{input_faults, row_faults, faults, errors, row_whys}
+use Rattle.tables.specs.Inputs.{input_faults, row_faults}
+use Rattle.tables.specs.Reading.{faults, errors, row_whys}
 use Rattle.tables.specs.Reading.{table_of, cells_from, cell_of, values}
 use Rattle.text_fields.specs.Rows.{rows, cleaned}
 use Rattle.plan_num.specs.Number.{spelling_of, value_of, value_at, fixed_of, whole_of}

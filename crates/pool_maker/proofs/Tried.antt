@@ -10,7 +10,9 @@ use Rattle.text_fields.specs.Rows.{rows, cleaned}
 use Rattle.tables.specs.Writing.{cell_text, cell_texts, joined, table_text}
 use Rattle.plan_num.specs.Number.{spelling_of, value_of, value_at, fixed_of, whole_of}
 use Rattle.walks.specs.declared.edge.Edge.{Edge}
-use Rattle.walks.proofs.Common.{NetworkParts, path_within, least_of, least_sum, walks_within}
+use Rattle.walks.specs.Paths.{path_within}
+use Rattle.walks.specs.Walks.{least_of, least_sum, walks_within}
+use Rattle.walks.proofs.Common.{NetworkParts}
 use Rattle.ptn_network.specs.Networks.{network_faults, network_of, stops_of}
 use Rattle.walks.specs.RisingIds.{by_id}
 use Rattle.line_walks.specs.Pools.{line_faults, lines_of, pool_faults, pool_of, walk_from}

@@ -9,7 +9,7 @@ use Rattle.tables.specs.declared.file_id.FileId.TheVariants as file
 use Rattle.tables.specs.declared.row_why.RowWhy.TheVariants as why
 use Rattle.tables.specs.declared.refusal.Refusal.TheVariants as refusal
 use Rattle.tables.specs.Inputs.{input_faults, row_faults}
-use Rattle.tables.proofs.Common.{cells_from, cell_of, values}
+use Rattle.tables.specs.Reading.{cells_from, cell_of, values}
 use Rattle.tables.specs.Reading.{faults, table_of, errors, row_whys}
 use Rattle.text_fields.specs.Rows.{rows, cleaned}
 use Rattle.tables.specs.Writing.{cell_text, cell_texts, joined, table_text}
