@@ -1,5 +1,5 @@
 -- The definitions on small days.
-use Rattle.plan_num.proofs.Common.{ℕ, not, List, [], ◌∷◌, ◌++◌, pos, Option, Some, None}
+use Rattle.std.proofs.Common.{◌≡◌, ℕ, ◌&&◌, not, List, [], ◌∷◌, ◌++◌, map, refl, pos, Option, Some, None, true}
 use Rattle.connections.specs.declared.event_kind.EventKind.TheVariants as event
 use Rattle.connections.specs.declared.connection.Connection.{Connection}
 use Rattle.connections.specs.declared.found.Found.{Found}
@@ -7,6 +7,7 @@ use Rattle.connections.specs.declared.rule.JourneyRule.{JourneyRule}
 use Rattle.connections.specs.declared.rule.JourneyRule.TheVariants as rule
 use Rattle.connections.specs.declared.timed_event.TimedEvent.{TimedEvent}
 use Rattle.connections.specs.Nets.{JourneyParts}
+use Rattle.connections.specs.Journeys.{is_journey}
 use Rattle.connections.specs.Judged.{first_broken_rule}
 
 -- ---- two lines over three stops, each in both directions, twice from minute 0 to 20: line 1 goes over
@@ -83,6 +84,14 @@ answers = (broken 1 3 0 first, None) ∷ (broken 1 3 1 second, None)
     -- without a journey each event counts as before the arrival
     ∷ (broken 1 3 0 (found [] closed), Some rule.Start) ∷ []
 
+each_breaks_it : map (λ at. at.0) answers ≡ map (λ at. at.1) answers
+unfolding first_broken_rule
+each_breaks_it = refl
+
+rides_from_stop_1 : is_journey day (pos 1) (pos 3) (pos 0) ride
+    && not (is_journey day (pos 2) (pos 3) (pos 0) ride) ≡ true
+rides_from_stop_1 = refl
+
 -- ---- a day that was disposed: the second trip is late, so that one change can be used no more
 
 abbrev pub late_day : JourneyParts
@@ -90,3 +99,11 @@ late_day = record {
   events = d 1 5 ∷ a 2 13 ∷ d 2 13 ∷ a 3 20 ∷ d 2 30 ∷ a 3 37 ∷ [];
   connections = c 0 1 ∷ c 2 3 ∷ c 1 4 ∷ c 4 5 ∷ [];
 }
+
+-- the change to event 3 is missed
+missed_change : first_broken_rule late_day (pos 1) (pos 3) (pos 0)
+    (found (0 ∷ 1 ∷ 4 ∷ 5 ∷ []) (0 ∷ 1 ∷ 4 ∷ []))
+    ∷ first_broken_rule late_day (pos 1) (pos 3) (pos 0) (found ride (0 ∷ 1 ∷ 2 ∷ [])) ∷ []
+    ≡ None ∷ Some rule.Journey ∷ []
+unfolding first_broken_rule
+missed_change = refl

@@ -47,3 +47,7 @@ walks_looked_at :
 unfolding nowhere rows_behind rows_from least_sum walks_within least_of table_of cells_from cell_of values
     rows cleaned spelling_of value_of value_at fixed_of whole_of
 walks_looked_at = (refl, refl)
+
+pub due : slice_get (map (λ row. row.run.end.time) (rows_from (two 1000000) 1 ((0 ∷ 1 ∷ []) ∷ []))) 1 ≡ Some 14
+unfolding rows_behind rows_from least_sum walks_within least_of
+due = refl
