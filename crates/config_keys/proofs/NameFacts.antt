@@ -1,7 +1,7 @@
 -- Names of included files are text.
-use Rattle.plan_num.proofs.Common.{◌≡◌, ℕ, ◌<◌, Bool, true, false, List, length, get_or, ⊎_elim}
+use Rattle.plan_num.proofs.Common.{◌≡◌, ℕ, ◌<◌, true, false, List, length, get_or, ⊎_elim}
 use Rattle.plan_num.proofs.Common.{arith, Bor, Option, Result, Ok, Err, MatchResult, MatchOption}
-use Rattle.plan_num.proofs.Common.{◌&&◌, not, refl, nat_eq, codes, list_all, result_ok, IsUtf8}
+use Rattle.plan_num.proofs.Common.{◌&&◌, not, nat_eq, codes, list_all, result_ok, IsUtf8}
 use Rattle.plan_num.proofs.Common.{IsUtf8-from_ascii, get_or_past, AllPass-from_list_all, cases_lt}
 use Rattle.plan_num.proofs.Common.{nat_tests}
 use Rattle.std.specs.List.{ends_with}

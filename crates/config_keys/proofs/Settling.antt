@@ -42,6 +42,29 @@ settled_bad said keys i d e h none bad =
     e) ∙ found_first (λ key. not (is_some (good_value said key))) keys i d h none (rw bad refl) in
     rw found refl
 
+-- one key more, whose value is good
+pub settled_more : (said : Key → Option (List ℕ)) (keys : List Key) (values : List ℤ) (i : ℕ) (d : Key)
+    (value : ℤ) → i < length keys → find (λ key. not (is_some (good_value said key))) (take i keys) ≡ None
+    → values ≡ map (λ key. unwrap_or (good_value said key) (pos 0)) (take i keys)
+    → good_value said (get_or keys i d) ≡ Some value
+    → (find (λ key. not (is_some (good_value said key))) (take (i + 1) keys) ≡ None)
+    × (values ++ value ∷ [] ≡ map (λ key. unwrap_or (good_value said key) (pos 0)) (take (i + 1) keys))
+settled_more said keys values i d value h none told good = (
+  rw (
+    take_more keys i d h,
+    find-append (λ key. not (is_some (good_value said key))) (take i keys) (get_or keys i d ∷ []),
+    none,
+    good,
+  ) refl,
+  rw (
+    take_more keys i d h,
+    map-append (λ key. unwrap_or (good_value said key) (pos 0)) (take i keys)
+        (get_or keys i d ∷ []),
+    told,
+    good,
+  ) refl,
+)
+
 -- no key whose value is bad
 pub settled_good : (said : Key → Option (List ℕ)) (keys : List Key) (values : List ℤ) (i : ℕ) → keys ≡ all_keys
     → length keys ≤ i → find (λ key. not (is_some (good_value said key))) (take i keys) ≡ None

@@ -3,6 +3,7 @@ use Rattle.plan_num.proofs.Common.{◌≡◌, ℕ, ℤ, pos, negsuc, ◌≤◌, 
 use Rattle.plan_num.proofs.Common.{false, List, [], ◌∷◌, map, Some, int_le, unsigned_abs, unwrap_or}
 use Rattle.plan_num.proofs.Common.{option_map, refl, ap, subst, sym, ◌∙◌, arith, find, list_all}
 use Rattle.plan_num.proofs.Common.{list_any, and_parts, T_from_true, ints, same_Some}
+use Rattle.std.proofs.lemmas.Map.Views.{any-filter_same}
 use Rattle.giv_files.specs.declared.key.Key.{Key}
 use Rattle.giv_files.specs.declared.key.Key.TheVariants as key
 use Rattle.giv_files.specs.declared.setting.Setting.{Setting}
@@ -63,7 +64,9 @@ among_all _ = refl
 among_keys : (stage : Stage) (k : Key) → has_key stage k ≡ true
     → list_any (is_key k) (stage_keys stage) ≡ true
 unfolding stage_keys
-among_keys stage k has = grind arith
+among_keys stage k has = any-filter_same (is_key k) (has_key stage) true
+    (λ j same. subst (λ other. has_key stage other ≡ true)
+    (sym (same_key j k (eqb-true _ _ same))) has) all_keys ∙ among_all k
 
 -- a key of a stage has a value among settings that fit the stage, and one that it may have
 pub key_there : (stage : Stage) (settings : List Setting) (k : Key) → SettingsFit stage settings

@@ -238,7 +238,10 @@ same_settings (s ∷ ss) (o ∷ os) keys once same =
     by : (k : Key) → s.key ≡ o.key → keys_of ss ≡ keys_of os
         → list_any (is_key s.key) (keys_of ss) ≡ false → (b : Bool) → is_key k s.key ≡ b
         → value_of (s ∷ ss) k ≡ value_of (o ∷ os) k → value_of ss k ≡ value_of os k
-    by k key rest none true is e = grind (arith, same_key, eqb-true, value_none)
+    by k key rest none true is e = subst (λ k. value_of ss k ≡ value_of os k)
+        (same_key s.key k (eqb-true _ _ is))
+        (value_none ss s.key none
+        ∙ sym (value_none os s.key (ap (list_any (is_key s.key)) (sym rest) ∙ none)))
     by k key rest none false is e = grind arith
 
 -- ---- settings that fit one stage

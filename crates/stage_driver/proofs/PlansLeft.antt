@@ -1,5 +1,5 @@
 -- The plans that a run leaves are feasible, and best where certificates stand beside them.
-use Rattle.plan_num.proofs.Common.{arith, ◌≡◌, ℕ, ℤ, Bool, true, false, cond, not, is_some, List}
+use Rattle.plan_num.proofs.Common.{arith, ◌≡◌, ℕ, ℤ, Bool, true, false, cond, is_some, List}
 use Rattle.plan_num.proofs.Common.{[], ◌∷◌, ◌++◌, map, Option, Some, None, IfSome, IfOk, Result, Ok}
 use Rattle.plan_num.proofs.Common.{Err, Contains, ◌⊎◌, inl, inr, ⊎_elim, refl, ap, subst, sym, ◌∙◌}
 use Rattle.plan_num.proofs.Common.{nat_cmp, slice_cmp, list_all, and_from, and_parts, false≢true}

@@ -10,18 +10,25 @@ use Rattle.giv_files.specs.declared.made.MadeFile.{MadeFile}
 use Rattle.giv_files.specs.declared.stage.Stage.TheVariants as stage
 use Rattle.tables.proofs.Common.{file_name}
 use Rattle.giv_files.proofs.Common.{ids_of, BundleParts}
-use Rattle.config_keys.proofs.Common.{look_in, effective}
+use Rattle.config_keys.proofs.Common.{look_in, effective, effective_settings}
 use Rattle.line_search.specs.GivenProblems.{problem_faults, problem_of}
 use Rattle.line_search.specs.Judged.{Passes}
 use Rattle.line_search.specs.ConceptStage.{mark_files}
 use Rattle.pesp_search.specs.Judged.{Passes as KeepsRules}
 use Rattle.pesp_search.specs.TimetableStage.{problem_in, timetable_faults}
+use Rattle.vehicle_model.specs.DrivenSchedules.{ReadsWhatIsDriven}
+use Rattle.vehicle_model.specs.ReadSchedules.{plan_of}
+use Rattle.vehicle_model.proofs.Driven.{reads_driven}
 use Rattle.vehicle_flow.specs.RightSchedules.{ScheduleIsRight}
 use Rattle.vehicle_flow.specs.RightVehicles.{VehiclesAreRight}
+use Rattle.vehicle_flow.specs.VehicleStage.{takes_trips, trips_in}
+use Rattle.vehicle_flow.proofs.VehicleLaws.{are_trips}
 use Rattle.stage_chain.specs.declared.cause.Cause.TheVariants as cause
 use Rattle.stage_chain.specs.Chain.{bundle_by}
 use Rattle.stage_chain.specs.Checks.{standing}
 use Rattle.stage_chain.specs.Right.{found_file, text_in}
+use Rattle.stage_chain.proofs.MadeRight.{given_fits}
+use Rattle.stage_chain.proofs.Visits.{bundle_stage}
 use Rattle.planning_stages.specs.Models.{DispositionPasses}
 use Rattle.stage_driver.specs.BestPlans.{ConceptIsCheapest, DispositionIsEarliest, ScheduleIsCheapest}
 use Rattle.stage_driver.specs.FeasiblePlans.{ConceptIsFeasible, ScheduleIsFeasible, TimetableIsFeasible}
@@ -111,6 +118,7 @@ module _ (folder : Folder) (values : List ℤ) (settled : effective (look_in fol
           text = text;
           stands = found.0;
           frequencies = passes.frequencies;
+          each = passes.feasible.each;
           reads = passes.reads;
         };
         feasible = passes.feasible;
@@ -134,10 +142,24 @@ module _ (folder : Folder) (values : List ℤ) (settled : effective (look_in fol
       text = text;
       stands = one_found file.TimesP (there file.TimesP) text stands;
       times = passes.times;
+      each = passes.timetable.each;
       reads = passes.reads;
     };
     feasible = passes.timetable;
   }
+
+  -- the trips that a text tells which is right, by the vehicles that drive them
+  driven_there : (bundle : BundleParts) → bundle_by (text_in folder) values stage.Vehicles ≡ Ok bundle
+      → (right : ScheduleIsRight bundle (standing folder stage.Vehicles))
+      → ReadsWhatIsDriven (trips_in bundle) right.schedule
+      (Ok (plan_of (trips_in bundle) right.schedule))
+  driven_there bundle given right =
+      let fits = given_fits (text_in folder) values stage.Vehicles bundle
+      (effective_settings (look_in folder) values settled) given in
+      let are = are_trips bundle (ap takes_trips (bundle_stage values stage.Vehicles _ bundle given)) fits
+      right.inputs in
+      reads_driven (trips_in bundle) are right.schedule (Ok (plan_of (trips_in bundle) right.schedule))
+      (right.reads, refl)
 
   -- a schedule is one of the trips, and where potentials stand beside it none costs less
   pub record ScheduleHolds : Type 0 where
@@ -153,6 +175,7 @@ module _ (folder : Folder) (values : List ℤ) (settled : effective (look_in fol
       (right.each
       ∙ ap (λ more. record { file = file.Schedule; text = right.schedule } ∷ more)
       (potentials_are right.potentials)) in
+      let driven = driven_there bundle given right in
       let own : ScheduleIsFeasible folder = record {
         there = record {
           bundle = bundle;
@@ -160,7 +183,10 @@ module _ (folder : Folder) (values : List ℤ) (settled : effective (look_in fol
           faultless = right.inputs;
           text = right.schedule;
           stands = found.0;
-          reads = right.reads;
+          vehicles = driven.0;
+          reads = driven.1;
+          follows = driven.2;
+          plan = driven.3;
         };
         feasible = right.possible;
       } in
@@ -183,6 +209,7 @@ module _ (folder : Folder) (values : List ℤ) (settled : effective (look_in fol
           (two_found file.Disposed file.Reasons (λ same. cc) (there file.Disposed) (there file.Reasons) passes.times
           (Some passes.reasons) passes.both).0;
       times = passes.passes.times;
+      each = passes.passes.disposition.least.feasible.each;
       reads = passes.passes.times_read;
     };
     earliest = passes.passes.disposition;

@@ -20,8 +20,9 @@ use Rattle.planning_stages.specs.Searches.{HasNoSolution, IsSpent}
 use Rattle.planning_stages.proofs.Laws.{planning_laws}
 use Rattle.planning_stages.proofs.SearchEnds.{can_end, ends_none, ends_spent, none_ends, spent_ends_so}
 use Rattle.stage_driver.specs.PlanningChain.{made, run_over}
-use Rattle.stage_driver.specs.SolvedEnds.{CanBeDone, EndsAsSolved, EndsAsSolvedOver, SomeHanded}
-use Rattle.stage_driver.specs.SolvedEnds.{SomeMade, handed_in, handed_over}
+use Rattle.stage_driver.specs.SolvedEnds.{CanBeDone, CanBeDoneOver, EndsAsSolved}
+use Rattle.stage_driver.specs.SolvedEnds.{EndsAsSolvedOver, SomeHanded, SomeMade, handed_in}
+use Rattle.stage_driver.specs.SolvedEnds.{handed_over}
 
 -- ---- by why a chain ends early
 
@@ -170,6 +171,26 @@ module _ (folder : Folder) where
             (sym (ran bundle) ∙ own.1),
       )
 
+  -- a run that can be done has no other end
+  done_over : CanBeDoneOver folder → (halted : Option Cause) → why_over ≡ halted
+      → (run_over folder).end ≡ end.Done
+  done_over can None is = end_over ∙ ap end_of is
+  done_over can (Some (cause.Refused at refusal.NoSolution)) is =
+      let some = one_none at is in
+      absurd ((can_end some.0 (handed_to some.0 some.1).fits some.0.stage refl
+      (can.found some.0 some.1 some.2)).0 some.3)
+  done_over can (Some (cause.Refused at (refusal.Spent entries))) is =
+      let some = one_spent at entries is in
+      absurd ((can_end some.0 (handed_to some.0 some.1).fits some.0.stage refl
+      (can.found some.0 some.1 some.2)).1 some.3)
+  done_over can (Some (cause.Refused at (refusal.BadRow file row reason))) is =
+      absurd (can.fine (end_over ∙ ap end_of is))
+  done_over can (Some (cause.Refused at (refusal.TooMany what count))) is =
+      absurd (can.fine (end_over ∙ ap end_of is))
+  done_over can (Some (cause.BadConfig reason)) is = absurd (can.fine (end_over ∙ ap end_of is))
+  done_over can (Some (cause.Missing file)) is = absurd (can.fine (end_over ∙ ap end_of is))
+  done_over can (Some (cause.TooLong file)) is = absurd (can.fine (end_over ∙ ap end_of is))
+
 pub ends_as_solved_over : (folder : Folder) → EndsAsSolvedOver folder
 ends_as_solved_over folder = record {
   none = λ is. let halt = at_none (why_over folder) (sym (end_over folder) ∙ is) in one_none folder halt.0 halt.1;
@@ -181,4 +202,5 @@ ends_as_solved_over folder = record {
   spent_comes = λ some.
       let spent = spent_ends_so some.0 (handed_to folder some.0 some.1).fits some.0.stage refl some.3 in
       refused_over folder some.0 some.1 some.2 (refusal.Spent spent.0) spent.1;
+  done = λ can. done_over folder can (why_over folder) refl;
 }

@@ -1,5 +1,6 @@
 -- The plans that stand in a folder: what their texts say, over the files that stand there.
-use Rattle.std.specs.Prelude.{◌≡◌, ℕ, ℤ, Bool, true, false, is_some, List, [], Some, Ok, Result, Err}
+use Rattle.std.specs.Prelude.{◌≡◌, ℕ, ℤ, Bool, true, false, is_some, List, [], length, Some, Ok}
+use Rattle.std.specs.Prelude.{Result, Err}
 use Rattle.std.specs.FinMap as files
 use Rattle.plan_files.specs.Folder.{Folder}
 use Rattle.tables.specs.declared.file_id.FileId.{FileId}
@@ -17,10 +18,12 @@ use Rattle.config_keys.specs.Values.{effective}
 use Rattle.event_tables.specs.Cells.{disposed_time, periodic_time}
 use Rattle.line_search.specs.ConceptTables.{concept_rows}
 use Rattle.line_search.specs.GivenProblems.{problem_faults, problem_of}
-use Rattle.pesp_search.specs.TimetableStage.{time_rows, timetable_faults}
-use Rattle.vehicle_model.specs.ReadSchedules.{plan_faults}
+use Rattle.pesp_search.specs.TimetableStage.{problem_in, time_rows, timetable_faults}
+use Rattle.vehicle_model.specs.DrivenSchedules.{IsPlanOf, IsTextOf, MayDrive}
+use Rattle.vehicle_model.specs.ReadSchedules.{plan_of}
 use Rattle.vehicle_flow.specs.VehicleStage.{trips_in, vehicles_faults}
-use Rattle.delay_management.specs.DispositionStage.{disposition_faults, time_rows as disposed_rows}
+use Rattle.delay_management.specs.DispositionStage.{disposition_faults, problem_in as day_in}
+use Rattle.delay_management.specs.DispositionStage.{time_rows as disposed_rows}
 use Rattle.stage_chain.specs.Chain.{bundle_by, is_to_run}
 use Rattle.stage_chain.specs.Right.{text_in}
 
@@ -57,6 +60,7 @@ pub record ConceptThere (folder : Folder) : Type 0 where
   pub text : List ℕ
   pub stands : files.get folder (file_name file.Concept) ≡ Some text
   pub frequencies : List ℕ
+  pub each : length frequencies ≡ length (problem_of bundle).lines
   pub reads : ReadsBack concept_columns (concept_rows (problem_of bundle) frequencies) text
 
 -- The timetable there: inputs without a fault, and a time for each event.
@@ -67,17 +71,22 @@ pub record TimetableThere (folder : Folder) : Type 0 where
   pub text : List ℕ
   pub stands : files.get folder (file_name file.TimesP) ≡ Some text
   pub times : List ℕ
+  pub each : length times ≡ (problem_in bundle).events
   pub reads : ReadsAs times_p_columns periodic_time (time_rows times) text
 
--- The vehicle schedule there: inputs without a fault, and a text that has the form of a plan of their
--- trips, each of which has one row.
+-- The vehicle schedule there: inputs without a fault, and a text that tells the trips of each vehicle in
+-- the order driven. Each trip is driven once, and may follow the one that its vehicle drives before it. The
+-- plan of the text is that of these vehicles.
 pub record ScheduleThere (folder : Folder) : Type 0 where
   pub bundle : BundleParts
   pub given : IsGiven folder stage.Vehicles bundle
   pub faultless : vehicles_faults bundle ≡ []
   pub text : List ℕ
   pub stands : files.get folder (file_name file.Schedule) ≡ Some text
-  pub reads : plan_faults (trips_in bundle) text ≡ []
+  pub vehicles : List (List ℕ)
+  pub reads : IsTextOf (trips_in bundle) vehicles text
+  pub follows : MayDrive (trips_in bundle) vehicles
+  pub plan : IsPlanOf (length (trips_in bundle).trips) vehicles (plan_of (trips_in bundle) text)
 
 -- The disposition there: inputs without a fault, and a time for each event of the day.
 pub record DispositionThere (folder : Folder) : Type 0 where
@@ -87,4 +96,5 @@ pub record DispositionThere (folder : Folder) : Type 0 where
   pub text : List ℕ
   pub stands : files.get folder (file_name file.Disposed) ≡ Some text
   pub times : List ℕ
+  pub each : length times ≡ length (day_in bundle).events
   pub reads : ReadsAs disposed_columns disposed_time (disposed_rows times) text

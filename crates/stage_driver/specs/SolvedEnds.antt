@@ -44,11 +44,19 @@ abbrev pub SomeMade : (Stage → BundleParts → Type 0) → Folder → Type 0
 SomeMade Has folder = (bundle : BundleParts) × Contains (handed_over folder) bundle
     × (kept_in folder bundle ≡ None) × Has bundle.stage bundle
 
+-- A run over a folder refuses no file, key or count, and each search that is not kept and is handed its
+-- inputs has a solution, and a budget that suffices.
+pub record CanBeDoneOver (folder : Folder) : Type 0 where
+  pub fine : (run_over folder).end ≢ end.BadInput
+  pub found : (bundle : BundleParts) → Contains (handed_over folder) bundle
+      → kept_in folder bundle ≡ None → CanBeFound bundle.stage bundle
+
 -- A run over a folder, whatever is kept there, ends with no solution exactly where a search that is not
 -- kept is handed what has none within its budget, and spent exactly where one is handed what it lists
--- beyond its budget.
+-- beyond its budget. It ends done where it can.
 pub record EndsAsSolvedOver (folder : Folder) : Type 0 where
   pub none : (run_over folder).end ≡ end.NoSolution → SomeMade HasNoSolution folder
   pub none_comes : SomeMade HasNoSolution folder → (run_over folder).end ≡ end.NoSolution
   pub spent : (run_over folder).end ≡ end.Spent → SomeMade IsSpent folder
   pub spent_comes : SomeMade IsSpent folder → (run_over folder).end ≡ end.Spent
+  pub done : CanBeDoneOver folder → (run_over folder).end ≡ end.Done

@@ -1,6 +1,8 @@
 // A run of the planning stages over the files of a dataset.
 ghost use Rattle.stage_chain.specs.RunSays.{seen_files};
-ghost use Rattle.stage_driver.specs.PlanningChain.{RunSays};
+ghost use Rattle.plan_files.specs.Folder.{Folder};
+ghost use Rattle.stage_driver.specs.PlanningChain.{ChainLaws, RunSays};
+ghost use Rattle.stage_driver.specs.SolvedEnds.{EndsAsSolved, EndsAsSolvedOver};
 
 use crate::planning::Planning;
 use plan_files::Files;
@@ -13,6 +15,7 @@ use std::alloc::Global;
 /// that were made and no others of these stages, and the entry of each of them. Where what is kept
 /// is honest, these are the files that its hand files alone determine. A fresh run first removes
 /// what is kept. Every other file is as before.
+#[tactic(auto, using(crate::proofs::Planned::chain_laws, crate::proofs::SolvedEnds::ends_as_solved, crate::proofs::SolvedEnds::ends_as_solved_over))]
 pub fn run_chain<F: Files, L: Ledger>(
     alloc: Global,
     files: &mut F,
@@ -22,6 +25,9 @@ pub fn run_chain<F: Files, L: Ledger>(
     ensures says { RunSays mode
         (seen_files F.contents F.writes F.faults files.old steps.old)
         (seen_files F.contents F.writes F.faults files.new steps.new) result }
+    ensures laws { ChainLaws }
+    ensures ends { (hand : Folder) → EndsAsSolved hand }
+    ensures ends_over { (folder : Folder) → EndsAsSolvedOver folder }
 {
     stage_chain::run_chain::<Planning, F, L>(alloc, files, mode, steps)
 }

@@ -2,7 +2,7 @@ mod AllCome
 mod BehindRows
 mod DeadLookups
 pub mod Costs
-mod Driven
+pub mod Driven
 pub mod DrivenBack
 pub mod DrivenForms
 pub mod DrivenNext
