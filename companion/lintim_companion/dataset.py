@@ -21,7 +21,7 @@ from typing import TYPE_CHECKING, Any
 from . import files
 from . import settings as config
 from .cells import File, R
-from .faults import Missing, Refused
+from .faults import Missing, Refused, TooLong
 from .formats import CONFIG, FILES, MAX_HAND_BYTES, Settings
 from .tables import Table, parsed, written
 
@@ -90,8 +90,12 @@ def read_file(folder: str | Path, file: File[R]) -> Table[R]:
 
 def write(folder: str | Path, file: File[R], rows: Iterable[R]) -> None:
     """Writes a file with these rows, as `lintim` would. The old one stays until the new one is
-    whole."""
-    files.write_bytes(Path(folder), file.name, written(file, rows))
+    whole, and where that would be longer than `lintim` reads it."""
+    data = written(file, rows)
+    if not file.stage and len(data) > MAX_HAND_BYTES:
+        size, most = (it / 2**20 for it in (len(data), MAX_HAND_BYTES))
+        raise TooLong(f"{file.name} would have {size:.1f} MiB, and lintim reads {most:.0f} at most")
+    files.write_bytes(Path(folder), file.name, data)
 
 
 def write_settings(folder: str | Path, values: dict[str, int | str]) -> None:

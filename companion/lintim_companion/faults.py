@@ -17,6 +17,10 @@ class Missing(Refused):
         self.name = name
 
 
+class TooLong(Refused):
+    """A file that would be longer than `lintim` reads it."""
+
+
 class RowRefused(Refused):
     """A row that breaks a rule of its file; `why` has the words of `lintim` for the rule, `row`
     counts as `lintim` does, without empty lines, and `line` as an editor does."""

@@ -8,7 +8,7 @@ import signal
 import stat
 import tempfile
 from collections.abc import Iterator
-from contextlib import contextmanager
+from contextlib import contextmanager, suppress
 from pathlib import Path
 
 from .faults import Refused
@@ -116,6 +116,34 @@ def folder_of(path: Path) -> Path:
     return place
 
 
+def see_new(folder: Path, what: str, first: str) -> None:
+    """Sees that nothing stands in the place of a new dataset, and that it can be written."""
+    try:
+        if folder.is_dir() and any(folder.iterdir()):
+            raise Refused(f"{folder} is not empty: {what} writes a new dataset, into a new folder")
+        if folder.exists() and not folder.is_dir():
+            raise Refused(f"{folder} is no folder")
+    except OSError as why:
+        raise Refused(f"{folder} cannot be read: {why.strerror}") from None
+    see_writable(folder, first)
+
+
+def write_all(folder: Path, texts: dict[str, bytes]) -> None:
+    """Writes the files of a new dataset, all of them or nothing."""
+    was_there = folder.exists()
+    try:
+        for name, text in texts.items():
+            write_bytes(folder, name, text)
+    except Refused:
+        for name in texts:
+            (folder / name).unlink(missing_ok=True)
+        places = {(folder / name).parent for name in texts}
+        for place in [*places, *([] if was_there else [folder])]:
+            with suppress(OSError):
+                place.rmdir()
+        raise
+
+
 def see_no_link(path: Path) -> None:
     """Sees that no link stands in the place of a file or of its folder."""
     for there in (path, path.parent):
@@ -126,7 +154,7 @@ def see_no_link(path: Path) -> None:
 @contextmanager
 def undisturbed() -> Iterator[None]:
     """Puts off signals that would end the command until what is done here is done."""
-    ends = {signal.SIGINT, signal.SIGTERM}
+    ends = {signal.SIGINT, signal.SIGTERM, signal.SIGALRM}
     before = signal.pthread_sigmask(signal.SIG_BLOCK, ends)
     try:
         yield

@@ -10,7 +10,6 @@ import pickle
 import re
 import select
 import subprocess
-import sys
 from collections.abc import Callable, Generator
 from contextlib import closing
 from functools import partial
@@ -20,13 +19,12 @@ from typing import IO, NamedTuple
 
 from .faults import Refused
 from .manners import Deadline, Progress, searched
+from .surroundings import python
 
 FIRST_LIMIT = 5.0  # seconds of the first run; each later one takes three times as long
 GRACE = 5.0  # seconds that HiGHS may take beyond its limit
 LOG_LINE = re.compile(r"\s*(?:[A-Z]\s+)?\d+\s+\d+\s+\d+\s+[\d.]+%\s+(\S+)\s+(\S+)\s")
-WORKER = (
-    "import sys; sys.path.insert(0, {!r}); from lintim_companion.highs_worker import main; main({})"
-)
+WORKER = Path(__file__).resolve().with_name("highs_worker.py")
 
 
 class Cell(NamedTuple):
@@ -94,9 +92,9 @@ def _answers(
 ) -> Generator[Answer, None, None]:
     """The answers of runs of HiGHS, one after the other. Ends where time is over."""
     ours, theirs = os.pipe()
-    root = str(Path(__file__).resolve().parents[1])
     with subprocess.Popen(
-        [sys.executable, "-c", WORKER.format(root, theirs)],
+        python(str(WORKER), str(theirs)),
+        cwd="/",
         stdin=subprocess.PIPE,
         stdout=subprocess.PIPE,
         stderr=subprocess.DEVNULL,
@@ -108,7 +106,7 @@ def _answers(
             assert process.stdin is not None and process.stdout is not None
             limits = _limits(deadline.left())
             with process.stdin as given:
-                pickle.dump((tuple(problem), limits), given)
+                pickle.dump((_plain(problem), limits), given)
             tell = partial(_tell, {}, problem.constant, progress)
             for answer in _received(answers, process.stdout, deadline, tell):
                 yield answer
@@ -119,6 +117,12 @@ def _answers(
             raise Refused("HiGHS ended without an answer") from None
         finally:
             process.kill()
+
+
+def _plain(problem: Mixed) -> tuple[object, ...]:
+    """A problem without types of this package, which the worker need not have."""
+    cells = [tuple(cell) for cell in problem.cells]
+    return (*problem[:4], cells, *problem[5:])
 
 
 def _received(

@@ -1,5 +1,5 @@
-"""The process in which HiGHS runs: a problem comes on the standard input, the log goes to the
-standard output, and answers to the pipe that is named, one for each time limit."""
+"""The process in which HiGHS runs, as a script of its own: a problem comes on the standard input, the
+log goes to the standard output, and answers to the pipe that is named, one for each time limit."""
 
 import ctypes
 import pickle
@@ -47,3 +47,7 @@ def solved(problem: tuple[Any, ...], seconds: float) -> tuple[Any, ...]:
     bound = getattr(got, "mip_dual_bound", None)
     says = got.status == 0, got.status == 2, got.status == 1, str(got.message)
     return values, *says, None if bound is None else float(bound)
+
+
+if __name__ == "__main__":
+    main(int(sys.argv[1]))

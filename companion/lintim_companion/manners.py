@@ -6,10 +6,12 @@ finds by `talk.say`, writes files by `talk.write`, and gives its exit status. A 
 """
 
 import argparse
+import contextlib
 import gc
 import importlib
 import importlib.util
 import os
+import re
 import shutil
 import signal
 import sys
@@ -18,12 +20,14 @@ from collections.abc import Callable, Sequence
 from pathlib import Path
 from typing import Any, NoReturn, TextIO
 
-from . import dataset, files
+from . import dataset, files, program, surroundings
 from .cells import File, R
 from .faults import NoProgram, Refused, Stopped, WrongWords
 from .registry import Command, Package, Word, command
 
 EVERY = 3.0  # seconds between two lines of progress
+LONGEST = 5_000  # characters of a line
+STEERING = re.compile(r"[\x00-\x1f\x7f-\x9f\u2028-\u202e\u2066-\u2069]")
 TOGETHER = 0.5  # seconds within which two signals are one
 _put_off: list[Stopped] = []  # a stop that came where nothing can be raised
 
@@ -91,6 +95,14 @@ def searched(found: str | None, bound: str | None, gap: float | None) -> str:
     return ", ".join(parts)
 
 
+def shown(line: str) -> str:
+    """A line as a screen shows it: signs that steer a terminal are told by their numbers, and what
+    is far too long is cut."""
+    if len(line) > LONGEST:
+        line = f"{line[:LONGEST]} .. and {len(line) - LONGEST} characters more"
+    return line if line.isprintable() else STEERING.sub(lambda it: repr(it[0])[1:-1], line)
+
+
 class Talk:
     """What a command says, and what it has written."""
 
@@ -104,7 +116,7 @@ class Talk:
         """Prints a line. Where nobody reads on, the command goes on in silence."""
         if self.lost is None:
             try:
-                print(line, flush=True)
+                print(shown(line), flush=True)
             except OSError as why:
                 self.lost = why
                 _close_output()
@@ -121,7 +133,7 @@ class Talk:
 
     def fault(self, why: object) -> int:
         """Tells in one line why the command ends, and gives the exit status for that."""
-        line = " ".join(str(why).split())
+        line = shown(" ".join(str(why).split()))
         try:
             print(f"{self.name}: {line}", file=sys.stderr, flush=True)
         except OSError:
@@ -133,10 +145,12 @@ class Talk:
         return f"what was found is in {' and '.join(dict.fromkeys(self.wrote))}"
 
     def ended(self, status: int) -> int:
-        """The exit status in the end: 1 where lines are lost that somebody wanted to keep."""
+        """The exit status in the end. Where lines are lost that somebody wanted to keep, it is 1,
+        but for a command that has written what it is for."""
         if self.lost is None or isinstance(self.lost, BrokenPipeError):
             return status
-        return self.fault(f"the report could not be written: {self.lost.strerror}")
+        lost = self.fault(f"the report could not be written: {self.lost.strerror}")
+        return status if self.wrote else lost
 
     def stopped(self, by: int) -> int:
         """The exit status of a command that was stopped: 0 where a plan stands."""
@@ -159,11 +173,37 @@ def _open_streams() -> None:
     while (handle := os.open(os.devnull, os.O_RDWR)) <= 2:
         pass
     os.close(handle)
+    for number, name in ((1, "stdout"), (2, "stderr")):
+        if getattr(sys, name) is None:
+            setattr(sys, name, open(number, "w", closefd=False))
+
+
+def _close_streams() -> None:
+    """Lets what cannot be printed any more go nowhere, so that Python does not end with a status of
+    its own, which is 120."""
+    for number, stream in ((1, sys.stdout), (2, sys.stderr)):
+        try:
+            stream.flush()
+        except (OSError, ValueError, AttributeError):
+            with contextlib.suppress(OSError):
+                nowhere = os.open(os.devnull, os.O_WRONLY)
+                os.dup2(nowhere, number)
+                os.close(nowhere)
 
 
 def main(name: str, words: Sequence[str] | None = None) -> int:
     """Runs a command, and gives its exit status."""
-    _open_streams()
+    try:
+        _open_streams()
+        return _main(name, words)
+    except OSError as why:  # not even a stream can be opened
+        return Talk(name).fault(f"{why.filename or 'a stream'}: {why.strerror or why}")
+    finally:
+        _close_streams()
+
+
+def _main(name: str, words: Sequence[str] | None) -> int:
+    surroundings.settle()
     for stream in (sys.stdout, sys.stderr):
         if hasattr(stream, "reconfigure"):
             stream.reconfigure(errors="replace")
@@ -182,18 +222,23 @@ def main(name: str, words: Sequence[str] | None = None) -> int:
     except Stopped as by:
         return talk.stopped(by.signal)
     except MemoryError:
-        return talk.fault("out of memory")
+        pass  # what holds it goes with the exception, before anything is said
+    except OSError as why:
+        return talk.fault(f"{why.filename or 'the folder where you are'}: {why.strerror or why}")
     except Exception as fault:
         if os.environ.get("LINTIM_TRACE"):
             raise
         kind = type(fault).__name__
         return talk.fault(f"a fault of this command, {kind}: {fault} (LINTIM_TRACE=1 tells more)")
+    return talk.fault("out of memory")
 
 
 def _run(it: Command, words: Sequence[str] | None, talk: Talk) -> int:
     parsed = parser(it).parse_args(words)
     for package in it.packages:
         see_package(package)
+    if (seconds := getattr(parsed, "seconds", None)) is not None:
+        program.give(seconds)
     try:
         with files.undisturbed():  # a stop in the middle looks to numpy like a broken package
             module = importlib.import_module(f"lintim_companion.{it.module}")

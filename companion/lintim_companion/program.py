@@ -1,8 +1,11 @@
 """The program `lintim`: where it is, and what it says of a dataset."""
 
+import hashlib
 import os
 import shutil
 import subprocess
+import time
+from collections.abc import Iterator
 from pathlib import Path
 from typing import Any, NamedTuple
 
@@ -11,12 +14,22 @@ from .faults import NoProgram, Refused
 
 CHECKOUT = Path(__file__).resolve().parents[2]
 BUILT = ("crates/lintim/out/lintim", "program/lintim")  # in a checkout, and as it is installed
+GIVEN = CHECKOUT / "dist/lintim"  # the proved one of a checkout, of which PROVED beside it tells
 STATUS_WORDS = {
     "stale": "it is not made of what stands there now",
     "unknown": "a stage before it is not up to date",
     "edited": "its files are not as they were made",
     "off": "it comes after last_stage",
 }
+
+
+GRACE = 10.0  # seconds that a run of `lintim` has, although the time is over
+_end: list[float] = []  # when the time is over, if it is ever
+
+
+def give(seconds: float) -> None:
+    """Lets the runs of `lintim` from now on take so many seconds together."""
+    _end[:] = [time.monotonic() + seconds]
 
 
 class Answer(NamedTuple):
@@ -41,27 +54,64 @@ class Answer(NamedTuple):
         return next((line for line in self.lines if line.startswith(f"{stage}: ")), self.last)
 
 
+def _given() -> list[Path]:
+    """The program that came with the checkout, where it has the bytes of which `PROVED` tells."""
+    try:
+        said = GIVEN.with_name("PROVED").read_text().splitlines()
+        found = hashlib.sha256(GIVEN.read_bytes()).hexdigest()
+    except (OSError, ValueError):
+        return []
+    return [GIVEN] if f"sha256: {found}" in said else []
+
+
 def find() -> str:
     """The path of the program: what `LINTIM` names, else `lintim` on the PATH, else the one that
-    is built in this checkout."""
+    is built in this checkout, or that came with it."""
     named = os.environ.get("LINTIM")
     found = shutil.which(named or "lintim")
     if named and not found:
         raise NoProgram(f"LINTIM is {named!r}, which is no program")
-    built = (CHECKOUT / name for name in BUILT)
-    found = found or next((str(path) for path in built if os.access(path, os.X_OK)), None)
     if not found:
-        raise NoProgram("lintim is not found: put it on the PATH, or name it in LINTIM")
+        built = next((it for it in _places() if os.access(it, os.X_OK)), None)
+        if built is None:
+            raise NoProgram("lintim is not found: put it on the PATH, or name it in LINTIM")
+        found = str(built)
     return os.path.abspath(found)
+
+
+def _places() -> Iterator[Path]:
+    """Where the program may stand that belongs to this package."""
+    yield from (CHECKOUT / name for name in BUILT)
+    yield from _given()
+    yield from _installed()
+
+
+def _installed() -> list[Path]:
+    """The program that `pip` installed together with this package."""
+    from importlib import metadata
+
+    try:
+        found = metadata.files("lintim-companion") or []
+    except metadata.PackageNotFoundError:
+        return []
+    return [Path(str(it.locate())) for it in found if it.name == "lintim"]
 
 
 def run(folder: str | Path, *words: str) -> Answer:
     """Runs `lintim` in a folder, and waits for it."""
     program = find()
+    left = max(GRACE, _end[0] - time.monotonic()) if _end else None
     try:
         ended = subprocess.run(
-            [program, *words], cwd=folder, stdin=subprocess.DEVNULL, capture_output=True
+            [program, *words],
+            cwd=folder,
+            stdin=subprocess.DEVNULL,
+            capture_output=True,
+            timeout=left,
         )
+    except subprocess.TimeoutExpired:
+        says = f"{program} {words[0]} gave no answer in {left:.0f} seconds"
+        raise Refused(f"{says}; --seconds allows more") from None
     except OSError as why:
         raise NoProgram(f"{program} cannot be run: {why.strerror}") from None
     out, err = (text.decode(errors="replace") for text in (ended.stdout, ended.stderr))

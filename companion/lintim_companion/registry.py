@@ -192,11 +192,52 @@ COMMANDS = (
                 greatest=1799,
             ),
             Word("--area", "import: take the stops in the box SOUTH,WEST,NORTH,EAST of degrees"),
+            Word(
+                "--seconds",
+                "check, import: how long it may take (60)",
+                kind="whole",
+                least=1,
+                greatest=1_000_000,
+            ),
+            Word(
+                "--memory",
+                "check, import: how many MB of memory it may take (1000)",
+                kind="whole",
+                least=100,
+                greatest=1_000_000,
+            ),
         ),
         example="lintim-gtfs export . feed.zip",
         statuses=(
             (0, "it was written; check: no rule is broken"),
             (1, "it was not written; check: a rule is broken; the last line says why"),
+            (2, "the words of the command are wrong"),
+            (130, "it was stopped before anything was written"),
+        ),
+    ),
+    Command(
+        name="lintim-convert",
+        module="commands.convert",
+        says="Turns a dataset of LinTim into one of lintim and back, and judges LinTim's plans.",
+        about="lintim-convert in LINTIM NEW writes a new dataset of a folder of LinTim: its config with\n"
+        "all that it includes, network, loads, and its plans as pinned ones.\n"
+        "lintim-convert out FOLDER NEW writes a folder of LinTim's form of a dataset.\n"
+        "lintim-convert judge LINTIM pins LinTim's plans in a copy, lets lintim make and check judge\n"
+        "them, and tells in LinTim's ids what is kept, and what it costs beside the least.\n"
+        "A folder that is read is never changed. What is lost or weaker is told and counted.",
+        reads="a folder of LinTim, or a dataset with the made files that are up to date",
+        writes="the new folder: a dataset with import/ids.csv, or a folder of LinTim's form",
+        words=(
+            Word("what", "in, out or judge"),
+            Word("paths", "the folder that is read, and the new one", kind="file", many=True),
+            Word("--driven", "in, judge: take the lines that are driven alone", kind="switch"),
+            Word("--seconds", "judge: how long it may prove", kind="whole", default=60, least=1),
+        ),
+        example="lintim-convert in datasets/toy toy",
+        packages=(SCIPY,),
+        statuses=(
+            (0, "it was written; judge: no plan is broken"),
+            (1, "it was not written; judge: a plan is broken; the last line says why"),
             (2, "the words of the command are wrong"),
             (130, "it was stopped before anything was written"),
         ),

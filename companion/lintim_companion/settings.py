@@ -76,6 +76,26 @@ class _Reading:
             raise Missing(name, f"{row.name} row {row.number} includes it")
 
 
+def included(folder: Path) -> list[str]:
+    """The files that the settings include, each once, as far as they can be read."""
+    found: dict[str, int] = {CONFIG: 0}
+    left = [CONFIG]
+    while left and len(found) <= MAX_INCLUDES:
+        name = left.pop(0)
+        try:
+            data = read_bytes(folder, name, MAX_HAND_BYTES)
+        except Refused:
+            continue
+        for _, _, cells in rows_of(decoded(data or b"")):
+            if len(cells) == 2 and cells[0] in ("include", "include_if_exists"):
+                other = f"basis/{cells[1]}"
+                is_new = INCLUDE_NAME.fullmatch(cells[1]) and other not in found
+                if is_new and found[name] < MAX_DEPTH and len(found) <= MAX_INCLUDES:
+                    found[other] = found[name] + 1
+                    left.append(other)
+    return [*found][1:]
+
+
 def _refused(row: ConfigRow, why: str) -> RowRefused:
     return RowRefused(row.name, row.number, row.line, why, f"{row.key}; {row.value}")
 

@@ -18,6 +18,7 @@ from .rows import number_text, rows_of, whole
 NOT_A_NUMBER = "is not a number"
 OUT_OF_RANGE = "is out of range"
 UNKNOWN_WORD = "is an unknown word"
+Spelling = Callable[[str], str]
 
 
 class CellRefused(Exception):
@@ -102,8 +103,9 @@ def _reader(cell: Cell) -> Callable[[str], int | str]:
     return read
 
 
-def parsed(file: File[R], data: bytes) -> Table[R]:
-    """The table of a text."""
+def parsed(file: File[R], data: bytes, spelled: Spelling = str) -> Table[R]:
+    """The table of a text. Where a row cannot be read, its cells that are no texts are spelled as
+    the texts of another program are to be taken, and it is tried again."""
     if data.startswith(BYTE_ORDER_MARK):
         raise RowRefused(file.name, 1, 1, "byte order mark")
     readers = [_reader(column.cell) for column in columns(file)]
@@ -115,10 +117,23 @@ def parsed(file: File[R], data: bytes) -> Table[R]:
         try:
             rows.append(make([read(cell) for read, cell in zip(readers, row.cells)]))
         except CellRefused:
-            raise _fault(file, row) from None
+            again = _spelled(file, row, spelled)
+            try:
+                rows.append(make([read(cell) for read, cell in zip(readers, again.cells)]))
+            except CellRefused:
+                raise _fault(file, again) from None
         numbers.append(row.number)
         lines.append(row.line)
     return Table(file, rows, numbers, lines)
+
+
+def _spelled(file: File[Any], row: Row, spelled: Spelling) -> Row:
+    """A row whose cells are spelled otherwise, but for texts."""
+    cells = [
+        cell if isinstance(column.cell, Text) else spelled(cell)
+        for column, cell in zip(columns(file), row.cells)
+    ]
+    return row._replace(cells=cells)
 
 
 def _fault(file: File[Any], row: Row) -> RowRefused:

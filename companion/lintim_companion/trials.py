@@ -3,7 +3,6 @@ it wrote, and what both say is told beside what `lintim` finds alone."""
 
 import random
 import subprocess
-import sys
 import time
 from collections.abc import Callable, Iterator
 from pathlib import Path
@@ -12,6 +11,7 @@ from typing import NamedTuple
 from . import dataset, demos, formats, program
 from .formats import EventDelay
 from .hand import copy_hand_files
+from .surroundings import python
 from .trial_problems import TRIAL_PROBLEMS, write_line_problem
 
 COMPANION = Path(__file__).resolve().parents[1]
@@ -39,7 +39,7 @@ def run(name: str, *words: object) -> Command:
     begun = time.monotonic()
     path = str(COMPANION / f"bin/lintim-{name}")
     ended = subprocess.run(
-        [sys.executable, path, *map(str, words)],
+        python(path, *map(str, words)),
         stdout=subprocess.PIPE,
         stderr=subprocess.STDOUT,
         text=True,

@@ -7,7 +7,7 @@ from pathlib import Path
 from lintim_companion import program
 
 BIN = program.CHECKOUT / "companion/bin"
-PYTHON = "/usr/bin/python3"
+PYTHON = ("/usr/bin/python3", "-I", "-B")
 
 
 class Ended:
@@ -30,7 +30,7 @@ def environment(**more: str) -> dict[str, str]:
     return {**os.environ, "LINTIM": program.find(), "PYTHONDONTWRITEBYTECODE": "1", **more}
 
 
-def run(name: str, *words: object, start: tuple[str, ...] = (PYTHON,), **more: str) -> Ended:
+def run(name: str, *words: object, start: tuple[str, ...] = PYTHON, **more: str) -> Ended:
     """Runs a command to its end."""
     ended = subprocess.run(
         [*start, str(BIN / name), *map(str, words)],
@@ -44,7 +44,7 @@ def run(name: str, *words: object, start: tuple[str, ...] = (PYTHON,), **more: s
 def start(name: str, *words: object) -> "subprocess.Popen[bytes]":
     """Starts a command."""
     return subprocess.Popen(
-        [PYTHON, str(BIN / name), *map(str, words)],
+        [*PYTHON, str(BIN / name), *map(str, words)],
         stdout=subprocess.PIPE,
         stderr=subprocess.PIPE,
         env=environment(),

@@ -76,7 +76,61 @@ SHORT = all_of(  # three lines over one edge, in a dataset of two stops
 )
 MANY_TRIPS = all_of(key("period_length", 5), key("ean_headway", 0), key("DM_latest_time", 1380))
 
+
+def pinned_schedule(folder: Path) -> None:
+    """The schedule of the town as LinTim writes it: line -1 in empty drives."""
+    made(folder)
+    text = (folder / "vehicle-scheduling/Vehicle_Schedules.vs").read_text()
+    put("pinned/Vehicle_Schedules.vs", text.replace("; 0\n", "; -1\n"))(folder)
+    key("pin_vehicles", "yes")(folder)
+
+
+def given_loads(folder: Path) -> None:
+    """Loads of LinTim beside the demand."""
+    made(folder)
+    shutil.copy(folder / "line-planning/Load.giv", folder / LOAD)
+
+
+def other_costs(folder: Path) -> None:
+    """Costs of LinTim where nothing was made yet."""
+    made(folder)
+    lines = (folder / "basis/Pool-Cost.giv").read_text().splitlines()
+    shutil.rmtree(folder / "keep")
+    lines[1] = "; ".join(lines[1].split("; ")[:2] + ["77"])
+    put("basis/Pool-Cost.giv", "\n".join(lines) + "\n")(folder)
+
+
+def both_ways(folder: Path) -> None:
+    """Another edge for each one, which leads back."""
+    edges = [row.split("; ") for row in (folder / EDGE).read_text().splitlines()[1:]]
+    back = [[str(int(a) + 100), c, b, *more] for a, b, c, *more in edges]
+    add(EDGE, "".join("; ".join(row) + "\n" for row in back))(folder)
+
+
+EVENTS_OF_LINTIM = (
+    "# event-id; type; stop-id; line-id; passengers; line-direction; line-freq-repetition\n"
+    '1; "departure"; 1; 1; 0; >; 1\n'
+)
+OF_LINTIM = (
+    Mistake(
+        "include of LinTim", every(CONFIG, lambda it: b'include; "../../Global-Config.cnf"\n' + it)
+    ),
+    Mistake("directed network of LinTim", key("ptn_is_undirected", "false")),
+    Mistake("ten time units a minute", key("time_units_per_minute", 10)),
+    Mistake(
+        "a day of seconds that fits",
+        all_of(key("DM_earliest_time", 3600), key("DM_latest_time", 7200)),
+    ),
+    Mistake("line -1 of empty drives", pinned_schedule),
+    Mistake("loads of LinTim beside demand", given_loads),
+    Mistake("costs of LinTim", other_costs),
+    Mistake("edges of both directions", both_ways),
+    Mistake("made files of LinTim", put("timetabling/Events-periodic.giv", EVENTS_OF_LINTIM)),
+)
+
+
 OWN = (
+    *OF_LINTIM,
     Mistake("date in a length", swap(EDGE, "1; 1; 2; 1.1;", "1; 1; 2; 01.01.2026;")),
     Mistake("named date in a length", swap(EDGE, "1; 1; 2; 1.1;", "1; 1; 2; 1. Jan;")),
     Mistake("thousands with an apostrophe", swap(OD, "1; 3; 120", "1; 3; 1'200")),

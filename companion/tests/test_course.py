@@ -73,7 +73,7 @@ def test_the_notebook_runs(tmp_path: Path, environment: dict[str, str]) -> None:
     (ran / "course.ipynb").write_bytes(course.NOTEBOOK.read_bytes())
     words = ["-m", "nbconvert", "--to", "notebook", "--execute", "--inplace", "course.ipynb"]
     ended = subprocess.run(
-        [PYTHON, *words],
+        [*PYTHON, *words],
         cwd=ran,
         env={**environment, "JUPYTER_PATH": "/usr/share/jupyter"},
         capture_output=True,

@@ -1,5 +1,8 @@
 """Reading and writing beside the program: the same bytes, the same values, the same refusals."""
 
+import os
+import subprocess
+import sys
 from pathlib import Path
 
 import pytest
@@ -151,10 +154,7 @@ def test_a_table_without_rows_is_a_frame(tmp_path: Path) -> None:
 
 
 def test_pandas_and_networkx_are_imported_only_when_asked_for(example: Folders) -> None:
-    import subprocess
-    import sys
-
     code = f"from lintim_companion import dataset; dataset.read({str(example('market-town'))!r}).tables()"
     code += "; import sys; assert not {'pandas', 'networkx', 'numpy', 'scipy'} & set(sys.modules)"
-    top = program.CHECKOUT / "companion"
-    subprocess.run([sys.executable, "-c", code], cwd=top, check=True)
+    place = {**os.environ, "PYTHONPATH": str(program.CHECKOUT / "companion")}
+    subprocess.run([sys.executable, "-P", "-c", code], env=place, check=True)

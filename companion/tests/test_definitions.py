@@ -12,7 +12,7 @@ def told() -> dict[str, set[str]]:
     """The files that the page names, by crate; a row without a crate goes on with the one above."""
     files: dict[str, set[str]] = defaultdict(set)
     crate = ""
-    for line in (TOP / "docs" / "DEFINITIONS.md").read_text().splitlines():
+    for line in (TOP / "docs/house/DEFINITIONS.md").read_text().splitlines():
         row = ROW.fullmatch(line)
         if row:
             crate = row["crate"].strip("`") or crate

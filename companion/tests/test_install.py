@@ -9,6 +9,7 @@ from pathlib import Path
 
 import pytest
 
+from commands import PYTHON
 from conftest import EXAMPLES
 from lintim_companion import program
 from lintim_companion.installing import completions, program_words
@@ -16,6 +17,17 @@ from lintim_companion.registry import COMMANDS
 from lintim_companion.version import RELEASED, VERSION
 
 HOME = program.CHECKOUT
+SCRIPTS = (
+    *("install", "lintim", "test", ".ci/run", "dist/update", "dist/compare", "dist/sources.sh"),
+    *(
+        "dist/proved.sh",
+        "dist/others.sh",
+        "packaging/debian",
+        "packaging/owned",
+        "packaging/wheel",
+        "packaging/container",
+    ),
+)
 pytestmark = [
     pytest.mark.usefixtures("lintim"),
     pytest.mark.skipif(not (HOME / "install").exists(), reason="this is no checkout"),
@@ -116,7 +128,7 @@ def test_another_user_without_anything_gets_the_answers_of_the_checkout(
         assert as_nobody(command.name, "--help")[0] == 0
         name, *words = command.example.split()
         ended = subprocess.run(
-            ["/usr/bin/python3", str(HOME / "companion/bin" / name), *words],
+            [*PYTHON, str(HOME / "companion/bin" / name), *words],
             capture_output=True,
             text=True,
             cwd=here,
@@ -135,7 +147,7 @@ def test_uninstall_takes_exactly_that_away(tmp_path: Path) -> None:
         assert install(prefix).returncode == 0
     mine = prefix / "share/doc/lintim/mine"
     mine.write_text("mine")
-    call("/usr/bin/python3", prefix / "bin/lintim-waits", "--help")
+    call(*PYTHON[:2], prefix / "bin/lintim-waits", "--help")
     ended = call(prefix / "lib/lintim/install", "--uninstall")
     assert ended.returncode == 0, ended.stderr
     left = sorted(path for path in prefix.rglob("*") if path.is_file())
@@ -199,7 +211,9 @@ def checkout(folder: Path, rt: str) -> Path:
         (folder / name).chmod(0o755)
     os.utime(old, (1, 1))
     (folder / "crates/lintim/src/main.rt").write_text("")
-    shutil.copy(HOME / "lintim", folder / "lintim")
+    (folder / "dist").mkdir()
+    for name in ("lintim", "dist/sources.sh", "dist/proved.sh", "dist/others.sh"):
+        shutil.copy(HOME / name, folder / name)
     return folder / "lintim"
 
 
@@ -235,8 +249,7 @@ def test_a_copy_of_the_script_says_so(tmp_path: Path) -> None:
 
 @pytest.mark.skipif(not shutil.which("shellcheck"), reason="shellcheck is missing")
 def test_scripts_are_taken_by_shellcheck(prefix: Path) -> None:
-    scripts = [HOME / name for name in ("install", "lintim", "test", "packaging/debian")]
-    ended = call("shellcheck", *scripts, prefix / "bin/lintim")
+    ended = call("shellcheck", "-x", *SCRIPTS, prefix / "bin/lintim", where=HOME)
     assert ended.returncode == 0, ended.stdout
     ended = call("shellcheck", "-s", "bash", prefix / "share/bash-completion/completions/lintim")
     assert ended.returncode == 0, ended.stdout

@@ -13,7 +13,7 @@ TOP = program.CHECKOUT
 FENCES = re.compile(r"^```.*?^```$|^    [^\n]*$|<!--.*?-->", re.M | re.S)
 LINK = re.compile(r"\]\(([^)\s]+)\)")
 LONGEST = 100
-LONG_LINES = {"docs/DECISIONS.md", "docs/PROVED.md"}  # for contributors
+LONG_LINES = {"docs/house/DECISIONS.md", "docs/PROVED.md"}  # for contributors
 
 
 def prose(page: str) -> str:

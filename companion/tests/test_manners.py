@@ -58,7 +58,7 @@ def test_the_example_of_the_help_runs_and_writes_its_files(name: str, example: F
     before = files_of(folder)
     words = next(it for it in COMMANDS if it.name == name).example.split()
     ended = subprocess.run(
-        [PYTHON, str(BIN / words[0]), *words[1:]],
+        [*PYTHON, str(BIN / words[0]), *words[1:]],
         cwd=folder,
         env=environment(),
         capture_output=True,
@@ -75,7 +75,7 @@ def test_a_missing_package_is_one_line(name: str, example: Folders) -> None:
         line = run(name, *words_of(name, folder), PATH="/nowhere").one_line()
         assert line == f"{name}: the program cadical is missing: apt install cadical"
     else:
-        ended = run(name, *words_of(name, folder), start=(PYTHON, "-S"))
+        ended = run(name, *words_of(name, folder), start=(*PYTHON, "-S"))
         line = ended.one_line()
         assert line == f"{name}: the package scipy is missing: apt install python3-scipy"
         assert ended.status == 1
@@ -99,7 +99,7 @@ def test_a_missing_program_is_one_line(name: str, example: Folders, tmp_path: Pa
     for part in ("bin", "lintim_companion"):
         shutil.copytree(BIN.parent / part, alone / part, ignore=shutil.ignore_patterns("__*"))
     ended_alone = subprocess.run(
-        [PYTHON, str(alone / "bin" / name), *map(str, words_of(name, folder))],
+        [*PYTHON, str(alone / "bin" / name), *map(str, words_of(name, folder))],
         env={"PATH": os.path.dirname(str(shutil.which("cadical") or "/usr/bin"))},
         capture_output=True,
         text=True,
@@ -204,7 +204,7 @@ def test_a_folder_of_somebody_else_is_one_line(name: str, example: Folders) -> N
     shutil.copytree(folder, place)
     try:
         place.chmod(0o755)
-        nobody = ("setpriv", "--reuid=65534", "--regid=65534", "--clear-groups", PYTHON)
+        nobody = ("setpriv", "--reuid=65534", "--regid=65534", "--clear-groups", *PYTHON)
         ended = run(name, *words_of(name, place), start=nobody)
         if "Permission denied" not in "".join(ended.err):  # the checkout itself may be closed
             assert ended.status == 1 and "cannot be written" in ended.one_line()
@@ -224,15 +224,16 @@ def test_nothing_is_read_on_is_no_fault(name: str, example: Folders) -> None:
 
 @planners
 def test_a_report_that_cannot_be_written_is_one_line(name: str, example: Folders) -> None:
+    """The exit status is 0 all the same, since the plan is there."""
     folder = made(example("three-stops"))
     with open("/dev/full", "w") as full:
         ended = subprocess.run(
-            [PYTHON, str(BIN / name), *map(str, words_of(name, folder))],
+            [*PYTHON, str(BIN / name), *map(str, words_of(name, folder))],
             stdout=full,
             stderr=subprocess.PIPE,
             env=environment(),
         )
-    assert ended.returncode == 1 and ended.stderr.count(b"\n") == 1
+    assert ended.returncode == 0 and ended.stderr.count(b"\n") == 1
     assert b"the report could not be written: No space left on device" in ended.stderr
     assert all((folder / file).exists() for file in PLANS[name][1])
 

@@ -136,7 +136,7 @@ def test_the_example_of_the_readme_runs() -> None:
     for module in ("pandas", "networkx"):
         pytest.importorskip(module)
     subprocess.run(
-        [sys.executable, "-c", code],
+        [sys.executable, "-P", "-c", code],
         cwd=program.CHECKOUT,
         env={**os.environ, "PYTHONPATH": "companion"},
         check=True,

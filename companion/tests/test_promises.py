@@ -6,6 +6,7 @@ from pathlib import Path
 
 import pytest
 
+PYTHON = "/usr/bin/python3"
 TOP = Path(__file__).resolve().parents[2]
 SPECS = TOP / "crates" / "stage_driver" / "specs"
 PAGE = (TOP / "docs" / "PROVED.md").read_text()
@@ -23,11 +24,30 @@ def test_a_printed_definition_stands_there(file: str, text: str) -> None:
     assert text in (SPECS / file).read_text()
 
 
+def counted(*words: str) -> tuple[str, str, str]:
+    """How many definitions, lines and files stand below the two records."""
+    told = subprocess.run(
+        [PYTHON, "-P", TOP / "tools/promises", *words], capture_output=True, text=True, check=True
+    )
+    found = re.fullmatch(r"(\d+) definitions, (\d+) lines, (\d+) files\n", told.stdout)
+    assert found is not None
+    return found[1], f"{int(found[2]):,}", found[3]
+
+
 def test_a_reader_has_few_definitions_to_read() -> None:
-    told = subprocess.run([TOP / "bench" / "promises"], capture_output=True, text=True, check=True)
-    counted = re.fullmatch(r"(\d+) definitions, (\d+) lines, (\d+) files\n", told.stdout)
-    assert counted is not None
-    definitions, lines, files = counted.groups()
-    assert int(definitions) <= 80 and int(lines) <= 250
+    definitions, lines, files = counted()
+    assert int(definitions) <= 80 and int(lines) <= 280
     sentence = f"stand {definitions} definitions of {lines} lines in {files} files"
     assert sentence in " ".join(PAGE.split())
+
+
+def test_what_the_files_are_taken_for_is_told() -> None:
+    definitions, lines, files = counted("--problems")
+    assert f"{definitions} definitions of {lines} lines in {files} files" in " ".join(PAGE.split())
+    assert f"all together are {counted('--read')[0]} definitions" in " ".join(PAGE.split())
+
+
+def test_the_worked_examples_are_those_of_the_sources() -> None:
+    script = TOP / "tools/worked-examples"
+    printed = subprocess.run([PYTHON, "-P", script], capture_output=True, text=True, check=True)
+    assert printed.stdout == (TOP / "docs/WORKED-EXAMPLES.md").read_text()

@@ -94,7 +94,7 @@ def test_progress_on_a_terminal(tmp_path: Path) -> None:
     folder = hard_problem(tmp_path, NO_PROOF)
     ours, theirs = os.openpty()
     command = subprocess.Popen(
-        [PYTHON, str(BIN / "lintim-concept"), str(folder), "--seconds", "20"],
+        [*PYTHON, str(BIN / "lintim-concept"), str(folder), "--seconds", "20"],
         stdout=subprocess.DEVNULL,
         stderr=theirs,
         env=environment(),

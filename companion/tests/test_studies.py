@@ -40,7 +40,7 @@ def snakemake(lintim: str) -> None:
 
 
 def words(path: Path, into: Path, *more: str) -> list[str]:
-    return [PYTHON, str(RUN), str(path), str(into), "--cores", "2", *more]
+    return [*PYTHON, str(RUN), str(path), str(into), "--cores", "2", *more]
 
 
 def run(path: Path, into: Path, **more: str) -> "subprocess.CompletedProcess[str]":

@@ -212,7 +212,7 @@ def test_names_as_people_write_them(town: Path) -> None:
 
 def test_the_example_of_the_help(town: Path) -> None:
     ended = subprocess.run(
-        [PYTHON, str(BIN / "lintim-view"), *"lintim-view . --out town.html".split()[1:]],
+        [*PYTHON, str(BIN / "lintim-view"), *"lintim-view . --out town.html".split()[1:]],
         cwd=town,
         env=environment(),
         capture_output=True,

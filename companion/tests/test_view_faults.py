@@ -74,7 +74,7 @@ def test_faults_are_one_line(town: Path, tmp_path: Path) -> None:
 
 
 def test_a_missing_package_is_one_line(plan: Path) -> None:
-    line = fault(run("lintim-view", plan, start=(PYTHON, "-S")))
+    line = fault(run("lintim-view", plan, start=(*PYTHON, "-S")))
     assert line == "the package plotly is missing: apt install python3-plotly"
 
 

@@ -30,6 +30,8 @@ OPEN = {  # mistakes that no script can put right, since something is to be thou
     "a spreadsheet file",
     "keys by other names",
     "demand of nobody",
+    "edges of both directions",
+    "made files of LinTim",
 }
 
 

@@ -6,6 +6,7 @@ from ..cells import Cell, Fixed, Whole, WholeOrWord, Word
 from ..columns import Column, columns
 from ..formats import DEMAND, POOL
 from ..rows import Row
+from . import lintim_told
 from .context import Context
 from .findings import LONGEST_LINE, Finding, call, finding, shown, take_out, write_line
 from .nearest import nearest_name
@@ -49,6 +50,9 @@ def of_cell(it: Context, text: Found, line: int, place: int, rule: str) -> Findi
 
 def _of_all(text: Found, place: int, cell: str) -> tuple[str, str] | None:
     """What is wrong in many rows in the same way, and what puts all of them right."""
+    there = lintim_told.empty_lines(text, place, cell)
+    if there is not None:
+        return there
     commas = [cell for row in text.rows for cell in row.cells if COMMA.fullmatch(cell)]
     if len(commas) > 1 and cell in commas and not _has_names(text):
         are_groups = all(map(GROUPED.fullmatch, commas)) and text.name == DEMAND.name

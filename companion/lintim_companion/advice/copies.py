@@ -5,24 +5,26 @@ import re
 import shutil
 import stat
 from collections.abc import Iterator
-from contextlib import contextmanager
+from contextlib import contextmanager, suppress
 from functools import cached_property
 from pathlib import Path
 
-from .. import files, program
+from .. import files, program, settings
 from ..formats import CONFIG, FILES, MAX_HAND_BYTES
+from ..settings import MAX_INCLUDES
 from .texts import Text
 
 HAND_FILES = tuple(file.name for file in FILES if not file.stage) + (CONFIG,)
+SHOWN_OF_A_HOLE = 4096  # bytes
 REFUSED_ROW = re.compile(r"refused: (\S+) row (\d+): (.*)")
 
 
 class Copy:
-    """The copy: its folder, in which `lintim make` ran once, and the texts of its files. Remedies
-    are tried in another one beside it."""
+    """The copy: its folder, in which `lintim make` ran once, the texts of its files, and the names
+    of files that may be included. Remedies are tried in another one beside it."""
 
-    def __init__(self, folder: Path, texts: dict[str, Text]) -> None:
-        self.folder, self.texts = folder, texts
+    def __init__(self, folder: Path, texts: dict[str, Text], configs: list[str]) -> None:
+        self.folder, self.texts, self.configs = folder, texts, configs
 
     @cached_property
     def answer(self) -> program.Answer:
@@ -85,32 +87,49 @@ def copied(folder: Path) -> Iterator[Copy]:
             if data is not None:
                 texts[name] = Text(name, data)
                 _write(base / name, folder / name, data)
-        yield Copy(base, texts)
+        configs = sorted(path.name for path in (folder / "basis").glob("*.cnf"))
+        yield Copy(base, texts, configs[:MAX_INCLUDES])
 
 
 def _names(folder: Path) -> Iterator[str]:
-    """The files that people write, with the config files that may be included."""
-    yield from (name for name in HAND_FILES if os.path.lexists(folder / name))
-    for path in sorted((folder / "basis").glob("*.cnf")):
-        if f"basis/{path.name}" != CONFIG:
-            yield f"basis/{path.name}"
+    """The files that people write, with the config files that are included."""
+    names = dict.fromkeys((*HAND_FILES, *settings.included(folder)))
+    yield from (name for name in names if os.path.lexists(folder / name))
 
 
 def _data(path: Path) -> bytes | None:
     """The bytes of a file, none where it is no regular one or cannot be read; those of one that is
-    too long are not read."""
+    too long are not read, and of one with holes those up to the first and some of its zeros."""
     try:
         there = path.lstat()
         if not stat.S_ISREG(there.st_mode) or path.parent.is_symlink():
             return None
-        return path.read_bytes() if there.st_size <= MAX_HAND_BYTES else b""
+        if there.st_size > MAX_HAND_BYTES:
+            return b""
+        with open(path, "rb") as file:
+            hole = os.lseek(file.fileno(), 0, os.SEEK_HOLE) if there.st_size else 0
+            return os.pread(file.fileno(), hole + SHOWN_OF_A_HOLE, 0)
     except OSError:
         return None
 
 
 def _write(copy: Path, path: Path, data: bytes) -> None:
+    """Copies a file; a hole in it stays one, and one that is too long is all a hole."""
     copy.parent.mkdir(parents=True, exist_ok=True)
-    copy.write_bytes(data)
     size = path.stat().st_size
-    if size > MAX_HAND_BYTES:
-        os.truncate(copy, size)
+    with open(path, "rb") as old, open(copy, "wb") as new:
+        if size <= MAX_HAND_BYTES:
+            new.write(data)
+            for begin, end in _parts(old.fileno(), len(data)):
+                os.pwrite(new.fileno(), os.pread(old.fileno(), end - begin, begin), begin)
+    os.truncate(copy, size)
+
+
+def _parts(file: int, begin: int) -> Iterator[tuple[int, int]]:
+    """From where to where a file has bytes after so many, between its holes."""
+    with suppress(OSError):  # there are none
+        while True:
+            begin = os.lseek(file, begin, os.SEEK_DATA)
+            end = os.lseek(file, begin, os.SEEK_HOLE)
+            yield begin, end
+            begin = end

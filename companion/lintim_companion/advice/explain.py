@@ -8,7 +8,7 @@ from typing import NamedTuple
 from ..faults import Refused
 from ..formats import DEMAND, EDGES, GIVEN_LOADS, POOL, STOPS
 from ..manners import Deadline, Progress
-from . import silent
+from . import lintim_told, silent
 from .cells_told import of_cell
 from .context import Context
 from .copies import REFUSED_ROW, copied
@@ -122,7 +122,7 @@ def _of_report(it: Context, folder: Path) -> list[Finding]:
     last = it.answer.last
     row = REFUSED_ROW.fullmatch(last)
     if row:
-        return [_of_row(it, row[1], int(row[2]), row[3])]
+        return [_of_row(it, folder, row[1], int(row[2]), row[3])]
     gone = re.fullmatch(r"refused: (\S+) is missing", last)
     if gone:
         return [missing(it, folder, gone[1])]
@@ -157,7 +157,7 @@ def _of_plans(it: Context, last: str) -> list[Finding]:
     return []
 
 
-def _of_row(it: Context, name: str, row: int, why: str) -> Finding:
+def _of_row(it: Context, folder: Path, name: str, row: int, why: str) -> Finding:
     """What a refused row means."""
     text = it.copy.text(name)
     line = text.line_of(row)
@@ -168,9 +168,11 @@ def _of_row(it: Context, name: str, row: int, why: str) -> Finding:
         return of_cell(it, text, line, int(cell[1]) - 1, cell[2])
     if why == "wrong number of fields":
         return of_fields(it, text, line)
-    if name.endswith(".cnf"):
-        return config_row(it, text, line, why)
     at = text.row_at(line)
+    if name.endswith(".cnf"):
+        if at is not None and len(at.cells) > 1 and lintim_told.is_include_of_lintim(at.cells[1]):
+            return lintim_told.include(text, line, folder)
+        return config_row(it, text, line, why)
     if why == "missing edge":
         return missing_edge(it, text)
     if at is not None and why in RULES:
@@ -181,6 +183,7 @@ def _of_row(it: Context, name: str, row: int, why: str) -> Finding:
 def _silent(it: Context, folder: Path, near: dict[str, str]) -> list[Finding]:
     """What nobody says, whatever the report is."""
     found = [
+        *lintim_told.of_lintim(it, folder),
         *unknown_keys(it),
         *silent.unread_source(it),
         *silent.unread_pins(it),

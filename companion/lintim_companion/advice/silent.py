@@ -155,16 +155,16 @@ def misnamed(it: Context, near: dict[str, str]) -> Iterator[Finding]:
 
 
 def unread_source(it: Context) -> Iterator[Finding]:
-    """A file of loads that is there while loads come from demand, or the other way round, where the
-    settings do not say it."""
-    if it.config.row_of("load_source") is not None:
+    """A file of loads that is there while loads come from demand, where the settings do not say
+    it."""
+    if it.config.row_of("load_source") is not None or GIVEN_LOADS.name not in it.copy.texts:
         return
-    if GIVEN_LOADS.name in it.copy.texts and DEMAND.name not in it.copy.texts:
-        yield finding(
-            f"{GIVEN_LOADS.name} is not read, since load_source is od where no row has it",
-            remedy=it.set_key("load_source", "file"),
-            file=GIVEN_LOADS.name,
-        )
+    says = f"{GIVEN_LOADS.name} is not read, since load_source is od where no row has it"
+    ways = [it.set_key("load_source", "file")]
+    if DEMAND.name in it.copy.texts:
+        says += "; LinTim plans lines by it"
+        ways.append(it.set_key("load_source", "od"))
+    yield finding(says, remedy=either(*ways), file=GIVEN_LOADS.name)
 
 
 def unread_pins(it: Context) -> Iterator[Finding]:

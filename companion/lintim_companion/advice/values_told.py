@@ -16,6 +16,7 @@ from .texts import Text
 
 KEYS = {key.name: key for key in keys()}
 FOREIGN = ("include", "include_if_exists")
+TOLD_APART = ("ptn_is_undirected", "time_units_per_minute")
 SYNONYMS = {
     "true": "yes", "on": "yes", "1": "yes", "y": "yes", "ja": "yes", "false": "no", "off": "no",
     "0": "no", "n": "no", "nein": "no", "lines": "concept", "line": "concept", "demand": "od",
@@ -176,7 +177,8 @@ def config_row(it: Context, text: Text, line: int, why: str) -> Finding:
     if why == "include outside the dataset":
         says = "a file that is included stands in the folder basis, and its name ends in .cnf"
         name = re.sub(r"(?i)\.cnf$", ".cnf", cells[1].replace("\\", "/").split("/")[-1])
-        near = nearest_name(name, [one.removeprefix("basis/") for one in it.copy.texts], 0.9)
+        names = [one for one in it.copy.configs if f"basis/{one}" != text.name]
+        near = nearest_name(name, names, 0.9)
         new = f"{cells[0]}; {near}" if near and near.endswith(".cnf") else None
         remedy = write_line(text.name, line, new) if new else take_out(text.name, line)
         return finding(where, says, remedy=remedy, file=text.name)
@@ -190,7 +192,7 @@ def unknown_keys(it: Context) -> list[Finding]:
     """Keys that are like one of `lintim`, each of them, and then all others together."""
     found, others = [], []
     for row in config_rows(it):
-        if row.key in KEYS or row.key in FOREIGN or row.key.startswith("\ufeff"):
+        if row.key in KEYS or row.key in FOREIGN + TOLD_APART or row.key.startswith("\ufeff"):
             continue
         near = OTHER_NAMES.get(plain(row.key)) or nearest_name(row.key, KEYS)
         if near is None:

@@ -3,6 +3,7 @@
 from argparse import Namespace
 
 from .. import dataset, files, program
+from ..faults import TooLong
 from ..formats import LINE_COSTS, LOADS, PINNED_CONCEPT, PINNED_TREE
 from ..line_concepts.problem import concept_rows, line_problem, pinned_concept
 from ..line_concepts.proofs import tree_rows
@@ -39,11 +40,15 @@ def run(words: Namespace, talk: Talk) -> int:
     if nodes is None:
         talk.say(f"concept: cost {cost}, not proved in time; it is in {PINNED_CONCEPT.name}")
     else:
-        talk.write(words.folder, PINNED_TREE, list(tree_rows(problem, nodes)))
         took = deadline.spent() - begun
         tree = f"a tree of {len(nodes)} nodes in {took:.1f} s"
         talk.say(f"concept: cost {cost}, proved to be least by {tree}")
-        talk.say(f"concept: written to {PINNED_CONCEPT.name} and {PINNED_TREE.name}")
+        try:
+            talk.write(words.folder, PINNED_TREE, list(tree_rows(problem, nodes)))
+            talk.say(f"concept: written to {PINNED_CONCEPT.name} and {PINNED_TREE.name}")
+        except TooLong as why:
+            talk.say(f"concept: the tree is not written: {why}")
+            talk.say(f"concept: written to {PINNED_CONCEPT.name}")
     if data.settings.pin_concept == "no":
         talk.say("concept: to use it, add the row `pin_concept; yes` to basis/Config.cnf")
     return 0

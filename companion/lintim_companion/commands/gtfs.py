@@ -4,6 +4,7 @@ from argparse import Namespace
 from pathlib import Path
 
 from .. import dataset, files, formats, program
+from ..bounds import within
 from ..faults import Refused, WrongWords
 from ..gtfs import check, export, places
 from ..gtfs.feed import Feed
@@ -13,10 +14,14 @@ from ..manners import Talk
 
 USES = {
     "export": ("FOLDER FEED.zip", ("place", "scale", "disposed", "date", "route_type")),
-    "import": ("FEED.zip FOLDER", ("date", "from", "to", "period", "route_type", "area")),
-    "check": ("FEED.zip", ()),
+    "import": (
+        "FEED.zip FOLDER",
+        ("date", "from", "to", "period", "route_type", "area", "seconds", "memory"),
+    ),
+    "check": ("FEED.zip", ("seconds", "memory")),
 }
-OPTIONS = ("date", "disposed", "place", "scale", "from", "to", "period", "route_type", "area")
+OPTIONS = tuple(dict.fromkeys(it for _, options in USES.values() for it in options))
+SECONDS, MEGABYTES = 60, 1000
 DATE = "20260105"
 BUS = 3
 
@@ -26,11 +31,12 @@ def run(words: Namespace, talk: Talk) -> int:
     _see_words(words)
     if words.what == "export":
         return _export(words, talk)
-    if words.what == "check":
-        return _check(words.paths[0], talk)
     from ..gtfs.importing import import_feed
 
-    return import_feed(words, talk)
+    with within(words.seconds or SECONDS, words.memory or MEGABYTES):
+        if words.what == "check":
+            return _check(words.paths[0], talk)
+        return import_feed(words, talk)
 
 
 def _see_words(words: Namespace) -> None:

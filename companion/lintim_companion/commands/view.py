@@ -1,5 +1,6 @@
 """`lintim-view`: pictures of a plan, as a page and as files for print."""
 
+import os
 import re
 from argparse import Namespace
 from pathlib import Path
@@ -12,7 +13,7 @@ from ..manners import Talk, see_package
 from ..pictures.numbers import difference_section, number_section
 from ..pictures.page import Side, page_of
 from ..pictures.plan import Choice, Plan, lines_of
-from ..pictures.scene import Section
+from ..pictures.scene import Section, named
 from ..pictures.sections import sections_of
 from ..registry import MATPLOTLIB
 
@@ -107,8 +108,10 @@ def told(section: Section, of: str, talk: Talk) -> None:
 
 def names_of(folders: list[Path]) -> list[str]:
     """What each dataset is called: the name of its folder, or its path where two have one name."""
-    names = [folder.resolve().name or str(folder) for folder in folders]
-    return names if len({*names}) == len(names) else [str(folder) for folder in folders]
+    paths = [os.fsencode(folder).decode(errors="replace") for folder in folders]
+    names = [os.fsencode(it.resolve().name).decode(errors="replace") for it in folders]
+    names = [named(name or path) for name, path in zip(names, paths)]
+    return names if len({*names}) == len(names) else [*map(named, paths)]
 
 
 def written(path: Path, data: bytes, talk: Talk) -> None:
@@ -119,9 +122,10 @@ def written(path: Path, data: bytes, talk: Talk) -> None:
 
 def on_paper(sides: list[Side], folder: Path, ending: str, talk: Talk) -> None:
     """Writes each picture as a file of its own."""
-    from ..pictures.paper import paper_of
+    from ..pictures.paper import lacking, paper_of
 
     count = 0
+    lacks: dict[str, None] = {}
     for number, side in enumerate(sides, 1):
         for section in side.sections:
             for picture in section.pictures:
@@ -129,5 +133,9 @@ def on_paper(sides: list[Side], folder: Path, ending: str, talk: Talk) -> None:
                 name = f"{number}-{name}" if len(sides) > 1 else name
                 talk.progress.tell(f"drawing {name}.{ending}")
                 written(folder / f"{name}.{ending}", paper_of(picture, ending), talk)
+                lacks |= dict.fromkeys(lacking(picture))
                 count += 1
     talk.say(f"view: written {count} pictures to {folder}, as {ending}")
+    if lacks and ending == "png":
+        signs = f"{len(lacks)} signs of names, as {next(iter(lacks))}"
+        talk.say(f"view: {signs}, are not in the font of png, where a box stands for each")

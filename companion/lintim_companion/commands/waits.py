@@ -3,7 +3,7 @@
 from argparse import Namespace
 
 from .. import dataset, files, program
-from ..faults import Refused
+from ..faults import Refused, TooLong
 from ..formats import DAY_ACTIVITIES, DAY_EVENTS, SCHEDULE, WAITS
 from ..manners import Deadline, Talk
 from ..waits.core import Core
@@ -41,9 +41,12 @@ def run(words: Namespace, talk: Talk) -> int:
     begun = deadline.spent()
     best, nodes = proved(core, words.penalty, best, words.nodes, deadline, talk.progress, found)
     if nodes is not None:
-        talk.write(words.folder, WAITS, decision_rows(day, best, nodes))
         took = f"{len(nodes)} nodes in {deadline.spent() - begun:.1f} s"
         talk.say(f"waits: cost {best.cost}, proved to be least by a tree of {took}")
+        try:
+            talk.write(words.folder, WAITS, decision_rows(day, best, nodes))
+        except TooLong as why:
+            talk.say(f"waits: the tree is not written: {why}")
     else:
         says = "HiGHS says that none costs less" if is_best else "it may cost less"
         limit = "in time" if deadline.is_over() else f"within {words.nodes} nodes"

@@ -15,7 +15,7 @@ COLOR = re.compile(r"[0-9A-Fa-f]{6}")
 URL = re.compile(r"https?://\S+", re.I)
 EMAIL = re.compile(r"[^@\s]+@[^@\s]+")
 LANGUAGE = re.compile(r"[A-Za-z]{2,3}(?:-[A-Za-z0-9]{2,8})*")
-ZONE = re.compile(r"[A-Za-z]\w*(?:[/+-][\w+-]+)*")
+ZONE = re.compile(r"[A-Za-z][\w+-]*(?:/[\w+-]+)*")
 CURRENCY = re.compile(r"[A-Z]{3}")
 BASIC_ROUTE_TYPES = frozenset((0, 1, 2, 3, 4, 5, 6, 7, 11, 12))
 

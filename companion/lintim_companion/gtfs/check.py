@@ -1,6 +1,7 @@
 """The checker of feeds: files, fields, cells, keys and references by the table in `reference`, and
 the rules under conditions of `conditions`."""
 
+from collections import Counter
 
 from ..faults import Refused
 from . import conditions
@@ -100,8 +101,8 @@ def _see_sheet(checker: Checker, sheet: Sheet, extra: "conditions.Conditions") -
 
 
 def _see_header(checker: Checker, sheet: Sheet, number: int, header: list[str]) -> None:
-    for name in dict.fromkeys(header):
-        if header.count(name) > 1:
+    for name, count in Counter(header).items():
+        if count > 1:
             checker.error(sheet.name, number, f"{name or 'an empty field'} comes twice")
         elif name and name not in sheet.fields:
             says = f"{name}: the reference has no such field"

@@ -1,7 +1,8 @@
 """Feeds as zip files of comma separated texts: what stands in them, row by row.
 
 A text is read as UTF-8, with or without a byte order mark; bytes that are no UTF-8 are taken as
-Latin-1 and counted. Rows are read one after the other, so a large file takes little memory.
+Latin-1 and counted. Rows are read one after the other, so a large file takes little memory. A row
+has at most so many characters, and a large file unpacks to at most so many times its packed size.
 """
 
 import codecs
@@ -28,8 +29,10 @@ FAULTS = (  # what a damaged zip file may raise
     ValueError,
     OverflowError,
 )
-MAX_FIELD = 1 << 20  # the characters of a cell
+MAX_ROW = 1 << 20  # the characters of a row
 MAX_BYTES = 1 << 32  # of an unpacked file
+SMALL = 1 << 24  # the bytes of an unpacked file that may be packed as tightly as it can be
+MAX_RATIO = 100  # of the bytes of a larger file to those in which it is packed
 LATIN = "lintim-latin-1"
 Row = tuple[int, list[str]]
 _strange = Counter[str]()  # how many bytes were no UTF-8
@@ -44,7 +47,7 @@ def _as_latin(fault: UnicodeError) -> tuple[str, int]:
 
 
 codecs.register_error(LATIN, _as_latin)
-csv.field_size_limit(MAX_FIELD)
+csv.field_size_limit(MAX_ROW)
 
 
 class Feed:
@@ -66,6 +69,7 @@ class Feed:
         names = [name for name in names if not name.startswith("__MACOSX/")]
         self.folder = _folder_of(names)
         self.names = {name.removeprefix(self.folder): name for name in names}
+        self.size = len(data) if data is not None else path.stat().st_size
 
     def __contains__(self, name: str) -> bool:
         return name in self.names
@@ -76,8 +80,7 @@ class Feed:
         before = _strange["bytes"]
         try:
             there = self.zip.getinfo(self.names[name])
-            if there.file_size > MAX_BYTES:
-                raise Refused(f"{name} is too long")
+            _see_size(name, there, self.size)
             with self.zip.open(there) as data:
                 text = io.TextIOWrapper(data, "utf-8-sig", errors=LATIN, newline="")
                 yield from _rows(text)
@@ -117,13 +120,44 @@ class Feed:
                 raise Refused(f"{name} row 1: no field {field}")
 
 
+class _Lines:
+    """The lines of a text, as long as those of one row are not too long together."""
+
+    def __init__(self, text: io.TextIOWrapper) -> None:
+        self.text, self.of_row = text, 0
+
+    def __iter__(self) -> "_Lines":
+        return self
+
+    def __next__(self) -> str:
+        line = self.text.readline(MAX_ROW + 1)
+        if not line:
+            raise StopIteration
+        self.of_row += len(line)
+        if self.of_row > MAX_ROW:
+            raise csv.Error(f"a row has more than {MAX_ROW} characters")
+        return line
+
+
 def _rows(text: io.TextIOWrapper) -> Iterator[Row]:
-    reader = csv.reader(text)
+    lines = _Lines(text)
+    reader = csv.reader(lines)
     number = 1
     for cells in reader:
+        lines.of_row = 0
         if any(cells):
             yield number, cells
         number = reader.line_num + 1
+
+
+def _see_size(name: str, there: zipfile.ZipInfo, whole: int) -> None:
+    """Sees that a file of a zip file, which has so many bytes as a whole, is not far larger."""
+    if there.file_size > MAX_BYTES:
+        raise Refused(f"{name} is too long")
+    packed = min(there.compress_size, whole)
+    if there.file_size > SMALL and there.file_size > MAX_RATIO * packed:
+        says = f"{there.file_size >> 20} MB out of {packed} bytes, more than {MAX_RATIO} to 1"
+        raise Refused(f"{name} unpacks to {says}")
 
 
 def _folder_of(names: list[str]) -> str:

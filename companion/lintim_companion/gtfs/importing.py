@@ -5,7 +5,6 @@ import io
 from argparse import Namespace
 from collections import Counter
 from collections.abc import Iterator
-from contextlib import suppress
 from pathlib import Path
 from typing import Any
 
@@ -47,7 +46,7 @@ def import_feed(words: Namespace, talk: Talk) -> int:
         raise WrongWords("import wants --date, as 20260105")
     on = date_word("--date", words.date)
     choice = _choice(words)
-    _see_new(folder)
+    files.see_new(folder, "import", formats.STOPS.name)
     feed = Feed(path)
     for name, fields in NEEDED.items():
         feed.see(name, *fields)
@@ -66,7 +65,7 @@ def import_feed(words: Namespace, talk: Talk) -> int:
     texts = _texts(plan, lengths, _least_change(feed))
     texts[IDS] = _ids(plan, rides)
     with files.undisturbed():
-        _write(folder, texts)
+        files.write_all(folder, texts)
         talk.wrote += texts
     _tell(plan, rides, feed, lengths.says, talk)
     if word := better_period(rides, parts, plan):
@@ -100,34 +99,6 @@ def _choice(words: Namespace) -> Choice:
         raise WrongWords("--to is before --from")
     area = box_word(words.area) if words.area is not None else None
     return Choice((first, last), words.period or PERIOD, area)
-
-
-def _see_new(folder: Path) -> None:
-    """Sees that nothing stands in the place of the new dataset, and that it can be written."""
-    try:
-        if folder.is_dir() and any(folder.iterdir()):
-            raise Refused(f"{folder} is not empty: import writes a new dataset, into a new folder")
-        if folder.exists() and not folder.is_dir():
-            raise Refused(f"{folder} is no folder")
-    except OSError as why:
-        raise Refused(f"{folder} cannot be read: {why.strerror}") from None
-    files.see_writable(folder, formats.STOPS.name)
-
-
-def _write(folder: Path, texts: dict[str, bytes]) -> None:
-    """Writes the dataset, all of it or nothing."""
-    was_there = folder.exists()
-    try:
-        for name, text in texts.items():
-            files.write_bytes(folder, name, text)
-    except Refused:
-        for name in texts:
-            (folder / name).unlink(missing_ok=True)
-        places = {(folder / name).parent for name in texts}
-        for place in [*places, *([] if was_there else [folder])]:
-            with suppress(OSError):
-                place.rmdir()
-        raise
 
 
 def _least_change(feed: Feed) -> int:

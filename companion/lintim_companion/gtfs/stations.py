@@ -66,13 +66,15 @@ def _stops(feed: Feed) -> dict[str, _Stop]:
 
 def _groups(stops: dict[str, _Stop]) -> dict[str, list[str]]:
     """The stops of each station by the id of the station, in the order of the feed."""
-    root = {stop: _root(stops, stop) for stop in stops}
+    root = _roots(stops)
     by_name: dict[str, list[str]] = {}
     for stop in dict.fromkeys(root.values()):
         name = stops[stop].name.casefold()
+        if not name:
+            continue
         near = next((it for it in by_name.get(name, ()) if _are_near(stops, it, stop)), None)
         by_name.setdefault(name, []).append(stop)
-        if near is not None and name:
+        if near is not None:
             root[stop] = root[near]
     groups: dict[str, list[str]] = {}
     for stop in stops:
@@ -83,15 +85,22 @@ def _groups(stops: dict[str, _Stop]) -> dict[str, list[str]]:
     return groups
 
 
-def _root(stops: dict[str, _Stop], stop: str) -> str:
-    """The station of a stop; a boarding area belongs to a platform, and this to a station. The
-    stop itself, where parents lead round in a ring."""
-    seen = [stop]
-    while (parent := stops[seen[-1]].parent) in stops:
-        if parent in seen:
-            return stop
-        seen.append(parent)
-    return seen[-1]
+def _roots(stops: dict[str, _Stop]) -> dict[str, str]:
+    """The station of each stop; a boarding area belongs to a platform, and this to a station. The
+    stop itself, where parents lead round in a ring. Each parent is looked at once."""
+    top: dict[str, str | None] = {}  # none where parents lead into a ring
+    for stop in stops:
+        way: dict[str, None] = {}
+        here = stop
+        while here not in top and here not in way:
+            way[here] = None
+            if (parent := stops[here].parent) not in stops:
+                top[here] = here
+            else:
+                here = parent
+        found = top.get(here)
+        top.update((it, found) for it in way if it not in top)
+    return {stop: stop if it is None else it for stop, it in top.items()}
 
 
 def _are_near(stops: dict[str, _Stop], a: str, b: str) -> bool:

@@ -24,7 +24,8 @@ PROGRAM_WORDS = (
         "make",
         "",
         "runs the stages and writes their files",
-        "A stage whose settings and inputs are unchanged is copied from what is kept.",
+        "A stage whose settings and inputs are unchanged is copied from what is kept. Where made files\n"
+        "of another program stand it does nothing, unless --own follows.",
     ),
     ProgramWord(
         "fresh",
@@ -86,7 +87,7 @@ PROGRAM_WORDS = (
 # What the starter of an installed program takes beside them.
 STARTER_WORDS = (
     ("--help", "prints these words"),
-    ("--version", "prints the version, and the commit of the sources"),
+    ("--version", "prints the version, the commit, and where the program was proved"),
 )
 
 PROGRAM_STATUSES = (

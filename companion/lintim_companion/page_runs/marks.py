@@ -22,11 +22,12 @@ class Mark:
 CLOCK = "may take a minute, and what is found then may depend on the machine"
 TOWN = "8 Mill --5-- 1 Station"
 MARKS = (
-    Mark("README.md", "./test", "runs for minutes, and wants rt; CONTRIBUTING has when to run it"),
+    Mark("README.md", "./test", "runs for minutes; CONTRIBUTING has when to run it"),
     Mark("companion/README.md", "apt install", "changes the machine"),
     Mark("companion/README.md", "from lintim_companion", "Python; test_pages runs it"),
     Mark("companion/README.md", "data = ", "Python; test_pages runs it"),
     Mark("companion/README.md", "companion/check", "runs this"),
+    Mark("companion/README.md", "./test", "changes the machine; test_test_script tries it"),
     Mark("companion/README.md", "companion/pages", "runs this"),
     Mark("docs/ARCHITECTURE.md", "", "a map, and questions to git about the code of the checkout"),
     Mark("docs/EXAMPLE.md", TOWN, PICTURE),
@@ -39,6 +40,9 @@ MARKS = (
     Mark("docs/GTFS.md", "lintim-gtfs: more than", "of a feed of a city; test_gtfs_import has one"),
     Mark("docs/GTFS.md", "error: stop_times.txt", "of a damaged feed; test_gtfs_check has it"),
     Mark("docs/INSTALL.md", "./install", "test_install tries it"),
+    Mark("docs/INSTALL.md", "./lintim --prove", "proves for minutes; test_dist tries it"),
+    Mark("docs/INSTALL.md", "python3 -m venv", "test_wheel does it"),
+    Mark("docs/INSTALL.md", "ENV/bin/pip", "test_wheel does it"),
     Mark("docs/INSTALL.md", "fpath=", FORM),
     Mark(
         "docs/STUDIES.md", "", "wants Snakemake, and takes minutes; test_studies runs a small one"

@@ -13,7 +13,17 @@ from .. import program
 from ..faults import Refused
 
 COPIED = ("README.md", "docs", "examples", "companion")
+OTHERS = "dist/others.sh"
 SECONDS = 600
+# What stands for the script `lintim` of a checkout: it sees first whose files would be taken.
+STARTER = """#!/bin/sh
+. "{others}"
+case "$*" in
+    "make --own" | "fresh --own") set -- "$1" ;;
+    *) see_others "$@" ;;
+esac
+exec "{it}" "$@"
+"""
 # What comments may use: commands in a copy of the folder, so that it stays as the page left it.
 HELP = """
 TOP=$PWD
@@ -47,9 +57,10 @@ def copy_checkout(place: Path) -> Path:
     for folder in (top / "examples").iterdir():
         for name in clean:
             shutil.rmtree(folder / name, ignore_errors=True)
-    for link in (top / "lintim", place / "bin/lintim"):
-        link.parent.mkdir(exist_ok=True)
-        link.symlink_to(program.find())
+    for starter in (top / "lintim", place / "bin/lintim"):
+        starter.parent.mkdir(exist_ok=True)
+        starter.write_text(STARTER.format(others=program.CHECKOUT / OTHERS, it=program.find()))
+        starter.chmod(0o755)
     return top
 
 

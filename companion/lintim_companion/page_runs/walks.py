@@ -101,7 +101,8 @@ class Walk:
 def pages() -> list[str]:
     """All pages of the checkout, named from its top."""
     found = [*program.CHECKOUT.glob("*.md"), *program.CHECKOUT.glob("companion/*.md")]
-    found += program.CHECKOUT.glob("docs/*.md")
+    for below in ("docs/*.md", "docs/house/*.md", "crates/*.md", "crates/*/README.md"):
+        found += program.CHECKOUT.glob(below)
     return sorted(str(path.relative_to(program.CHECKOUT)) for path in found)
 
 

@@ -54,7 +54,7 @@ def page_of(
         plotly,
         f"<script>\n{HERE.joinpath('page.js').read_text()}</script>\n</body></html>\n",
     ]
-    return "\n".join(page).encode()
+    return "\n".join(page).encode(errors="replace")
 
 
 def chips(lines: dict[int, str]) -> str:

@@ -2,15 +2,13 @@
 its id. The same picture gives the same bytes."""
 
 import io
+import warnings
+from functools import cache
 from typing import TYPE_CHECKING, Any
-
-import matplotlib
-from matplotlib.backends.backend_agg import FigureCanvasAgg
-from matplotlib.backends.backend_svg import FigureCanvasSVG
-from matplotlib.figure import Figure
 
 from ..clocks import clock
 from . import style
+from .drawing import Figure, FigureCanvasAgg, FigureCanvasSVG, FT2Font, findfont, matplotlib
 from .scene import Axis, Layer, Picture, Shape
 from .traces import ends_of
 
@@ -34,9 +32,26 @@ SETTINGS: dict[Any, Any] = {
 STEPS = (1, 2, 5, 10, 15, 30, 60, 120, 180, 360, 720, 1440, 10080, 100800)
 
 
+def lacking(picture: Picture) -> list[str]:
+    """The signs of a picture that its font has not."""
+    texts = [picture.title, *(name for axis in (picture.x, picture.y) for _, name in axis.ticks)]
+    texts += [shape.label for layer in picture.layers for shape in layer.shapes]
+    return sorted({sign for text in texts for sign in text if ord(sign) not in signs_of_font()})
+
+
+@cache
+def signs_of_font() -> frozenset[int]:
+    """The numbers of the signs that the font of pictures has."""
+    return frozenset(FT2Font(findfont(str(SETTINGS["font.family"]))).get_charmap())
+
+
 def paper_of(picture: Picture, ending: str) -> bytes:
-    """A picture as the bytes of a file: `svg`, or `png` with 160 dots to an inch."""
-    with matplotlib.rc_context({**matplotlib.rcParamsDefault, **SETTINGS, "backend": "agg"}):
+    """A picture as the bytes of a file: `svg`, or `png` with 160 dots to an inch. matplotlib warns of
+    signs that its font lacks, one by one, which `lacking` tells better."""
+    with warnings.catch_warnings(), matplotlib.rc_context(
+        {**matplotlib.rcParamsDefault, **SETTINGS, "backend": "agg"}
+    ):
+        warnings.simplefilter("ignore")
         figure = Figure(figsize=(WIDE, max(3.0, min(picture.height / DOTS, 120.0))))
         axes = figure.add_subplot()
         axes.set_title(picture.title, loc="left", fontsize=10, fontweight="bold")

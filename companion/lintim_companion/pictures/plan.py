@@ -4,6 +4,7 @@ from collections import Counter
 from functools import cached_property
 from typing import Any, Generic, NamedTuple, TypeVar
 
+from .scene import named
 from ..cells import File
 from ..dataset import Dataset
 from ..faults import Refused
@@ -75,7 +76,7 @@ class Plan:
     def names(self) -> Index[str]:
         """What each stop is called; the id is told beside a name that several stops have."""
         plain = {
-            stop.stop_id: stop.long_name or stop.short_name or f"stop {stop.stop_id}"
+            stop.stop_id: named(stop.long_name or stop.short_name or f"stop {stop.stop_id}")
             for stop in self.data[STOPS]
         }
         often = Counter(plain.values())

@@ -5,13 +5,25 @@ vertex a tuple of facts, which hovering tells; the first fact is the id of the r
 draws. Times are minutes of the day, other places are as the picture says.
 """
 
+import re
 from collections.abc import Sequence
 from dataclasses import dataclass, field
 from typing import Literal, NamedTuple
 
+LONGEST = 60  # letters of a name
+STRANGE = re.compile(
+    "[^ -~\u00a0-\u2027\u202f-\u2065\u206a-\ud7ff\ue000-\ufffd\U00010000-\U0010ffff]"
+)
 Value = int | float | str
 Facts = tuple[Value, ...]
 Kind = Literal["stroke", "area", "mark", "bar"]
+
+
+def named(text: str) -> str:
+    """A name as pictures show it: a sign that no text of a page or of an SVG may hold is a mark in
+    the place of it, and a name that is far too long is cut."""
+    text = STRANGE.sub("\ufffd", text)
+    return text if len(text) <= LONGEST else f"{text[:LONGEST]}\u2026"
 
 
 class Shape(NamedTuple):

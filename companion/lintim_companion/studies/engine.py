@@ -10,7 +10,7 @@ from collections.abc import Callable
 from pathlib import Path
 from typing import NamedTuple
 
-from .. import program
+from .. import program, surroundings
 from ..faults import Refused
 from .plots import PAGE, write_page
 from .point import row_of
@@ -65,6 +65,7 @@ def _snakemake(path: Path, into: Path, way: Way) -> None:
         *("--keep-going", "--rerun-incomplete", "--rerun-triggers", "mtime", "--retries", "2"),
         *("--nolock", "--scheduler", "greedy", *where, *way.more, "--", "points"),
     ]
+    surroundings.settle()  # each job is a Python that Snakemake starts in the folder `into`
     environment = {**os.environ, "LINTIM": program.find(), "OMP_NUM_THREADS": "1"}
     environment.setdefault("USER", "nobody")  # which --slurm wants to be there
     (into / "snakemake.log").unlink(missing_ok=True)

@@ -2,7 +2,6 @@
 
 import html
 import io
-import os
 from collections import defaultdict
 from collections.abc import Callable
 from pathlib import Path
@@ -67,9 +66,7 @@ def _order(item: tuple[float | str, list[float]]) -> tuple[bool, float, str]:
 
 def picture(plot: Plot, rows: list[Row]) -> str:
     """A plot as SVG, the same bytes for the same rows."""
-    os.environ.setdefault("MPLBACKEND", "Agg")
-    import matplotlib
-    from matplotlib.figure import Figure
+    from ..pictures.drawing import Figure, matplotlib
 
     with matplotlib.rc_context({"svg.hashsalt": "lintim", "svg.fonttype": "none"}):
         figure = Figure(figsize=(7, 3.6), layout="constrained")

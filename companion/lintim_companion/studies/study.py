@@ -13,6 +13,7 @@ from pathlib import Path
 from typing import Any, NamedTuple
 
 from .. import formats
+from .. import settings as config
 from ..columns import keys
 from ..delays import Lateness, see_lateness
 from ..faults import Refused
@@ -178,14 +179,8 @@ def checksum(folder: Path) -> str:
     """The SHA-256 of the files of a dataset that people write."""
     names = [file.name for file in formats.FILES if not file.stage]
     found = hashlib.sha256()
-    for path in sorted({*names, *map(str, _configs(folder))}):
+    for path in sorted({*names, formats.CONFIG, *config.included(folder)}):
         if (folder / path).is_file():
             data = (folder / path).read_bytes()
             found.update(f"{path} {len(data)}\n".encode() + data)
     return found.hexdigest()
-
-
-def _configs(folder: Path) -> Iterator[Path]:
-    """The settings of a folder, with those that are included."""
-    for path in (folder / "basis").glob("*.cnf"):
-        yield path.relative_to(folder)

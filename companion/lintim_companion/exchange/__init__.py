@@ -1,0 +1,1 @@
+"""Datasets of LinTim: read, written and judged."""
