@@ -1,0 +1,11 @@
+mod Products
+mod Slacks
+mod Steps
+mod Ways
+mod Sums
+mod Parts
+mod Turns
+mod Cuts
+mod Timetabled
+mod Shown
+mod Regions
