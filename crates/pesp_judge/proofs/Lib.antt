@@ -9,3 +9,4 @@ mod Cuts
 mod Timetabled
 mod Shown
 mod Regions
+mod MostSlack

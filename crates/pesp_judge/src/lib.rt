@@ -4,6 +4,7 @@
 mod bound;
 mod certificate;
 mod cycle;
+mod greatest;
 mod inequality;
 mod judging;
 mod leaf;
@@ -13,5 +14,6 @@ mod weighted;
 
 pub use bound::check_bound;
 pub use certificate::{BoundFault, BoundRule, Certificate, CertificateRow, RowWord};
+pub use greatest::greatest_slack;
 pub use judging::{Judged, judge};
 pub use weighted::{WeightedActivity, WeightedPesp};

@@ -1,2 +1,4 @@
 mod Reading
 mod Timing
+mod Answered
+mod Passing

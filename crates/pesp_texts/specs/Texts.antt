@@ -6,7 +6,8 @@ use Rattle.std.specs.Ordering.{int_eq}
 use Rattle.plan_num.specs.Number.{whole_of}
 use Rattle.text_fields.specs.Rows.{Row, rows}
 use Rattle.pesp_judge.specs.declared.weighted.WeightedActivity.{WeightedActivity}
-use Rattle.pesp_judge.specs.Weighted.{WeightedProblem}
+use Rattle.pesp.specs.Timetables.{IsTimetable}
+use Rattle.pesp_judge.specs.Weighted.{IsBound, WeightedProblem, problem_of}
 
 -- a semicolon in the place of a separator
 abbrev pub semicolon_for : ℕ → ℕ → ℕ
@@ -94,3 +95,22 @@ pub record AreTimed (names : List ℤ) (period none : ℕ) (all left : List Row)
   pub told : (event : ℕ) → event < length times → ¬ (slice_index_or times event 0 ≡ none)
       → IsTold names done event (slice_index_or times event 0)
       × (slice_index_or times event 0 < period)
+
+-- no timetable of the problem of a text has less weighted slack than a claim
+pub record Bounds (text : List ℕ) (period : ℕ) (claim : ℤ) : Type 0 where
+  pub names : List ℤ
+  pub weighted : WeightedProblem
+  pub says : Says text period names weighted
+  pub bound : IsBound weighted claim
+
+-- the problem of a text has no timetable
+pub record NoTimetable (text : List ℕ) (period : ℕ) : Type 0 where
+  pub names : List ℤ
+  pub weighted : WeightedProblem
+  pub says : Says text period names weighted
+  pub none : (times : List ℕ) → IsTimetable (problem_of weighted) times → ⊥
+
+-- the number of the row at an index, where there is one
+abbrev pub IsNumberOf : List Row → ℕ → ℕ → Type 0
+IsNumberOf rows index number =
+    (row : Row) → slice_get rows index ≡ Some row → number ≡ row.number
