@@ -1,5 +1,5 @@
 -- What activities cost at most, one activity more.
-use Rattle.plan_num.proofs.Common.{◌≡◌, ℕ, ℤ, pos, ◌+◌, ◌*◌, ◌<◌, ◌≤ℤ◌, List, length, take, get_or, refl, arith, ints}
+use Rattle.plan_num.proofs.Common.{◌≡◌, ℕ, pos, ◌+◌, ◌<◌, ◌≤ℤ◌, List, length, take, get_or, refl, arith, ints}
 use Rattle.std.proofs.Common.{◌*ℤ◌}
 use Rattle.pesp.specs.Timetables.{IsTimetable}
 use Rattle.pesp_judge.specs.Weighted.{WeightedProblem, IsWeighted, problem_of, slack_in, slack_of_all, span_of}

@@ -58,8 +58,7 @@ fn broken_line<'a>(
     let minutes = it.minutes(&activity);
     let lower = activity.lower;
     let upper = activity.upper;
-    Ok(format!(
-        in alloc;
+    Ok(format!(in alloc;
         "broken: row {row}: from {from} to {to} takes {minutes}, {lower} to {upper} allowed\n"
     )?)
 }
@@ -119,11 +118,7 @@ fn rule_text(rule: BoundRule) -> &'static str {
 }
 
 /// How far times and a bound are apart.
-pub(crate) fn apart_line<'a>(
-    alloc: Global,
-    cost: i128,
-    claim: i64,
-) -> Result<String, Stop<'a>> {
+pub(crate) fn apart_line<'a>(alloc: Global, cost: i128, claim: i64) -> Result<String, Stop<'a>> {
     let apart = cost.saturating_sub(i128::from(claim));
     if apart == 0 {
         Ok(format!(in alloc; "the times are best\n")?)
@@ -156,11 +151,7 @@ pub(crate) fn stop_line<'a>(alloc: Global, stop: Stop<'a>) -> Result<Ended, Stop
 }
 
 // What is said of a text that is refused.
-fn refused_line<'a>(
-    alloc: Global,
-    name: &str,
-    fault: TextFault,
-) -> Result<String, Stop<'a>> {
+fn refused_line<'a>(alloc: Global, name: &str, fault: TextFault) -> Result<String, Stop<'a>> {
     let rule = fault.rule;
     match fault.row {
         Some(row) => Ok(format!(in alloc; "refused: {name} row {row}: {rule}\n")?),

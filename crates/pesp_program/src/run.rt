@@ -27,7 +27,12 @@ pub(crate) fn run<R: AllocGlobal + Env + Eprint + rt::Files + Print>(rt: &R) -> 
 }
 
 // Answers the words of the command line.
-fn answer<R: AllocGlobal + Env, F: Files, K: Sink>(rt: &R, alloc: Global, files: &mut F, out: &mut K) -> u8 {
+fn answer<R: AllocGlobal + Env, F: Files, K: Sink>(
+    rt: &R,
+    alloc: Global,
+    files: &mut F,
+    out: &mut K,
+) -> u8 {
     let Ok(line) = env::args(rt) else {
         return 2;
     };
@@ -187,11 +192,7 @@ fn push_apart<'a>(
 }
 
 // The rows of a file, with semicolons between their fields.
-fn rows_in<'a, F: Files>(
-    alloc: Global,
-    files: &mut F,
-    name: &'a str,
-) -> Result<Vec<u8>, Stop<'a>> {
+fn rows_in<'a, F: Files>(alloc: Global, files: &mut F, name: &'a str) -> Result<Vec<u8>, Stop<'a>> {
     let mut text = bytes_of(alloc, files, name)?;
     match with_semicolons(alloc, &mut text) {
         Ok(()) => Ok(text),

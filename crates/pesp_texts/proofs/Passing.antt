@@ -1,7 +1,7 @@
 -- Rows that are passed over.
-use Rattle.plan_num.proofs.Common.{◌≡◌, ℕ, zero, suc, ◌+◌, ◌<◌, ◌≤◌, List, [], ◌∷◌, length, drop, refl, ap, sym, arith}
-use Rattle.plan_num.proofs.Common.{slice_get, Some, None, ◌∙◌, subst, length-drop, MatchBool, true, false}
-use Rattle.std.proofs.lemmas.Option.{slice_get_past, slice_get_within}
+use Rattle.plan_num.proofs.Common.{◌≡◌, ℕ, zero, suc, ◌+◌, ◌≤◌, List, [], ◌∷◌, length, drop, ap, sym, arith}
+use Rattle.plan_num.proofs.Common.{slice_get, Some, ◌∙◌, subst, length-drop}
+use Rattle.std.proofs.lemmas.Option.{slice_get_within}
 use Rattle.text_fields.specs.Rows.{Row}
 use Rattle.pesp_texts.specs.Texts.{IsNumberOf}
 

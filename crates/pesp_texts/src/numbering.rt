@@ -17,11 +17,7 @@ pub fn row_number(alloc: Global, text: &[u8], index: usize) -> Result<u64, TextS
 }
 
 // The number of the row at an index among all that are left.
-fn number_at<'a>(
-    alloc: Global,
-    rows: &mut TextRows<'a>,
-    index: usize,
-) -> Result<u64, TextStop>
+fn number_at<'a>(alloc: Global, rows: &mut TextRows<'a>, index: usize) -> Result<u64, TextStop>
     ensures { IfOk result (IsNumberOf rows.old index) }
 {
     let mut row = TextRow::new(alloc);

@@ -1,4 +1,4 @@
-use Rattle.plan_num.proofs.Common.{◌≡◌, ℕ, pos, ◌<◌, ◌≤◌, arith, ints, subst, length, get_or, refl, sym}
+use Rattle.plan_num.proofs.Common.{◌≡◌, ℕ, pos, ◌<◌, arith, ints, subst, length, get_or}
 use Rattle.std.proofs.Common.{◌*ℤ◌}
 use Rattle.pesp_judge.specs.Weighted.{slack_of_all, span_of}
 use Rattle.pesp_judge.proofs.Slacks.{nothing}

@@ -1,5 +1,5 @@
 -- The activities so far cost no more.
-use Rattle.plan_num.proofs.Common.{◌≡◌, ℕ, pos, ◌*◌, ◌^◌, ◌≤◌, ◌≤ℤ◌, List, take}
+use Rattle.plan_num.proofs.Common.{ℕ, pos, ◌*◌, ◌^◌, ◌≤◌, ◌≤ℤ◌, List, take}
 use Rattle.pesp.specs.Timetables.{IsTimetable}
 use Rattle.pesp_judge.specs.Weighted.{problem_of, slack_of_all}
 use Rattle.pesp_judge.proofs.greatest.greatest_slack.Given as goal

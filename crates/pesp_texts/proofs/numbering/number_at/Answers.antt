@@ -1,4 +1,4 @@
-use Rattle.plan_num.proofs.Common.{◌≡◌, ◌∷◌, ◌≤◌, [], ◌∙◌, arith, subst, sym, MatchBool}
+use Rattle.plan_num.proofs.Common.{◌≡◌, ◌∷◌, [], arith, subst, sym, MatchBool}
 use Rattle.pesp_texts.specs.Texts.{IsNumberOf}
 use Rattle.pesp_texts.proofs.Passing.{none_here, number_here, passed_more}
 use Rattle.pesp_texts.proofs.numbering.number_at.Goals as goal
