@@ -3,8 +3,9 @@
 # It is read after sources.sh by ./lintim, ./install, ./test and the scripts of dist/.
 : "${home:?}"
 
-# The programs of dist/: the crate of each, and its name.
+# The programs of dist/ whose crates stand here: the crate of each, and its name.
 dist_programs=("lintim lintim")
+[ ! -d "$home/crates/pesp_program" ] || dist_programs+=("pesp_program pesp-judge")
 
 # Prints what PROVED says of a program under a key; several lines where the key stands several
 # times.

@@ -6,7 +6,7 @@ from typing import Literal
 
 Kind = Literal["command", "shown", "hidden", "file"]
 COMMANDS = re.compile(
-    r"\(?(?:\S*/)?(?:lintim(?:-[a-z]+)?|test|install|check|try|pages)(?: (?!keep |make ends )|$)"
+    r"\(?(?:\S*/)?(?:lintim(?:-[a-z]+)?|pesp-judge|test|install|check|try|pages)(?: (?!keep |make ends )|$)"
     r"|\(?(?:apt|awk|bench/\w+|cd|cp|echo|git|grep|mkdir|printf|rm|rt|sed) |PATH="
 )
 SYNOPSIS = re.compile(r"\[(?:--|[A-Z])")

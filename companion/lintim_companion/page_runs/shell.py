@@ -14,6 +14,8 @@ from ..faults import Refused
 
 COPIED = ("README.md", "docs", "examples", "companion")
 OTHERS = "dist/others.sh"
+# Where the judge of periodic timetables stands: as it was built here, or as dist/ has it.
+JUDGES = ("crates/pesp_program/out/pesp_program", "dist/pesp-judge")
 SECONDS = 600
 # What stands for the script `lintim` of a checkout: it sees first whose files would be taken.
 STARTER = """#!/bin/sh
@@ -61,6 +63,9 @@ def copy_checkout(place: Path) -> Path:
         starter.parent.mkdir(exist_ok=True)
         starter.write_text(STARTER.format(others=program.CHECKOUT / OTHERS, it=program.find()))
         starter.chmod(0o755)
+    judges = [program.CHECKOUT / name for name in JUDGES]
+    for judge in [it for it in judges if os.access(it, os.X_OK)][:1]:
+        (place / "bin/pesp-judge").symlink_to(judge)
     return top
 
 
