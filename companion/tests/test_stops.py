@@ -1,6 +1,7 @@
 """Commands that are stopped, or whose time is over: what was found stays."""
 
 import os
+import re
 import signal
 import subprocess
 import time
@@ -86,7 +87,8 @@ def test_time_is_over_before_anything_is_found(example: Folders) -> None:
     folder = made(example("demo 8"))
     ended = run("lintim-timetable", folder, "--changes", 45, "--seconds", 3)
     assert ended.status == 1
-    assert ended.one_line() == "lintim-timetable: CaDiCaL found no answer in 3 seconds"
+    said = r"lintim-timetable: CaDiCaL found no answer in [3-9] seconds"  # where others run, later
+    assert re.fullmatch(said, ended.one_line())
 
 
 @pytest.mark.long
