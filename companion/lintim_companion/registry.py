@@ -168,7 +168,8 @@ COMMANDS = (
         "lines, loads and, where lines are periodic, their timetable.\n"
         "lintim-gtfs check FEED.zip tells which rules of the GTFS Schedule reference are broken.",
         reads="the day that lintim make planned, or a feed",
-        writes="the feed that is named, or a dataset in a new folder with import/ids.csv",
+        writes="the feed that is named, or a dataset in a new folder with import/ids.csv and"
+        " import/Line-Name.giv",
         words=(
             Word("what", "export, import or check"),
             Word("paths", "the folder and the feed, from where to where", kind="file", many=True),
@@ -187,7 +188,8 @@ COMMANDS = (
             ),
             Word(
                 "--route-type",
-                "import: take routes of this type alone; export: the type of all routes (3, bus)",
+                "import: take routes of this type alone; export: the type of all routes (as the table"
+                " of names tells, else 3, bus)",
                 kind="whole",
                 greatest=1799,
             ),

@@ -273,7 +273,7 @@ def test_where_not_all_can_be_written_nothing_stays(
 
     def full(place: Path, name: str, data: bytes) -> None:
         if name == IDS:
-            (place / "import").mkdir()
+            (place / "import").mkdir(exist_ok=True)
             raise Refused(f"{name} cannot be written: No space left on device")
         real(place, name, data)
 

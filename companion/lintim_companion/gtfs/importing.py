@@ -62,7 +62,7 @@ def import_feed(words: Namespace, talk: Talk) -> int:
         says = " or ".join(words_that_fit) or "a smaller --area, one --route-type or less time"
         raise Refused(f"more than lintim takes: {', '.join(large)}; what would fit: {says}")
     lengths = lengths_of(parts, rides.stations, feed)
-    texts = _texts(plan, lengths, _least_change(feed))
+    texts = _texts(plan, rides, lengths, _least_change(feed))
     texts[IDS] = _ids(plan, rides)
     with files.undisturbed():
         files.write_all(folder, texts)
@@ -74,7 +74,7 @@ def import_feed(words: Namespace, talk: Talk) -> int:
     return 0
 
 
-def _texts(plan: Plan, lengths: Lengths, change: int) -> dict[str, bytes]:
+def _texts(plan: Plan, rides: Rides, lengths: Lengths, change: int) -> dict[str, bytes]:
     """The files of the dataset."""
     rows: list[tuple[File[Any], list[Any]]] = [
         (formats.STOPS, plan_rows.stop_rows(plan)),
@@ -82,6 +82,7 @@ def _texts(plan: Plan, lengths: Lengths, change: int) -> dict[str, bytes]:
         (formats.POOL, plan_rows.pool_rows(plan)),
         (formats.GIVEN_LOADS, plan_rows.load_rows(plan)),
         (formats.PINNED_CONCEPT, plan_rows.concept_rows(plan)),
+        (formats.LINE_NAMES, plan_rows.name_rows(plan, rides.routes)),
     ]
     if plan.is_timed:
         rows.append((formats.PINNED_TIMETABLE, plan_rows.timetable_rows(plan)))
