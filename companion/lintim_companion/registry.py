@@ -193,6 +193,21 @@ COMMANDS = (
                 kind="whole",
                 greatest=1799,
             ),
+            Word(
+                "--share",
+                "import: a way with so many percent of the trips of its route is a line (5)",
+                kind="whole",
+                least=1,
+                greatest=100,
+            ),
+            Word(
+                "--routes",
+                "import: take so many routes, grown from the busiest station",
+                kind="whole",
+                least=1,
+                greatest=100_000,
+            ),
+            Word("--fit", "import: take the first of the parts that fit", kind="switch"),
             Word("--area", "import: take the stops in the box SOUTH,WEST,NORTH,EAST of degrees"),
             Word(
                 "--seconds",

@@ -16,7 +16,19 @@ USES = {
     "export": ("FOLDER FEED.zip", ("place", "scale", "disposed", "date", "route_type")),
     "import": (
         "FEED.zip FOLDER",
-        ("date", "from", "to", "period", "route_type", "area", "seconds", "memory"),
+        (
+            "date",
+            "from",
+            "to",
+            "period",
+            "route_type",
+            "area",
+            "share",
+            "routes",
+            "fit",
+            "seconds",
+            "memory",
+        ),
     ),
     "check": ("FEED.zip", ("seconds", "memory")),
 }

@@ -17,6 +17,7 @@ from .services import Calendar
 from .stations import Stations
 
 MAX_RIDES = 200_000
+STRETCHED = "drives of less than a minute take one"
 LATEST_START = 10_080  # the last minute at which a trip of `lintim` may start
 
 
@@ -44,6 +45,8 @@ class Ride(NamedTuple):
     direction: str
     shape: str
     calls: tuple[Call, ...]
+    place: int = 0  # among all trips that are taken
+    is_stretched: bool = False  # whether a drive of less than a minute takes one
 
 
 class Route(NamedTuple):
@@ -147,12 +150,15 @@ class Rides:
         return _Row(order, cells[2], arrival, departure, number_of(cells[5]))
 
     def _rides(self, rows: dict[str, list[_Row]]) -> Iterator[Ride]:
+        place = 0
         for trip, of_trip in rows.items():
             if not of_trip:
                 self.left["trips that call nowhere"] += 1
                 continue
             try:
+                before = self.changed[STRETCHED]
                 starts, calls = self._calls(trip, sorted(of_trip, key=lambda it: it.order))
+                stretched = self.changed[STRETCHED] > before
             except _Fault as why:
                 self._fault(f"stop_times.txt: trip {trip!r}: {why}")
                 continue
@@ -160,7 +166,9 @@ class Rides:
                 if start > LATEST_START:
                     self.left["trips that start after 168:00"] += 1
                     continue
-                yield Ride(trip, *self.wanted[trip], tuple(it.moved(start) for it in calls))
+                moved = tuple(it.moved(start) for it in calls)
+                yield Ride(trip, *self.wanted[trip], moved, place, stretched)
+                place += 1
 
     def _calls(self, trip: str, rows: list[_Row]) -> tuple[list[int], list[Call]]:
         """The minutes at which a trip starts, and its calls in minutes after that. Stops of one
@@ -180,7 +188,7 @@ class Rides:
                 continue
             least = calls[-1].departure + 1 if calls else 0
             if here[0] < least:
-                self.changed["drives of less than a minute take one"] += 1
+                self.changed[STRETCHED] += 1
             at = max(here[0], least) if calls else 0
             calls.append(Call(station, at, max(here[1], at), row.walked, row.walked))
         first = calls[0].departure
