@@ -37,7 +37,7 @@ MARKS = (
     Mark("docs/GOOD-TIMETABLES.md", "lintim-timetable", CLOCK, long=True),
     Mark("docs/GOOD-TIMETABLES.md", "echo 'pin_timetable", CLOCK, long=True),
     Mark("docs/GOOD-TIMETABLES.md", "timetable: before", CLOCK, long=True),
-    Mark("docs/GTFS.md", "lintim-gtfs: more than", "of a feed of a city; test_gtfs_import has one"),
+    Mark("docs/GTFS.md", "gtfs: what would fit", "of a feed of a city; test_gtfs_import has one"),
     Mark("docs/GTFS.md", "error: stop_times.txt", "of a damaged feed; test_gtfs_check has it"),
     Mark("docs/INSTALL.md", "./install", "test_install tries it"),
     Mark("docs/INSTALL.md", "./lintim --prove", "proves for minutes; test_dist tries it"),
