@@ -292,6 +292,45 @@ COMMANDS = (
         + STATUSES[2:],
     ),
     Command(
+        name="lintim-demand",
+        module="commands.demand",
+        says="Guesses how many customers go from stop to stop, and says how far that is from the supply.",
+        about="lintim-demand gravity FOLDER: by departures, or by people round stops (--people).\n"
+        "lintim-demand counts FOLDER --counts FILE: fitted to boardings and alightings by stop.\n"
+        "lintim-demand matrix FOLDER --matrix FILE --zones FILE: a matrix of zones, laid on stops.\n"
+        "The first line of the file says that it is a guess. Then the edges are told that would\n"
+        "have most customers for their places.",
+        reads="stops, edges, and lines: the pinned concept, else the one that was made, else the pool; the files that are named",
+        writes="basis/OD.giv; demand that is no guess only with --replace",
+        words=(
+            Word("what", "gravity, counts or matrix"),
+            FOLDER,
+            Word(
+                "--customers", "how many there are in all", kind="whole", least=1, greatest=10**9
+            ),
+            Word(
+                "--slice",
+                "which percent of them travel in one period, as 8 for a busy hour (100)",
+                kind="whole",
+                least=1,
+                greatest=100,
+            ),
+            Word("--people", "gravity: a file of rows `stop; people`", kind="file"),
+            Word("--counts", "counts: a file of rows `stop; boardings; alightings`", kind="file"),
+            Word("--matrix", "matrix: a file of rows `from-zone; to-zone; customers`", kind="file"),
+            Word("--zones", "matrix: a file of rows `zone; stop; share`", kind="file"),
+            Word("--replace", "write over demand that is no guess", kind="switch"),
+        ),
+        example="lintim-demand gravity .",
+        packages=(SCIPY,),
+        statuses=(
+            (0, "the guess was written"),
+            (1, "it was not written; the last line says why"),
+            (2, "the words of the command are wrong"),
+            (130, "it was stopped before anything was written"),
+        ),
+    ),
+    Command(
         name="lintim-why",
         module="commands.why",
         says="Says what is wrong with a dataset, where, and what would help.",
