@@ -83,7 +83,17 @@ class LineNames:
 def text_colour(colour: str) -> str:
     """Black or white as six digits, whichever is read better on a colour of six digits: by the
     contrast ratio of the Web Content Accessibility Guidelines 2.1."""
+    return max("000000", "FFFFFF", key=lambda text: contrast(colour, text))
+
+
+def contrast(first: str, second: str) -> float:
+    """The contrast ratio of two colours of six digits, from 1 to 21."""
+    low, high = sorted((_light(first), _light(second)))
+    return (high + 0.05) / (low + 0.05)
+
+
+def _light(colour: str) -> float:
+    """The relative luminance of a colour."""
     parts = [int(colour[at : at + 2], 16) / 255 for at in (0, 2, 4)]
-    linear = [it / 12.92 if it <= 0.04045 else ((it + 0.055) / 1.055) ** 2.4 for it in parts]
-    light = 0.2126 * linear[0] + 0.7152 * linear[1] + 0.0722 * linear[2]
-    return "000000" if (light + 0.05) / 0.05 >= 1.05 / (light + 0.05) else "FFFFFF"
+    linear = [it / 12.92 if it <= 0.04045 else float(((it + 0.055) / 1.055) ** 2.4) for it in parts]
+    return 0.2126 * linear[0] + 0.7152 * linear[1] + 0.0722 * linear[2]

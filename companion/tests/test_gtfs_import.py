@@ -328,3 +328,32 @@ def test_a_feed_that_is_too_large_in_each_way_is_refused(tmp_path: Path) -> None
     assert trips >= 2 * 180
     ran("import", feed, tmp_path / "city", "--date", ON, *words)
     make(tmp_path / "city")
+
+
+def test_texts_of_another_kind_are_refused_with_their_reason(tmp_path: Path) -> None:
+    feed, folder = tmp_path / "feed.zip", tmp_path / "city"
+    plain = made_feeds.plain()
+    for data, why in (
+        (plain["stops.txt"].decode().encode("utf-16"), "stops.txt is UTF-16 or no text"),
+        (plain["stops.txt"].replace(b",", b";"), "stops.txt has semicolons between its cells"),
+        (plain["stops.txt"].replace(b",", b"\t"), "stops.txt has tabs between its cells"),
+    ):
+        write(feed, plain | {"stops.txt": data})
+        status, _, fault = run("import", feed, folder, "--date", ON)
+        assert status == 1 and why in fault
+        assert any(why.partition(" ")[2] in line for line in run("check", feed)[1])
+
+
+def test_rows_with_too_many_cells_are_told(tmp_path: Path) -> None:
+    plain = made_feeds.plain()
+    rows = plain["stops.txt"].split(b"\r\n")
+    rows[2] += b",1"
+    _, said = imported(plain | {"stops.txt": b"\r\n".join(rows)}, tmp_path / "city")
+    assert "stops.txt: 1 rows with more cells than the header, the first is row 3" in said
+
+
+def test_stretched_drives_are_not_as_in_the_feed(tmp_path: Path) -> None:
+    _, said = imported(made_feeds.seconds(), tmp_path / "city")
+    assert (
+        "0 of 2 lines are periodic and as in the feed, 2 more but for drives of less than" in said
+    )

@@ -157,6 +157,9 @@ def _tell(plan: Plan, rides: Rides, feed: Feed, lengths: str, talk: Talk) -> Non
         talk.say(f"gtfs: the way back is not in the feed for {len(alone)} lines: {shown}{more}")
     if rides.changed:
         talk.say(f"gtfs: changed: {_counted(rides.changed)}")
+    for file, (often, first) in sorted(feed.uneven.items()):
+        rows = f"{often} rows with more cells than the header, the first is row {first}"
+        talk.say(f"gtfs: {file}: {rows}; commas inside of numbers or names want quotes")
     if feed.not_utf8:
         talk.say(f"gtfs: read as Latin-1 where it is no UTF-8: {', '.join(sorted(feed.not_utf8))}")
     others = [name for name, it in plan.timed.items() if it.why_not]
