@@ -2,7 +2,7 @@
 branches, stations with platforms and pairs of stops under one name. The same number of stations and
 the same seed give the same bytes.
 
-    python3 -P companion/tests/real_city.py FEED.zip [STATIONS [SEED]]
+    (cd companion/tests && PYTHONPATH=. /usr/bin/python3 -P real_city.py FEED.zip [STATIONS [SEED]])
 """
 
 import random
