@@ -43,6 +43,14 @@ Money = Annotated[int, Fixed(0, 10**12, "units of money")]
 EventKind = Annotated[str, Word(("departure", "arrival"))]
 Direction = Annotated[str, Word((">", "<"))]
 Name = Annotated[str, Text()]
+# Types of routes 0 to 7, 11 and 12 of the GTFS Schedule reference; extended ones are numbers.
+MODE_OF_TYPE = dict(
+    zip(
+        (0, 1, 2, 3, 4, 5, 6, 7, 11, 12),
+        "tram metro rail bus ferry cable-tram gondola funicular trolleybus monorail".split(),
+    )
+)
+MODES = tuple(MODE_OF_TYPE.values())
 
 
 class Stop(NamedTuple):
@@ -254,6 +262,18 @@ class WaitRow(NamedTuple):
     value: Annotated[int, Whole(0, 10**18, "minutes"), "the cost, else 0"]
 
 
+class LineName(NamedTuple):
+    """What a line is called; read by the companion alone."""
+
+    line_id: Annotated[LineId, "the line"]
+    short_name: Annotated[Name, "what stands on its vehicles, as `12` or `S3`"]
+    long_name: Annotated[Name, "its long name, or nothing"]
+    colour: Annotated[Name, "six hexadecimal digits for red, green and blue, or nothing"]
+    mode: Annotated[int | str, WholeOrWord(Whole(0, 1_799), MODES), "what drives it"]
+    agency: Annotated[Name, "whose line it is, or nothing"]
+    time_zone: Annotated[Name, "the time zone of its times, as `Europe/Berlin`, or nothing"]
+
+
 class JourneyRow(NamedTuple):
     """An event of a journey, or one that can be reached before it ends."""
 
@@ -291,6 +311,7 @@ PINNED_TIMETABLE = File("pinned/Timetable-periodic.tim", PeriodicTime)
 PINNED_SCHEDULE = File("pinned/Vehicle_Schedules.vs", ScheduleRow)
 PINNED_POTENTIALS = File("pinned/Vehicle_Schedules.cert", Potential)
 WAITS = File("waiting/Waits.cert", WaitRow)
+LINE_NAMES = File("import/Line-Name.giv", LineName)
 
 JOURNEY = File("", JourneyRow)  # what `lintim journey` prints, which is no file
 FILES: tuple[File[Any], ...] = tuple(

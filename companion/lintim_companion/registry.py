@@ -168,7 +168,8 @@ COMMANDS = (
         "lines, loads and, where lines are periodic, their timetable.\n"
         "lintim-gtfs check FEED.zip tells which rules of the GTFS Schedule reference are broken.",
         reads="the day that lintim make planned, or a feed",
-        writes="the feed that is named, or a dataset in a new folder with import/ids.csv",
+        writes="the feed that is named, or a dataset in a new folder with import/ids.csv and"
+        " import/Line-Name.giv",
         words=(
             Word("what", "export, import or check"),
             Word("paths", "the folder and the feed, from where to where", kind="file", many=True),
@@ -187,10 +188,26 @@ COMMANDS = (
             ),
             Word(
                 "--route-type",
-                "import: take routes of this type alone; export: the type of all routes (3, bus)",
+                "import: take routes of this type alone; export: the type of all routes (as the table"
+                " of names tells, else 3, bus)",
                 kind="whole",
                 greatest=1799,
             ),
+            Word(
+                "--share",
+                "import: a way with so many percent of the trips of its route is a line (5)",
+                kind="whole",
+                least=1,
+                greatest=100,
+            ),
+            Word(
+                "--routes",
+                "import: take so many routes, grown from the busiest station",
+                kind="whole",
+                least=1,
+                greatest=100_000,
+            ),
+            Word("--fit", "import: take the first of the parts that fit", kind="switch"),
             Word("--area", "import: take the stops in the box SOUTH,WEST,NORTH,EAST of degrees"),
             Word(
                 "--seconds",
@@ -273,6 +290,45 @@ COMMANDS = (
         packages=(PLOTLY,),
         statuses=((0, "the page was written"), (1, "no page was written; the last line says why"))
         + STATUSES[2:],
+    ),
+    Command(
+        name="lintim-demand",
+        module="commands.demand",
+        says="Guesses how many customers go from stop to stop, and says how far that is from the supply.",
+        about="lintim-demand gravity FOLDER: by departures, or by people round stops (--people).\n"
+        "lintim-demand counts FOLDER --counts FILE: fitted to boardings and alightings by stop.\n"
+        "lintim-demand matrix FOLDER --matrix FILE --zones FILE: a matrix of zones, laid on stops.\n"
+        "The first line of the file says that it is a guess. Then the edges are told that would\n"
+        "have most customers for their places.",
+        reads="stops, edges, and lines: the pinned concept, else the one that was made, else the pool; the files that are named",
+        writes="basis/OD.giv; demand that is no guess only with --replace",
+        words=(
+            Word("what", "gravity, counts or matrix"),
+            FOLDER,
+            Word(
+                "--customers", "how many there are in all", kind="whole", least=1, greatest=10**9
+            ),
+            Word(
+                "--slice",
+                "which percent of them travel in one period, as 8 for a busy hour (100)",
+                kind="whole",
+                least=1,
+                greatest=100,
+            ),
+            Word("--people", "gravity: a file of rows `stop; people`", kind="file"),
+            Word("--counts", "counts: a file of rows `stop; boardings; alightings`", kind="file"),
+            Word("--matrix", "matrix: a file of rows `from-zone; to-zone; customers`", kind="file"),
+            Word("--zones", "matrix: a file of rows `zone; stop; share`", kind="file"),
+            Word("--replace", "write over demand that is no guess", kind="switch"),
+        ),
+        example="lintim-demand gravity .",
+        packages=(SCIPY,),
+        statuses=(
+            (0, "the guess was written"),
+            (1, "it was not written; the last line says why"),
+            (2, "the words of the command are wrong"),
+            (130, "it was stopped before anything was written"),
+        ),
     ),
     Command(
         name="lintim-why",

@@ -49,6 +49,11 @@ WORDS = {
         "export {} {out}/f.zip --disposed --place 53,10", "check {feed} --seconds 1 --memory 100",
         "import {feed} {} --date 20260105", "export {feed} {out}/x", "check {}",
     ),
+    "lintim-demand": (
+        "gravity {}", "gravity {} --people {}/basis/Load.giv", "counts {} --counts {}/basis/OD.giv",
+        "gravity {} --replace --customers 500 --slice 8", "matrix {} --matrix {}/basis/OD.giv",
+        "matrix {} --matrix {}/basis/OD.giv --zones {}/basis/OD.giv --replace", "counts {}",
+    ),
     "lintim-view": (
         "{} --out {out}/page.html", "{} --out {out}/page.html --svg {out}/svg",
         "{} {} --out {out}/page.html", "{} --out {out}/page.html --png {out}/png --beside",

@@ -25,7 +25,7 @@ def test_50_000_stop_times_are_checked(tmp_path: Path) -> None:
     files = large_city.large()
     assert files["stop_times.txt"].count(b"\r\n") == 50_001
     status, lines, _ = run("check", write(tmp_path / "feed.zip", files))
-    assert status == 0 and lines[-1].startswith("gtfs: 0 errors, 0 warnings")
+    assert status == 0 and lines[-1].startswith("gtfs: 0 errors, 1 warnings")
 
 
 def set_cell(file: str, row: int, **cells: Any) -> Callable[[City], None]:
@@ -55,6 +55,10 @@ def without(file: str, *fields: str) -> Callable[[City], None]:
     return change
 
 
+WINDOW = {
+    "start_pickup_drop_off_window": "06:00:00",
+    "end_pickup_drop_off_window": "09:00:00",
+}
 FAULTS: tuple[tuple[Callable[[City], None], str], ...] = (
     (without("stops"), "error: stops.txt: the file is missing"),
     (without("agency"), "error: agency.txt: the file is missing"),
@@ -162,6 +166,54 @@ FAULTS: tuple[tuple[Callable[[City], None], str], ...] = (
         ),
         "pathway_mode is '8', wanted 1 to 7",
     ),
+    (
+        set_cell("routes", 0, route_short_name="1234567890123"),
+        "warning: routes.txt row 2: route_short_name has more than 12 letters",
+    ),
+    (
+        set_cell("routes", 0, route_long_name="10"),
+        "route_long_name is the same as route_short_name",
+    ),
+    (set_cell("routes", 1, route_short_name="10"), "row 3: the same names as in row 2"),
+    (
+        set_cell("routes", 0, route_color="FFFF00", route_text_color="FFFFFF"),
+        "warning: routes.txt row 2: route_text_color can hardly be read on route_color",
+    ),
+    (set_cell("stops", 0, stop_lat="52.0"), "warning: stop_times.txt row 3: "),
+    (
+        set_cell("stop_times", 1, start_pickup_drop_off_window="06:00:00"),
+        "error: stop_times.txt row 3: a window with one end",
+    ),
+    (set_cell("stop_times", 1, **WINDOW), "stop_times.txt row 3: a time and a window"),
+    (set_cell("stop_times", 1, **WINDOW, pickup_type=0), "row 3: pickup_type is that of a regular"),
+    (set_cell("stop_times", 1, location_id="x"), "row 3: both stop_id and location_id"),
+    (set_cell("stops", 1, stop_access=1), "row 3: stop_access of what is no platform of a station"),
+    (set_cell("trips", 0, cars_allowed=3), "cars_allowed is '3', wanted 0 to 2"),
+    (
+        add_row(
+            "pathways",
+            pathway_id="p",
+            from_stop_id="a",
+            to_stop_id="b",
+            pathway_mode=7,
+            is_bidirectional=1,
+        ),
+        "pathways.txt row 2: an exit gate that leads both ways",
+    ),
+    (
+        add_row(
+            "transfers",
+            from_stop_id="a",
+            to_stop_id="a",
+            from_trip_id="10-0-21600",
+            from_route_id="20",
+        ),
+        "transfers.txt row 2: from_trip_id is no trip of from_route_id",
+    ),
+    (
+        lambda city: city.stop("lonely", 5.0, 5.0),
+        "warning: stops.txt row 7: no trip calls at 'lonely'",
+    ),
     (add_row("nonsense", a=1), "warning: nonsense.txt: no file of the reference has this name"),
 )
 
@@ -174,6 +226,21 @@ def test_each_fault_is_found(place: int, tmp_path: Path) -> None:
     status, lines, _ = run("check", write(tmp_path / "feed.zip", city.files()))
     assert any(says in line for line in lines), lines
     assert status == int(any(line.startswith("error: ") for line in lines))
+
+
+def test_vehicles_on_demand_and_newer_fields_are_no_faults(tmp_path: Path) -> None:
+    made = made_feeds.small()
+    made.trip("flex", "10", "ab", 7 * 3600)
+    for row in made.rows["stop_times.txt"][-2:]:
+        row.update(WINDOW, arrival_time="", departure_time="", pickup_type=2, drop_off_type=2)
+    made.rows["trips.txt"][0].update(cars_allowed=1)
+    made.rows["routes.txt"][0].update(cemv_support=1)
+    made.rows["agency.txt"][0].update(cemv_support=2)
+    gate = {"pathway_mode": 1, "is_bidirectional": 1, "signposted_as": "Exit"}
+    made.add("pathways", pathway_id="p", from_stop_id="a", to_stop_id="b", **gate)
+    made.rows["pathways.txt"][0]["reversed_signposted_as"] = "Platforms"
+    lines = run("check", write(tmp_path / "feed.zip", made.files()))[1]
+    assert lines[-1].startswith("gtfs: 0 errors, 1 warnings"), lines
 
 
 def test_two_trips_of_a_block_at_one_time(tmp_path: Path) -> None:
@@ -189,6 +256,7 @@ def test_many_findings_of_one_rule_are_cut(tmp_path: Path) -> None:
     for row in city.rows["stop_times.txt"]:
         row["stop_id"] = "9"
     lines = run("check", write(tmp_path / "feed.zip", city.files()))[1]
+    lines = [line for line in lines if not line.startswith("warning: ")]
     assert len(lines) == 12 and "98 more: stop_id is not in stops.txt" in lines[10]
     assert lines[-1].startswith("gtfs: 108 errors")
 

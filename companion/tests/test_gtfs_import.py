@@ -229,8 +229,8 @@ def test_least_and_greatest_minutes_as_observed(tmp_path: Path) -> None:
 
 
 def test_what_is_left_out_is_counted(tmp_path: Path) -> None:
-    _, said = imported(made_feeds.short_turns(), tmp_path / "turns")
-    assert "left out: 6 trips by other ways than the most driven one" in said
+    _, said = imported(made_feeds.short_turns(), tmp_path / "turns", "--share", 20)
+    assert "left out: 6 trips by ways with less than 20 % of their route" in said
     _, said = imported(made_feeds.extended_types(), tmp_path / "tram", "--route-type", 0)
     assert "1 lines with 12 trips" in said and "60 trips of other types of routes" in said
     _, said = imported(made_feeds.plain(), tmp_path / "area", "--area", "49.995,7.99,50.005,8.1")
@@ -273,7 +273,7 @@ def test_where_not_all_can_be_written_nothing_stays(
 
     def full(place: Path, name: str, data: bytes) -> None:
         if name == IDS:
-            (place / "import").mkdir()
+            (place / "import").mkdir(exist_ok=True)
             raise Refused(f"{name} cannot be written: No space left on device")
         real(place, name, data)
 
@@ -284,17 +284,30 @@ def test_where_not_all_can_be_written_nothing_stays(
     assert folder.is_dir() and not [*folder.iterdir()]
 
 
-def test_50_000_stop_times_are_refused_with_advice_that_fits(tmp_path: Path) -> None:
+def words_that_fit(lines: list[str]) -> list[tuple[int, list[str]]]:
+    """The trips and the words of each row of the table of what fits."""
+    at = next(at for at, line in enumerate(lines) if line.startswith("gtfs: stations  lines"))
+    rows = [line.removeprefix("gtfs:").split() for line in lines[at + 1 :]]
+    return [(int(row[2]), row[5:]) for row in rows if row[0].isdigit()]
+
+
+def test_50_000_stop_times_are_refused_with_parts_that_fit(tmp_path: Path) -> None:
     feed = write(tmp_path / "feed.zip", large_city.large())
-    status, _, fault = run("import", feed, tmp_path / "city", "--date", ON)
+    status, lines, fault = run("import", feed, tmp_path / "city", "--date", ON)
     assert status == 1 and "periodic events (at most 4000)" in fault
-    advice = fault.split("what would fit: ")[1].split(" or ")
-    assert len(advice) == 2
-    for place, words in enumerate(advice):
-        fits = words.partition(" (")[0].split()
+    fits = words_that_fit(lines)
+    assert len(fits) > 1 and fits == sorted(fits, key=lambda it: -it[0])
+    for place, (trips, words) in enumerate(fits):
         folder = tmp_path / f"part{place}"
-        ran("import", feed, folder, "--date", ON, *fits)
+        said = "\n".join(ran("import", feed, folder, "--date", ON, *words))
+        assert f"lines with {trips} trips; " in said
         make(folder)
+    said = "\n".join(ran("import", feed, tmp_path / "fit", "--date", ON, "--fit"))
+    assert f"so this is taken: {' '.join(fits[0][1])}" in said
+    assert (
+        dataset.read(tmp_path / "fit")[formats.POOL]
+        == dataset.read(tmp_path / "part0")[formats.POOL]
+    )
 
 
 def test_a_feed_that_is_too_large_in_each_way_is_refused(tmp_path: Path) -> None:
@@ -307,10 +320,40 @@ def test_a_feed_that_is_too_large_in_each_way_is_refused(tmp_path: Path) -> None
         way = [str(5 * route + at) for at in range(6)]
         city.both_ways(f"r{route}", way, [6 * 3600])
     feed = write(tmp_path / "feed.zip", city.files())
-    status, _, fault = run("import", feed, tmp_path / "city", "--date", ON)
+    status, lines, fault = run("import", feed, tmp_path / "city", "--date", ON)
     assert status == 1
     for says in ("1101 stops (at most 1000)", "1100 edges (at most 1000)", "220 lines"):
         assert says in fault
-    fits = fault.split("what would fit: ")[1].split(" (")[0].split()
-    ran("import", feed, tmp_path / "city", "--date", ON, *fits)
+    trips, words = words_that_fit(lines)[0]
+    assert trips >= 2 * 180
+    ran("import", feed, tmp_path / "city", "--date", ON, *words)
     make(tmp_path / "city")
+
+
+def test_texts_of_another_kind_are_refused_with_their_reason(tmp_path: Path) -> None:
+    feed, folder = tmp_path / "feed.zip", tmp_path / "city"
+    plain = made_feeds.plain()
+    for data, why in (
+        (plain["stops.txt"].decode().encode("utf-16"), "stops.txt is UTF-16 or no text"),
+        (plain["stops.txt"].replace(b",", b";"), "stops.txt has semicolons between its cells"),
+        (plain["stops.txt"].replace(b",", b"\t"), "stops.txt has tabs between its cells"),
+    ):
+        write(feed, plain | {"stops.txt": data})
+        status, _, fault = run("import", feed, folder, "--date", ON)
+        assert status == 1 and why in fault
+        assert any(why.partition(" ")[2] in line for line in run("check", feed)[1])
+
+
+def test_rows_with_too_many_cells_are_told(tmp_path: Path) -> None:
+    plain = made_feeds.plain()
+    rows = plain["stops.txt"].split(b"\r\n")
+    rows[2] += b",1"
+    _, said = imported(plain | {"stops.txt": b"\r\n".join(rows)}, tmp_path / "city")
+    assert "stops.txt: 1 rows with more cells than the header, the first is row 3" in said
+
+
+def test_stretched_drives_are_not_as_in_the_feed(tmp_path: Path) -> None:
+    _, said = imported(made_feeds.seconds(), tmp_path / "city")
+    assert (
+        "0 of 2 lines are periodic and as in the feed, 2 more but for drives of less than" in said
+    )

@@ -98,7 +98,7 @@ def test_rows() -> None:
     for name, row in rows.items():
         file = file_named(name)
         assert file is None or len(row.split("; ")) == len(columns(file))
-        if not name.startswith(("pinned/", "waiting/")):
+        if not name.startswith(("pinned/", "waiting/", "import/")):
             found = (program.CHECKOUT / "examples").glob(f"*/{name}")
             assert any(row in path.read_text().splitlines() for path in found), name
 

@@ -29,6 +29,7 @@ RUNS = (
     "lintim-gtfs check feed.zip",
     "lintim-gtfs import feed.zip made --date 20260105",
     "lintim-convert out . ../other",
+    "lintim-demand gravity . --replace",
     "lintim-why .",
 )
 WRITTEN = ("svg", "png", "page.html", "feed.zip", "made", "pinned", "waiting")

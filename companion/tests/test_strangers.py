@@ -42,6 +42,7 @@ EACH = (
     "lintim-schedule {}",
     "lintim-waits {} 10 --seconds 5",
     "lintim-gtfs export {} {}/feed.zip --place 53,10",
+    "lintim-demand gravity {} --replace",
     "lintim-view {} --out {}/page.html",
     "lintim-why {}",
 )

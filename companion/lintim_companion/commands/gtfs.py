@@ -16,14 +16,25 @@ USES = {
     "export": ("FOLDER FEED.zip", ("place", "scale", "disposed", "date", "route_type")),
     "import": (
         "FEED.zip FOLDER",
-        ("date", "from", "to", "period", "route_type", "area", "seconds", "memory"),
+        (
+            "date",
+            "from",
+            "to",
+            "period",
+            "route_type",
+            "area",
+            "share",
+            "routes",
+            "fit",
+            "seconds",
+            "memory",
+        ),
     ),
     "check": ("FEED.zip", ("seconds", "memory")),
 }
 OPTIONS = tuple(dict.fromkeys(it for _, options in USES.values() for it in options))
 SECONDS, MEGABYTES = 60, 1000
 DATE = "20260105"
-BUS = 3
 
 
 def run(words: Namespace, talk: Talk) -> int:
@@ -66,8 +77,7 @@ def _export(words: Namespace, talk: Talk) -> int:
     has_vehicles = program.states(folder).get("vehicles") == "kept"
     stops, edges = list(data[formats.STOPS]), list(data[formats.EDGES])
     at = places.put(stops, place, scale) if place else places.degrees(stops, edges)
-    kind = BUS if words.route_type is None else words.route_type
-    wanted = export.Wanted(words.disposed, on, kind, has_vehicles)
+    wanted = export.Wanted(words.disposed, on, words.route_type, has_vehicles)
     made = export.feed_of(data, at, wanted)
     packed = export.packed(made.files)
     faults = [it for it in check.checked(Feed(path, packed)) if it.is_error]

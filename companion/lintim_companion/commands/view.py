@@ -70,8 +70,8 @@ def ids_of(name: str, text: str) -> tuple[int, ...]:
 
 def drawn(
     datasets: list[Dataset], choice: Choice, talk: Talk
-) -> tuple[list[Section], list[Side], list[Section], dict[int, str]]:
-    """What differs, the sections of each dataset, the numbers, and the colours of lines."""
+) -> tuple[list[Section], list[Side], list[Section], dict[int, tuple[str, str]]]:
+    """What differs, the sections of each dataset, the numbers, and the names and colours of lines."""
     every = sorted({line for data in datasets for line in lines_of(data)})
     for line in sorted(choice.lines):
         if line not in every:
@@ -94,8 +94,9 @@ def drawn(
             told(section, f"{side.name}: " if two else "", talk)
     for section in [*apart, numbers]:
         told(section, "", talk)
-    colours = {line: plans[0].colour(line) for line in every if choice.has_line(line)}
-    return apart, sides, [numbers], colours
+    shown = [line for line in every if choice.has_line(line)]
+    of = plans[0]
+    return apart, sides, [numbers], {line: (of.called(line), of.colour(line)) for line in shown}
 
 
 def told(section: Section, of: str, talk: Talk) -> None:

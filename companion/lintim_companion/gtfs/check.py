@@ -4,7 +4,7 @@ the rules under conditions of `conditions`."""
 from collections import Counter
 
 from ..faults import Refused
-from . import conditions
+from . import conditions, practice
 from .cells import fault_of
 from .feed import Feed
 from .findings import Finding
@@ -39,14 +39,15 @@ def checked(feed: Feed) -> list[Finding]:
     """All that is found in a feed, by files in the order of the reference and by rows."""
     checker = Checker(feed)
     _see_files(checker)
-    extra = conditions.Conditions(checker)
+    extra, advice = conditions.Conditions(checker), practice.Practice(checker)
     for name, sheet in SHEETS.items():
         if name in feed:
             try:
-                _see_sheet(checker, sheet, extra)
+                _see_sheet(checker, sheet, (extra, advice))
             except Refused as why:
                 checker.error(name, 0, str(why).removeprefix(f"{name} "), "cannot be read")
     extra.see_whole()
+    advice.see_whole(extra.calls)
     for name in sorted(feed.not_utf8):
         checker.error(name, 0, "it is not UTF-8")
     return checker.findings
@@ -66,7 +67,10 @@ def _see_files(checker: Checker) -> None:
         checker.warn(name, 0, "no file of the reference has this name")
 
 
-def _see_sheet(checker: Checker, sheet: Sheet, extra: "conditions.Conditions") -> None:
+Seers = tuple["conditions.Conditions", "practice.Practice"]
+
+
+def _see_sheet(checker: Checker, sheet: Sheet, seers: Seers) -> None:
     """One file: its header, and then each row."""
     lines = checker.feed.lines(sheet.name)
     number, header = next(lines, (0, []))
@@ -94,7 +98,8 @@ def _see_sheet(checker: Checker, sheet: Sheet, extra: "conditions.Conditions") -
             says = f"{', '.join(key_fields)}: {', '.join(key)} comes twice"
             checker.error(sheet.name, number, says, "a key that comes twice")
         keys.add(key)
-        extra.see_row(sheet.name, number, row)
+        seers[0].see_row(sheet.name, number, row)
+        seers[1].see_row(sheet.name, number, row)
     checker.rows[sheet.name] = len(keys)
     if not keys:
         checker.warn(sheet.name, 0, "it has no rows")

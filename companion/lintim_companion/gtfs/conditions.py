@@ -19,6 +19,8 @@ class _Call(NamedTuple):
     arrival: int | None
     departure: int | None
     distance: float | None
+    stop: str
+    has_window: bool
 
 
 class _Stop(NamedTuple):
@@ -34,7 +36,7 @@ class Conditions:
         self.checker = checker
         self.agencies: list[tuple[int, str, str]] = []
         self.stops: dict[str, _Stop] = {}
-        self.trips: dict[str, tuple[int, str, str]] = {}
+        self.trips: dict[str, tuple[int, str, str, str]] = {}
         self.calls: dict[str, list[_Call]] = {}
         self.points: dict[str, list[tuple[int, int, float | None]]] = {}
         self.repeated: dict[str, list[tuple[int, int, int]]] = {}
@@ -67,6 +69,8 @@ class Conditions:
             self._error("stops", row, f"parent_station is empty at location_type {kind}")
         if kind == 1 and parent:
             self._error("stops", row, "a station has a parent_station")
+        if cells.get("stop_access") and (kind != 0 or not parent):
+            self._error("stops", row, "stop_access of what is no platform of a station")
         at = [number_of(cells.get(name, "")) for name in ("stop_lat", "stop_lon")]
         if None not in at and all(abs(it or 0) < 0.01 for it in at):
             self._warn("stops", row, "it lies at 0, 0 in the sea")
@@ -97,7 +101,8 @@ class Conditions:
 
     def _see_trips(self, row: int, cells: Cells) -> None:
         block, service = cells.get("block_id", ""), cells.get("service_id", "")
-        self.trips[cells.get("trip_id", "")] = (row, block, service)
+        trip, route = cells.get("trip_id", ""), cells.get("route_id", "")
+        self.trips[trip] = (row, block, service, route)
 
     def _see_shapes(self, row: int, cells: Cells) -> None:
         order = whole_of(cells.get("shape_pt_sequence", ""))
@@ -108,8 +113,7 @@ class Conditions:
     def _see_stop_times(self, row: int, cells: Cells) -> None:
         order = whole_of(cells.get("stop_sequence", ""))
         stop = cells.get("stop_id", "")
-        if not stop and not (cells.get("location_id") or cells.get("location_group_id")):
-            self._error("stop_times", row, "stop_id is empty", "stop_id is empty")
+        has_window = self._see_window(row, cells)
         there = self.stops.get(stop)
         if there is not None and there.kind != 0:
             self._error("stop_times", row, f"stop {stop!r} is no place where vehicles stop")
@@ -118,8 +122,36 @@ class Conditions:
             self._error("stop_times", row, "timepoint is 1, and a time is empty")
         if order is not None:
             walked = number_of(cells.get("shape_dist_traveled", ""))
-            call = _Call(order, row, times[0], times[1], walked)
+            call = _Call(order, row, times[0], times[1], walked, stop, has_window)
             self.calls.setdefault(cells.get("trip_id", ""), []).append(call)
+
+    def _see_window(self, row: int, cells: Cells) -> bool:
+        """Sees where and when a vehicle comes on demand; whether it does so."""
+        places = [it for it in ("stop_id", "location_id", "location_group_id") if cells.get(it)]
+        if not places:
+            self._error("stop_times", row, "stop_id is empty", "stop_id is empty")
+        if len(places) > 1:
+            self._error("stop_times", row, f"both {places[0]} and {places[1]}")
+        ends = [cells.get(f"{end}_pickup_drop_off_window", "") for end in ("start", "end")]
+        if not any(ends):
+            if places and places[0] != "stop_id":
+                self._error("stop_times", row, "an area or a group of stops without a window")
+            return False
+        begin, end = map(seconds_of, ends)
+        if not all(ends):
+            self._error("stop_times", row, "a window with one end")
+        elif begin is not None and end is not None and end <= begin:
+            self._error("stop_times", row, "a window ends before it begins")
+        if cells.get("arrival_time") or cells.get("departure_time"):
+            self._error("stop_times", row, "a time and a window")
+        for name, kinds in (("pickup", ("", "0", "3")), ("drop_off", ("", "0"))):
+            if cells.get(f"{name}_type", "") in kinds:
+                self._error("stop_times", row, f"{name}_type is that of a regular call in a window")
+        return True
+
+    def _see_pathways(self, row: int, cells: Cells) -> None:
+        if cells.get("pathway_mode") == "7" and cells.get("is_bidirectional") == "1":
+            self._error("pathways", row, "an exit gate that leads both ways")
 
     def _see_frequencies(self, row: int, cells: Cells) -> None:
         begin, end = (seconds_of(cells.get(name, "")) for name in ("start_time", "end_time"))
@@ -130,6 +162,10 @@ class Conditions:
 
     def _see_transfers(self, row: int, cells: Cells) -> None:
         kind = cells.get("transfer_type", "") or "0"
+        for end in ("from", "to"):
+            trip, route = cells.get(f"{end}_trip_id", ""), cells.get(f"{end}_route_id", "")
+            if route and trip in self.trips and self.trips[trip][3] != route:
+                self._error("transfers", row, f"{end}_trip_id is no trip of {end}_route_id")
         of_trips = kind in ("4", "5")
         for end in ("from", "to"):
             if of_trips and not cells.get(f"{end}_trip_id"):
@@ -162,7 +198,7 @@ class Conditions:
         for trip, calls in self.calls.items():
             self._whole_trip(trip, sorted(calls))
         if "stop_times.txt" in self.checker.feed:
-            for trip, (row, _, _) in self.trips.items():
+            for trip, (row, *_) in self.trips.items():
                 if trip not in self.calls:
                     self._warn("trips", row, f"trip {trip!r} calls nowhere", "trip without calls")
         for shape, points in self.points.items():
@@ -199,7 +235,7 @@ class Conditions:
         if len(calls) < 2:
             self._warn("stop_times", calls[0].row, f"trip {trip!r} calls once", "a single call")
         for call in (calls[0], calls[-1]):
-            if call.arrival is None or call.departure is None:
+            if not call.has_window and None in (call.arrival, call.departure):
                 self._error("stop_times", call.row, "a time is empty at an end of the trip")
         now, walked = -1, -1.0
         for call in calls:
@@ -227,7 +263,7 @@ class Conditions:
     def _whole_blocks(self) -> None:
         """No two trips of a block and a service at one time."""
         blocks: dict[tuple[str, str], list[tuple[int, int, int]]] = {}
-        for trip, (row, block, service) in self.trips.items():
+        for trip, (row, block, service, _) in self.trips.items():
             calls = sorted(self.calls.get(trip, ()))
             times = [it for call in calls for it in call[2:4] if it is not None]
             if block and times and trip not in self.repeated:

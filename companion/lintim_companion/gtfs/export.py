@@ -4,21 +4,20 @@ import csv
 import io
 import zipfile
 from collections import Counter
-from collections.abc import Iterable
 from datetime import date
-from typing import Any, NamedTuple
+from typing import NamedTuple
 
 from .. import formats
 from ..dataset import Dataset
 from ..faults import Refused
+from ..line_names import LineNames
 from ..rows import number_text
 from .cells import time_cell
 from .day import Day, DayTrip, read_day
 from .places import Place
+from .routes import PUBLISHER, Agencies, Rows, routes_of
 
-PUBLISHER = "lintim"
 MAX_MINUTE = 999 * 60 + 59  # a time has at most three digits for its hours
-Rows = Iterable[tuple[Any, ...]]
 FIRST_OF_ALL_ZIP_TIMES = (1980, 1, 1, 0, 0, 0)
 
 
@@ -27,7 +26,7 @@ class Wanted(NamedTuple):
 
     is_disposed: bool
     on: date
-    route_type: int
+    route_type: int | None  # of all lines; none for what the table of names tells, else a bus
     has_vehicles: bool
 
 
@@ -54,10 +53,14 @@ def feed_of(data: Dataset, places: dict[int, Place], wanted: Wanted) -> Made:
     one_by_one = wanted.is_disposed or is_short(data, day)
     naming = Naming(stops, day, one_by_one)
     names = naming.names
+    agencies = Agencies(LineNames(data))
+    routes = list(
+        routes_of(day, names, agencies, wanted.route_type)
+    )  # before the agencies are told
     tables = {
-        "agency.txt": _agency(),
+        "agency.txt": agencies.rows(),
         "stops.txt": _stops(stops, naming, places),
-        "routes.txt": _routes(day, names, wanted.route_type),
+        "routes.txt": routes,
         "calendar_dates.txt": _dates(wanted.on),
         "shapes.txt": _shapes(day, places),
         "trips.txt": _trips(day, names),
@@ -148,11 +151,6 @@ def _text(rows: Rows) -> bytes:
     return out.getvalue().encode()
 
 
-def _agency() -> Rows:
-    yield "agency_id", "agency_name", "agency_url", "agency_timezone"
-    yield "1", PUBLISHER, "http://example.org", "UTC"
-
-
 def _stops(stops: list[formats.Stop], naming: Naming, places: dict[int, Place]) -> Rows:
     fields = "stop_id stop_code stop_name stop_lat stop_lon location_type parent_station"
     yield tuple(fields.split())
@@ -168,16 +166,6 @@ def _stops(stops: list[formats.Stop], naming: Naming, places: dict[int, Place]) 
 def _name(stop: formats.Stop) -> str:
     """The name of a stop, without tabs; its short name or its id where it has none."""
     return " ".join((stop.long_name.strip() or stop.short_name).split()) or str(stop.stop_id)
-
-
-def _routes(day: Day, names: dict[int, str], kind: int) -> Rows:
-    yield "route_id", "agency_id", "route_short_name", "route_long_name", "route_type"
-    first: dict[int, DayTrip] = {}
-    for trip in day.trips:
-        first.setdefault(trip.line, trip)
-    for line, trip in sorted(first.items()):
-        ends = [names[trip.calls[at].stop] for at in (0, -1)]
-        yield line, "1", line, " - ".join(ends if trip.is_forward else ends[::-1]), kind
 
 
 def _dates(on: date) -> Rows:

@@ -57,6 +57,7 @@ class Feed:
     def __init__(self, path: Path, data: bytes | None = None) -> None:
         self.path = path
         self.not_utf8: set[str] = set()
+        self.uneven: dict[str, tuple[int, int]] = {}  # rows with too many cells, and the first one
         try:
             self.zip = zipfile.ZipFile(path if data is None else io.BytesIO(data))
             names = [it.filename for it in self.zip.infolist() if not it.is_dir()]
@@ -83,7 +84,7 @@ class Feed:
             _see_size(name, there, self.size)
             with self.zip.open(there) as data:
                 text = io.TextIOWrapper(data, "utf-8-sig", errors=LATIN, newline="")
-                yield from _rows(text)
+                yield from _seen(name, _rows(text))
         except csv.Error as why:
             raise Refused(f"{name} cannot be read: {why}") from None
         except FAULTS as why:
@@ -106,8 +107,12 @@ class Feed:
         lines = self.lines(name)
         header = [cell.strip() for cell in next(lines, (0, [""]))[1]]
         places = [header.index(field) if field in header else -1 for field in fields]
+        width = len(header)
         for number, cells in lines:
             count = len(cells)
+            if count > width:
+                often, first = self.uneven.get(name, (0, number))
+                self.uneven[name] = often + 1, first
             yield number, [cells[at].strip() if 0 <= at < count else "" for at in places]
 
     def see(self, name: str, *fields: str) -> None:
@@ -148,6 +153,20 @@ def _rows(text: io.TextIOWrapper) -> Iterator[Row]:
         if any(cells):
             yield number, cells
         number = reader.line_num + 1
+
+
+def _seen(name: str, rows: Iterator[Row]) -> Iterator[Row]:
+    """Rows, where the first one does not look like a text of another kind."""
+    for place, (number, cells) in enumerate(rows):
+        if place == 0:
+            if any("\0" in cell for cell in cells):
+                raise Refused(f"{name} is UTF-16 or no text; the reference wants UTF-8")
+            for sign, what in ((";", "semicolons"), ("\t", "tabs")):
+                if len(cells) == 1 and sign in cells[0]:
+                    raise Refused(
+                        f"{name} has {what} between its cells; the reference wants commas"
+                    )
+        yield number, cells
 
 
 def _see_size(name: str, there: zipfile.ZipInfo, whole: int) -> None:

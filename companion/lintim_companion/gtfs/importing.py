@@ -16,12 +16,12 @@ from ..faults import Refused, WrongWords
 from ..manners import Talk
 from ..tables import written
 from . import plan_rows
-from .advice import Choice, advice, better_period
+from .advice import SHARE, Choice, better_period, fits, planned, told
 from .cells import whole_of
 from .feed import Feed
 from .lengths import Lengths, lengths_of
-from .lines import lines_of, parts_of
-from .plan import Plan, plan_of
+from .lines import Part
+from .plan import Plan
 from .rides import LATEST_START, Rides
 from .sizes import sizes, too_large
 from .stations import Stations
@@ -52,17 +52,19 @@ def import_feed(words: Namespace, talk: Talk) -> int:
         feed.see(name, *fields)
     rides = Rides(feed, Stations(feed), on, words.route_type)
     left = rides.left
-    parts = parts_of(rides.all, rides.stations, choice.window, choice.area, left)
-    if not parts:
+    before = Counter(left)
+    made = planned(rides, choice, left)
+    if made is None:
         raise Refused(f"no trip is left: {_counted(left) or 'there are none'}{_first(rides)}")
-    lines = lines_of(parts, rides.routes, left)
-    plan = plan_of(parts, lines, rides, choice.period)
-    if large := too_large(plan):
-        words_that_fit = advice(rides, choice)
-        says = " or ".join(words_that_fit) or "a smaller --area, one --route-type or less time"
-        raise Refused(f"more than lintim takes: {', '.join(large)}; what would fit: {says}")
+    if large := too_large(made[0]):
+        narrower = _that_fits(rides, choice, large, words.fit, talk)
+        left.clear()
+        left.update(before)
+        made = planned(rides, narrower, left)
+        assert made is not None
+    plan, parts = made
     lengths = lengths_of(parts, rides.stations, feed)
-    texts = _texts(plan, lengths, _least_change(feed))
+    texts = _texts(plan, rides, lengths, _least_change(feed))
     texts[IDS] = _ids(plan, rides)
     with files.undisturbed():
         files.write_all(folder, texts)
@@ -74,7 +76,23 @@ def import_feed(words: Namespace, talk: Talk) -> int:
     return 0
 
 
-def _texts(plan: Plan, lengths: Lengths, change: int) -> dict[str, bytes]:
+def _that_fits(
+    rides: Rides, choice: Choice, large: list[str], is_asked: bool, talk: Talk
+) -> Choice:
+    """The first part that fits, where it is asked for; what would fit is told."""
+    says = f"more than lintim takes: {', '.join(large)}"
+    talk.progress.tell("looking for what would fit")
+    if not (found := fits(rides, choice)):
+        raise Refused(f"{says}; a smaller --area, one --route-type or less time may fit")
+    for line in told(found, choice):
+        talk.say(f"gtfs: {line}")
+    if not is_asked:
+        raise Refused(f"{says}; --fit takes the first of what would fit")
+    talk.say(f"gtfs: {says}; so this is taken: {found[0].choice.words(choice)}")
+    return found[0].choice
+
+
+def _texts(plan: Plan, rides: Rides, lengths: Lengths, change: int) -> dict[str, bytes]:
     """The files of the dataset."""
     rows: list[tuple[File[Any], list[Any]]] = [
         (formats.STOPS, plan_rows.stop_rows(plan)),
@@ -82,6 +100,7 @@ def _texts(plan: Plan, lengths: Lengths, change: int) -> dict[str, bytes]:
         (formats.POOL, plan_rows.pool_rows(plan)),
         (formats.GIVEN_LOADS, plan_rows.load_rows(plan)),
         (formats.PINNED_CONCEPT, plan_rows.concept_rows(plan)),
+        (formats.LINE_NAMES, plan_rows.name_rows(plan, rides.routes)),
     ]
     if plan.is_timed:
         rows.append((formats.PINNED_TIMETABLE, plan_rows.timetable_rows(plan)))
@@ -98,7 +117,8 @@ def _choice(words: Namespace) -> Choice:
     if last < first:
         raise WrongWords("--to is before --from")
     area = box_word(words.area) if words.area is not None else None
-    return Choice((first, last), words.period or PERIOD, area)
+    share = SHARE if words.share is None else words.share / 100
+    return Choice((first, last), words.period or PERIOD, area, None, share, words.routes)
 
 
 def _least_change(feed: Feed) -> int:
@@ -131,13 +151,23 @@ def _tell(plan: Plan, rides: Rides, feed: Feed, lengths: str, talk: Talk) -> Non
     unused = len(rides.stations.all) - len(plan.stops)
     if unused:
         talk.say(f"gtfs: left out: {unused} stations at which no such trip calls")
+    if alone := [it.route for it in plan.lines.values() if not (it.forward and it.backward)]:
+        shown = ", ".join(plan_rows.plain(rides.routes[it].name) for it in alone[:SHOWN_LINES])
+        more = f" and {len(alone) - SHOWN_LINES} more" if len(alone) > SHOWN_LINES else ""
+        talk.say(f"gtfs: the way back is not in the feed for {len(alone)} lines: {shown}{more}")
     if rides.changed:
         talk.say(f"gtfs: changed: {_counted(rides.changed)}")
+    for file, (often, first) in sorted(feed.uneven.items()):
+        rows = f"{often} rows with more cells than the header, the first is row {first}"
+        talk.say(f"gtfs: {file}: {rows}; commas inside of numbers or names want quotes")
     if feed.not_utf8:
         talk.say(f"gtfs: read as Latin-1 where it is no UTF-8: {', '.join(sorted(feed.not_utf8))}")
     others = [name for name, it in plan.timed.items() if it.why_not]
     good = len(plan.timed) - len(others)
-    of = f"{good} of {len(plan.timed)} lines are periodic and as in the feed"
+    stretched = sum(plan.lines[it].is_stretched for it in {*plan.timed} - {*others})
+    of = f"{good - stretched} of {len(plan.timed)} lines are periodic and as in the feed"
+    if stretched:
+        of += f", {stretched} more but for drives of less than a minute, which take one"
     kept = f"pinned as {formats.PINNED_TIMETABLE.name}" if good else "lintim makes a timetable"
     talk.say(f"gtfs: timetable: {of}; {kept}")
     if others and (day := sizes(plan)["trips"]) != trips:

@@ -11,7 +11,7 @@ from typing import NamedTuple
 
 from ..cells import MILLION
 from .cells import degrees_of, whole_of
-from .export import PUBLISHER
+from .routes import PUBLISHER
 from .feed import Feed
 from .lines import Part, pairs_of
 from .places import KM_PER_DEGREE, distance_km

@@ -1,4 +1,4 @@
-"""Lines of a feed: of each route the way that is driven most, cut where an edge would come twice."""
+"""Lines of a feed: the ways of each route, cut where an edge would come twice."""
 
 from collections import Counter
 from collections.abc import Iterable, Iterator
@@ -7,9 +7,8 @@ from typing import NamedTuple
 
 from .rides import Call, Ride, Route
 from .stations import Stations
+from .ways import Way, matched_ways
 from .words import Box
-
-Way = tuple[int, ...]  # stations in order
 
 
 class Part(NamedTuple):
@@ -46,6 +45,7 @@ class Line:
     way: Way
     forward: list[Run] = field(default_factory=list)
     backward: list[Run] = field(default_factory=list)
+    is_stretched: bool = False  # whether a drive of less than a minute takes one
 
     @property
     def edges(self) -> list[tuple[int, int]]:
@@ -97,39 +97,51 @@ def _longest(calls: tuple[Call, ...], inside: list[bool]) -> tuple[Call, ...]:
     return tuple(best)
 
 
-def lines_of(parts: list[Part], routes: dict[str, Route], left: Counter[str]) -> list[Line]:
-    """The lines of all routes, in the order of the feed."""
+def lines_of(
+    parts: list[Part], routes: dict[str, Route], left: Counter[str], share: float
+) -> tuple[list[Line], list[Part]]:
+    """The lines of all routes, in the order of the feed, and the trips with the calls of them that
+    are taken. A way with at least this share of the trips of its route is a line."""
     by_route: dict[str, list[Part]] = {}
     for part in parts:
         by_route.setdefault(part.ride.route, []).append(part)
-    found = []
+    found: list[Line] = []
+    taken: list[Part] = []
     for route in sorted(by_route, key=lambda it: routes[it].place):
-        found += _lines_of_route(route, by_route[route], left)
-    return found
+        lines, of_route = _lines_of_route(route, by_route[route], left, share)
+        found += lines
+        taken += of_route
+    return found, taken
 
 
-def _lines_of_route(route: str, parts: list[Part], left: Counter[str]) -> list[Line]:
-    """The lines of a route: one, or several where an edge would come twice."""
-    counts = Counter(_both_ways(part.way) for part in parts)
-    most = max(counts, key=lambda it: counts[it])  # the first one of several
-    way = _first_way([part for part in parts if _both_ways(part.way) == most])
-    left["trips by other ways than the most driven one"] += len(parts) - counts[most]
-    cuts = _cuts(way)
+def _lines_of_route(
+    route: str, parts: list[Part], left: Counter[str], share: float
+) -> tuple[list[Line], list[Part]]:
+    """The lines of a route: its ways, each of which is several where an edge would come twice."""
     lines: dict[Way, Line] = {}
+    taken: list[Part] = []
+    by_way: dict[Way, list[Part]] = {}
     for part in parts:
-        if _both_ways(part.way) != most:
-            continue
-        last = len(way) - 1
-        at = cuts if part.way == way else [last - cut for cut in reversed(cuts)]
-        for begin, end in zip(at, at[1:]):
-            piece = part.calls[begin : end + 1]
-            _add(lines, route, piece, part.ride.trip, part.way == way)
-    return list(lines.values())
-
-
-def _both_ways(way: Way) -> Way:
-    """A way and its opposite as one."""
-    return min(way, way[::-1])
+        by_way.setdefault(part.way, []).append(part)
+    for it in matched_ways(Counter({way: len(of) for way, of in by_way.items()}), share):
+        of_line = [part for way in it.places for part in by_way.pop(way)]
+        of_line.sort(key=lambda part: part.ride.place)
+        first = _first_way(of_line)
+        row = it.row if first == it.there else it.row[::-1]
+        cuts = _cuts(row)
+        for part in of_line:
+            is_first = part.way == first
+            calls = tuple(part.calls[at] for at in it.places[part.way])
+            left["calls at stops that one direction alone passes"] += len(part.calls) - len(calls)
+            taken.append(Part(part.ride, calls))
+            last = len(row) - 1
+            at = cuts if is_first else [last - cut for cut in reversed(cuts)]
+            for begin, end in zip(at, at[1:]):
+                _add(lines, route, calls[begin : end + 1], part.ride, is_first)
+    for others in by_way.values():
+        left[f"trips by ways with less than {100 * share:g} % of their route"] += len(others)
+        taken += others
+    return list(lines.values()), taken
 
 
 def _first_way(parts: list[Part]) -> Way:
@@ -149,20 +161,19 @@ def _cuts(way: Way) -> list[int]:
 
 
 def _add(
-    lines: dict[Way, Line], route: str, piece: tuple[Call, ...], trip: str, is_first: bool
+    lines: dict[Way, Line], route: str, piece: tuple[Call, ...], ride: Ride, is_first: bool
 ) -> None:
     """Adds a run to the line of its way, which is made where it is not there."""
     way = tuple(call.station for call in piece)
     start = piece[0].departure
     offsets = [it - start for call in piece for it in (call.arrival, call.departure)][2:-1]
-    run = Run(start, tuple(offsets), trip)
+    run = Run(start, tuple(offsets), ride.trip)
     if way not in lines and way[::-1] not in lines:
         first = way if is_first else way[::-1]
         lines[first] = Line(route, first)
-    if way in lines:
-        lines[way].forward.append(run)
-    else:
-        lines[way[::-1]].backward.append(run)
+    line = lines[way] if way in lines else lines[way[::-1]]
+    (line.forward if way in lines else line.backward).append(run)
+    line.is_stretched |= ride.is_stretched
 
 
 def pairs_of(parts: Iterable[Part]) -> Iterator[tuple[Part, Call, Call]]:

@@ -90,10 +90,15 @@ def _spread(runs: Minutes, period: int) -> Minutes:
     raise NotPeriodic("its trips are not evenly spread over the period")
 
 
+def frequency_of(line: Line, window: Window) -> int:
+    """How often a line is driven in a period on average, rounded; once at least."""
+    most = max(len(line.forward), len(line.backward))
+    return max(1, (2 * most + window.periods) // (2 * window.periods))
+
+
 def _near(line: Line, window: Window, why: str) -> Timed:
     """Evenly spread runs with the minutes that are most usual in each direction."""
-    most = max(len(line.forward), len(line.backward))
-    frequency = max(1, (2 * most + window.periods) // (2 * window.periods))
+    frequency = frequency_of(line, window)
     sides = []
     for runs, others in ((line.forward, line.backward), (line.backward, line.forward)):
         offsets = _usual(runs) if runs else _mirrored(_usual(others))

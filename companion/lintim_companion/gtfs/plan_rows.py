@@ -4,9 +4,11 @@ from collections import Counter
 
 from ..cells import MILLION
 from ..faults import Refused
-from ..formats import ConceptRow, Edge, Load, PeriodicTime, PoolRow, Stop
+from ..formats import ConceptRow, Edge, LineName, Load, PeriodicTime, PoolRow, Stop
+from ..line_names import mode_of_type
 from .lengths import Lengths
 from .plan import Plan
+from .rides import Route
 
 CUSTOMERS = 70  # of a vehicle, where the settings say nothing
 
@@ -105,3 +107,14 @@ def settings_of(plan: Plan, change: int) -> dict[str, int | str]:
     if plan.is_timed:
         values["pin_timetable"] = "yes"
     return values
+
+
+def name_rows(plan: Plan, routes: dict[str, Route]) -> list[LineName]:
+    """The rows of `import/Line-Name.giv`: what the feed says of the route of each line."""
+    rows = []
+    for name, line in plan.lines.items():
+        it = routes[line.route]
+        short, long = plain(it.short or it.name), plain(it.long)
+        kind = mode_of_type(it.told) if it.told <= 1_799 else mode_of_type(it.kind)
+        rows.append(LineName(name, short, long, it.colour, kind, plain(it.agency), it.zone))
+    return rows

@@ -63,6 +63,7 @@ SHEETS: dict[str, Sheet] = dict(
             agency_phone text
             agency_fare_url url
             agency_email email
+            cemv_support enum:0-2
             """,
             must=True,
         ),
@@ -94,6 +95,7 @@ SHEETS: dict[str, Sheet] = dict(
             wheelchair_boarding enum:0-2
             level_id {LEVEL}
             platform_code text
+            stop_access enum:0-1
             """,
             must=True,
         ),
@@ -114,6 +116,7 @@ SHEETS: dict[str, Sheet] = dict(
             continuous_pickup enum:0-3
             continuous_drop_off enum:0-3
             network_id id
+            cemv_support enum:0-2
             """,
             must=True,
         ),
@@ -167,6 +170,9 @@ SHEETS: dict[str, Sheet] = dict(
             shape_id ref:shapes.txt.shape_id
             wheelchair_accessible enum:0-2
             bikes_allowed enum:0-2
+            cars_allowed enum:0-2
+            safe_duration_factor number
+            safe_duration_offset number
             """,
             must=True,
         ),
@@ -178,14 +184,20 @@ SHEETS: dict[str, Sheet] = dict(
             arrival_time time
             departure_time time
             stop_id {STOP}
+            location_group_id id
+            location_id id
             stop_sequence whole must
             stop_headsign text
+            start_pickup_drop_off_window time
+            end_pickup_drop_off_window time
             pickup_type enum:0-3
             drop_off_type enum:0-3
             continuous_pickup enum:0-3
             continuous_drop_off enum:0-3
             shape_dist_traveled size
             timepoint enum:0-1
+            pickup_booking_rule_id id
+            drop_off_booking_rule_id id
             """,
             must=True,
         ),
@@ -228,6 +240,8 @@ SHEETS: dict[str, Sheet] = dict(
             stair_count number
             max_slope number
             min_width size
+            signposted_as text
+            reversed_signposted_as text
             """,
         ),
         _sheet(

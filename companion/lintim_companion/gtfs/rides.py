@@ -10,13 +10,14 @@ from datetime import date
 from typing import NamedTuple
 
 from ..faults import Refused
-from .cells import number_of, seconds_of, whole_of
+from ..line_names import basic_type
+from .cells import fault_of, number_of, seconds_of, whole_of
 from .feed import Feed
 from .services import Calendar
 from .stations import Stations
 
-ROUTE_GROUPS = {1: 2, 2: 3, 4: 1, 5: 1, 6: 1, 7: 3, 8: 11, 9: 0, 10: 4, 12: 4, 13: 6, 14: 7, 15: 3}
 MAX_RIDES = 200_000
+STRETCHED = "drives of less than a minute take one"
 LATEST_START = 10_080  # the last minute at which a trip of `lintim` may start
 
 
@@ -44,15 +45,23 @@ class Ride(NamedTuple):
     direction: str
     shape: str
     calls: tuple[Call, ...]
+    place: int = 0  # among all trips that are taken
+    is_stretched: bool = False  # whether a drive of less than a minute takes one
 
 
 class Route(NamedTuple):
-    """A route: its basic type and the one that is told, its name, and its place in the feed."""
+    """A route: its basic type and the one that is told, its name, its place in the feed, and what
+    it is called: short name, long name, colour, agency and time zone."""
 
     kind: int
     told: int
     name: str
     place: int
+    short: str = ""
+    long: str = ""
+    colour: str = ""
+    agency: str = ""
+    zone: str = ""
 
     def is_of(self, kind: int) -> bool:
         """Whether it is of a type, which may be a basic or an extended one."""
@@ -141,12 +150,15 @@ class Rides:
         return _Row(order, cells[2], arrival, departure, number_of(cells[5]))
 
     def _rides(self, rows: dict[str, list[_Row]]) -> Iterator[Ride]:
+        place = 0
         for trip, of_trip in rows.items():
             if not of_trip:
                 self.left["trips that call nowhere"] += 1
                 continue
             try:
+                before = self.changed[STRETCHED]
                 starts, calls = self._calls(trip, sorted(of_trip, key=lambda it: it.order))
+                stretched = self.changed[STRETCHED] > before
             except _Fault as why:
                 self._fault(f"stop_times.txt: trip {trip!r}: {why}")
                 continue
@@ -154,7 +166,9 @@ class Rides:
                 if start > LATEST_START:
                     self.left["trips that start after 168:00"] += 1
                     continue
-                yield Ride(trip, *self.wanted[trip], tuple(it.moved(start) for it in calls))
+                moved = tuple(it.moved(start) for it in calls)
+                yield Ride(trip, *self.wanted[trip], moved, place, stretched)
+                place += 1
 
     def _calls(self, trip: str, rows: list[_Row]) -> tuple[list[int], list[Call]]:
         """The minutes at which a trip starts, and its calls in minutes after that. Stops of one
@@ -174,7 +188,7 @@ class Rides:
                 continue
             least = calls[-1].departure + 1 if calls else 0
             if here[0] < least:
-                self.changed["drives of less than a minute take one"] += 1
+                self.changed[STRETCHED] += 1
             at = max(here[0], least) if calls else 0
             calls.append(Call(station, at, max(here[1], at), row.walked, row.walked))
         first = calls[0].departure
@@ -207,13 +221,27 @@ class Rides:
 def _routes(feed: Feed) -> dict[str, Route]:
     """The routes of a feed by their ids."""
     found: dict[str, Route] = {}
-    fields = ("route_id", "route_type", "route_short_name", "route_long_name")
-    for row, (route, text, short, long) in feed.records("routes.txt", *fields):
+    agencies = _agencies(feed)
+    first = next(iter(agencies.values()), ("", ""))
+    fields = "route_id route_type route_short_name route_long_name route_color agency_id".split()
+    for row, (route, text, short, long, colour, of) in feed.records("routes.txt", *fields):
         kind = whole_of(text)
         if kind is None:
             raise Refused(f"routes.txt row {row}: route_type is {text!r}")
-        basic = ROUTE_GROUPS.get(kind // 100, kind) if kind >= 100 else kind
-        found.setdefault(route, Route(basic, kind, short or long or route, len(found)))
+        agency, zone = agencies.get(of, first)
+        good = colour.upper() if fault_of("color", colour) is None else ""
+        name = short or long or route
+        told = Route(basic_type(kind), kind, name, len(found), short, long, good, agency, zone)
+        found.setdefault(route, told)
+    return found
+
+
+def _agencies(feed: Feed) -> dict[str, tuple[str, str]]:
+    """The names of agencies and their time zones, by their ids, in the order of the feed."""
+    fields = ("agency_id", "agency_name", "agency_timezone")
+    found: dict[str, tuple[str, str]] = {}
+    for _, (agency, name, zone) in feed.records("agency.txt", *fields):
+        found.setdefault(agency, (name, zone if fault_of("zone", zone) is None else ""))
     return found
 
 

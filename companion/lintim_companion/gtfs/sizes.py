@@ -4,6 +4,7 @@ from collections import Counter
 
 from ..limits import LIMITS
 from .plan import Plan
+from .ways import Way
 
 
 def sizes(plan: Plan) -> dict[str, int]:
@@ -26,7 +27,7 @@ def sizes(plan: Plan) -> dict[str, int]:
         for way in (stops, stops[::-1]):
             for stop in way[1:]:
                 at_stop.setdefault(stop, Counter())[name] += of_line.frequency
-    changes = _changes(plan, at_stop)
+    changes = _changes(at_stop)
     return {
         "stops": len(plan.stops),
         "edges": len(plan.edges),
@@ -39,7 +40,31 @@ def sizes(plan: Plan) -> dict[str, int]:
     }
 
 
-def _changes(plan: Plan, arrivals: dict[int, Counter[int]]) -> int:
+def estimated(lines: list[tuple[Way, int]], periods: int) -> bool:
+    """Whether lines fit, by how often each one is driven in a period in each direction."""
+    at_stop: dict[int, Counter[int]] = {}
+    runs = events = 0
+    for name, (way, often) in enumerate(lines):
+        runs += 2 * often
+        events += 4 * often * (len(way) - 1)
+        for stop in (*way[1:], *way[-2::-1]):
+            at_stop.setdefault(stop, Counter())[name] += often
+    changes = _changes(at_stop)
+    return not any(
+        count > LIMITS[what]
+        for what, count in {
+            "stops": len(at_stop),
+            "lines": len(lines),
+            "periodic events": events,
+            "periodic activities": events - runs + changes,
+            "trips": runs * periods,
+            "expanded events": events * periods,
+            "expanded activities": (events - runs + changes) * periods,
+        }.items()
+    )
+
+
+def _changes(arrivals: dict[int, Counter[int]]) -> int:
     """How many changes a period has: from each arrival to each departure of another line. A line
     departs from a stop in one direction as often as it arrives there in the other one."""
     count = 0

@@ -84,7 +84,9 @@ def stop_picture(
     facts = ("event", "kind", "line", "direction", "run", "minute")
     for line in sorted({it.event.line_id for it in timed.values()}):
         for kind, symbol in (("arrival", "circle"), ("departure", "triangle")):
-            layer = Layer(f"line {line}, {kind}s", "mark", facts, plan.colour(line), (line,))
+            layer = Layer(
+                f"{plan.called(line)}, {kind}s", "mark", facts, plan.colour(line), (line,)
+            )
             layer.symbol, layer.width = symbol, 12
             for event, time, rank in timed.values():
                 if (event.line_id, event.type) == (line, kind):

@@ -134,7 +134,7 @@ def delay_picture(plan: Plan, lates: dict[int, Late]) -> Picture:
     layers += late_layers(plan, [lates[id] for id in sorted(shown)], rows)
     layers.append(source_layer(plan, of_sources, rows))
     lines = {trip.id: trip.line for trip in plan.all_trips}
-    y, height = row_axis([f"trip {id}, line {lines[id]}" for id in rows])
+    y, height = row_axis([f"trip {id}, {plan.called(lines[id])}" for id in rows])
     layers = [layer for layer in layers if layer.shapes]
     title = "Late events and why they are late"
     return Picture("delays", title, time_axis(plan), y, layers, height)
@@ -182,7 +182,8 @@ def late_layers(plan: Plan, lates: list[Late], rows: dict[int, int]) -> list[Lay
     layers: dict[int, Layer] = {}
     for late in lates:
         event, trip = plan.events[late.event], plan.trip_of[late.event]
-        fresh = Layer(f"line {trip.line}", "mark", facts, plan.colour(trip.line), (trip.line,))
+        name, colour = plan.called(trip.line), plan.colour(trip.line)
+        fresh = Layer(name, "mark", facts, colour, (trip.line,))
         layer = layers.setdefault(trip.line, fresh)
         layer.width = 9
         time = plan.disposed[late.event]

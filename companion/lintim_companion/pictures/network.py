@@ -188,7 +188,7 @@ def line_section(plan: Plan) -> Section:
     rows = [row for row in rows if plan.choice.has_line(row.line_id)]
     idle = sorted({row.line_id for row in plan.data[CONCEPT] if not row.frequency})
     if idle:
-        section.about += f" Not driven: {', '.join(f'line {line}' for line in idle)}."
+        section.about += f" Not driven: {', '.join(map(plan.called, idle))}."
     places, _ = stop_places(plan)
     ways = edge_ways(plan, places)
     used = {row.edge_id for row in plan.data[CONCEPT] if row.frequency}
@@ -213,7 +213,7 @@ def line_layers(
     for row in sorted(rows):
         line = row.line_id
         if line not in layers:
-            colour, name = plan.colour(line), f"line {line}, {row.frequency} in a period"
+            colour, name = plan.colour(line), f"{plan.called(line)}, {row.frequency} in a period"
             areas = Layer(name, "area", ("line", "edge"), colour, (line,), is_told=False)
             names = ("line", "edge", "place", "frequency", "from", "to")
             marks = Layer(name, "mark", names, colour, (line,), width=14, symbol="none")
@@ -232,6 +232,6 @@ def line_layers(
     for areas, marks in layers.values():
         place = len(marks.shapes) // 2
         often = marks.shapes[place].facts[0][3]
-        label = f"{marks.lines[0]} ×{often}"
+        label = f"{plan.short(marks.lines[0])} ×{often}"
         marks.shapes[place] = marks.shapes[place]._replace(label=label)
     return [layer for two in layers.values() for layer in two]

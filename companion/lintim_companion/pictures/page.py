@@ -23,10 +23,10 @@ def page_of(
     first: list[Section],
     sides: list[Side],
     last: list[Section],
-    lines: dict[int, str],
+    lines: dict[int, tuple[str, str]],
     script: str | None,
 ) -> bytes:
-    """The page: sections of all, sections of each dataset, and sections of all again. `lines` has the colour of each line that can be switched off. The script of plotly
+    """The page: sections of all, sections of each dataset, and sections of all again. `lines` has the name and the colour of each line that can be switched off. The script of plotly
     is within the page, or a file `plotly.js` beside it where none is given."""
     figures: dict[str, Any] = {}
     names = [side.name for side in sides]
@@ -57,12 +57,12 @@ def page_of(
     return "\n".join(page).encode(errors="replace")
 
 
-def chips(lines: dict[int, str]) -> str:
+def chips(lines: dict[int, tuple[str, str]]) -> str:
     """The switches of the lines."""
     made = [
         f'<button type="button" class="chip" data-line="{line}" aria-pressed="true"'
-        f' style="--colour:{colour}">line {line}</button>'
-        for line, colour in lines.items()
+        f' style="--colour:{colour}">{html.escape(name)}</button>'
+        for line, (name, colour) in lines.items()
     ]
     return f'<nav aria-label="lines">{"".join(made)}</nav>'
 

@@ -9,6 +9,7 @@ from ..cells import File
 from ..dataset import Dataset
 from ..faults import Refused
 from ..formats import CONCEPT, DAY_EVENTS, DISPOSITION, EDGES, STOPS, TRIPS, DayEvent, Edge
+from ..line_names import LineNames
 from . import style
 
 V = TypeVar("V")
@@ -140,9 +141,22 @@ class Plan:
         rows = {event.event_id: trip for trip in self.all_trips for event in trip.events}
         return Index("event", TRIPS, rows)
 
+    @cached_property
+    def line_names(self) -> LineNames:
+        """What lines are called."""
+        return LineNames(self.data)
+
+    def called(self, line: int) -> str:
+        """What a line is called, as `tram 12`; `line 5` where nothing is told."""
+        return named(self.line_names.called(line))
+
+    def short(self, line: int) -> str:
+        """What stands on the vehicles of a line; its id where nothing is told."""
+        return named(self.line_names.short(line))
+
     def colour(self, line: int) -> str:
         """The colour of a line."""
-        return style.line_colour(self.place.get(line, 0))
+        return self.line_names.colour(line) or style.line_colour(self.place.get(line, 0))
 
     def dash(self, line: int) -> str:
         """How the strokes of a line are broken."""

@@ -109,7 +109,8 @@ def line_pictures(
         more = f", way {number}" if len(groups) > 1 else ""
         key = f"line-{line}" + (f"-{number}" if more else "")
         ends = " – ".join(plan.names[stop] for stop in (walk.stops[0], walk.stops[-1]))
-        title = f"Line {line}{more}: {ends}"
+        called = plan.called(line)
+        title = f"{called[:1].upper()}{called[1:]}{more}: {ends}"
         found.append(diagram(plan, key, title, walk, runs, apart, missed))
     return found
 
@@ -160,9 +161,9 @@ def diagram(
     for line in sorted({trip.line for trip, _, _ in runs}):
         mine = [run for run in runs if run[0].line == line]
         colour, lines = plan.colour(line), (line,)
-        planned = Layer(f"line {line}, planned", "stroke", FACTS, colour, lines, width=1.4)
+        planned = Layer(f"{plan.called(line)}, planned", "stroke", FACTS, colour, lines, width=1.4)
         planned.dash = plan.dash(line)
-        late = Layer(f"line {line}, disposed", "stroke", LATE_FACTS, style.ALARM, lines)
+        late = Layer(f"{plan.called(line)}, disposed", "stroke", LATE_FACTS, style.ALARM, lines)
         late.width, late.dash = 1.8, "dash"
         for run in mine:
             planned.shapes.append(stroke(plan, "trip", run, apart, is_disposed=False))
@@ -219,7 +220,7 @@ def missed_layer(
 ) -> Layer:
     """The changes from arrivals of a line that are missed."""
     facts = ("change", "from event", "to event", "to trip", "to line", "stop", "arrives", "leaves")
-    layer = Layer(f"line {line}, missed changes", "mark", facts, style.ALARM, (line,))
+    layer = Layer(f"{plan.called(line)}, missed changes", "mark", facts, style.ALARM, (line,))
     layer.symbol, layer.width = "cross", 9
     for trip, first, places in runs:
         for place, far in enumerate(places, first):

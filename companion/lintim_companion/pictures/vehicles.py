@@ -73,7 +73,7 @@ def vehicle_picture(plan: Plan, rows: list[ScheduleRow]) -> Picture:
     for row, then in zip(rows, [*rows[1:], rows[-1]]):
         y, layer = float(places[row.circulation]), empty
         if row.type == "TRIP":
-            name, colour = f"line {row.line}", plan.colour(row.line)
+            name, colour = plan.called(row.line), plan.colour(row.line)
             fresh = Layer(name, "bar", FACTS, colour, (row.line,), width=0.7)
             layer = layers.setdefault(row.line, fresh)
         elif (then.circulation, then.number) == (row.circulation, row.number + 1):
