@@ -68,12 +68,37 @@ COMMANDS = (
     Command(
         name="lintim-concept",
         module="commands.concept",
-        says="Finds a line concept of least cost, and proves it.",
+        says="Finds a line concept of least cost, and proves it, or one that is good for customers.",
         about="HiGHS finds a concept. It is written, and then a tree of regions is grown which proves\n"
-        "that none costs less. A concept that is pinned already is where the search begins.",
-        reads="the loads, the pool and the costs of lines: stages load and cost of lintim make",
-        writes="pinned/Line-Concept.lin, and pinned/Line-Concept.cert where it is proved",
-        words=(FOLDER, SECONDS),
+        "that none costs less. A concept that is pinned already is where the search begins.\n"
+        "--model direct has most direct travellers within a budget, --model time least minutes\n"
+        "with a penalty for each change, and --model both the front of cost against direct\n"
+        "travellers. What these say is counted twice, and told beside a concept of least cost.",
+        reads="the loads, the pool and the costs of lines: stages load and cost of lintim make; "
+        "other models also the demand in basis/OD.giv",
+        writes="pinned/Line-Concept.lin, and pinned/Line-Concept.cert where it is proved; --model "
+        "both the files that --table and --picture name",
+        words=(
+            FOLDER,
+            Word("--model", "cost, direct, time or both", default="cost"),
+            Word(
+                "--budget",
+                "direct, time, both: percent of the least cost that a concept may cost (120)",
+                kind="whole",
+                least=100,
+                greatest=100_000,
+            ),
+            Word(
+                "--change-penalty",
+                "time: how many minutes a change counts for (5)",
+                kind="whole",
+                greatest=1_000,
+            ),
+            Word("--points", "both: how many budgets (6)", kind="whole", least=2, greatest=100),
+            Word("--table", "both: a file .csv for the front", kind="file"),
+            Word("--picture", "both: a file .svg or .png for the front", kind="file"),
+            SECONDS,
+        ),
         example="lintim-concept . --seconds 60",
         packages=(SCIPY,),
     ),
