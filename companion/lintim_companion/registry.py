@@ -103,6 +103,43 @@ COMMANDS = (
         packages=(SCIPY,),
     ),
     Command(
+        name="lintim-pool",
+        module="commands.pool",
+        says="Makes a pool of lines by demand: of shortest paths between terminals, of trees, or both.",
+        about="Candidates are the shortest paths between each two terminals, or ways in spanning trees\n"
+        "in which edges count more with each tree that had them. Lines are chosen that cover what\n"
+        "customers go over, and on which most further customers are direct. No line goes over an\n"
+        "edge twice. It tells what no line covers, and what customers have where all lines are\n"
+        "driven. Where no terminals are named it takes ends of the network and large stops.",
+        reads="stops, edges and demand",
+        writes="basis/Pool.giv",
+        words=(
+            FOLDER,
+            Word("--terminals", "where lines may end, by the ids of stops, as 1,2,4"),
+            Word(
+                "--lines",
+                "how many lines at most (40)",
+                kind="whole",
+                least=1,
+                greatest=200,
+            ),
+            Word("--method", "paths, trees or both", default="both"),
+            Word(
+                "--each",
+                "how many shortest paths of each two terminals (3)",
+                kind="whole",
+                least=1,
+                greatest=100,
+            ),
+            Word("--replace", "write it where a pool stands already", kind="switch"),
+            Word("--seconds", "how long it may take", kind="whole", default=60, least=1),
+        ),
+        example="lintim-pool . --lines 20 --replace",
+        packages=(SCIPY, NETWORKX),
+        statuses=((0, "the pool was written"), (1, "no pool was written; the last line says why"))
+        + STATUSES[2:],
+    ),
+    Command(
         name="lintim-timetable",
         module="commands.timetable",
         says="Finds a periodic timetable that keeps all bounds, or one that is good for passengers.",
@@ -146,10 +183,23 @@ COMMANDS = (
         module="commands.schedule",
         says="Finds a vehicle schedule of least cost, and proves it.",
         about="SciPy solves the assignment of trips to the trips before them in their vehicles; two\n"
-        "numbers for each trip prove that no schedule costs less.",
-        reads="the trips of the day and the edges: stage rollout of lintim make",
-        writes="pinned/Vehicle_Schedules.vs and pinned/Vehicle_Schedules.cert",
-        words=(FOLDER,),
+        "numbers for each trip prove that no schedule costs less. With --line-based each vehicle\n"
+        "stays with one line, and what this costs is told beside. Kilometres, hours of drivers\n"
+        "and, with --costs, the money of a year are one table for these and for what stands.",
+        reads="the trips of the day and the edges: stage rollout of lintim make; for the table also "
+        "stage cost",
+        writes="pinned/Vehicle_Schedules.vs and pinned/Vehicle_Schedules.cert, which --line-based "
+        "takes away",
+        words=(
+            FOLDER,
+            Word("--line-based", "each vehicle stays with one line", kind="switch"),
+            Word(
+                "--costs",
+                "a file of rows `key; value`: vehicle_of_a_year, kilometre, driver_hour, days (250), "
+                "kilometres_of_a_unit (1)",
+                kind="file",
+            ),
+        ),
         example="lintim-schedule .",
         packages=(SCIPY,),
     ),
