@@ -68,14 +68,76 @@ COMMANDS = (
     Command(
         name="lintim-concept",
         module="commands.concept",
-        says="Finds a line concept of least cost, and proves it.",
+        says="Finds a line concept of least cost, and proves it, or one that is good for customers.",
         about="HiGHS finds a concept. It is written, and then a tree of regions is grown which proves\n"
-        "that none costs less. A concept that is pinned already is where the search begins.",
-        reads="the loads, the pool and the costs of lines: stages load and cost of lintim make",
-        writes="pinned/Line-Concept.lin, and pinned/Line-Concept.cert where it is proved",
-        words=(FOLDER, SECONDS),
+        "that none costs less. A concept that is pinned already is where the search begins.\n"
+        "--model direct has most direct travellers within a budget, --model time least minutes\n"
+        "with a penalty for each change, and --model both the front of cost against direct\n"
+        "travellers. What these say is counted twice, and told beside a concept of least cost.",
+        reads="the loads, the pool and the costs of lines: stages load and cost of lintim make; "
+        "other models also the demand in basis/OD.giv",
+        writes="pinned/Line-Concept.lin, and pinned/Line-Concept.cert where it is proved; --model "
+        "both the files that --table and --picture name",
+        words=(
+            FOLDER,
+            Word("--model", "cost, direct, time or both", default="cost"),
+            Word(
+                "--budget",
+                "direct, time, both: percent of the least cost that a concept may cost (120)",
+                kind="whole",
+                least=100,
+                greatest=100_000,
+            ),
+            Word(
+                "--change-penalty",
+                "time: how many minutes a change counts for (5)",
+                kind="whole",
+                greatest=1_000,
+            ),
+            Word("--points", "both: how many budgets (6)", kind="whole", least=2, greatest=100),
+            Word("--table", "both: a file .csv for the front", kind="file"),
+            Word("--picture", "both: a file .svg or .png for the front", kind="file"),
+            SECONDS,
+        ),
         example="lintim-concept . --seconds 60",
         packages=(SCIPY,),
+    ),
+    Command(
+        name="lintim-pool",
+        module="commands.pool",
+        says="Makes a pool of lines by demand: of shortest paths between terminals, of trees, or both.",
+        about="Candidates are the shortest paths between each two terminals, or ways in spanning trees\n"
+        "in which edges count more with each tree that had them. Lines are chosen that cover what\n"
+        "customers go over, and on which most further customers are direct. No line goes over an\n"
+        "edge twice. It tells what no line covers, and what customers have where all lines are\n"
+        "driven. Where no terminals are named it takes ends of the network and large stops.",
+        reads="stops, edges and demand",
+        writes="basis/Pool.giv",
+        words=(
+            FOLDER,
+            Word("--terminals", "where lines may end, by the ids of stops, as 1,2,4"),
+            Word(
+                "--lines",
+                "how many lines at most (40)",
+                kind="whole",
+                least=1,
+                greatest=200,
+            ),
+            Word("--method", "paths, trees or both", default="both"),
+            Word(
+                "--each",
+                "how many shortest paths of each two terminals (3)",
+                kind="whole",
+                least=1,
+                greatest=100,
+            ),
+            Word("--replace", "write it where a pool stands already", kind="switch"),
+            Word("--seconds", "how long it may take", kind="whole", default=60, least=1),
+        ),
+        example="lintim-pool . --lines 20 --replace",
+        packages=(SCIPY, NETWORKX),
+        statuses=((0, "the pool was written"), (1, "no pool was written; the last line says why"))
+        + STATUSES[2:],
     ),
     Command(
         name="lintim-timetable",
@@ -121,10 +183,23 @@ COMMANDS = (
         module="commands.schedule",
         says="Finds a vehicle schedule of least cost, and proves it.",
         about="SciPy solves the assignment of trips to the trips before them in their vehicles; two\n"
-        "numbers for each trip prove that no schedule costs less.",
-        reads="the trips of the day and the edges: stage rollout of lintim make",
-        writes="pinned/Vehicle_Schedules.vs and pinned/Vehicle_Schedules.cert",
-        words=(FOLDER,),
+        "numbers for each trip prove that no schedule costs less. With --line-based each vehicle\n"
+        "stays with one line, and what this costs is told beside. Kilometres, hours of drivers\n"
+        "and, with --costs, the money of a year are one table for these and for what stands.",
+        reads="the trips of the day and the edges: stage rollout of lintim make; for the table also "
+        "stage cost",
+        writes="pinned/Vehicle_Schedules.vs and pinned/Vehicle_Schedules.cert, which --line-based "
+        "takes away",
+        words=(
+            FOLDER,
+            Word("--line-based", "each vehicle stays with one line", kind="switch"),
+            Word(
+                "--costs",
+                "a file of rows `key; value`: vehicle_of_a_year, kilometre, driver_hour, days (250), "
+                "kilometres_of_a_unit (1)",
+                kind="file",
+            ),
+        ),
         example="lintim-schedule .",
         packages=(SCIPY,),
     ),

@@ -20,6 +20,8 @@ pytestmark = pytest.mark.usefixtures("lintim")
 HOME = program.CHECKOUT
 RUNS = (
     "lintim-concept . --seconds 10",
+    "lintim-concept . --model both --points 2 --table front.csv --picture front.svg",
+    "lintim-concept . --model time --seconds 10",
     "lintim-timetable . --seconds 10",
     "lintim-timetable . --for-passengers --seconds 3",
     "lintim-schedule .",
@@ -32,7 +34,17 @@ RUNS = (
     "lintim-demand gravity . --replace",
     "lintim-why .",
 )
-WRITTEN = ("svg", "png", "page.html", "feed.zip", "made", "pinned", "waiting")
+WRITTEN = (
+    "svg",
+    "png",
+    "page.html",
+    "front.csv",
+    "front.svg",
+    "feed.zip",
+    "made",
+    "pinned",
+    "waiting",
+)
 Answer = tuple[int, str, str]
 
 
@@ -115,6 +127,18 @@ def test_nothing_in_a_dataset_is_run_or_read_as_settings(
         assert answer[0] == ("why" in words), words
     for path in sorted(town.rglob("*.svg")):
         assert (folder / path.relative_to(town)).read_bytes() == path.read_bytes(), path
+
+
+def test_a_pool_is_made_beside_traps(
+    bin: Path, town: Path, names: set[str], tmp_path: Path
+) -> None:
+    folder, ran, log = tmp_path / "town", tmp_path / "ran", tmp_path / "log"
+    shutil.copytree(town, folder, ignore=shutil.ignore_patterns(*WRITTEN))
+    wired = traps.set_traps(folder, names, ran)
+    answer = run("lintim-pool . --replace --lines 5", folder, *traps.watched(log), bin)
+    assert answer[::2] == (0, "") and "5 lines, by both" in answer[1]
+    assert not ran.exists()
+    assert not log.exists() or not traps.touched(log, folder) & wired
 
 
 def test_traps_are_found(tmp_path: Path) -> None:

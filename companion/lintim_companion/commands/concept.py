@@ -1,9 +1,10 @@
-"""`lintim-concept`: a cheapest line concept by HiGHS, and a tree that proves it."""
+"""`lintim-concept`: a cheapest line concept by HiGHS, and a tree that proves it; other models stand
+in `concept_models`."""
 
 from argparse import Namespace
 
 from .. import dataset, files, program
-from ..faults import TooLong
+from ..faults import TooLong, WrongWords
 from ..formats import LINE_COSTS, LOADS, PINNED_CONCEPT, PINNED_TREE
 from ..line_concepts.problem import concept_rows, line_problem, pinned_concept
 from ..line_concepts.proofs import tree_rows
@@ -11,9 +12,20 @@ from ..line_concepts.solve import cheapest, proved
 from ..manners import Deadline, Talk
 from ..rows import number_text
 
+MODELS = ("cost", "direct", "time", "both")
+OTHERS = ("budget", "change_penalty", "points", "table", "picture")
+
 
 def run(words: Namespace, talk: Talk) -> int:
-    """Finds, writes, proves, and writes the proof."""
+    """Finds, writes, proves, and writes the proof; or asks another model."""
+    if words.model not in MODELS:
+        raise WrongWords(f"--model is {words.model}, wanted {', '.join(MODELS)}")
+    if words.model != "cost":
+        from . import concept_models
+
+        return concept_models.run(words, talk)
+    if given := [f"--{name.replace('_', '-')}" for name in OTHERS if vars(words)[name] is not None]:
+        raise WrongWords(f"{given[0]} is for the other models, as --model direct")
     data = dataset.read(words.folder)
     program.see_kept(words.folder, LOADS, LINE_COSTS)
     files.see_writable(words.folder, PINNED_CONCEPT.name)

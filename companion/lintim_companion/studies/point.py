@@ -121,9 +121,12 @@ def _dataset(run: Run, beside: Path) -> None:
 def _plans(run: Run) -> None:
     """The plans by `lintim` or by the commands, each pinned before the next one is made."""
     point, seconds = run.point, ("--seconds", run.point["seconds"])
-    if point.get("concept", "lintim") != "lintim":
+    if (pool := point.get("pool", "given")) != "given":
+        most = ("--lines", point.get("lines", 40), "--replace")
+        run.command("pool", "pool", "--method", pool, *most, *seconds)
+    if (model := point.get("concept", "lintim")) != "lintim":
         run.make(must=False)
-        lines = run.command("concept", "concept", *seconds)
+        lines = run.command("concept", "concept", *_model(model, point), *seconds)
         nodes = re.search(r"a tree of ([\d,]+) nodes", " ".join(lines))
         run.row["concept_nodes"] = int(nodes[1].replace(",", "")) if nodes else None
         run.set(pin_concept="yes")
@@ -135,8 +138,16 @@ def _plans(run: Run) -> None:
         run.set(pin_timetable="yes")
     if point.get("vehicles", "lintim") != "lintim":
         run.make()
-        run.command("vehicles", "schedule")
+        is_bound = point["vehicles"] == "line-based"
+        run.command("vehicles", "schedule", *(["--line-based"] if is_bound else []))
         run.set(pin_vehicles="yes")
+
+
+def _model(model: str, point: Point) -> list[object]:
+    """The words of `lintim-concept` for a model."""
+    if model == "lintim-concept":
+        return []
+    return ["--model", model, "--budget", point.get("budget", 120)]
 
 
 def _day(run: Run) -> None:
@@ -157,6 +168,7 @@ def _day(run: Run) -> None:
         proofs = [part for part in parts if part.endswith("optimal")]
         run.row[key] = proofs[0] if proofs else None
     run.row.update(run.timed("customers", lambda: customers(run.folder)))
+    run.row.update(ways(run.folder))
 
 
 def statistic(folder: Path) -> Row:
@@ -182,6 +194,22 @@ def customers(folder: Path) -> Row:
         "customer_change_minutes": round(float(routing.change_minutes), 4),
         "customer_changes": round(float(routing.changes), 4),
     }
+
+
+def ways(folder: Path) -> Row:
+    """What the line concept is to customers, without a timetable: how many are direct and have one
+    change, in percent, and the mean minutes in vehicles with 5 for each change."""
+    from ..line_concepts.journeys import served
+
+    data = dataset.read(folder)
+    driven = {row.line_id for row in data[formats.CONCEPT] if row.frequency}
+    found: Row = {"lines_driven": len(driven)}
+    if len(data.get(formats.DEMAND)) and driven:
+        it = served(data, driven, 5)
+        found["direct_percent"] = round(100 * it.direct / it.customers, 4)
+        found["one_change_percent"] = round(100 * it.once / it.customers, 4)
+        found["line_minutes"] = round(it.minutes, 4)
+    return found
 
 
 def _waits(run: Run) -> None:

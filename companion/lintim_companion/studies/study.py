@@ -21,16 +21,17 @@ from ..generators import KINDS
 
 Point = dict[str, Any]
 CHOICES = {
-    "concept": ("lintim", "lintim-concept"),
+    "pool": ("given", "paths", "trees", "both"),
+    "concept": ("lintim", "lintim-concept", "direct", "time"),
     "timetable": ("lintim", "lintim-timetable", "for-passengers", "few-vehicles"),
-    "vehicles": ("lintim", "lintim-schedule"),
+    "vehicles": ("lintim", "lintim-schedule", "line-based"),
     "waits": ("lintim-waits",),
 }
 NETWORK = ("kind", "stops", "seed", "customers", "pairs")
 TABLES: dict[str, tuple[str, ...]] = {
     "networks": (*NETWORK, "dataset"),
     "settings": tuple(key.name for key in keys()),
-    "plans": ("concept", "timetable", "vehicles", "seconds"),
+    "plans": ("pool", "lines", "concept", "budget", "timetable", "vehicles", "seconds"),
     "delays": ("law", "mean", "share", "of", "delay_seed"),
     "waits": ("waits", "penalty", "rules"),
 }
@@ -150,7 +151,7 @@ def _see(point: Point) -> None:
     for key, choices in CHOICES.items():
         if point.get(key, choices[0]) not in choices:
             raise Refused(f"{key} {point[key]!r}, wanted one of {', '.join(choices)}")
-    for key in (*NETWORK[1:], "seconds", "delay_seed", "penalty"):
+    for key in (*NETWORK[1:], "seconds", "lines", "budget", "delay_seed", "penalty"):
         if key in point and (not isinstance(point[key], int) or point[key] < 0):
             raise Refused(f"{key} {point[key]!r}, wanted a whole number")
     if "law" in point:
