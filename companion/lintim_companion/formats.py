@@ -400,3 +400,80 @@ class Settings(NamedTuple):
     pin_concept: Annotated[Switch, use("the concept is the pinned one")] = "no"
     pin_timetable: Annotated[Switch, use("the timetable is the pinned one")] = "no"
     pin_vehicles: Annotated[Switch, use("the schedule is the pinned one")] = "no"
+
+
+# What `lintim-passengers` writes: tables that nothing reads, beside those of a dataset.
+Customers = Annotated[int, Fixed(0, 10**12, "customers")]
+
+
+class StopUse(NamedTuple):
+    """An event of the day, and the customers at it."""
+
+    trip: Annotated[TripId, "the number of the trip, from 1"]
+    event_id: Annotated[EventId, "the event"]
+    stop_id: Annotated[StopId, "where it is"]
+    time: Annotated[int, Whole(0, 10**18, "minutes"), "its minute of the day"]
+    boarding: Annotated[Customers, "those who get on"]
+    alighting: Annotated[Customers, "those who get off"]
+
+
+class DriveUse(NamedTuple):
+    """A drive of the day, and the customers in it."""
+
+    trip: Annotated[TripId, "the number of the trip, from 1"]
+    line: Annotated[LineId, "its line"]
+    activity_id: Annotated[ActivityId, "the drive"]
+    load: Annotated[Customers, "the customers in it"]
+
+
+class TripUse(NamedTuple):
+    """A trip of the day, and the customers in it."""
+
+    trip: Annotated[TripId, "the number of the trip, from 1"]
+    line: Annotated[LineId, "its line"]
+    boarding: Annotated[Customers, "those who get on somewhere"]
+    greatest_load: Annotated[Customers, "the customers in its fullest drive"]
+    over_capacity: Annotated[Customers, "by how many its fullest drive is over the capacity"]
+
+
+class ChangeUse(NamedTuple):
+    """A change of the day, and the customers who take it."""
+
+    activity_id: Annotated[ActivityId, "the change"]
+    customers: Annotated[Customers, "those who take it"]
+
+
+class MissedUse(NamedTuple):
+    """An arrival of the day, and the customers who miss a change there."""
+
+    event_id: Annotated[EventId, "the arrival"]
+    stop_id: Annotated[StopId, "where it is"]
+    customers: Annotated[Customers, "those who miss a change"]
+
+
+class PairUse(NamedTuple):
+    """Two stops, and the customers from one to the other."""
+
+    from_stop: Annotated[StopId, "where the customers start"]
+    to_stop: Annotated[StopId, "where they want to go"]
+    customers: Annotated[Customers, "those with a journey by the plan"]
+    minutes_late: Annotated[Customers, "by how many minutes they arrive late, together"]
+
+
+class HourShare(NamedTuple):
+    """An hour of the day, and how much of the demand it has."""
+
+    hour: Annotated[int, Whole(0, 168, "hours"), "the hour of the day"]
+    share: Annotated[
+        int, Whole(0, 100_000, "hundredths"), "100 where a period has the demand of basis/OD.giv"
+    ]
+
+
+STOP_USES = File("passengers/Stops.csv", StopUse)
+DRIVE_USES = File("passengers/Drives.csv", DriveUse)
+TRIP_USES = File("passengers/Trips.csv", TripUse)
+CHANGE_USES = File("passengers/Changes.csv", ChangeUse)
+MISSED_USES = File("passengers/Missed.csv", MissedUse)
+PAIR_USES = File("passengers/Pairs.csv", PairUse)
+PASSENGER_VALUES = File("passengers/Values.csv", Value)
+PROFILE = File("", HourShare)  # what `lintim-passengers --profile` names
