@@ -21,11 +21,16 @@ STUDIES = (
     Package("jupyter-nbconvert", program="jupyter-nbconvert"),
     Package("python3-ipykernel", "ipykernel"),
 )
+PEER = (
+    Package("sumo", program="sumo"),
+    Package("sumo-tools"),
+    Package("python3-pyproj", "pyproj"),
+)
 CLUSTER = (Package("slurm-wlm", program="slurmd"), Package("munge", program="munged"))
 
 QUICK = (BLACK, MYPY, NUMPY, PANDAS, PYTEST, HYPOTHESIS, *SCRIPTS, *WHEEL, *STUDIES)
 QUICK += (MATPLOTLIB, NETWORKX)
-LONG = (SELENIUM, CHROMIUM, DRIVER, *CLUSTER)
+LONG = (SELENIUM, CHROMIUM, DRIVER, *CLUSTER, *PEER)
 
 
 def packages(everything: bool) -> list[str]:

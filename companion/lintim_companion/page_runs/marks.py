@@ -32,7 +32,7 @@ MARKS = (
     Mark("docs/ARCHITECTURE.md", "", "a map, and questions to git about the code of the checkout"),
     Mark("docs/CITY.md", "lintim-timetable", CLOCK, long=True),
     Mark("docs/CITY.md", "echo 'pin_timetable", CLOCK, long=True),
-    Mark("docs/CITY.md", "timetable: before", CLOCK, long=True),
+    Mark("docs/CITY.md", "timetable: before", CLOCK),
     Mark("docs/EXAMPLE.md", TOWN, PICTURE),
     Mark("docs/FIRST-POOL.md", TOWN, PICTURE),
     Mark("docs/FIRST-POOL.md", "lintim-timetable", CLOCK, long=True),
