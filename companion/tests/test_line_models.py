@@ -136,7 +136,7 @@ def test_models_by_brute_force(seed: int, tmp_path: Path, at_once: None) -> None
     for by_columns in (False, True):
         quick = least_time(it, penalty, town.budget, time(), QUIET, by_columns=by_columns)
         assert quick.frequencies in within
-        assert quick.bound is not None and quick.bound <= least + 1e-3
+        assert quick.bound <= least + 1e-3
         assert quick.minutes >= least - 1e-3
         if not by_columns:
             assert quick.is_best and quick.minutes == pytest.approx(least, abs=1e-3)

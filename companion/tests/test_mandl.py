@@ -1,4 +1,5 @@
-"""Mandl's network as an example: the figures that prove its transcription, and the chain over it."""
+"""Mandl's network as an example: the figures that prove its transcription, and the chain over
+it."""
 
 import shutil
 from pathlib import Path

@@ -1,5 +1,5 @@
-"""`lintim-concept --model direct`, `time` and `both`: line concepts that are good for customers within
-a budget of cost, told twice and beside a concept of least cost."""
+"""`lintim-concept --model direct`, `time` and `both`: line concepts that are good for customers
+within a budget of cost, told twice and beside a concept of least cost."""
 
 from argparse import Namespace
 from collections.abc import Iterator
@@ -152,7 +152,7 @@ def direct(it: Models) -> list[int]:
 def time(it: Models) -> list[int]:
     """A concept of least minutes."""
     quick = it.time()
-    bound = "no bound is known" if quick.bound is None else f"none is below {quick.bound:.10g}"
+    bound = f"none is below {quick.bound:.10g}"
     minutes = f"{quick.minutes:.10g} minutes of {it.it.total:.10g} customers"
     it.talk.say(f"concept: time: found by {quick.way}")
     it.talk.say(f"concept: time: {minutes}, counted twice: {how_good(quick.is_best, bound)}")

@@ -1,9 +1,11 @@
-"""The change-and-go network of a pool (A. Schöbel and S. Scholl, Line planning with minimal traveling
-time, ATMOS 2005): a node for each stop, one for each stop of each line, arcs along lines, and arcs by
-which one gets on and off. To get on counts a penalty, which is taken off once for each customer.
+"""The change-and-go network of a pool (A. Schöbel and S. Scholl, Line planning with minimal
+traveling time, ATMOS 2005): a node for each stop, one for each stop of each line, arcs along lines,
+and arcs by which one gets on and off. To get on counts a penalty, which is taken off once for each
+customer.
 
-An arc belongs to a pair of stops only where a way over it can be as good as what each concept offers:
-edges that are driven at least once are there in any, at worst with a change at each stop."""
+An arc belongs to a pair of stops only where a way over it can be as good as what each concept
+offers: edges that are driven at least once are there in any, at worst with a change at each
+stop."""
 
 from dataclasses import dataclass
 from functools import cached_property
@@ -107,8 +109,8 @@ def wishes(it: Travel, network: ChangeAndGo) -> list[Wish]:
 
 
 def _to(network: ChangeAndGo, end: int) -> Real:
-    """The least minutes from each node to a stop: as long as from there, but who is in a line has got
-    on already."""
+    """The least minutes from each node to a stop: as long as from there, but who is in a line
+    has got on already."""
     in_line = numpy.arange(network.nodes) >= len(network.place)
     found: Real = network.least[end] - numpy.where(in_line, float(network.penalty), 0.0)
     return found

@@ -1,6 +1,6 @@
-"""The least time of customers by columns: routes are made where the prices of lines want them, until
-no further route would help (the program without whole numbers); then the best whole numbers among
-these routes are sought. What the first part says is a bound for all concepts."""
+"""The least time of customers by columns: routes are made where the prices of lines want them,
+until no further route would help (the program without whole numbers); then the best whole
+numbers among these routes are sought. What the first part says is a bound for all concepts."""
 
 from collections import defaultdict
 from typing import NamedTuple
@@ -31,8 +31,8 @@ class Route(NamedTuple):
 
 
 class Prices(NamedTuple):
-    """What a program without whole numbers says: its value, the price of each pair, and of each pair
-    on each line."""
+    """What a program without whole numbers says: its value, the price of each pair, and of each
+    pair on each line."""
 
     value: float
     pairs: Real

@@ -1,9 +1,9 @@
-"""Line concepts with most direct travellers (M. R. Bussieck, P. Kreuzer and U. T. Zimmermann, Optimal
-lines for railway systems, European Journal of Operational Research 96, 1997).
+"""Line concepts with most direct travellers (M. R. Bussieck, P. Kreuzer and U. T. Zimmermann,
+Optimal lines for railway systems, European Journal of Operational Research 96, 1997).
 
-A customer is direct where a line goes from his stop to his goal on a way that takes no more minutes
-than any other, and has a seat for him: a line that is driven f times has f vehicles full of seats
-over each of its edges, in each direction. Who sits where is part of the program."""
+A customer is direct where a line goes from his stop to his goal on a way that takes no more
+minutes than any other, and has a seat for him: a line that is driven f times has f vehicles full
+of seats over each of its edges, in each direction. Who sits where is part of the program."""
 
 from collections import defaultdict
 from collections.abc import Callable
@@ -33,8 +33,8 @@ class Seated(NamedTuple):
 
 
 class Best(NamedTuple):
-    """A concept, who sits where, how many are direct, how many can be at most, and whether HiGHS says
-    that no concept has more."""
+    """A concept, who sits where, how many are direct, how many can be at most, and whether HiGHS
+    says that no concept has more."""
 
     frequencies: list[int]
     seated: list[Seated]

@@ -33,8 +33,8 @@ class Served(NamedTuple):
 
 
 def served(data: Dataset, driven: set[int], penalty: int) -> Served:
-    """What customers have where these lines are driven and each takes the way of least minutes, with
-    so many for a change; of equal ones that with fewer changes."""
+    """What customers have where these lines are driven and each takes the way of least minutes,
+    with so many for a change; of equal ones that with fewer changes."""
     place = {stop.stop_id: at for at, stop in enumerate(data[STOPS])}
     best = _one_ride(data, place, driven)
     ride, changes = best.copy(), numpy.where(numpy.isfinite(best), 0.0, numpy.inf)

@@ -17,15 +17,16 @@ from .travel import Travel
 
 MOST_STOPS = 50  # of a network that is one program
 MOST_ARCS = 200_000  # of all pairs together in one program
+FEW_ARCS = 40_000  # with which it takes seconds, so that columns need not come first
 
 
 class Quick(NamedTuple):
-    """A concept, the minutes of all customers with the penalties for changes, what no concept can be
-    below, whether it is best, and how it was found."""
+    """A concept, the minutes of all customers with the penalties for changes, what no concept
+    can be below, whether it is best, and how it was found."""
 
     frequencies: list[int]
     minutes: float
-    bound: float | None
+    bound: float
     is_best: bool
     way: str
 
@@ -40,6 +41,7 @@ class Search:
         self.constant = -penalty * it.total
         self.frequencies: list[int] = []
         self.minutes = INFINITE
+        self.bound = self.minutes_of([1] * len(it.problem.lines))  # where all lines are driven
 
     def take(self, values: Values) -> None:
         """Takes a concept that is better than those before, and hands it on."""
@@ -63,7 +65,8 @@ class Search:
         """What came of it."""
         if not self.frequencies:
             raise NoneInTime(f"none found in time, HiGHS says: {answer.says}")
-        is_best = bound is not None and bound >= self.minutes - 1e-6 * max(1.0, self.minutes)
+        self.bound = bound = max(self.bound, -INFINITE if bound is None else bound)
+        is_best = bound >= self.minutes - 1e-6 * max(1.0, self.minutes)
         return Quick(self.frequencies, self.minutes, bound, is_best, way)
 
 
@@ -97,17 +100,27 @@ def least_time(
     found: Callable[[list[int]], None] = lambda _: None,
     by_columns: bool | None = None,
 ) -> Quick:
-    """A concept of least minutes within a budget, or the best that is found in time; networks up to
-    50 stops are one program where nothing is said."""
+    """A concept of least minutes within a budget, or the best that is found in time. Where nothing
+    is said, small networks are one program, larger ones up to 50 stops begin by columns, and beyond
+    that there are columns alone."""
     search = Search(it, penalty, found)
-    if by_columns is None:
-        arcs = sum(len(wish.arcs) for wish in search.asked)
-        by_columns = len(search.network.place) > MOST_STOPS or arcs > MOST_ARCS
-    if by_columns:
+    arcs = sum(len(wish.arcs) for wish in search.asked)
+    fits = len(search.network.place) <= MOST_STOPS and arcs <= MOST_ARCS
+    quick: Quick | None = None
+    if by_columns or by_columns is None and (arcs > FEW_ARCS or not fits):
         from .columns import by_routes
 
-        return by_routes(search, budget, deadline, progress)
+        part = Deadline(deadline.left() / 3) if fits and by_columns is None else deadline
+        try:
+            quick = by_routes(search, budget, part, progress)
+        except NoneInTime:
+            if by_columns or not fits:
+                raise
+        if quick and (by_columns or not fits or quick.is_best):
+            return quick
     made = program(it, search.network, search.asked, budget)
     answer = made.solve(deadline, progress, search.take, search.constant)
     bound = None if answer.bound is None else answer.bound + search.constant
-    return search.ended(answer, bound, "one program")
+    return search.ended(
+        answer, bound, f"one program, after {quick.way}" if quick else "one program"
+    )

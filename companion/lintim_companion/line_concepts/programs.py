@@ -18,8 +18,8 @@ class NoneInTime(Refused):
 
 
 class Program:
-    """A program whose first columns say how often each line is driven; each edge has its bounds, and
-    all lines together cost no more than a budget in millionths."""
+    """A program whose first columns say how often each line is driven; each edge has its bounds,
+    and all lines together cost no more than a budget in millionths."""
 
     def __init__(self, it: Travel, budget: int | None) -> None:
         self.it, self.budget = it, budget

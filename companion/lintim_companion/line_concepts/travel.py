@@ -71,8 +71,8 @@ def travel(data: Dataset) -> Travel:
 
 
 def stops_along(ends: dict[int, Pair], edges: list[int]) -> list[int]:
-    """The stops of a line, from end to end; the first edge is driven from its left to its right stop
-    where the others follow from there."""
+    """The stops of a line, from end to end; the first edge is driven from its left to its right
+    stop where the others follow from there."""
     for first in ends[edges[0]]:
         stops = [first]
         for edge in edges:

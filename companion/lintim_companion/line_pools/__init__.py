@@ -1,1 +1,2 @@
-"""Pools of lines: candidates by shortest paths and by trees, and the choice among them by demand."""
+"""Pools of lines: candidates by shortest paths and by trees, and the choice among them by
+demand."""

@@ -1,10 +1,10 @@
 """Lines that might be in a pool, as the stops that they pass.
 
-Paths are the k shortest ones without a stop twice between each two terminals (J. Y. Yen, Finding the
-k shortest loopless paths in a network, Management Science 17, 1971). Trees are spanning trees of
-least minutes, in which an edge counts more with each line that goes over it already, so that each
-further tree takes other edges (P. Gattermann, J. Harbering and A. Schöbel, Line pool generation,
-Public Transport 9, 2017); the ways in a tree between its ends and terminals are lines.
+Paths are the k shortest ones without a stop twice between each two terminals (J. Y. Yen, Finding
+the k shortest loopless paths in a network, Management Science 17, 1971). Trees are spanning trees
+of least minutes, in which an edge counts more with each line that goes over it already, so that
+each further tree takes other edges (P. Gattermann, J. Harbering and A. Schöbel, Line pool
+generation, Public Transport 9, 2017); the ways in a tree between its ends and terminals are lines.
 """
 
 import itertools
@@ -52,8 +52,8 @@ def see_edges(data: Dataset) -> None:
 
 
 def terminals_of(data: Dataset, graph: networkx.Graph, named: list[int]) -> list[int]:
-    """The terminals that are named; where none are, the ends of the network, and then the stops with
-    most customers, to twelve of them."""
+    """The terminals that are named; where none are, the ends of the network, and then the stops
+    with most customers, to twelve of them."""
     if named:
         for stop in named:
             if stop not in graph:

@@ -1,6 +1,7 @@
-"""Which candidates make a pool: first all edges that lines can cover have one, and then the line with
-which most further customers are direct comes next. Where no line makes more customers direct, those
-on which most are direct anyway follow, until there are as many as wanted: a concept is to choose."""
+"""Which candidates make a pool: first all edges that lines can cover have one, and then the line
+with which most further customers are direct comes next. Where no line makes more customers
+direct, those on which most are direct anyway follow, until there are as many as wanted: a
+concept is to choose."""
 
 import itertools
 from typing import NamedTuple

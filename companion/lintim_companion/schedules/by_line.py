@@ -1,5 +1,5 @@
-"""Vehicle schedules in which each vehicle stays with one line, as many operators want it: a cheapest
-one among these."""
+"""Vehicle schedules in which each vehicle stays with one line, as many operators want it: a
+cheapest one among these."""
 
 import numpy
 from scipy.optimize import linear_sum_assignment
@@ -10,8 +10,8 @@ from .solve import potentials
 
 
 def line_based(problem: VehicleProblem) -> Successors:
-    """A schedule of least cost in which a trip is followed by trips of its own line alone, proved by
-    potentials over the links that are allowed."""
+    """A schedule of least cost in which a trip is followed by trips of its own line alone,
+    proved by potentials over the links that are allowed."""
     lines = numpy.array([trip.line for trip in problem.trips], dtype=numpy.int64)
     gains: Whole = numpy.where(lines[:, None] == lines[None, :], problem.gains, 0)
     successors: Successors = [None] * len(lines)

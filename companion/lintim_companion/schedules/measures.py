@@ -1,8 +1,8 @@
 """What a vehicle schedule comes to for an operator: kilometres, hours of drivers, money of a year.
 
-All is told from the rows of the schedule. A trip goes over all edges of its line; an empty drive takes
-the way of least minutes, and of equally quick ones the shortest. A driver is with a vehicle from the
-start of its first trip to the end of its last one, also where it stands."""
+All is told from the rows of the schedule. A trip goes over all edges of its line; an empty drive
+takes the way of least minutes, and of equally quick ones the shortest. A driver is with a
+vehicle from the start of its first trip to the end of its last one, also where it stands."""
 
 import heapq
 from collections import defaultdict
@@ -29,8 +29,9 @@ class YearRow(NamedTuple):
 
 
 class YearCosts(NamedTuple):
-    """What a year is reckoned with: money for each vehicle, each kilometre and each hour of a driver,
-    how many such days a year has, and the kilometres of a unit of length; all in millionths."""
+    """What a year is reckoned with: money for each vehicle, each kilometre and each hour of a
+    driver, how many such days a year has, and the kilometres of a unit of length; all in
+    millionths."""
 
     vehicle_of_a_year: int
     kilometre: int
@@ -40,8 +41,8 @@ class YearCosts(NamedTuple):
 
 
 class Measures(NamedTuple):
-    """Vehicles, units of length on trips and without customers in millionths, minutes of drivers, and
-    minutes of these on trips."""
+    """Vehicles, units of length on trips and without customers in millionths, minutes of
+    drivers, and minutes of these on trips."""
 
     vehicles: int
     length: int
