@@ -38,12 +38,12 @@ def test_the_commands_of_the_course_print_what_the_page_shows(
         printed = course.printed(block, tmp_path / "course", environment)
         for step, lines in zip(block, printed, strict=True):
             assert steady(lines) == steady(step.shown), step.command
-    assert len(blocks) >= 8
+    assert len(blocks) >= 9
 
 
-def test_the_course_has_eight_exercises_with_answers() -> None:
+def test_the_course_has_nine_exercises_with_answers() -> None:
     text = course.PAGE.read_text()
-    for number in range(1, 9):
+    for number in range(1, 10):
         assert f"## {number}. " in text and f"**Question {number}.**" in text
         assert f"**{number}.**" in text[text.index("## Answers") :]
 

@@ -11,7 +11,7 @@ import pytest
 
 from commands import BIN, PYTHON, environment, made, run, start
 from conftest import Folders
-from lintim_companion import dataset, program
+from lintim_companion import dataset, generators, program
 from lintim_companion.trial_problems import LONG_PROOF, NO_PROOF, TrialProblem
 from lintim_companion.trial_problems import write_line_problem
 
@@ -106,3 +106,21 @@ def test_progress_on_a_terminal(tmp_path: Path) -> None:
     lines = os.read(ours, 1 << 16).decode().split("\r\n")
     assert len(lines) > 4 and all(line.startswith("lintim-concept: ") for line in lines[:-1])
     assert "nodes" in lines[-2]
+
+
+@pytest.mark.parametrize("model", ("direct", "time", "both"))
+def test_a_model_that_is_stopped_leaves_what_was_found(model: str, tmp_path: Path) -> None:
+    """A concept of least cost is pinned before the model itself is asked."""
+    network = generators.planar(36, 5)
+    lines, demand = generators.lines_of(network, 90, 5), generators.gravity(network, 4000, 5)
+    generators.write(tmp_path, network, lines, demand, {"load_source": "od", "load_spread": 12})
+    program.run(tmp_path, "make")
+    command = start("lintim-concept", tmp_path, "--model", model)
+    wait_for(tmp_path / "pinned/Line-Concept.lin")
+    command.send_signal(signal.SIGINT)
+    _, err = command.communicate()
+    said = err.decode()
+    assert command.returncode == 0
+    assert said == "lintim-concept: stopped; what was found is in pinned/Line-Concept.lin\n"
+    dataset.write_settings(tmp_path, {"pin_concept": "yes"})
+    assert "pinned" in program.run(tmp_path, "make").line_of("concept")

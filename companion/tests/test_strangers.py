@@ -190,12 +190,18 @@ def test_seconds_hold_for_each_command(words: str, example: Folders, tmp_path: P
     assert ended.stderr.endswith(b"status gave no answer in 10 seconds; --seconds allows more\n")
 
 
+# The words of the other models, of which none is said.
+OTHER_WORDS = dict.fromkeys(concept.OTHERS)
+
+
 def test_a_tree_is_no_longer_than_lintim_reads_it(
     example: Folders, monkeypatch: pytest.MonkeyPatch, capsys: pytest.CaptureFixture[str]
 ) -> None:
     folder = made(example("three-stops"))  # whose concept has 75 bytes, and its tree 90
     monkeypatch.setattr(dataset, "MAX_HAND_BYTES", 80)
-    words = Namespace(folder=folder, seconds=60, penalty=10, nodes=50_000)
+    words = Namespace(
+        folder=folder, seconds=60, penalty=10, nodes=50_000, model="cost", **OTHER_WORDS
+    )
     assert concept.run(words, Talk("lintim-concept")) == 0
     said = capsys.readouterr().out
     assert "concept: the tree is not written: pinned/Line-Concept.cert would have" in said

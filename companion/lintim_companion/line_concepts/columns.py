@@ -63,7 +63,7 @@ def by_routes(search: Search, budget: int | None, deadline: Deadline, progress: 
         deadline, progress, search.take, search.constant
     )
     told = None if bound == -INFINITE else bound + search.constant
-    return search.ended(answer, told, f"{len(routes)} routes in {rounds} rounds")
+    return search.ended(answer, told, "columns")
 
 
 class Part(NamedTuple):

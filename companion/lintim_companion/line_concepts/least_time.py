@@ -1,5 +1,5 @@
-"""Line concepts by which customers travel least minutes, with a penalty for each change (A. Schöbel
-and S. Scholl, Line planning with minimal traveling time, ATMOS 2005): as one program over the
+"""Line concepts by which customers travel least minutes, with a penalty for each change (A.
+Schöbel and S. Scholl, Line planning with minimal traveling time, ATMOS 2005): as one program over the
 change-and-go network, or by columns, which are routes of customers."""
 
 from collections import defaultdict
@@ -17,7 +17,7 @@ from .travel import Travel
 
 MOST_STOPS = 50  # of a network that is one program
 MOST_ARCS = 200_000  # of all pairs together in one program
-FEW_ARCS = 40_000  # with which it takes seconds, so that columns need not come first
+FEW_ARCS = 5_000  # with which it takes a second, so that columns need not come first
 
 
 class Quick(NamedTuple):
@@ -121,6 +121,4 @@ def least_time(
     made = program(it, search.network, search.asked, budget)
     answer = made.solve(deadline, progress, search.take, search.constant)
     bound = None if answer.bound is None else answer.bound + search.constant
-    return search.ended(
-        answer, bound, f"one program, after {quick.way}" if quick else "one program"
-    )
+    return search.ended(answer, bound, "one program")
