@@ -155,6 +155,17 @@ COMMANDS = (
                 default=50_000,
                 least=1,
             ),
+            Word(
+                "--passengers",
+                "changes and arrivals count as many customers as are in them",
+                kind="switch",
+            ),
+            Word(
+                "--compare",
+                "tell what the rules and the optima mean for customers; nothing is written without"
+                " --passengers",
+                kind="switch",
+            ),
         ),
         example="lintim-waits . 10",
         packages=(SCIPY,),
