@@ -1,5 +1,5 @@
 """Waiting decisions that are worth what they cost people: each change and each arrival counts as
-many customers as plan to use it (A. Schoebel, Optimization in Public Transportation, 2006, has the
+many customers as plan to use it (A. Schöbel, Optimization in Public Transportation, 2006, has the
 model with weights).
 
 A decision costs, for each arrival, the customers who get off there times the minutes by which it is
