@@ -461,7 +461,7 @@ class PairUse(NamedTuple):
 
 
 class HourShare(NamedTuple):
-    """An hour of the day, and how much of the demand it has."""
+    """An hour of the day, and how much of the demand it has: a row of the file that --profile names."""
 
     hour: Annotated[int, Whole(0, 168, "hours"), "the hour of the day"]
     share: Annotated[
@@ -476,4 +476,3 @@ CHANGE_USES = File("passengers/Changes.csv", ChangeUse)
 MISSED_USES = File("passengers/Missed.csv", MissedUse)
 PAIR_USES = File("passengers/Pairs.csv", PairUse)
 PASSENGER_VALUES = File("passengers/Values.csv", Value)
-PROFILE = File("", HourShare)  # what `lintim-passengers --profile` names

@@ -230,6 +230,17 @@ COMMANDS = (
                 default=50_000,
                 least=1,
             ),
+            Word(
+                "--passengers",
+                "changes and arrivals count as many customers as are in them",
+                kind="switch",
+            ),
+            Word(
+                "--compare",
+                "tell what the rules and the optima mean for customers; nothing is written without"
+                " --passengers",
+                kind="switch",
+            ),
         ),
         example="lintim-waits . 10",
         packages=(SCIPY,),
@@ -404,6 +415,51 @@ COMMANDS = (
             (2, "the words of the command are wrong"),
             (130, "it was stopped before anything was written"),
         ),
+    ),
+    Command(
+        name="lintim-passengers",
+        module="commands.passengers",
+        says="Tells how many customers are in each trip of a day, and how late they are.",
+        about="The customers of basis/OD.giv, which has those of a period, are spread over the minutes of\n"
+        "the day. Each takes the journey that lintim journey tells: the first arrival, then the\n"
+        "fewest changes, then the latest departure. With --disposed they go as planned until they\n"
+        "miss a change, and take the next best journey from there. Nobody is left at a stop: what\n"
+        "is over the capacity is told.",
+        reads="the day and its trips: stage rollout of lintim make; basis/OD.giv; with --disposed "
+        "the disposition",
+        writes="passengers/Stops.csv, Drives.csv, Trips.csv, Changes.csv, Missed.csv, Pairs.csv and "
+        "Values.csv",
+        words=(
+            FOLDER,
+            Word("--disposed", "by the times of the day with its delays", kind="switch"),
+            Word(
+                "--capacity",
+                "how many customers a vehicle takes: what is over is told",
+                kind="whole",
+                least=1,
+                greatest=1_000_000,
+            ),
+            Word(
+                "--penalty",
+                "how many minutes a change counts for beyond those it takes",
+                kind="whole",
+                default=0,
+                greatest=1_000,
+            ),
+            Word(
+                "--profile",
+                "a file of rows `hour; share`: 100 where each period has the demand of basis/OD.giv,"
+                " 0 for hours without a row; all hours have 100 where no file is named",
+                kind="file",
+            ),
+        ),
+        example="lintim-passengers . --capacity 70",
+        packages=(SCIPY,),
+        statuses=(
+            (0, "the tables were written"),
+            (1, "they were not written; the last line says why"),
+        )
+        + STATUSES[2:],
     ),
     Command(
         name="lintim-why",

@@ -24,7 +24,7 @@ from test_gtfs_damage import damaged
 
 GIGABYTE = 10**9
 LONGEST = 300.0  # seconds after which a trial hangs
-MAY_WRITE = ("pinned", "waiting", "keep")
+MAY_WRITE = ("pinned", "waiting", "keep", "passengers")
 FOLDERS = (
     b"town", b"new\nline", b"bad\xff\xfe", "\u6771\u4eac".encode(), b"a b;c'd\"$(x)", b"-x",
     b"n" * 200, b"\x1b[31m", b"#", b"...", "e\u0301\u202e".encode(), b"%s%n{}", b"~",
@@ -50,6 +50,10 @@ WORDS = {
     ),
     "lintim-schedule": (
         "{}", "{}/basis", "{}/none", "{} --line-based", "{} --costs {}/basis/Config.cnf",
+    ),
+    "lintim-passengers": (
+        "{}", "{} --disposed", "{} --capacity 70 --penalty 5", "{} --profile {}/basis/Edge.giv",
+        "{} --capacity 0", "{} --disposed --profile {out}/none",
     ),
     "lintim-waits": ("{} 10 --seconds 3", "{} 0 --seconds 2 --nodes 5", "{} 1000000 --seconds 2"),
     "lintim-gtfs": (

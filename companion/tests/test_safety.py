@@ -26,6 +26,7 @@ RUNS = (
     "lintim-timetable . --for-passengers --seconds 3",
     "lintim-schedule .",
     "lintim-waits . 10 --seconds 10",
+    "lintim-passengers . --disposed",
     "lintim-view . --svg svg --png png --out page.html",
     "lintim-gtfs export . feed.zip --place 53,10",
     "lintim-gtfs check feed.zip",
@@ -44,6 +45,7 @@ WRITTEN = (
     "made",
     "pinned",
     "waiting",
+    "passengers",
 )
 Answer = tuple[int, str, str]
 

@@ -3,12 +3,20 @@
 from argparse import Namespace
 
 from .. import dataset, files, program
+from ..cells import MILLION
+from ..dataset import Dataset
 from ..faults import Refused, TooLong
 from ..formats import DAY_ACTIVITIES, DAY_EVENTS, SCHEDULE, WAITS
 from ..manners import Deadline, Talk
+from ..passengers.demand import read_demand
+from ..passengers.flows import flows_of
+from ..passengers.net import Day as NetDay
+from ..passengers.net import Net
+from ..waits.compare import line, rows
 from ..waits.core import Core
-from ..waits.day import read_day
-from ..waits.decision import Decision, by_rules, decision_rows, saved_decision
+from ..waits.day import Day, read_day
+from ..waits.decision import Decision, by_rules, decision, decision_rows, saved_decision
+from ..waits.people import by_people, weights_of
 from ..waits.solve import cheapest, proved
 
 
@@ -20,6 +28,8 @@ def run(words: Namespace, talk: Talk) -> int:
     deadline = Deadline(words.seconds)
     day = read_day(data)
     core = Core(day)
+    if words.passengers or words.compare:
+        return for_people(words, talk, data, day, core, deadline)
     saved, is_told = saved_decision(data, day, core, words.penalty) or (None, False)
     is_told = is_told and judged(words) == "checked"
 
@@ -53,6 +63,31 @@ def run(words: Namespace, talk: Talk) -> int:
         talk.say(f"waits: cost {best.cost}, not proved {limit}; {says}")
         if not deadline.is_over():
             talk.say("waits: --nodes 5000000 may prove it, in minutes")
+    return _ended(words, talk)
+
+
+def for_people(
+    words: Namespace, talk: Talk, data: Dataset, day: Day, core: Core, deadline: Deadline
+) -> int:
+    """Finds a decision whose changes and arrivals count as many customers as are in them."""
+    demand, net = read_demand(data, None), NetDay(data)
+    planned = Net(net, net.planned)
+    weights = weights_of(day, flows_of(planned, demand, None, talk.progress.tell))
+    best = by_people(day, core, weights, words.penalty, deadline, talk.progress)
+    if words.compare:
+        plain, _ = cheapest(core, words.penalty, deadline, talk.progress)
+        optima = {"unweighted": plain.dropped, "passengers": best.dropped}
+        for row in rows(day, core, weights, words.penalty, optima, planned, demand):
+            talk.say(f"waits: {line(row)}")
+    bound = "no bound is known" if best.bound is None else f"none costs less than {best.bound:.1f}"
+    least = "HiGHS says that none costs less" if best.is_best else bound
+    cost = f"{best.cost / MILLION:.1f} customers and minutes"
+    talk.say(f"waits: by passengers: cost {cost}, {len(best.dropped)} dropped; {least}")
+    if not words.passengers:
+        return 0
+    decided = decision(core, words.penalty, best.dropped)
+    talk.write(words.folder, WAITS, decision_rows(day, decided))
+    talk.say(f"waits: lintim counts each change and each arrival once: cost {decided.cost} there")
     return _ended(words, talk)
 
 

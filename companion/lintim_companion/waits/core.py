@@ -34,7 +34,7 @@ class CoreChange(NamedTuple):
 
 
 class Core:
-    """Events that can move, in an order in which all ways go forward, with their earliest and
+    """Events that can move, by their places in the day, in an order in which all ways go forward, with their earliest and
     latest times; ways between them; and changes that can be broken."""
 
     def __init__(self, day: Day) -> None:
@@ -42,6 +42,7 @@ class Core:
         self.delay = day.delay(least)
         moved = [event for event in day.order if most[event] > least[event]]
         place = {event: at for at, event in enumerate(moved)}
+        self.events = moved
         self.least = [least[event] for event in moved]
         self.most = [most[event] for event in moved]
         self.is_arrival = [day.events[event].is_arrival for event in moved]

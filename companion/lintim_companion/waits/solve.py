@@ -36,12 +36,15 @@ def cheapest(
             best = other
             found(best)
 
-    answer = highs.solve(_mixed(core, penalty), deadline, progress, read)
+    dear = [*map(float, core.is_arrival)], [float(penalty)] * len(core.changes)
+    answer = highs.solve(mixed(core, *dear, core.delay), deadline, progress, read)
     return best, answer.is_best
 
 
-def _mixed(core: Core, penalty: int) -> highs.Mixed:
-    """The program: how much later than its earliest time each event is, and which changes are
+def mixed(
+    core: Core, of_events: list[float], of_changes: list[float], constant: float
+) -> highs.Mixed:
+    """The program, with what a minute of each event, a dropped change and the least times cost: how much later than its earliest time each event is, and which changes are
     dropped. A change that is dropped asks nothing, by so many minutes as it could ask at most."""
     events, changes = len(core.least), len(core.changes)
     cells: list[highs.Cell] = []
@@ -68,14 +71,14 @@ def _mixed(core: Core, penalty: int) -> highs.Mixed:
         ask(change.second, change.first, change.minutes, place)
     rooms = (most - least for most, least in zip(core.most, core.least))
     return highs.Mixed(
-        costs=[*map(float, core.is_arrival), *[float(penalty)] * changes],
+        costs=[*of_events, *of_changes],
         low=[0.0] * (events + changes),
         high=[*map(float, rooms), *[1.0] * changes],
         is_whole=[False] * events + [True] * changes,
         cells=cells,
         least=asked,
         most=[float("inf")] * len(asked),
-        constant=core.delay,
+        constant=constant,
     )
 
 
