@@ -212,8 +212,9 @@ COMMANDS = (
         "it is written, and then a tree is grown which proves that none costs less. What the\n"
         "rules none, 3, 5 and all of the setting dm_wait cost is told beside it. A decision\n"
         "that is saved already is where the search begins.",
-        reads="the day, its schedule and the files of delays: stages rollout and vehicles",
-        writes="waiting/Waits.cert, with a tree where it is proved",
+        reads="the day, its schedule and the files of delays: stages rollout and vehicles; with "
+        "--passengers and --compare also basis/OD.giv",
+        writes="waiting/Waits.cert, with a tree where it is proved; --passengers writes one without",
         words=(
             FOLDER,
             Word(
