@@ -32,7 +32,7 @@ RUNS = (
     "lintim-gtfs check feed.zip",
     "lintim-gtfs import feed.zip made --date 20260105",
     "lintim-convert out . ../other",
-    "lintim-demand gravity . --replace",
+    "lintim-demand gravity made",
     "lintim-why .",
 )
 WRITTEN = (
@@ -123,7 +123,8 @@ def test_nothing_in_a_dataset_is_run_or_read_as_settings(
         assert answer[1] == answers[words][1] or "--for-passengers" in words, words  # by the clock
         if log.exists():
             found = traps.touched(log, folder)
-            assert found & {folder / "basis/Config.cnf", folder / "feed.zip"}, "strace saw nothing"
+            read = ("basis/Config.cnf", "feed.zip", "made/basis/Edge.giv")
+            assert found & {folder / name for name in read}, "strace saw nothing"
             assert not found & wired, words
         assert not ran.exists(), (words, ran.read_text())
         assert answer[0] == ("why" in words), words

@@ -203,7 +203,14 @@ def test_a_tree_is_no_longer_than_lintim_reads_it(
     folder = made(example("three-stops"))  # whose concept has 75 bytes, and its tree 90
     monkeypatch.setattr(dataset, "MAX_HAND_BYTES", 80)
     words = Namespace(
-        folder=folder, seconds=60, penalty=10, nodes=50_000, model="cost", **OTHER_WORDS
+        folder=folder,
+        seconds=60,
+        penalty=10,
+        nodes=50_000,
+        model="cost",
+        passengers=False,
+        compare=False,
+        **OTHER_WORDS,
     )
     assert concept.run(words, Talk("lintim-concept")) == 0
     said = capsys.readouterr().out
