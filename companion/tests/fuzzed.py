@@ -313,6 +313,8 @@ def one_trial(seed: int, top: Path) -> list[str]:
     after = state_of(place)
     if name == "lintim-pool":
         before.pop("basis/Pool.giv", None), after.pop("basis/Pool.giv", None)
+    if name == "lintim-demand":
+        before.pop("basis/OD.giv", None), after.pop("basis/OD.giv", None)
     is_named = any(word.startswith((".", str(place))) for word in words[1:] if name != "lintim-why")
     if after != before and not (is_named and name in ("lintim-view", "lintim-gtfs")):
         found.append("the dataset was changed")

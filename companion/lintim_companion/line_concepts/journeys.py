@@ -29,7 +29,7 @@ class Served(NamedTuple):
 
     def share(self, customers: float) -> str:
         """A part of all customers, in percent."""
-        return f"{100 * customers / self.customers:.1f} %"
+        return f"{100 * customers / max(self.customers, 1e-9):.1f} %"
 
 
 def served(data: Dataset, driven: set[int], penalty: int) -> Served:
@@ -68,7 +68,8 @@ def _one_ride(data: Dataset, place: dict[int, int], driven: set[int]) -> Table:
     for row in sorted(data[POOL], key=lambda row: (row.line_id, row.order)):
         if row.line_id in driven:
             ways.setdefault(row.line_id, []).append(row.edge_id)
-    ride = numpy.full((len(place), len(place)), numpy.inf)
+    count = max(place.values(), default=-1) + 1
+    ride = numpy.full((count, count), numpy.inf)
     for line in ways.values():
         both = [{edges[at].left_stop, edges[at].right_stop} for at in line]
         now = next(start for start in sorted(both[0]) if _goes_on(both, start))
